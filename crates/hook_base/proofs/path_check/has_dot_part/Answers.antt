@@ -1,0 +1,9 @@
+use Rattle.std.proofs.Common.{rules, tests, lit<}
+use Rattle.std.proofs.lemmas.Iterator.Search.{any_from_yields_List}
+use Rattle.std.proofs.lemmas.Iterator.Splits.{YieldsList-from_str_split}
+use Rattle.hook_base.specs.Paths.{is_dot_part}
+use Rattle.hook_base.proofs.path_check.has_dot_part.Goals as goal
+
+pub returns : goal.returns
+returns c =
+    any_from_yields_List is_dot_part _ _ _ c.any.ensures.ran (YieldsList-from_str_split 47 c.args.text.now (lit< tt) c.split.ensures.text c.split.ensures.has_more c.split.ensures.pattern) (λ x b q k. search (rules, tests))

@@ -1,0 +1,50 @@
+-- Paths inside a repository, as lists of bytes.
+use Rattle.std.specs.Prelude.{◌≡◌, ◌⊎◌, ℕ, Bool, false, ◌==◌, nat_eq, ◌||◌, nat_lt, if◌then◌else◌, List, [], ◌∷◌, length, Option, None, Some, codes}
+use Rattle.std.specs.List.{slice_split, list_any, starts_with}
+use Rattle.std.specs.Str.{bytes_eq}
+use Rattle.hook_base.specs.declared.path_fault.PathFault.{PathFault}
+use Rattle.hook_base.specs.declared.path_fault.PathFault.TheVariants.{Empty, Absolute, DotPart, EmptyPart, TooLong, ControlByte, UnderGit}
+
+abbrev pub is_slash : ℕ → Bool
+is_slash byte = byte == 47
+
+abbrev pub is_control_byte : ℕ → Bool
+is_control_byte byte = nat_lt byte 32 || (byte == 127)
+
+abbrev pub is_empty_part : List ℕ → Bool
+is_empty_part part = length part == 0
+
+-- `.` or `..`
+abbrev pub is_dot_part : List ℕ → Bool
+is_dot_part part = bytes_eq part (46 ∷ []) || bytes_eq part (46 ∷ 46 ∷ [])
+
+-- the parts of a path between its slashes
+abbrev pub parts_of : List ℕ → List (List ℕ)
+parts_of path = slice_split is_slash path
+
+-- the first part is `.git`
+abbrev pub is_under_git : List ℕ → Bool
+is_under_git path = bytes_eq path (codes ".git") || starts_with nat_eq path (codes ".git/")
+
+abbrev pub begins_with_slash : List ℕ → Bool
+begins_with_slash [] = false
+begins_with_slash (byte ∷ bytes) = is_slash byte
+
+-- the first reason, in this order, why the bytes are no path inside a repository
+unfoldable pub path_fault : List ℕ → Option PathFault
+path_fault path =
+    if is_empty_part path then Some Empty else
+    (if nat_lt 4096 (length path) then Some TooLong else
+    (if list_any is_control_byte path then Some ControlByte else
+    (if begins_with_slash path then Some Absolute else
+    (if list_any is_empty_part (parts_of path) then Some EmptyPart else
+    (if list_any is_dot_part (parts_of path) then Some DotPart else
+    (if is_under_git path then Some UnderGit else None))))))
+
+-- where the message of a commit stands
+abbrev pub message_path : List ℕ
+message_path = codes ".git/COMMIT_EDITMSG"
+
+-- a path that a tree may hold: a legal one, or the message's
+abbrev pub IsRepoPath : List ℕ → Type 0
+IsRepoPath path = (path_fault path ≡ None) ⊎ (path ≡ message_path)

@@ -1,0 +1,23 @@
+-- Where a path stands in a tree.
+use Rattle.std.specs.Prelude.{◌≡◌, ℕ, zero, suc, List, [], ◌∷◌}
+use Rattle.hook_base.specs.declared.file.File.{File}
+use Rattle.hook_base.specs.declared.place.Place.{Place}
+use Rattle.hook_base.specs.declared.place.Place.TheVariants.{At, Before}
+use Rattle.hook_base.specs.Rising.{IsBelow, IsBelowAll}
+use Rattle.hook_base.specs.Trees.{path_of}
+
+-- the row at this index has the path, and the earlier ones come before it
+abbrev pub IsAt : List ℕ → List File → ℕ → Type 0
+IsAt path [] index = ⊥
+IsAt path (row ∷ rows) zero = path ≡ row.path
+IsAt path (row ∷ rows) (suc index) = IsBelow row.path path × IsAt path rows index
+
+-- the rows before this index come before the path, the others after it
+abbrev pub IsGap : List ℕ → List File → ℕ → Type 0
+IsGap path rows zero = IsBelowAll path_of path rows
+IsGap path [] (suc index) = ⊥
+IsGap path (row ∷ rows) (suc index) = IsBelow row.path path × IsGap path rows index
+
+abbrev pub IsPlace : List ℕ → List File → Place → Type 0
+IsPlace path rows (At index) = IsAt path rows index
+IsPlace path rows (Before index) = IsGap path rows index

@@ -1,0 +1,36 @@
+//! Paths, trees of files and the changes between them, and the small collections that contracts see as lists.
+//!
+//! `RepoPath` is a path inside a repository, `Tree` the files of one moment in the order of their paths, and `Changes`
+//! what a program did to the files of a tree. Their contracts cite `specs/Paths.antt`, `specs/Rising.antt` and
+//! `specs/Trees.antt`.
+#![tactic(auto)]
+
+mod bytes;
+mod change;
+mod changes;
+mod file;
+mod items;
+mod memory;
+mod path_check;
+mod path_fault;
+mod place;
+mod repo_path;
+mod rows;
+mod text;
+mod tree;
+mod words;
+
+pub use bytes::Bytes;
+pub use change::Change;
+pub use changes::Changes;
+pub use file::{File, FileEntry, Mode};
+pub use items::Items;
+pub use memory::OutOfMemory;
+pub use path_fault::PathFault;
+pub use repo_path::RepoPath;
+pub use text::Text;
+pub use tree::Tree;
+pub use words::copy_texts;
+
+#[cfg(test)]
+mod tests;

@@ -1,0 +1,70 @@
+ghost use Rattle.std.specs.Prelude.{◌≡◌};
+ghost use Rattle.hook_base.specs.PathFaults.{number_of};
+ghost use Rattle.hook_base.specs.declared.path_fault.PathFault.TheVariants.{OutOfMemory};
+
+use std::alloc::{AllocError, AllocFailed};
+use thiserror::Error;
+
+/// Why a text is no path inside a repository. Of several reasons the first in this order is named: `Empty`, `TooLong`,
+/// `ControlByte`, `Absolute`, `EmptyPart`, `DotPart`, `UnderGit`.
+#[derive(Clone, Copy, Debug, PartialEq, Eq, Error)]
+pub enum PathFault {
+    /// The text has no bytes.
+    #[error("the path is empty")]
+    Empty,
+    /// The path begins with a slash.
+    #[error("the path begins with a slash")]
+    Absolute,
+    /// A part between slashes is `.` or `..`.
+    #[error("the path has a part . or ..")]
+    DotPart,
+    /// A part between slashes has no bytes.
+    #[error("the path has an empty part")]
+    EmptyPart,
+    /// The text has more than 4,096 bytes.
+    #[error("the path has more than 4096 bytes")]
+    TooLong,
+    /// A byte is under 32, or is 127.
+    #[error("the path has a control byte")]
+    ControlByte,
+    /// The first part is `.git`.
+    #[error("the path lies under .git")]
+    UnderGit,
+    /// Memory was refused. Nothing is said of the text.
+    #[error("out of memory")]
+    OutOfMemory,
+}
+
+impl PathFault {
+    /// The refusal's number, from 1 to 8.
+    pub fn number(&self) -> u8
+        ensures { result ≡ number_of self.now }
+    {
+        match self {
+            PathFault::Empty => 1,
+            PathFault::Absolute => 2,
+            PathFault::DotPart => 3,
+            PathFault::EmptyPart => 4,
+            PathFault::TooLong => 5,
+            PathFault::ControlByte => 6,
+            PathFault::UnderGit => 7,
+            PathFault::OutOfMemory => 8,
+        }
+    }
+}
+
+impl From<AllocError> for PathFault {
+    ghost from_gives = { λ _ fault. fault ≡ OutOfMemory };
+
+    fn from(_refused: AllocError) -> Self {
+        PathFault::OutOfMemory
+    }
+}
+
+impl<T: Drop> From<AllocFailed<T>> for PathFault {
+    ghost from_gives = { λ _ fault. fault ≡ OutOfMemory };
+
+    fn from(_refused: AllocFailed<T>) -> Self {
+        PathFault::OutOfMemory
+    }
+}

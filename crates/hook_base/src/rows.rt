@@ -1,0 +1,82 @@
+//! Edits of rows that rise, each at the place of one path.
+ghost use Rattle.std.specs.Prelude.{◌≡◌, is_some, IfOk, OnOk, OnErr};
+ghost use Rattle.hook_base.specs.Trees.{IsRising, entry_of, put_row, remove_file, rewrite_file, apply_change, apply_changes};
+
+use crate::place::{Place, place_of};
+use crate::{Bytes, Change, File, OutOfMemory, RepoPath};
+
+/// Puts a row in place of the one of its path, or adds it. A refusal leaves the rows as they were.
+pub fn put_row(rows: &mut Vec<File>, row: File) -> Result<(), OutOfMemory>
+    requires { IsRising rows.old.items }
+    ensures put { OnOk result (rows.new.items ≡ put_row row rows.old.items) }
+    ensures kept { OnErr result (rows.new.items ≡ rows.old.items) }
+    ensures rising { IsRising rows.new.items }
+{
+    match place_of(rows.as_slice(), &row.path) {
+        Place::At(index) => rows[index] = row,
+        Place::Before(index) => rows.insert(index, row)?,
+    }
+    Ok(())
+}
+
+/// Removes the row of a path. Answers whether there was one.
+pub fn remove_row(rows: &mut Vec<File>, path: &RepoPath) -> bool
+    requires { IsRising rows.old.items }
+    ensures found { result ≡ is_some (entry_of path.now rows.old.items) }
+    ensures removed { rows.new.items ≡ remove_file path.now rows.old.items }
+    ensures rising { IsRising rows.new.items }
+{
+    match place_of(rows.as_slice(), path) {
+        Place::At(index) => {
+            rows.remove(index);
+            true
+        }
+        Place::Before(_) => false,
+    }
+}
+
+/// Puts other bytes into the row of a path, if there is one.
+pub fn rewrite_row(rows: &mut Vec<File>, path: &RepoPath, bytes: Bytes)
+    requires { IsRising rows.old.items }
+    ensures rewritten { rows.new.items ≡ rewrite_file path.now bytes rows.old.items }
+    ensures rising { IsRising rows.new.items }
+{
+    if let Place::At(index) = place_of(rows.as_slice(), path) {
+        let row = &mut rows[index];
+        row.entry.bytes = bytes;
+    }
+}
+
+/// The same rows.
+pub fn copy_rows(rows: &Vec<File>) -> Result<Vec<File>, OutOfMemory>
+    ensures { IfOk result (λ copy. copy.items ≡ rows.now.items) }
+{
+    Ok(rows.clone()?)
+}
+
+/// Applies one change.
+pub fn apply_to_row(rows: &mut Vec<File>, change: Change)
+    requires { IsRising rows.old.items }
+    ensures applied { rows.new.items ≡ apply_change change rows.old.items }
+    ensures rising { IsRising rows.new.items }
+{
+    let Change { path, now } = change;
+    match now {
+        Some(bytes) => rewrite_row(rows, &path, bytes),
+        None => {
+            remove_row(rows, &path);
+        }
+    }
+}
+
+/// Applies changes, each to what the earlier ones left.
+pub fn apply_to_rows(rows: &mut Vec<File>, mut changes: Vec<Change>)
+    requires { IsRising rows.old.items }
+    ensures applied { rows.new.items ≡ apply_changes changes.items rows.old.items }
+    ensures rising { IsRising rows.new.items }
+{
+    changes.reverse();
+    'changes: while let Some(change) = changes.pop() {
+        apply_to_row(rows, change);
+    }
+}

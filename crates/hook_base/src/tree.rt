@@ -1,0 +1,144 @@
+ghost use Rattle.std.specs.Prelude.{◌≡◌, ◌↔◌, ◌<◌, [], length, is_some, slice_get, IfOk, OnOk, OnErr, IsTrue};
+ghost use Rattle.std.specs.Option.{option_copied};
+ghost use Rattle.hook_base.specs.Trees.{IsRising, entry_of, put_file, remove_file, apply_changes, changes_between};
+
+use crate::change::copy_changes;
+use crate::place::{Place, place_of};
+use crate::rows::{apply_to_rows, copy_rows, put_row, remove_row};
+use crate::{Change, Changes, File, FileEntry, OutOfMemory, RepoPath};
+use std::alloc::{AllocError, Global};
+use std::marker::Model;
+
+/// The files of one moment, one a path, in the order of their paths. Contracts see the list of its rows.
+#[derive(Debug, Drop)]
+pub struct Tree {
+    rows: Vec<File>,
+}
+
+impl Model for Tree {
+    ghost use Rattle.std.specs.Prelude.{List};
+    ghost use Rattle.hook_base.specs.declared.file.File.{File};
+
+    ghost Value = { List File };
+
+    ghost use Rattle.hook_base.specs.Trees.{IsRising};
+
+    ghost view = { λ tree. tree.rows.items };
+
+    ghost invariant = { λ tree. IsRising tree.rows.items };
+}
+
+impl Tree {
+    /// A tree without files.
+    pub fn new(alloc: Global) -> Tree
+        ensures { result ≡ [] }
+    {
+        Tree {
+            rows: Vec::new(alloc),
+        }
+    }
+
+    /// The number of files.
+    pub fn len(&self) -> usize
+        ensures count { result ≡ length self.now }
+        ensures rising { IsRising self.now }
+    {
+        self.rows.len()
+    }
+
+    /// Whether there are no files.
+    pub fn is_empty(&self) -> bool
+        ensures { IsTrue result ↔ (self.now ≡ []) }
+    {
+        self.rows.is_empty()
+    }
+
+    /// The file at a place in the order of the paths, counted from 0.
+    pub fn entry(&self, index: usize) -> &File
+        requires { index < length self.now }
+        ensures row { slice_get self.now index ≡ Some result.now }
+        ensures rising { IsRising self.now }
+    {
+        &self.rows[index]
+    }
+
+    /// What stands at a path.
+    pub fn get(&self, path: &RepoPath) -> Option<&FileEntry>
+        ensures { option_copied result ≡ entry_of path.now self.now }
+    {
+        match place_of(self.rows.as_slice(), path) {
+            Place::At(index) => Some(&self.rows[index].entry),
+            Place::Before(_) => None,
+        }
+    }
+
+    /// Puts a file in place of the one at its path, or adds it. A refusal leaves the tree as it was.
+    pub fn put(&mut self, path: RepoPath, entry: FileEntry) -> Result<(), OutOfMemory>
+        ensures put { OnOk result (self.new ≡ put_file path entry self.old) }
+        ensures kept { OnErr result (self.new ≡ self.old) }
+        ensures rising { IsRising self.new }
+    {
+        put_row(&mut self.rows, File { path, entry })
+    }
+
+    /// Removes the file at a path. Answers whether there was one.
+    pub fn remove(&mut self, path: &RepoPath) -> bool
+        ensures found { result ≡ is_some (entry_of path.now self.old) }
+        ensures removed { self.new ≡ remove_file path.now self.old }
+        ensures rising { IsRising self.new }
+    {
+        remove_row(&mut self.rows, path)
+    }
+
+    /// The same files, in memory of their own.
+    pub fn copy(&self) -> Result<Tree, OutOfMemory>
+        ensures { IfOk result (λ copy. copy ≡ self.now) }
+    {
+        let rows = copy_rows(&self.rows)?;
+        Ok(Tree { rows })
+    }
+
+    /// What became of the files of this tree in `after`: their bytes where they differ, or that they are gone. Modes
+    /// don't count, and neither do files that only `after` holds.
+    pub fn changes_to(&self, after: &Tree) -> Result<Changes, OutOfMemory>
+        ensures { IfOk result (λ changes. changes ≡ changes_between self.now after.now) }
+    {
+        Changes::between(&self.rows, after)
+    }
+
+    /// Applies changes, each to what the earlier ones left. Modes stay, and a change of a path that the tree lacks has
+    /// no effect. A refusal leaves the tree as it was.
+    pub fn apply(&mut self, changes: &[Change]) -> Result<(), OutOfMemory>
+        ensures applied { OnOk result (self.new ≡ apply_changes changes.now self.old) }
+        ensures kept { OnErr result (self.new ≡ self.old) }
+        ensures rising { IsRising self.new }
+    {
+        let changes = copy_changes(*self.rows.allocator(), changes)?;
+        apply_to_rows(&mut self.rows, changes);
+        Ok(())
+    }
+}
+
+impl PartialEq for Tree {
+    ghost use Rattle.std.specs.Prelude.{◌≡◌, ◌↔◌, IsTrue};
+    ghost use Rattle.std.specs.Cmp.Lexicographic.{pointwise, pointwise_decides};
+    ghost use Rattle.hook_base.specs.AlikeLaws.{file_decides, per_from_decides};
+
+    ghost eq = { pointwise ⟦<File as PartialEq>⟧.eq };
+
+    ghost laws = { per_from_decides (pointwise ⟦<File as PartialEq>⟧.eq) (pointwise_decides file_decides) };
+
+    fn eq(&self, other: &Self) -> bool
+        ensures value { result ≡ pointwise ⟦<File as PartialEq>⟧.eq self.now other.now }
+        ensures same { IsTrue result ↔ (self.now ≡ other.now) }
+    {
+        self.rows == other.rows
+    }
+}
+
+impl Eq for Tree {
+    ghost use Rattle.std.specs.Cmp.Lexicographic.{pointwise, pointwise_decides};
+    ghost use Rattle.hook_base.specs.AlikeLaws.{equiv_from_decides, file_decides};
+
+    ghost laws = { equiv_from_decides (pointwise ⟦<File as PartialEq>⟧.eq) (pointwise_decides file_decides) };
+}
