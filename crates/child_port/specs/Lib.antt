@@ -1,0 +1,4 @@
+pub mod AlikeLaws
+pub mod Outcomes
+pub mod Tables
+pub mod Telling

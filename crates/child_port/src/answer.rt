@@ -1,0 +1,22 @@
+use crate::Fault;
+use hook_base::{Bytes, Changes};
+
+/// What a completed child gave.
+#[derive(Clone, Debug, Drop, PartialEq, Eq)]
+pub struct Answer {
+    /// Its exit code.
+    pub status: u8,
+    /// Its standard output, followed by its standard error.
+    pub output: Bytes,
+    /// What became of the files of the tree that it ran on.
+    pub changes: Changes,
+}
+
+/// What became of a child.
+#[derive(Clone, Debug, Drop, PartialEq, Eq)]
+pub enum Outcome {
+    /// It completed, and gave this.
+    Done(Answer),
+    /// It failed. It gave nothing.
+    Failed(Fault),
+}

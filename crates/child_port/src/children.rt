@@ -1,0 +1,46 @@
+use crate::Outcome;
+use hook_base::{OutOfMemory, Text, Tree};
+
+/// Whatever starts children and tells what became of each.
+///
+/// Which outcomes it may tell for the words of a command and the files that its child has seen is fixed for its life.
+pub trait Children {
+    ghost use Rattle.std.specs.Prelude.{◌≡◌, ◌+◌, ◌≤◌, ◌<◌, ◌^◌, ◌-◌, ℕ, List, IfOk, OnOk, OnErr};
+    ghost use Rattle.hook_base.specs.declared.file.File.{File};
+    ghost use Rattle.hook_base.specs.Trees.{IsPartOf};
+    ghost use Rattle.child_port.specs.declared.answer.Outcome.{Outcome};
+    ghost use Rattle.child_port.specs.Outcomes.{faults_in};
+    ghost use Rattle.child_port.specs.Telling.{SameTells};
+
+    /// The outcomes that it may tell for words and seen files.
+    ghost tells: { Self → List (List ℕ) → List File → Outcome → Type 0 };
+
+    /// How many outcomes it has told.
+    ghost call_count: { Self → ℕ };
+
+    /// How many of them were faults.
+    ghost fault_count: { Self → ℕ };
+
+    /// Runs the words as a child on the tree, and tells what became of it. The child is known by its words and by the
+    /// files of the tree that it has seen. A refusal counts as no call.
+    fn run(&mut self, words: &[Text], tree: &Tree, seen: &Tree) -> Result<Outcome, OutOfMemory>
+        requires countable { call_count self.old < 2 ^ 64 - 1 }
+        requires seen_of_tree { IsPartOf seen.now tree.now }
+        ensures told { IfOk result (λ outcome. tells self.old words.now seen.now outcome) }
+        ensures calls { OnOk result (call_count self.new ≡ call_count self.old + 1) }
+        ensures faults { IfOk result (λ outcome. fault_count self.new ≡ fault_count self.old + faults_in outcome) }
+        ensures refused_calls { OnErr result (call_count self.new ≡ call_count self.old) }
+        ensures refused_faults { OnErr result (fault_count self.new ≡ fault_count self.old) }
+        ensures same { SameTells (tells self.old) (tells self.new) };
+
+    /// How many outcomes it has told.
+    fn calls(&self) -> u64
+        ensures { result ≡ call_count self.now };
+
+    /// How many of the outcomes that it has told were faults.
+    fn faults(&self) -> u64
+        ensures { result ≡ fault_count self.now };
+
+    /// Each fault is one of the outcomes.
+    ghost faults_at_most_calls: { (children : Self) → fault_count children ≤ call_count children };
+}

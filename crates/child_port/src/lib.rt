@@ -1,0 +1,21 @@
+//! The children that a run starts: what one answers, how it can fail, and the trait `Children` of whatever starts them.
+//!
+//! `Outcome` is what became of one child, `Answer` what a completed one gave, `Fault` how it failed. `TableChildren`
+//! answers by a table. The contracts cite `specs/Telling.antt` and `specs/Outcomes.antt`.
+#![tactic(auto)]
+
+mod answer;
+mod children;
+mod fault;
+mod table;
+mod table_outcome;
+mod table_row;
+
+pub use answer::{Answer, Outcome};
+pub use children::Children;
+pub use fault::Fault;
+pub use table::TableChildren;
+pub use table_row::TableRow;
+
+#[cfg(test)]
+mod tests;
