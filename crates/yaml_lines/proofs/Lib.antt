@@ -1,0 +1,5 @@
+mod Contents
+mod Decoded
+mod RawLines
+mod Scans
+mod Walks

@@ -1,0 +1,6 @@
+use Rattle.std.proofs.Common.{◌≡◌, ◌==◌, false, take}
+use Rattle.std.specs.List.{list_any}
+use Rattle.yaml_lines.proofs.scan.feed.Given as goal
+
+abbrev pub invariant-loop-i : goal.invariant-loop-i
+invariant-loop-i l = list_any (λ c. c == 10) (take l.i l.text) ≡ false

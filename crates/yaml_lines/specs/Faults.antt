@@ -1,0 +1,34 @@
+-- Faults, and what a call that reads some of a text promises by its answer.
+use Rattle.std.specs.Prelude.{◌≡◌, ◌≢◌, ℕ, Option, Some, None, Result, Ok, Err}
+use Rattle.yaml_lines.specs.declared.fault.YamlFault.{YamlFault}
+use Rattle.yaml_lines.specs.declared.fault.YamlKind.{YamlKind}
+use Rattle.yaml_lines.specs.declared.fault.YamlKind.TheVariants.{NotUtf8, TabIndent, Unsupported, Layout, Quote, DoubledKey, TooDeep, TooLarge, OutOfMemory}
+
+-- a refusal's number
+abbrev pub number_of : YamlKind → ℕ
+number_of NotUtf8 = 1
+number_of TabIndent = 2
+number_of Unsupported = 3
+number_of Layout = 4
+number_of Quote = 5
+number_of DoubledKey = 6
+number_of TooDeep = 7
+number_of TooLarge = 8
+number_of OutOfMemory = 9
+
+-- An answer is what the text means, seen by `see`, and a fault other than want of memory comes only where the text means
+-- nothing.
+abbrev pub Gives : {A B : Type 0} → (A → B) → Result A YamlFault → Option B → Type 0
+Gives see (Ok x) meant = meant ≡ Some (see x)
+Gives see (Err fault) meant = fault.kind ≢ OutOfMemory → meant ≡ None
+
+-- the same of a call that takes no memory
+abbrev pub GivesSurely : {A B : Type 0} → (A → B) → Result A YamlFault → Option B → Type 0
+GivesSurely see (Ok x) meant = meant ≡ Some (see x)
+GivesSurely see (Err _) meant = meant ≡ None
+
+-- What was read of a text is all that it means if there is no fault, and a fault comes only where the text means
+-- nothing. Of what was read before a fault nothing is said.
+abbrev pub GivesUpTo : {B : Type 0} → B → Option YamlFault → Option B → Type 0
+GivesUpTo read None meant = meant ≡ Some read
+GivesUpTo read (Some _) meant = meant ≡ None

@@ -1,0 +1,59 @@
+ghost use Rattle.std.specs.Prelude.{◌≡◌, ◌≤◌, IfOk, length, vec_len, chars};
+ghost use Rattle.yaml_lines.specs.Characters.{characters_of, most_bytes, without_mark};
+ghost use Rattle.yaml_lines.specs.Faults.{Gives};
+
+use crate::{YamlFault, YamlKind};
+use std::alloc::{AllocError, Global};
+
+/// The most bytes that a text may have, a byte order mark included.
+pub const MOST_BYTES: usize = 1_048_576;
+
+// The number of the line in which the bytes behind these stand.
+fn line_behind(bytes: &[u8]) -> usize
+    requires { length bytes.now ≤ most_bytes }
+{
+    bytes.iter().filter(|byte| **byte == b'\n').count() + 1
+}
+
+// All characters of the text.
+fn all_characters(alloc: Global, text: &str) -> Result<Vec<char>, AllocError>
+    ensures value { IfOk result (λ all. all.items ≡ chars text.now) }
+    ensures few { IfOk result (λ all. vec_len all ≤ length text.now) }
+{
+    text.chars().collect(alloc)
+}
+
+// The characters without a byte order mark at the start.
+fn without_mark(mut all: Vec<char>) -> Vec<char>
+    ensures value { result.items ≡ without_mark all.items }
+    ensures few { vec_len result ≤ vec_len all }
+{
+    if all.first() == Some(&'\u{feff}') {
+        all.remove(0);
+    }
+    all
+}
+
+/// The characters of the bytes, without a byte order mark at the start. More bytes than [`MOST_BYTES`] are `TooLarge`
+/// in line 1, bytes that aren't UTF-8 `NotUtf8` in the line of the first of them.
+pub fn characters(alloc: Global, bytes: &[u8]) -> Result<Vec<char>, YamlFault>
+    ensures meant { Gives (λ v. v.items) result (characters_of bytes.now) }
+    ensures few { IfOk result (λ v. vec_len v ≤ most_bytes) }
+{
+    if bytes.len() > MOST_BYTES {
+        return Err(YamlFault {
+            kind: YamlKind::TooLarge,
+            line: 1,
+        });
+    }
+    let text = match str::from_utf8(bytes) {
+        Ok(text) => text,
+        Err(error) => {
+            return Err(YamlFault {
+                kind: YamlKind::NotUtf8,
+                line: line_behind(&bytes[..error.valid_up_to()]),
+            });
+        }
+    };
+    Ok(without_mark(all_characters(alloc, text)?))
+}

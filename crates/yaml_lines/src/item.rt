@@ -1,0 +1,38 @@
+ghost use Rattle.std.specs.Prelude.{◌≡◌, true, option_to_list};
+ghost use Rattle.yaml_lines.specs.Entries.{is_item, item_of};
+ghost use Rattle.yaml_lines.specs.Faults.{GivesSurely};
+
+use crate::scan::{all_spaces, blank_or_end, blanks, front, skip};
+use crate::{Line, YamlFault, YamlKind};
+
+/// Whether the content begins a list's item: with a `-` that is followed by a blank or the end.
+#[tactic(auto, unfolding(crate::specs::Entries::is_item))]
+pub fn is_item(content: &[char]) -> bool
+    ensures { result ≡ is_item content.now }
+{
+    match content {
+        ['-', rest @ ..] => blank_or_end(rest),
+        _ => false,
+    }
+}
+
+/// What follows the dash of an item, as a line whose indentation is the column where it stands, or nothing where nothing
+/// follows. A tab between is `TabIndent`.
+pub fn after_dash<'a>(line: &Line<'a>) -> Result<Option<Line<'a>>, YamlFault>
+    requires { is_item line.now.content ≡ true }
+    ensures { GivesSurely option_to_list result (item_of line.now) }
+{
+    let rest = skip(line.content(), 1);
+    let blanks = blanks(rest);
+    let content = skip(rest, blanks);
+    if content.is_empty() {
+        return Ok(None);
+    }
+    if !all_spaces(front(rest, blanks)) {
+        return Err(YamlFault {
+            kind: YamlKind::TabIndent,
+            line: line.number(),
+        });
+    }
+    Ok(Some(Line::new(line.number(), line.indent() + 1 + blanks, content)))
+}

@@ -1,0 +1,12 @@
+/// A node of a YAML text, in this project's profile of YAML 1.2.2.
+#[derive(Debug, Drop)]
+pub enum Node {
+    /// A plain, quoted or block text. A block text isn't quoted.
+    Text { text: String, quoted: bool },
+    /// The items of a list, in order.
+    List(Vec<Node>),
+    /// The keys of a table with their values, in the order of the text. No key stands there twice.
+    Table(Vec<(String, Node)>),
+    /// A place where a node could stand and none does.
+    Empty,
+}

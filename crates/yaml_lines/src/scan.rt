@@ -1,0 +1,133 @@
+ghost use Rattle.std.specs.Prelude.{◌≡◌, ◌==◌, ◌<◌, ◌≤◌, ◌&&◌, true, false, IfOk, MatchOption, length, take, drop, slice_index, string_bytes, encode_utf8_all};
+ghost use Rattle.std.specs.List.{list_all, list_any, prefix_len};
+ghost use Rattle.yaml_lines.specs.Characters.{blank_or_end, is_allowed, is_blank, is_space};
+ghost use Rattle.yaml_lines.specs.Lines.{begins_with, trim_end, uncommented};
+
+use std::alloc::{AllocError, Global};
+
+// The characters from the one at `at` on.
+pub(crate) fn skip(text: &[char], at: usize) -> &[char]
+    requires { at ≤ length text.now }
+    ensures { result.now ≡ drop at text.now }
+{
+    &text[at..]
+}
+
+// The characters before the one at `at`.
+pub(crate) fn front(text: &[char], at: usize) -> &[char]
+    requires { at ≤ length text.now }
+    ensures { result.now ≡ take at text.now }
+{
+    &text[..at]
+}
+
+// Whether the character is a space or a tab.
+pub(crate) fn is_blank(c: char) -> bool
+    ensures { result ≡ is_blank c }
+{
+    c == ' ' || c == '\t'
+}
+
+// Whether the characters begin with a blank, or there are none.
+pub(crate) fn blank_or_end(text: &[char]) -> bool
+    ensures { result ≡ blank_or_end text.now }
+{
+    match text {
+        [] => true,
+        [first, ..] => is_blank(*first),
+    }
+}
+
+// Whether the characters begin with a tab.
+pub(crate) fn begins_with_tab(text: &[char]) -> bool
+    ensures { result ≡ begins_with 9 text.now }
+{
+    matches!(text, ['\t', ..])
+}
+
+// How many blanks the characters begin with.
+pub(crate) fn blanks(text: &[char]) -> usize
+    ensures counted { result ≡ prefix_len is_blank text.now }
+    ensures within { result ≤ length text.now }
+{
+    for (i, c) in text.iter().enumerate() {
+        if !is_blank(*c) {
+            return i;
+        }
+    }
+    text.len()
+}
+
+// How many spaces the characters begin with.
+pub(crate) fn spaces(text: &[char]) -> usize
+    ensures counted { result ≡ prefix_len is_space text.now }
+    ensures within { result ≤ length text.now }
+{
+    for (i, c) in text.iter().enumerate() {
+        if *c != ' ' {
+            return i;
+        }
+    }
+    text.len()
+}
+
+// Whether no character is another than a space.
+pub(crate) fn all_spaces(text: &[char]) -> bool
+    ensures { result ≡ list_all is_space text.now }
+{
+    text.iter().all(|c| *c == ' ')
+}
+
+// Where the first line feed stands.
+pub(crate) fn feed(text: &[char]) -> Option<usize>
+    ensures { MatchOption result (list_any (λ c. c == 10) text.now ≡ false) (λ at. (at < length text.now)
+        × (list_any (λ c. c == 10) (take at text.now) ≡ false) × (slice_index text.now at ≡ 10)) }
+{
+    for (i, c) in text.iter().enumerate() {
+        if *c == '\n' {
+            return Some(i);
+        }
+    }
+    None
+}
+
+// Whether a line may hold each of the characters.
+pub(crate) fn all_allowed(text: &[char]) -> bool
+    ensures { result ≡ list_all is_allowed text.now }
+{
+    text.iter().all(|c| *c >= ' ' || *c == '\t')
+}
+
+// The characters before a comment.
+pub(crate) fn uncommented(text: &[char]) -> &[char]
+    ensures value { result.now ≡ uncommented true text.now }
+    ensures within { length result.now ≤ length text.now }
+{
+    let mut free = true;
+    for (i, c) in text.iter().enumerate() {
+        if free && *c == '#' {
+            return front(text, i);
+        }
+        free = is_blank(*c);
+    }
+    text
+}
+
+// The characters without the blanks at their end.
+pub(crate) fn trim_end(text: &[char]) -> &[char]
+    ensures value { result.now ≡ trim_end text.now }
+    ensures within { length result.now ≤ length text.now }
+{
+    let mut end = text.len();
+    while end > 0 && is_blank(text[end - 1]) {
+        end -= 1;
+    }
+    front(text, end)
+}
+
+// The characters as a text.
+pub(crate) fn text_of(alloc: Global, characters: &[char]) -> Result<String, AllocError>
+    ensures { IfOk result (λ text. string_bytes text ≡ encode_utf8_all characters.now) }
+{
+    characters.iter().copied().collect(alloc)
+}
