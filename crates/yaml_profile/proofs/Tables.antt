@@ -1,0 +1,155 @@
+-- Rows whose keys differ, a row at a time.
+use Rattle.std.proofs.Common.{◌≡◌, ℕ, Bool, true, false, not, cond, ◌&&◌, ◌||◌, List, [], ◌∷◌, ◌++◌, Option, Some, None, option_map, option_and_then, String, Global, refl, sym, ap, ◌∙◌, rules}
+use Rattle.std.proofs.lemmas.List.Folds.{list_any-append}
+use Rattle.std.proofs.lemmas.Slice.Eq.{bytes_eq-Decides}
+use Rattle.std.specs.BTreeSet.{BTreeSet, contains_text}
+use Rattle.std.specs.List.{list_any}
+use Rattle.std.specs.Str.{bytes_eq}
+use Rattle.yaml_profile.specs.Blocks.{Row, all_of, keys_differ, distinct}
+use Rattle.yaml_profile.specs.Rows.{fresh}
+use Rattle.yaml_profile.proofs.Lists.{prepend, one_more, refused, all_read}
+
+abbrev pub has_key : List ℕ → List Row → Bool
+has_key k rs = list_any (λ r. bytes_eq k r.0) rs
+
+-- the rows read so far with those of the parts that are left, as those of a table
+abbrev pub rows_with : {A : Type 0} → (A → Option Row) → List Row → List A → Option (List Row)
+rows_with f rs rest = option_and_then distinct (prepend rs (all_of f rest))
+
+-- the keys of one row differ
+pub alone : keys_differ [] ≡ true
+unfolding keys_differ
+alone = refl
+
+-- an empty set has no key
+pub none_seen : (seen : BTreeSet (String Global)) → seen.keys ≡ [] → (q : List ℕ) → contains_text seen q ≡ has_key q []
+none_seen seen e q = search (rules, e)
+
+-- ---- tests
+
+same_truth : (a b : Bool) → (a ≡ true → b ≡ true) → (b ≡ true → a ≡ true) → a ≡ b
+same_truth true b f g = sym (f refl)
+same_truth false true f g = g refl
+same_truth false false f g = refl
+
+bytes_eq-flip : (xs ys : List ℕ) → bytes_eq xs ys ≡ bytes_eq ys xs
+bytes_eq-flip xs ys =
+    same_truth _ _
+    (λ e. (bytes_eq-Decides ys xs).1 (sym ((bytes_eq-Decides xs ys).0 e)))
+    (λ e. (bytes_eq-Decides xs ys).1 (sym ((bytes_eq-Decides ys xs).0 e)))
+
+or_false : (b : Bool) → (b || false) ≡ b
+or_false true = refl
+or_false false = refl
+
+or_parts : (a b : Bool) → (a || b) ≡ false → (a ≡ false) × (b ≡ false)
+or_parts true b e = absurd (cc)
+or_parts false b e = (refl, e)
+
+and_parts : (a b : Bool) → (a && b) ≡ true → (a ≡ true) × (b ≡ true)
+and_parts true b e = (refl, e)
+and_parts false b e = absurd (cc)
+
+-- ---- one row more
+
+-- the keys with one more behind them
+has_key-push : (k : List ℕ) (rs : List Row) (r : Row) → has_key k (rs ++ r ∷ []) ≡ (has_key k rs || bytes_eq r.0 k)
+has_key-push k rs r =
+    list_any-append (λ s. bytes_eq k s.0) rs (r ∷ []) ∙ ap (λ b. has_key k rs || b) (or_false (bytes_eq k r.0) ∙ bytes_eq-flip k r.0)
+
+absent : (k : List ℕ) (rs : List Row) (r : Row) → has_key k rs ≡ false → bytes_eq r.0 k ≡ false → has_key k (rs ++ r ∷ []) ≡ false
+absent k rs r e f = has_key-push k rs r ∙ ap (λ b. b || bytes_eq r.0 k) e ∙ f
+
+both : (a b : Bool) → a ≡ false → b ≡ true → (not a && b) ≡ true
+both true b e f = absurd (cc)
+both false b e f = f
+
+opposite : (a : Bool) → not a ≡ true → a ≡ false
+opposite true e = absurd (cc)
+opposite false e = refl
+
+pub keys_differ-push : (rs : List Row) (r : Row) → keys_differ rs ≡ true → has_key r.0 rs ≡ false → keys_differ (rs ++ r ∷ []) ≡ true
+unfolding keys_differ
+keys_differ-push [] r apart new = refl
+keys_differ-push (s ∷ rs) r apart new =
+    let parts = and_parts (not (has_key s.0 rs)) (keys_differ rs) apart in
+    let others = or_parts (bytes_eq r.0 s.0) (has_key r.0 rs) new in
+    both _ _ (absent s.0 rs r (opposite _ parts.0) others.0) (keys_differ-push rs r parts.1 others.1)
+
+flipped : (a b : Bool) → cond a true b ≡ (b || a)
+flipped true true = refl
+flipped true false = refl
+flipped false true = refl
+flipped false false = refl
+
+-- what is seen after a row is what was seen before it, and its key
+pub seen-push : (q : List ℕ) (rs : List Row) (r : Row) (b : Bool) → b ≡ has_key q rs → cond (bytes_eq r.0 q) true b ≡ has_key q (rs ++ r ∷ [])
+seen-push q rs r b e = flipped (bytes_eq r.0 q) b ∙ ap (λ s. s || bytes_eq r.0 q) e ∙ sym (has_key-push q rs r)
+
+-- ---- a key that stands there already
+
+not_both : (a b : Bool) → a ≡ true → (not a && b) ≡ false
+not_both true b e = refl
+not_both false b e = absurd (cc)
+
+and_false : (a b : Bool) → b ≡ false → (a && b) ≡ false
+and_false true b e = e
+and_false false b e = refl
+
+later_too : (a b : Bool) → b ≡ true → (a || b) ≡ true
+later_too true b e = refl
+later_too false b e = e
+
+has_key-within : (k : List ℕ) (rs later : List Row) (r : Row) → bytes_eq k r.0 ≡ true → has_key k (rs ++ r ∷ later) ≡ true
+has_key-within k [] later r e = ap (λ b. b || has_key k later) e
+has_key-within k (s ∷ rs) later r e = later_too (bytes_eq k s.0) _ (has_key-within k rs later r e)
+
+doubled_by : (s : Row) (rs later : List Row) (r : Row) (b : Bool) → bytes_eq r.0 s.0 ≡ b → (b || has_key r.0 rs) ≡ true
+    → (has_key r.0 rs ≡ true → keys_differ (rs ++ r ∷ later) ≡ false) → (not (has_key s.0 (rs ++ r ∷ later)) && keys_differ (rs ++ r ∷ later)) ≡ false
+doubled_by s rs later r true e some deeper = not_both _ _ (has_key-within s.0 rs later r (bytes_eq-flip s.0 r.0 ∙ e))
+doubled_by s rs later r false e some deeper = and_false _ _ (deeper some)
+
+doubled : (rs later : List Row) (r : Row) → has_key r.0 rs ≡ true → keys_differ (rs ++ r ∷ later) ≡ false
+unfolding keys_differ
+doubled [] later r e = absurd (cc)
+doubled (s ∷ rs) later r e = doubled_by s rs later r (bytes_eq r.0 s.0) refl e (doubled rs later r)
+
+doubled_in : (rs : List Row) (r : Row) (o : Option (List Row)) → has_key r.0 rs ≡ true → option_and_then distinct (prepend rs (option_map (λ ys. r ∷ ys) o)) ≡ None
+doubled_in rs r None e = refl
+doubled_in rs r (Some later) e = rw (doubled rs later r e)
+
+-- ---- the loop over a table's parts
+
+was_seen : (b : Bool) (r : Row) → cond b None (Some r) ≡ None → b ≡ true
+was_seen true r e = refl
+was_seen false r e = absurd (cc)
+
+unseen_by : (seen : List ℕ → Bool) (s r : Row) (b : Bool) → seen s.0 ≡ b → ◌≡◌ {A = Option Row} (cond b None (Some s)) (Some r)
+    → (◌≡◌ {A = Option Row} (Some s) (Some r)) × (seen r.0 ≡ false)
+unseen_by seen s r true e f = absurd (cc)
+unseen_by seen s r false e f = (f, ap seen (ap (λ o. key_in o) (sym f)) ∙ e)
+  where
+    key_in : Option Row → List ℕ
+    key_in None = []
+    key_in (Some r) = r.0
+
+-- a row that was read while its key wasn't seen
+pub unseen : (seen : List ℕ → Bool) (o : Option Row) (r : Row) → fresh seen o ≡ Some r → (o ≡ Some r) × (seen r.0 ≡ false)
+unseen seen None r e = absurd (cc)
+unseen seen (Some s) r e = unseen_by seen s r (seen s.0) refl e
+
+module _ {A : Type 0} (f : A → Option Row) where
+  pub row_read : (rs : List Row) (a : A) (rest : List A) (r : Row) → f a ≡ Some r → rows_with f rs (a ∷ rest) ≡ rows_with f (rs ++ r ∷ []) rest
+  row_read rs a rest r e = ap (option_and_then distinct) (one_more f rs a rest r e)
+
+  refused_by : (seen : List ℕ → Bool) (rs : List Row) (a : A) (rest : List A) (o : Option Row) → f a ≡ o → ((q : List ℕ) → seen q ≡ has_key q rs) → fresh seen o ≡ None → rows_with f rs (a ∷ rest) ≡ None
+  unfolding all_of
+  refused_by seen rs a rest None e same none = ap (option_and_then distinct) (refused f rs a rest e)
+  refused_by seen rs a rest (Some r) e same none =
+      rw e (doubled_in rs r (all_of f rest) (sym (same r.0) ∙ was_seen (seen r.0) r none))
+
+  pub row_refused : (seen : List ℕ → Bool) (rs : List Row) (a : A) (rest : List A) → ((q : List ℕ) → seen q ≡ has_key q rs) → fresh seen (f a) ≡ None → rows_with f rs (a ∷ rest) ≡ None
+  row_refused seen rs a rest same none = refused_by seen rs a rest (f a) refl same none
+
+  pub rows_read : (rs : List Row) → keys_differ rs ≡ true → rows_with f rs [] ≡ Some rs
+  rows_read rs apart = ap (option_and_then distinct) (all_read f rs) ∙ rw apart

@@ -1,0 +1,7 @@
+pub use Rattle.yaml_lines.specs.Faults
+pub use Rattle.yaml_lines.specs.Meaning
+pub use Rattle.yaml_lines.specs.View
+pub use Rattle.yaml_lines.specs.ViewLaws
+pub mod Blocks
+pub mod Rows
+pub mod Text

@@ -1,0 +1,212 @@
+// Nodes by their lines: lists and tables by the indentation, and single texts.
+ghost use Rattle.std.specs.Prelude.{◌≡◌, ℕ, List, [], ◌∷◌, ◌<◌, ◌≤◌, length, map, IfOk, if◌then◌else◌, true, string_bytes, IsOk, ◌↔◌};
+ghost use Rattle.std.specs.BTreeSet.{contains_text};
+ghost use Rattle.std.specs.Str.{bytes_eq};
+ghost use Rattle.yaml_lines.specs.Faults.{Gives};
+ghost use Rattle.yaml_lines.specs.Plain.{plain_meaning};
+ghost use Rattle.yaml_lines.specs.View.{view};
+ghost use Rattle.yaml_lines.specs.ViewLaws.{member_view};
+ghost use Rattle.yaml_profile.specs.Blocks as blocks;
+ghost use Rattle.yaml_profile.specs.Rows.{fresh, rows_of};
+
+use crate::keys::see;
+use crate::parts::{split_below_key, split_deeper};
+use std::alloc::Global;
+use std::collections::BTreeSet;
+use yaml_lines::{
+    Line, Node, YamlFault, YamlKind, after_dash, is_item, plain, read_entry, refusal,
+};
+
+fn fault(kind: YamlKind, line: usize) -> YamlFault {
+    YamlFault { kind, line }
+}
+
+/// The node of the lines, where at most `room` nodes may lie within one another. `number` is the line of what they
+/// belong to.
+#[cycle(blocks)]
+pub(crate) fn block(
+    alloc: Global,
+    lines: &[Line<'_>],
+    room: usize,
+    number: usize,
+) -> Result<Node, YamlFault>
+    ensures { Gives view result (blocks.node room lines.now) }
+{
+    match lines {
+        [first, later @ ..] => node(alloc, first, later, room),
+        [] => no_lines(room, number),
+    }
+}
+
+// An empty node is a node too.
+fn no_lines(room: usize, number: usize) -> Result<Node, YamlFault>
+    ensures { Gives view result (blocks.node room []) }
+{
+    if room == 0 {
+        return Err(fault(YamlKind::TooDeep, number));
+    }
+    Ok(Node::Empty)
+}
+
+// The node whose first line is given with the lines after it.
+#[cycle(blocks)]
+fn node(alloc: Global, first: &Line<'_>, later: &[Line<'_>], room: usize) -> Result<Node, YamlFault>
+    ensures { Gives view result (blocks.node room (first.now ∷ later.now)) }
+{
+    if room == 0 {
+        return Err(fault(YamlKind::TooDeep, first.number()));
+    }
+    let content = first.content();
+    if is_item(content) {
+        let found = items(alloc, first, later, room - 1)?;
+        return Ok(Node::List(found));
+    }
+    if read_entry(content).is_some() {
+        let found = rows(alloc, first, later, room - 1)?;
+        return Ok(Node::Table(found));
+    }
+    lone_text(alloc, content, later, first.number())
+}
+
+// A single text, below which no lines stand.
+fn lone_text(
+    alloc: Global,
+    text: &[char],
+    below: &[Line<'_>],
+    number: usize,
+) -> Result<Node, YamlFault>
+    ensures { Gives view result (blocks.lone (plain_meaning text.now) below.now) }
+{
+    let node = plain(alloc, number, text)?;
+    match below {
+        [] => Ok(node),
+        [line, ..] => Err(fault(YamlKind::Layout, line.number())),
+    }
+}
+
+// A list's items and a table's keys all stand as deep as the first.
+fn check_indent(line: &Line<'_>, indent: usize) -> Result<(), YamlFault>
+    ensures { IsOk result ↔ (line.now.indent ≡ indent) }
+{
+    if line.indent() == indent {
+        Ok(())
+    } else {
+        Err(fault(YamlKind::Layout, line.number()))
+    }
+}
+
+// The items of a list. The first line may be what follows another list's dash, so it stands apart from the others.
+#[cycle(blocks)]
+fn items(
+    alloc: Global,
+    first: &Line<'_>,
+    later: &[Line<'_>],
+    room: usize,
+) -> Result<Vec<Node>, YamlFault>
+    ensures { Gives (λ v. map view v.items) result (blocks.items (blocks.node room) first.now later.now) }
+{
+    let indent = first.indent();
+    let (below, mut rest) = split_deeper(later, indent);
+    let mut found = Vec::new(alloc);
+    found.push(item(alloc, first, below, indent, room)?)?;
+    'items: while let [next, others @ ..] = rest {
+        let (below, after) = split_deeper(others, indent);
+        found.push(item(alloc, next, below, indent, room)?)?;
+        rest = after;
+    }
+    Ok(found)
+}
+
+// The item that the line begins, with the lines below it.
+#[cycle(blocks)]
+fn item(
+    alloc: Global,
+    line: &Line<'_>,
+    below: &[Line<'_>],
+    indent: usize,
+    room: usize,
+) -> Result<Node, YamlFault>
+    ensures { Gives view result
+        (blocks.item (blocks.node room) indent (record { head = line.now; below = below.now })) }
+{
+    check_indent(line, indent)?;
+    if !is_item(line.content()) {
+        return Err(refusal(line.number(), line.content()));
+    }
+    match after_dash(line)? {
+        Some(rest) => node(alloc, &rest, below, room),
+        None => block(alloc, below, room, line.number()),
+    }
+}
+
+// The keys of a table with their values.
+#[cycle(blocks)]
+fn rows(
+    alloc: Global,
+    first: &Line<'_>,
+    later: &[Line<'_>],
+    room: usize,
+) -> Result<Vec<(String, Node)>, YamlFault>
+    ensures { Gives rows_of result
+        (blocks.rows (blocks.node room) (blocks.text_within room) first.now later.now) }
+{
+    let indent = first.indent();
+    let (below, mut rest) = split_below_key(later, indent);
+    let mut seen = BTreeSet::new(alloc);
+    let mut found = Vec::new(alloc);
+    found.push(entry(alloc, &mut seen, first, below, indent, room)?)?;
+    'rows: while let [next, others @ ..] = rest {
+        let (below, after) = split_below_key(others, indent);
+        found.push(entry(alloc, &mut seen, next, below, indent, room)?)?;
+        rest = after;
+    }
+    Ok(found)
+}
+
+// The key that the line begins with, and its value. The key counts as seen before its value is read, so a doubled key is
+// named before a fault of its value.
+#[cycle(blocks)]
+fn entry(
+    alloc: Global,
+    seen: &mut BTreeSet<String>,
+    line: &Line<'_>,
+    below: &[Line<'_>],
+    indent: usize,
+    room: usize,
+) -> Result<(String, Node), YamlFault>
+    ensures given { Gives member_view result (fresh (contains_text seen.old)
+        (blocks.entry (blocks.node room) (blocks.text_within room) indent
+        (record { head = line.now; below = below.now }))) }
+    ensures seen { IfOk result (λ row. (q : List ℕ) → contains_text seen.new q
+        ≡ (if bytes_eq (string_bytes row.0) q then true else contains_text seen.old q)) }
+{
+    check_indent(line, indent)?;
+    let Some(found) = read_entry(line.content()) else {
+        return Err(refusal(line.number(), line.content()));
+    };
+    let key = found.key(alloc)?;
+    see(alloc, seen, key.as_str(), line.number())?;
+    let node = value(alloc, found.value(), below, room, line.number())?;
+    Ok((key, node))
+}
+
+// A key's value: the text on its line, or the node of the lines below.
+#[cycle(blocks)]
+fn value(
+    alloc: Global,
+    text: &[char],
+    below: &[Line<'_>],
+    room: usize,
+    number: usize,
+) -> Result<Node, YamlFault>
+    ensures { Gives view result
+        (blocks.value (blocks.node room) (blocks.text_within room) text.now below.now) }
+{
+    if text.is_empty() {
+        return block(alloc, below, room, number);
+    }
+    if room == 0 {
+        return Err(fault(YamlKind::TooDeep, number));
+    }
+    lone_text(alloc, text, below, number)
+}

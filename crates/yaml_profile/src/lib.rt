@@ -1,0 +1,14 @@
+//! The YAML reader: from the bytes of a text to its [`Node`], or the first fault and its line.
+//!
+//! [`read`] takes this project's profile of YAML 1.2.2: comments, one document, block lists and tables by their
+//! indentation, and plain texts. Its contract cites `specs/Text.antt`, which says what bytes mean, and
+//! `specs/Blocks.antt`, which says what their lines mean.
+#![tactic(auto)]
+
+mod blocks;
+mod keys;
+mod parts;
+mod text;
+
+pub use text::read;
+pub use yaml_lines::{Node, YamlFault, YamlKind};

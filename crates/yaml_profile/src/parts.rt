@@ -1,0 +1,61 @@
+// Where the lines that belong to the part above them end.
+ghost use Rattle.std.specs.Prelude.{◌≡◌, ◌≤◌, length};
+ghost use Rattle.std.specs.List.{prefix_len};
+ghost use Rattle.yaml_profile.specs.Blocks.{cut, parts, is_deeper, is_below_key};
+
+use yaml_lines::{Line, is_item};
+
+/// The lines from the first on that stand deeper than `indent`, and the others.
+pub(crate) fn split_deeper<'a, 'b>(
+    lines: &'a [Line<'b>],
+    indent: usize,
+) -> (&'a [Line<'b>], &'a [Line<'b>])
+    ensures below { result.0.now ≡ (cut (is_deeper indent) lines.now).before }
+    ensures rest { parts (is_deeper indent) result.1.now ≡ (cut (is_deeper indent) lines.now).parts }
+    ensures fewer { length result.1.now ≤ length lines.now }
+{
+    lines.split_at(count_deeper(lines, indent))
+}
+
+/// The same for lines that stand deeper than a table's keys or begin an item of a list as deep as they are.
+pub(crate) fn split_below_key<'a, 'b>(
+    lines: &'a [Line<'b>],
+    indent: usize,
+) -> (&'a [Line<'b>], &'a [Line<'b>])
+    ensures below { result.0.now ≡ (cut (is_below_key indent) lines.now).before }
+    ensures rest { parts (is_below_key indent) result.1.now ≡ (cut (is_below_key indent) lines.now).parts }
+    ensures fewer { length result.1.now ≤ length lines.now }
+{
+    lines.split_at(count_below_key(lines, indent))
+}
+
+fn count_deeper(lines: &[Line<'_>], indent: usize) -> usize
+    ensures within { result ≤ length lines.now }
+    ensures value { result ≡ prefix_len (is_deeper indent) lines.now }
+{
+    for (count, line) in lines.iter().enumerate() {
+        if line.indent() <= indent {
+            return count;
+        }
+    }
+    lines.len()
+}
+
+// Whether the line belongs to the key above it: it stands deeper, or it begins an item of a list as deep as the key.
+fn is_line_below_key(line: &Line<'_>, indent: usize) -> bool
+    ensures { result ≡ is_below_key indent line.now }
+{
+    line.indent() > indent || (line.indent() == indent && is_item(line.content()))
+}
+
+fn count_below_key(lines: &[Line<'_>], indent: usize) -> usize
+    ensures within { result ≤ length lines.now }
+    ensures value { result ≡ prefix_len (is_below_key indent) lines.now }
+{
+    for (count, line) in lines.iter().enumerate() {
+        if !is_line_below_key(line, indent) {
+            return count;
+        }
+    }
+    lines.len()
+}
