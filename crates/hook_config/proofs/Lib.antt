@@ -1,0 +1,3 @@
+pub mod HookFields
+pub mod Views
+pub mod HookLists

@@ -1,0 +1,42 @@
+-- The hooks of all repositories of a configuration.
+use Rattle.std.specs.Prelude.{ℕ, List, [], ◌∷◌, ◌++◌, length, if◌then◌else◌, nat_le, bytes_eq, Option, Some, None, option_map, option_and_then}
+use Rattle.yaml_lines.specs.Meaning.{Meaning}
+use Rattle.hook_config.specs.Rows.{Row, table_of, list_of}
+use Rattle.hook_config.specs.Kinds.{text_of, required}
+use Rattle.hook_config.specs.HookTable.{hook_of}
+use Rattle.hook_config.specs.declared.configuration.Hook.{Hook}
+use Rattle.hook_config.specs.declared.known_keys.TheConstants.{REPO, HOOKS, LOCAL}
+
+-- the lists that f gives for each value, joined, or none where it gives none for one of them
+abbrev pub joined : {A B : Type 0} → (A → Option (List B)) → List A → Option (List B)
+joined f [] = Some []
+joined f (x ∷ xs) = option_and_then (λ ys. option_map (λ rest. ys ++ rest) (joined f xs)) (f x)
+
+-- the one hook of a hook's table
+abbrev pub hook_alone : Meaning → Option (List Hook)
+hook_alone value = option_map (λ hook. hook ∷ []) (hook_of value)
+
+-- the hooks of a list of hook tables
+abbrev pub hooks_of_list : List Meaning → Option (List Hook)
+hooks_of_list = joined hook_alone
+
+abbrev pub hooks_of_named : List Row → List ℕ → Option (List Hook)
+hooks_of_named rows repository = if bytes_eq repository LOCAL.now then option_and_then hooks_of_list (required list_of HOOKS.now rows) else None
+
+-- the hooks of a repository's table, where that repository is `local`
+abbrev pub hooks_of_rows : List Row → Option (List Hook)
+hooks_of_rows rows = option_and_then (hooks_of_named rows) (required text_of REPO.now rows)
+
+abbrev pub hooks_of_repository : Meaning → Option (List Hook)
+hooks_of_repository value = option_and_then hooks_of_rows (table_of value)
+
+-- at most 500 hooks
+abbrev pub within_limit : List Hook → Option (List Hook)
+within_limit hooks = if nat_le (length hooks) 500 then Some hooks else None
+
+-- the hooks before with those that were found after them
+abbrev pub after : List Hook → Option (List Hook) → Option (List Hook)
+after before found = option_and_then (λ hooks. within_limit (before ++ hooks)) found
+
+abbrev pub hooks_of_repositories : List Meaning → Option (List Hook)
+hooks_of_repositories repositories = option_and_then within_limit (joined hooks_of_repository repositories)

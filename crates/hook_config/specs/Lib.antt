@@ -1,0 +1,9 @@
+pub mod Configuration
+pub mod Gives
+pub mod HookTable
+pub mod Hooks
+pub mod Kinds
+pub mod KnownKeys
+pub mod Refusals
+pub mod Rows
+pub mod UnknownKeys

@@ -1,0 +1,51 @@
+-- The numbers and the printed names of a configuration's refusals, and the refusal of a text that is no YAML.
+use Rattle.std.specs.Prelude.{ℕ, List, codes}
+use Rattle.yaml_lines.specs.declared.fault.YamlFault.{YamlFault}
+use Rattle.yaml_lines.specs.declared.fault.YamlKind.{YamlKind}
+use Rattle.yaml_lines.specs.declared.fault.YamlKind.TheVariants.{NotUtf8, TabIndent, Unsupported as NotSupported, Layout, Quote, DoubledKey, TooDeep, TooLarge, OutOfMemory as YamlOutOfMemory}
+use Rattle.hook_config.specs.declared.config_fault.ConfigFault.{ConfigFault}
+use Rattle.hook_config.specs.declared.config_fault.ConfigKind.{ConfigKind}
+use Rattle.hook_config.specs.declared.config_fault.ConfigKind.TheVariants.{Yaml, Shape, MissingKey, BadStage, BadLanguage, RemoteRepo, BadPattern, BadEntry, BadArgs, Unsupported, TooMany, OutOfMemory}
+
+abbrev pub number_of : ConfigKind → ℕ
+number_of (Yaml fault) = 1
+number_of Shape = 2
+number_of MissingKey = 3
+number_of BadStage = 4
+number_of BadLanguage = 5
+number_of RemoteRepo = 6
+number_of BadPattern = 7
+number_of BadEntry = 8
+number_of BadArgs = 9
+number_of Unsupported = 10
+number_of TooMany = 11
+number_of OutOfMemory = 12
+
+abbrev pub name_of : ConfigKind → List ℕ
+name_of (Yaml fault) = codes "Yaml"
+name_of Shape = codes "Shape"
+name_of MissingKey = codes "MissingKey"
+name_of BadStage = codes "BadStage"
+name_of BadLanguage = codes "BadLanguage"
+name_of RemoteRepo = codes "RemoteRepo"
+name_of BadPattern = codes "BadPattern"
+name_of BadEntry = codes "BadEntry"
+name_of BadArgs = codes "BadArgs"
+name_of Unsupported = codes "Unsupported"
+name_of TooMany = codes "TooMany"
+name_of OutOfMemory = codes "OutOfMemory"
+
+abbrev pub kind_of_yaml : YamlKind → YamlFault → ConfigKind
+kind_of_yaml NotUtf8 fault = Yaml fault
+kind_of_yaml TabIndent fault = Yaml fault
+kind_of_yaml NotSupported fault = Yaml fault
+kind_of_yaml Layout fault = Yaml fault
+kind_of_yaml Quote fault = Yaml fault
+kind_of_yaml DoubledKey fault = Yaml fault
+kind_of_yaml TooDeep fault = Yaml fault
+kind_of_yaml TooLarge fault = Yaml fault
+kind_of_yaml YamlOutOfMemory fault = OutOfMemory
+
+-- a fault of the text, at its line
+abbrev pub of_yaml : YamlFault → ConfigFault
+of_yaml fault = record { kind = kind_of_yaml fault.kind fault; at = fault.line }

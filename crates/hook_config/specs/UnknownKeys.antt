@@ -1,0 +1,43 @@
+-- The keys that no table of a configuration knows, in the order of the text: the keys of a repository or a hook stand
+-- where its table stands.
+use Rattle.std.specs.Prelude.{ℕ, List, [], ◌∷◌, if◌then◌else◌, bytes_eq, unwrap_or}
+use Rattle.std.specs.List.{flat_map}
+use Rattle.yaml_lines.specs.Meaning.{Meaning}
+use Rattle.hook_config.specs.Rows.{Row, is_among, table_of, list_of}
+use Rattle.hook_config.specs.declared.known_keys.TheConstants.{REPOS, HOOKS}
+use Rattle.hook_config.specs.KnownKeys.{top_keys, repository_keys, hook_keys}
+
+-- a table's rows, none where the value is no table
+abbrev pub rows_in : Meaning → List Row
+rows_in value = unwrap_or (table_of value) []
+
+-- a list's items, none where the value is no list
+abbrev pub items_in : Meaning → List Meaning
+items_in value = unwrap_or (list_of value) []
+
+-- the word, unless it is one of these
+abbrev pub unless_among : List (List ℕ) → List ℕ → List (List ℕ)
+unless_among known word = if is_among known word then [] else word ∷ []
+
+-- the row's key, unless it is known
+abbrev pub unknown_key : List (List ℕ) → Row → List (List ℕ)
+unknown_key known row = unless_among known row.0
+
+abbrev pub unknown_of_hook : Meaning → List (List ℕ)
+unknown_of_hook value = flat_map (unknown_key hook_keys) (rows_in value)
+
+-- the row's key, unless it is known; at `hooks` the unknown keys of the hooks
+abbrev pub unknown_of_repository_row : Row → List (List ℕ)
+unknown_of_repository_row row =
+    if bytes_eq row.0 HOOKS.now then flat_map unknown_of_hook (items_in row.1) else unknown_key repository_keys row
+
+abbrev pub unknown_of_repository : Meaning → List (List ℕ)
+unknown_of_repository value = flat_map unknown_of_repository_row (rows_in value)
+
+-- the row's key, unless it is known; at `repos` the unknown keys of the repositories
+abbrev pub unknown_of_top_row : Row → List (List ℕ)
+unknown_of_top_row row =
+    if bytes_eq row.0 REPOS.now then flat_map unknown_of_repository (items_in row.1) else unknown_key top_keys row
+
+abbrev pub unknown_of_top : List Row → List (List ℕ)
+unknown_of_top = flat_map unknown_of_top_row

@@ -1,0 +1,183 @@
+ghost use Rattle.std.specs.Prelude.{◌≡◌};
+ghost use Rattle.hook_config.specs.Refusals.{number_of, name_of};
+
+use hook_base::OutOfMemory;
+use std::alloc::{AllocError, AllocFailed};
+use thiserror::Error;
+use yaml_profile::{YamlFault, YamlKind};
+
+/// Why bytes are no configuration.
+#[derive(Clone, Copy, Debug, PartialEq, Eq, Error)]
+pub enum ConfigKind {
+    /// The bytes aren't YAML of this project's profile.
+    #[error("the text is not YAML that can be read")]
+    Yaml(YamlFault),
+    /// A node is of another kind than its place wants, or a text is longer than a text may be.
+    #[error("a value is of the wrong kind")]
+    Shape,
+    /// A key that its table must have isn't there.
+    #[error("a required key is missing")]
+    MissingKey,
+    /// A stage isn't one of githooks(5) that pre-commit knows.
+    #[error("a stage is not known")]
+    BadStage,
+    /// A language isn't one of the four that are known.
+    #[error("a language is not known")]
+    BadLanguage,
+    /// A repository is another than `local`.
+    #[error("a repository is not `local`")]
+    RemoteRepo,
+    /// A pattern isn't a regular expression.
+    #[error("a pattern cannot be read")]
+    BadPattern,
+    /// An entry can't be cut into words.
+    #[error("an entry cannot be read")]
+    BadEntry,
+    /// An argument isn't one that the language takes.
+    #[error("an argument is not known")]
+    BadArgs,
+    /// A key or a language is known and not served.
+    #[error("a key or a language is not supported")]
+    Unsupported,
+    /// There are more than 500 hooks.
+    #[error("there are more than 500 hooks")]
+    TooMany,
+    /// Memory was refused.
+    #[error("out of memory")]
+    OutOfMemory,
+}
+
+impl From<AllocError> for ConfigKind {
+    ghost use Rattle.std.specs.Prelude.{◌≡◌};
+    ghost use Rattle.hook_config.specs.declared.config_fault.ConfigKind.TheVariants.{OutOfMemory};
+
+    ghost from_gives = { λ _ kind. kind ≡ OutOfMemory };
+
+    fn from(_refused: AllocError) -> Self {
+        ConfigKind::OutOfMemory
+    }
+}
+
+impl<T: Drop> From<AllocFailed<T>> for ConfigKind {
+    ghost use Rattle.std.specs.Prelude.{◌≡◌};
+    ghost use Rattle.hook_config.specs.declared.config_fault.ConfigKind.TheVariants.{OutOfMemory};
+
+    ghost from_gives = { λ _ kind. kind ≡ OutOfMemory };
+
+    fn from(_refused: AllocFailed<T>) -> Self {
+        ConfigKind::OutOfMemory
+    }
+}
+
+impl ConfigKind {
+    /// The refusal's number, from 1 to 12.
+    pub fn number(&self) -> u8
+        ensures { result ≡ number_of self.now }
+    {
+        match self {
+            ConfigKind::Yaml(_) => 1,
+            ConfigKind::Shape => 2,
+            ConfigKind::MissingKey => 3,
+            ConfigKind::BadStage => 4,
+            ConfigKind::BadLanguage => 5,
+            ConfigKind::RemoteRepo => 6,
+            ConfigKind::BadPattern => 7,
+            ConfigKind::BadEntry => 8,
+            ConfigKind::BadArgs => 9,
+            ConfigKind::Unsupported => 10,
+            ConfigKind::TooMany => 11,
+            ConfigKind::OutOfMemory => 12,
+        }
+    }
+
+    /// The refusal's name, as it is printed after its number.
+    pub fn name(&self) -> &'static str
+        ensures { result.now ≡ name_of self.now }
+    {
+        match self {
+            ConfigKind::Yaml(_) => "Yaml",
+            ConfigKind::Shape => "Shape",
+            ConfigKind::MissingKey => "MissingKey",
+            ConfigKind::BadStage => "BadStage",
+            ConfigKind::BadLanguage => "BadLanguage",
+            ConfigKind::RemoteRepo => "RemoteRepo",
+            ConfigKind::BadPattern => "BadPattern",
+            ConfigKind::BadEntry => "BadEntry",
+            ConfigKind::BadArgs => "BadArgs",
+            ConfigKind::Unsupported => "Unsupported",
+            ConfigKind::TooMany => "TooMany",
+            ConfigKind::OutOfMemory => "OutOfMemory",
+        }
+    }
+}
+
+/// A refused configuration, and where it is wrong.
+#[derive(Clone, Copy, Debug, PartialEq, Eq, Error)]
+#[error("{kind}")]
+pub struct ConfigFault {
+    pub kind: ConfigKind,
+    /// For `Yaml` the line of the text, counted from 1. Else the hook's number, counted from 1 over all repositories,
+    /// or 0 outside hooks.
+    pub at: u64,
+}
+
+impl ConfigFault {
+    /// The refusal's number, from 1 to 12.
+    pub fn number(&self) -> u8
+        ensures { result ≡ number_of self.now.kind }
+    {
+        self.kind.number()
+    }
+
+    /// The refusal's name, as it is printed after its number.
+    pub fn name(&self) -> &'static str
+        ensures { result.now ≡ name_of self.now.kind }
+    {
+        self.kind.name()
+    }
+}
+
+/// A fault outside hooks.
+impl From<ConfigKind> for ConfigFault {
+    ghost use Rattle.std.specs.Prelude.{◌≡◌};
+
+    ghost from_gives = { λ kind fault. fault ≡ record { kind = kind; at = 0 } };
+
+    fn from(kind: ConfigKind) -> Self {
+        ConfigFault { kind, at: 0 }
+    }
+}
+
+/// A fault of the text, at its line.
+impl From<YamlFault> for ConfigFault {
+    ghost use Rattle.std.specs.Prelude.{◌≡◌};
+    ghost use Rattle.hook_config.specs.Refusals.{of_yaml};
+
+    ghost from_gives = { λ fault refusal. refusal ≡ of_yaml fault };
+
+    fn from(fault: YamlFault) -> Self {
+        let kind = match fault.kind {
+            YamlKind::OutOfMemory => ConfigKind::OutOfMemory,
+            _ => ConfigKind::Yaml(fault),
+        };
+        ConfigFault {
+            kind,
+            at: fault.line as u64,
+        }
+    }
+}
+
+/// Memory was refused.
+impl From<OutOfMemory> for ConfigFault {
+    ghost use Rattle.std.specs.Prelude.{◌≡◌};
+    ghost use Rattle.hook_config.specs.declared.config_fault.ConfigKind.TheVariants.{OutOfMemory};
+
+    ghost from_gives = { λ _ fault. fault ≡ record { kind = OutOfMemory; at = 0 } };
+
+    fn from(_refused: OutOfMemory) -> Self {
+        ConfigFault {
+            kind: ConfigKind::OutOfMemory,
+            at: 0,
+        }
+    }
+}

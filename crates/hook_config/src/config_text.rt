@@ -1,0 +1,66 @@
+ghost use Rattle.std.specs.Prelude.{◌≡◌, ◌≢◌, ◌≤◌, ◌<◌, ◌↔◌, length, string_bytes, IsNone, IfSome, []};
+
+use std::alloc::{AllocError, Global};
+use std::marker::Model;
+
+/// The greatest number of bytes of a text of a configuration.
+pub const MAX_TEXT_BYTES: usize = 1_048_576;
+
+/// A text of a configuration, of at most `MAX_TEXT_BYTES` bytes. Contracts see it as the list of its bytes in UTF-8.
+#[derive(Debug, Drop)]
+pub struct ConfigText {
+    text: String,
+}
+
+impl Model for ConfigText {
+    ghost use Rattle.std.specs.Prelude.{List, ℕ, ◌≤◌, length, string_bytes};
+
+    ghost Value = { List ℕ };
+
+    ghost view = { λ owned. string_bytes owned.text };
+
+    ghost invariant = { λ owned. length (string_bytes owned.text) ≤ 1048576 };
+}
+
+impl ConfigText {
+    /// The text, or nothing where it is longer than `MAX_TEXT_BYTES`.
+    pub fn new(text: String) -> Option<Self>
+        ensures long { IsNone result ↔ (1048576 < length (string_bytes text)) }
+        ensures same { IfSome result (λ owned. owned ≡ string_bytes text) }
+    {
+        if text.len() <= MAX_TEXT_BYTES {
+            Some(ConfigText { text })
+        } else {
+            None
+        }
+    }
+
+    /// The empty text.
+    pub fn empty(alloc: Global) -> Self
+        ensures { result ≡ [] }
+    {
+        ConfigText {
+            text: String::new(alloc),
+        }
+    }
+
+    /// The text, of at most `MAX_TEXT_BYTES` bytes.
+    pub fn as_str(&self) -> &str
+        ensures same { result.now ≡ self.now }
+        ensures within { length self.now ≤ 1048576 }
+    {
+        self.text.as_str()
+    }
+}
+
+impl Clone for ConfigText {
+    ghost use Rattle.std.specs.Prelude.{◌≡◌};
+
+    ghost is_clone = { λ made source. made ≡ source };
+
+    fn clone(&self) -> Result<Self, AllocError> {
+        Ok(ConfigText {
+            text: self.text.clone()?,
+        })
+    }
+}

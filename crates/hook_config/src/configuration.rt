@@ -1,0 +1,40 @@
+use crate::config_text::ConfigText;
+use hook_base::{Items, Text};
+
+/// What a `.pre-commit-config.yaml` asks for.
+#[derive(Debug, Drop)]
+pub struct Config {
+    /// The hooks of all repositories, in the order of the text, at most 500.
+    pub hooks: Items<Hook>,
+    /// Whether a run stops after the first hook that failed.
+    pub fail_fast: bool,
+    /// The keys that no table knows, in the order of the text, each as often as it stands there.
+    pub unknown: Items<Text>,
+}
+
+/// One hook of a configuration.
+#[derive(Debug, Drop)]
+pub struct Hook {
+    pub id: ConfigText,
+    /// What a report calls the hook.
+    pub name: ConfigText,
+    /// A second name to ask for the hook by. The empty text names nothing.
+    pub alias: ConfigText,
+    pub language: Language,
+    pub entry: ConfigText,
+    /// Whether the hook runs also where no file is selected for it.
+    pub always_run: bool,
+    /// Whether the hook's details are reported also where it passed.
+    pub verbose: bool,
+    /// Whether the hook is handed the names of the files that are selected for it.
+    pub pass_filenames: bool,
+    /// Whether a run stops where this hook failed.
+    pub fail_fast: bool,
+}
+
+/// How a hook's entry is run.
+#[derive(Clone, Copy, Debug, PartialEq, Eq)]
+pub enum Language {
+    /// The hook always fails, and its entry is what it says.
+    Fail,
+}

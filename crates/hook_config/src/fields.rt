@@ -1,0 +1,101 @@
+//! The values of a table's keys.
+
+ghost use Rattle.std.specs.Prelude.{◌≡◌, option_map, []};
+ghost use Rattle.yaml_lines.specs.View.{view};
+ghost use Rattle.hook_config.specs.Gives.{GivesBy, GivesSurely};
+ghost use Rattle.hook_config.specs.Kinds.{text_of, truth_of, language_of, required, or_default};
+ghost use Rattle.hook_config.specs.Rows.{rows_of, meanings_of_nodes, value_at, has_key_among, texts, list_of};
+
+use crate::config_fault::ConfigKind;
+use crate::config_text::ConfigText;
+use crate::configuration::Language;
+use crate::kinds::{is_among, language_of, list_of, text_of, truth_of};
+use std::alloc::Global;
+use yaml_profile::Node;
+
+/// The value in the first row that has the key.
+fn value_at<'a>(rows: &'a [(String, Node)], key: &str) -> Option<&'a Node>
+    ensures { option_map (λ value. view value.now) result ≡ value_at key.now (rows_of rows.now) }
+{
+    for (name, value) in rows {
+        if name.as_str() == key {
+            return Some(value);
+        }
+    }
+    None
+}
+
+/// Whether a row's key is one of these.
+pub(crate) fn has_key_among(rows: &[(String, Node)], keys: &[&str]) -> bool
+    ensures { result ≡ has_key_among (texts keys.now) (rows_of rows.now) }
+{
+    for (name, _) in rows {
+        if is_among(keys, name.as_str()) {
+            return true;
+        }
+    }
+    false
+}
+
+/// The value that must stand at the key, else `MissingKey`.
+pub(crate) fn required<'a>(rows: &'a [(String, Node)], key: &str) -> Result<&'a Node, ConfigKind>
+    ensures { GivesSurely (λ value. view value.now) result (value_at key.now (rows_of rows.now)) }
+{
+    value_at(rows, key).ok_or(ConfigKind::MissingKey)
+}
+
+/// The text that must stand at the key.
+pub(crate) fn required_text(
+    alloc: Global,
+    rows: &[(String, Node)],
+    key: &str,
+) -> Result<ConfigText, ConfigKind>
+    ensures { GivesBy (λ owned. owned) result (required text_of key.now (rows_of rows.now)) }
+{
+    text_of(alloc, required(rows, key)?)
+}
+
+/// The language that must stand at the key.
+pub(crate) fn required_language(rows: &[(String, Node)], key: &str) -> Result<Language, ConfigKind>
+    ensures { GivesSurely (λ language. language) result (required language_of key.now (rows_of rows.now)) }
+{
+    language_of(required(rows, key)?)
+}
+
+/// The list that must stand at the key.
+pub(crate) fn required_list<'a>(
+    rows: &'a [(String, Node)],
+    key: &str,
+) -> Result<&'a [Node], ConfigKind>
+    ensures { GivesSurely (λ items. meanings_of_nodes items.now) result (required list_of key.now (rows_of rows.now)) }
+{
+    list_of(required(rows, key)?)
+}
+
+/// The text at the key, empty where the key isn't there.
+pub(crate) fn text_or_empty(
+    alloc: Global,
+    rows: &[(String, Node)],
+    key: &str,
+) -> Result<ConfigText, ConfigKind>
+    ensures { GivesBy (λ owned. owned) result (or_default text_of [] key.now (rows_of rows.now)) }
+{
+    match value_at(rows, key) {
+        Some(value) => text_of(alloc, value),
+        None => Ok(ConfigText::empty(alloc)),
+    }
+}
+
+/// The truth at the key, or the default where the key isn't there.
+pub(crate) fn truth_or(
+    rows: &[(String, Node)],
+    key: &str,
+    default: bool,
+) -> Result<bool, ConfigKind>
+    ensures { GivesSurely (λ truth. truth) result (or_default truth_of default key.now (rows_of rows.now)) }
+{
+    match value_at(rows, key) {
+        Some(value) => truth_of(value),
+        None => Ok(default),
+    }
+}

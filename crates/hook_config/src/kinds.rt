@@ -1,0 +1,106 @@
+//! The kinds of a configuration's values. A value of another kind than its place wants is `Shape`.
+
+ghost use Rattle.std.specs.Prelude.{◌≡◌};
+ghost use Rattle.yaml_lines.specs.View.{view};
+ghost use Rattle.hook_config.specs.Gives.{GivesBy, GivesSurely};
+ghost use Rattle.hook_config.specs.Kinds.{text_of, truth_of, truth_of_word, language_of, language_of_word};
+ghost use Rattle.hook_config.specs.Rows.{Row, rows_of, meanings_of_nodes, table_of, list_of, is_among, texts};
+
+use crate::config_fault::ConfigKind;
+use crate::config_text::{ConfigText, MAX_TEXT_BYTES};
+use crate::configuration::Language;
+use crate::known_keys::{FAIL, FALSE_WORDS, LATER_LANGUAGES, TRUE_WORDS};
+use std::alloc::Global;
+use yaml_profile::Node;
+
+pub(crate) fn table_of<'a>(node: &'a Node) -> Result<&'a [(String, Node)], ConfigKind>
+    ensures { GivesSurely (λ members. rows_of members.now) result (table_of (view node.now)) }
+{
+    match node {
+        Node::Table(members) => Ok(members.as_slice()),
+        _ => Err(ConfigKind::Shape),
+    }
+}
+
+pub(crate) fn list_of<'a>(node: &'a Node) -> Result<&'a [Node], ConfigKind>
+    ensures { GivesSurely (λ items. meanings_of_nodes items.now) result (list_of (view node.now)) }
+{
+    match node {
+        Node::List(items) => Ok(items.as_slice()),
+        _ => Err(ConfigKind::Shape),
+    }
+}
+
+/// A text, quoted or not, of at most `MAX_TEXT_BYTES` bytes. A text that is longer is `Shape`.
+pub(crate) fn text_in<'a>(node: &'a Node) -> Result<&'a str, ConfigKind>
+    ensures { GivesSurely (λ text. text.now) result (text_of (view node.now)) }
+{
+    match node {
+        Node::Text { text, .. } if text.len() <= MAX_TEXT_BYTES => Ok(text.as_str()),
+        _ => Err(ConfigKind::Shape),
+    }
+}
+
+/// The same text, as a text of the configuration.
+pub(crate) fn text_of(alloc: Global, node: &Node) -> Result<ConfigText, ConfigKind>
+    ensures { GivesBy (λ owned. owned) result (text_of (view node.now)) }
+{
+    let text = String::from_str(alloc, text_in(node)?)?;
+    ConfigText::new(text).ok_or(ConfigKind::Shape)
+}
+
+/// Whether the word is one of these.
+pub(crate) fn is_among(words: &[&str], word: &str) -> bool
+    ensures { result ≡ is_among (texts words.now) word.now }
+{
+    for known in words {
+        if *known == word {
+            return true;
+        }
+    }
+    false
+}
+
+/// An unquoted word for true or false.
+pub(crate) fn truth_of(node: &Node) -> Result<bool, ConfigKind>
+    ensures { GivesSurely (λ truth. truth) result (truth_of (view node.now)) }
+{
+    match node {
+        Node::Text {
+            text,
+            quoted: false,
+        } => truth_of_word(text.as_str()).ok_or(ConfigKind::Shape),
+        _ => Err(ConfigKind::Shape),
+    }
+}
+
+fn truth_of_word(word: &str) -> Option<bool>
+    ensures { result ≡ truth_of_word word.now }
+{
+    if is_among(&TRUE_WORDS, word) {
+        Some(true)
+    } else if is_among(&FALSE_WORDS, word) {
+        Some(false)
+    } else {
+        None
+    }
+}
+
+/// A language that is served. One that is known and not served is `Unsupported`, another one `BadLanguage`.
+pub(crate) fn language_of(node: &Node) -> Result<Language, ConfigKind>
+    ensures { GivesSurely (λ language. language) result (language_of (view node.now)) }
+{
+    language_of_word(text_in(node)?)
+}
+
+fn language_of_word(word: &str) -> Result<Language, ConfigKind>
+    ensures { GivesSurely (λ language. language) result (language_of_word word.now) }
+{
+    if word == FAIL {
+        Ok(Language::Fail)
+    } else if is_among(&LATER_LANGUAGES, word) {
+        Err(ConfigKind::Unsupported)
+    } else {
+        Err(ConfigKind::BadLanguage)
+    }
+}

@@ -1,0 +1,23 @@
+//! Reads the bytes of a `.pre-commit-config.yaml` to a `Config`, or says by a `ConfigFault` why they are none.
+//!
+//! `Config` holds `Hook`s, whose texts are `ConfigText`s. What a configuration is stands in
+//! `specs/Configuration.antt`: `configuration_of` says which `Config` a text's bytes describe, if any.
+#![tactic(auto)]
+
+mod config_fault;
+mod config_text;
+mod configuration;
+mod fields;
+mod hook_table;
+mod kinds;
+mod known_keys;
+mod reader;
+mod repositories;
+#[cfg(test)]
+mod tests;
+mod unknown_keys;
+
+pub use config_fault::{ConfigFault, ConfigKind};
+pub use config_text::{ConfigText, MAX_TEXT_BYTES};
+pub use configuration::{Config, Hook, Language};
+pub use reader::read_config;

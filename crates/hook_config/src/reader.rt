@@ -1,0 +1,54 @@
+ghost use Rattle.std.specs.Prelude.{◌≡◌};
+ghost use Rattle.yaml_lines.specs.View.{view};
+ghost use Rattle.hook_config.specs.Configuration.{configuration_of, configuration_of_meaning, configuration_of_rows};
+ghost use Rattle.hook_config.specs.Gives.{Gives};
+ghost use Rattle.hook_config.specs.Rows.{rows_of};
+
+use crate::config_fault::{ConfigFault, ConfigKind};
+use crate::configuration::Config;
+use crate::fields::{has_key_among, required_list, truth_or};
+use crate::kinds::table_of;
+use crate::known_keys::{FAIL_FAST, LATER_TOP_KEYS, REPOS};
+use crate::repositories::hooks_of_repositories;
+use crate::unknown_keys::unknown_of_top;
+use hook_base::Items;
+use std::alloc::Global;
+use yaml_profile::{Node, read};
+
+/// The configuration that the bytes of a `.pre-commit-config.yaml` describe. They are refused by a kind of
+/// `ConfigKind`: `Yaml` where they are no YAML of this profile, `OutOfMemory` where memory was refused, and else for
+/// what the node that they describe lacks or holds in place of a configuration.
+#[tactic(auto, unfolding(crate::specs::Configuration::configuration_of))]
+pub fn read_config(alloc: Global, bytes: &[u8]) -> Result<Config, ConfigFault>
+    ensures { Gives result (configuration_of bytes.now) }
+{
+    match read(alloc, bytes) {
+        Ok(node) => config_of_node(alloc, &node),
+        Err(fault) => Err(ConfigFault::from(fault)),
+    }
+}
+
+/// The configuration that a text's node describes.
+#[tactic(auto, unfolding(crate::specs::Configuration::configuration_of_meaning))]
+fn config_of_node(alloc: Global, node: &Node) -> Result<Config, ConfigFault>
+    ensures { Gives result (configuration_of_meaning (view node.now)) }
+{
+    config_of_rows(alloc, table_of(node)?)
+}
+
+#[tactic(auto, unfolding(crate::specs::Configuration::configuration_of_rows))]
+fn config_of_rows(alloc: Global, rows: &[(String, Node)]) -> Result<Config, ConfigFault>
+    ensures { Gives result (configuration_of_rows (rows_of rows.now)) }
+{
+    if has_key_among(rows, &LATER_TOP_KEYS) {
+        return Err(ConfigFault::from(ConfigKind::Unsupported));
+    }
+    let fail_fast = truth_or(rows, FAIL_FAST, false)?;
+    let hooks = hooks_of_repositories(alloc, required_list(rows, REPOS)?)?;
+    let unknown = unknown_of_top(alloc, rows)?;
+    Ok(Config {
+        hooks: Items::from(hooks),
+        fail_fast,
+        unknown: Items::from(unknown),
+    })
+}

@@ -1,0 +1,77 @@
+//! The hooks of all repositories, in the order of the text.
+
+ghost use Rattle.std.specs.Prelude.{◌≤◌, length};
+ghost use Rattle.yaml_lines.specs.View.{view};
+ghost use Rattle.hook_config.specs.Gives.{GivesBy, GivesSeen};
+ghost use Rattle.hook_config.specs.Hooks.{after, hook_alone, hooks_of_list, hooks_of_repository, hooks_of_repositories};
+ghost use Rattle.hook_config.specs.Rows.{rows_of, meanings_of_nodes};
+
+use crate::config_fault::{ConfigFault, ConfigKind};
+use crate::configuration::Hook;
+use crate::fields::{required, required_list};
+use crate::hook_table::hook_of;
+use crate::kinds::{table_of, text_in};
+use crate::known_keys::{HOOKS, LOCAL, REPO};
+use std::alloc::Global;
+use yaml_profile::Node;
+
+/// The greatest number of hooks of a configuration.
+pub const MAX_HOOKS: usize = 500;
+
+/// The hooks of all repositories.
+#[tactic(auto, using(crate::proofs::HookLists::finding))]
+pub(crate) fn hooks_of_repositories(
+    alloc: Global,
+    repositories: &[Node],
+) -> Result<Vec<Hook>, ConfigFault>
+    ensures { GivesSeen (λ hooks. hooks.items) result (hooks_of_repositories (meanings_of_nodes repositories.now)) }
+{
+    let mut hooks = Vec::new(alloc);
+    for repository in repositories {
+        add_repository(alloc, repository, &mut hooks)?;
+    }
+    Ok(hooks)
+}
+
+/// Adds the hooks of one repository. Another repository than `local` is `RemoteRepo`, whatever its hooks are.
+fn add_repository(
+    alloc: Global,
+    repository: &Node,
+    hooks: &mut Vec<Hook>,
+) -> Result<(), ConfigFault>
+    requires { length hooks.old.items ≤ 500 }
+    ensures { GivesSeen (λ _. hooks.new.items) result (after hooks.old.items (hooks_of_repository (view repository.now))) }
+{
+    let rows = table_of(repository)?;
+    if text_in(required(rows, REPO)?)? != LOCAL {
+        return Err(ConfigFault::from(ConfigKind::RemoteRepo));
+    }
+    add_hooks(alloc, required_list(rows, HOOKS)?, hooks)
+}
+
+/// Adds the hooks of a list. A fault in one of them has its number, counted from 1 over all repositories.
+#[tactic(auto, using(crate::proofs::HookLists::finding))]
+fn add_hooks(alloc: Global, tables: &[Node], hooks: &mut Vec<Hook>) -> Result<(), ConfigFault>
+    requires { length hooks.old.items ≤ 500 }
+    ensures { GivesSeen (λ _. hooks.new.items) result (after hooks.old.items (hooks_of_list (meanings_of_nodes tables.now))) }
+{
+    for table in tables {
+        let number = hooks.len() as u64 + 1;
+        if let Err(kind) = add_hook(alloc, table, hooks) {
+            return Err(ConfigFault { kind, at: number });
+        }
+    }
+    Ok(())
+}
+
+/// Adds the hook of one table, or answers `TooMany` where there are as many as there may be.
+fn add_hook(alloc: Global, table: &Node, hooks: &mut Vec<Hook>) -> Result<(), ConfigKind>
+    ensures { GivesBy (λ _. hooks.new.items) result (after hooks.old.items (hook_alone (view table.now))) }
+{
+    if hooks.len() >= MAX_HOOKS {
+        return Err(ConfigKind::TooMany);
+    }
+    let hook = hook_of(alloc, table)?;
+    hooks.push(hook)?;
+    Ok(())
+}
