@@ -1,0 +1,5 @@
+pub mod CommandLine
+pub mod FailAnswer
+pub mod Report
+pub mod StageRun
+pub mod TryOver

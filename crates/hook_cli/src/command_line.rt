@@ -1,0 +1,115 @@
+ghost use Rattle.std.specs.Prelude.{◌≡◌, IfOk, Some, [], codes, map, false, unwrap_or};
+ghost use Rattle.clap.specs.Words.{FailsBy, all_of, app_of, fault_of, first_of, found_of, rows_of, rule_of, subcommand_name_of, subcommand_of, subcommand_rows_of};
+ghost use Rattle.clap.specs.declared.builder.Command.TheViews.{out-Command as fields_of};
+ghost use Rattle.hook_cli.specs.CommandLine.{IsLineOf, config_rule, hookhost_app, path_rule, try_app};
+
+use clap::{Arg, ArgMatches, Command, Error};
+use hook_base::{Items, Text};
+use std::alloc::{AllocError, Global};
+
+/// What a line of words asks the program for.
+#[derive(Debug, Drop)]
+pub enum Line {
+    /// A run of the configuration over the files, with its report written out.
+    Try {
+        /// The name of the file that holds the configuration.
+        config: Text,
+        /// The names of the files, one at least.
+        paths: Items<Text>,
+    },
+}
+
+/// What the words, without the program's own name, ask for.
+///
+/// An error is `clap`'s: its text says what the words lack, or is the help that they ask for. Its kind is
+/// `OutOfMemory` where memory was refused, and otherwise the one that `clap` states for these words.
+pub fn line_of<'a>(alloc: Global, words: &'a [&'a str]) -> Result<Line, Error>
+    ensures line { IfOk result (IsLineOf (subcommand_of hookhost_app (map (λ s. s.now) words.entry.now))) }
+    ensures fault { FailsBy (fault_of hookhost_app (map (λ s. s.now) words.entry.now)) result }
+{
+    let matches = matches_of(alloc, words)?;
+    let Some(values) = matches.subcommand_matches("try") else {
+        unreachable!()
+    };
+    Ok(Line::Try {
+        config: text_of(alloc, values, "CONFIG")?,
+        paths: texts_of(alloc, values, "PATH")?,
+    })
+}
+
+// What `clap` finds in the words. There is one subcommand, and it must be there.
+fn matches_of<'a>(alloc: Global, words: &'a [&'a str]) -> Result<ArgMatches<'a>, Error>
+    ensures rows { IfOk result (λ m. subcommand_rows_of m ≡ subcommand_of hookhost_app (map (λ s. s.now) words.entry.now)) }
+    ensures name { IfOk result (λ m. subcommand_name_of m ≡ Some (codes "try")) }
+    ensures fault { FailsBy (fault_of hookhost_app (map (λ s. s.now) words.entry.now)) result }
+{
+    hookhost(alloc)?.try_get_matches_from(words)
+}
+
+fn hookhost<'a>(alloc: Global) -> Result<Command<'a>, AllocError>
+    ensures { IfOk result (λ command. app_of command ≡ hookhost_app) }
+{
+    Command::new(alloc, "hookhost")
+        .about("Runs the hooks of a pre-commit configuration")
+        .no_binary_name(true)
+        .disable_help_subcommand(true)
+        .subcommand_required(true)
+        .subcommand(try_command(alloc)?)
+}
+
+fn try_command<'a>(alloc: Global) -> Result<Command<'a>, AllocError>
+    ensures app { IfOk result (λ command. app_of command ≡ try_app) }
+    ensures local { IfOk result (λ command. (fields_of command).has_globals ≡ false) }
+{
+    Command::new(alloc, "try")
+        .about("Runs the hooks of a configuration on files, and prints the report")
+        .arg(config_argument(alloc))?
+        .arg(path_argument(alloc))
+}
+
+fn config_argument<'a>(alloc: Global) -> Arg<'a>
+    ensures rule { rule_of result ≡ config_rule }
+    ensures local { result.global ≡ false }
+{
+    Arg::new(alloc, "CONFIG")
+        .required(true)
+        .help("The configuration, as a .pre-commit-config.yaml")
+}
+
+fn path_argument<'a>(alloc: Global) -> Arg<'a>
+    ensures rule { rule_of result ≡ path_rule }
+    ensures local { result.global ≡ false }
+{
+    Arg::new(alloc, "PATH")
+        .required(true)
+        .num_args(1..)
+        .help("The files to run the hooks on")
+}
+
+// The value of an argument of one word.
+fn text_of(alloc: Global, values: &ArgMatches<'_>, id: &str) -> Result<Text, AllocError>
+    ensures { IfOk result (λ text. text ≡ unwrap_or (first_of id.now (rows_of (found_of values.now))) []) }
+{
+    let text = values.get_str(id).unwrap_or("");
+    Ok(Text::from(String::from_str(alloc, text)?))
+}
+
+// The values of an argument of several words.
+fn texts_of(alloc: Global, values: &ArgMatches<'_>, id: &str) -> Result<Items<Text>, AllocError>
+    ensures { IfOk result (λ texts. texts ≡ unwrap_or (all_of id.now (rows_of (found_of values.now))) []) }
+{
+    match values.get_strs(id) {
+        Some(texts) => Ok(Items::from(copied(alloc, texts)?)),
+        None => Ok(Items::from(Vec::new(alloc))),
+    }
+}
+
+fn copied(alloc: Global, texts: &[&str]) -> Result<Vec<Text>, AllocError>
+    ensures { IfOk result (λ copies. copies.items ≡ map (λ s. s.now) texts.now) }
+{
+    let mut copies = Vec::new(alloc);
+    for text in texts {
+        copies.push(Text::from(String::from_str(alloc, text)?))?;
+    }
+    Ok(copies)
+}

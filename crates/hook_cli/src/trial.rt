@@ -1,0 +1,93 @@
+ghost use Rattle.std.specs.Prelude.{◌≡◌, ◌≢◌, ◌≤◌, ◌+◌, ◌++◌, All, IfOk, IfErr, OnOk, List, map, length};
+ghost use Rattle.std.specs.Io.KnownBytes.{Appends};
+ghost use Rattle.child_port.specs.Telling.{SameTells};
+ghost use Rattle.hook_cli.specs.Report.{report_text, greatest_width, width_of};
+ghost use Rattle.hook_cli.specs.StageRun.{IsStageRun, has_passed, names_of_run, no_parts};
+ghost use Rattle.hook_cli.specs.TryOver.{IsRefusedBy, IsTriedOver, ReadsWithin, ask_for_all};
+ghost use Rattle.hook_cli.specs.declared.report_text.result.HookResult.{HookResult};
+ghost use Rattle.hook_cli.specs.declared.try_fault.TryFault.TheVariants as fault;
+
+use crate::TryFault;
+use crate::hook_run::{has_passed, run_stage};
+use crate::reading::read_bytes;
+use crate::report_text::{columns, hook_texts};
+use child_port::Children;
+use hook_base::{OutOfMemory, Tree};
+use hook_config::{Config, read_config};
+use std::alloc::Global;
+use std::io::{Read, Write};
+
+/// Reads a configuration, runs the hooks of the stage `pre-commit` on the tree with all its files as candidates, and
+/// writes the report and nothing else. The answer says whether every hook passed.
+///
+/// A read that gives no bytes ends the input; a reader that gave more than 1,048,576 bytes is read no further. The
+/// refusals are `Read` and `Write` for an error of the reader or the writer, `Config` where the bytes are no
+/// configuration, `OutOfMemory`, and `Spent` where a child is needed and the count of children is at its greatest. After
+/// a refusal other than `Write` nothing was written.
+pub fn try_over<R: Read, W: Write, C: Children>(
+    alloc: Global,
+    reader: &mut R,
+    writer: &mut W,
+    tree: &Tree,
+    children: &mut C,
+) -> Result<bool, TryFault>
+    ensures tried { IfOk result (IsTriedOver (R.remaining reader.old) (R.remaining reader.new)
+        (W.contents writer.old) (W.contents writer.new) (C.tells children.old)
+        (C.call_count children.old) (C.call_count children.new)
+        (C.fault_count children.old) (C.fault_count children.new) tree.now) }
+    ensures refused { IfErr result (IsRefusedBy (R.remaining reader.old) (R.remaining reader.new)
+        (C.call_count children.new)) }
+    ensures unwritten { IfErr result (λ e. e ≢ fault.Write → writer.new ≡ writer.old) }
+    ensures within { ReadsWithin 1048577 (R.remaining reader.old) (R.remaining reader.new) }
+    ensures same { SameTells (C.tells children.old) (C.tells children.new) }
+    ensures calls { C.call_count children.old ≤ C.call_count children.new }
+{
+    let bytes = read_bytes(alloc, reader)?;
+    let config = read_config(alloc, bytes.as_slice())?;
+    let trial = trial_of(alloc, &config, tree)?;
+    write_report(writer, trial.report.as_slice())?;
+    Ok(trial.passed)
+}
+
+// What a run is to write, and whether every hook passed.
+#[derive(Drop)]
+struct Trial {
+    report: Vec<u8>,
+    passed: bool,
+}
+
+fn trial_of(alloc: Global, config: &Config, tree: &Tree) -> Result<Trial, OutOfMemory>
+    ensures { IfOk result (λ trial. (results : List HookResult)
+        × IsStageRun config.now (ask_for_all tree.now) tree.now (no_parts results) results
+        × (trial.report.items ≡ report_text (names_of_run config.now (ask_for_all tree.now)) results)
+        × (trial.passed ≡ has_passed results)) }
+{
+    let names = names_of(alloc, config)?;
+    let columns = columns(names.as_slice());
+    let results = run_stage(alloc, config, tree)?;
+    Ok(Trial {
+        report: hook_texts(alloc, columns, results.as_slice())?,
+        passed: has_passed(results.as_slice()),
+    })
+}
+
+// The names of all hooks, those after the last one that is run among them.
+fn names_of<'a>(alloc: Global, config: &'a Config) -> Result<Vec<&'a str>, OutOfMemory>
+    ensures same { IfOk result (λ names. map (λ name. name.now) names.items ≡ map (λ hook. hook.name) config.now.hooks) }
+    ensures within { IfOk result (λ names. All (λ name. length name.now ≤ 1048576) names.items) }
+{
+    let hooks = config.hooks.as_slice();
+    let mut names = Vec::new(alloc);
+    for hook in hooks {
+        names.push(hook.name.as_str())?;
+    }
+    Ok(names)
+}
+
+fn write_report<W: Write>(writer: &mut W, report: &[u8]) -> Result<(), TryFault>
+    ensures ok { OnOk result (Appends (W.contents writer.old) (W.contents writer.new) report.now) }
+    ensures err { IfErr result (λ e. e ≡ fault.Write) }
+{
+    writer.write_all(report).map_err(|_| TryFault::Write)?;
+    writer.flush().map_err(|_| TryFault::Write)
+}
