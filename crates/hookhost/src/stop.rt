@@ -1,0 +1,117 @@
+//! Why the program ends without having run its hooks, and how it says so.
+
+ghost use Rattle.std.specs.Prelude.{◌≡◌};
+ghost use Rattle.hookhost.specs.Stops.{IsMemoryOr, status_of};
+
+use hook_base::{OutOfMemory, Text};
+use hook_cli::TryFault;
+use std::alloc::{AllocError, AllocFailed};
+use std::io;
+
+/// The exit status where the words name no command.
+const USAGE: u8 = 2;
+
+/// The exit status of a refusal.
+const REFUSED: u8 = 3;
+
+/// Why no report stands on standard output, or not the whole of it.
+#[derive(Debug, Drop)]
+pub(crate) enum Stop {
+    /// The words name no command, or ask for help.
+    Usage(clap::Error),
+    /// A word isn't UTF-8.
+    NotText,
+    /// The file of this word can't be used.
+    CannotUse(Text),
+    /// The run was refused.
+    Refused(TryFault),
+}
+
+impl Stop {
+    /// What an error of reading the process's words means.
+    pub(crate) fn of_words(error: io::Error) -> Stop
+        ensures { IsMemoryOr Stop.NotText result }
+    {
+        if is_memory(&error) {
+            Stop::Refused(TryFault::OutOfMemory)
+        } else {
+            Stop::NotText
+        }
+    }
+
+    /// What an error of reading the word's file means.
+    pub(crate) fn of_file(error: &io::Error, word: Text) -> Stop
+        ensures { IsMemoryOr (Stop.CannotUse word) result }
+    {
+        if is_memory(error) {
+            Stop::Refused(TryFault::OutOfMemory)
+        } else {
+            Stop::CannotUse(word)
+        }
+    }
+}
+
+/// Whether the program itself was refused memory: the system's own want of memory has a number.
+fn is_memory(error: &io::Error) -> bool {
+    error.kind() == io::ErrorKind::OutOfMemory && error.raw_os_error().is_none()
+}
+
+impl From<clap::Error> for Stop {
+    fn from(error: clap::Error) -> Stop {
+        if error.kind() == clap::error::ErrorKind::OutOfMemory {
+            Stop::Refused(TryFault::OutOfMemory)
+        } else {
+            Stop::Usage(error)
+        }
+    }
+}
+
+impl From<TryFault> for Stop {
+    fn from(fault: TryFault) -> Stop {
+        Stop::Refused(fault)
+    }
+}
+
+impl From<OutOfMemory> for Stop {
+    fn from(_refused: OutOfMemory) -> Stop {
+        Stop::Refused(TryFault::OutOfMemory)
+    }
+}
+
+impl From<AllocError> for Stop {
+    fn from(_refused: AllocError) -> Stop {
+        Stop::Refused(TryFault::OutOfMemory)
+    }
+}
+
+impl<T: Drop> From<AllocFailed<T>> for Stop {
+    fn from(_refused: AllocFailed<T>) -> Stop {
+        Stop::Refused(TryFault::OutOfMemory)
+    }
+}
+
+/// Says on standard error why the program stops, and answers its exit status. That standard error takes nothing is no
+/// further reason to stop.
+pub(crate) fn tell<R: Eprint>(rt: &R, stop: &Stop) -> u8
+    ensures { result ≡ status_of stop.now }
+{
+    let (said, status) = match stop {
+        Stop::Usage(error) => (rt.eprint(error), USAGE),
+        Stop::NotText => (rt.eprintln("error: a word is not UTF-8"), USAGE),
+        Stop::CannotUse(word) => (say_unusable(rt, word), REFUSED),
+        Stop::Refused(fault) => (say_refused(rt, fault), REFUSED),
+    };
+    let _ = said;
+    status
+}
+
+fn say_unusable<R: Eprint>(rt: &R, word: &Text) -> io::Result<()> {
+    let word = word.as_str();
+    eprintln!(rt; "hookhost: cannot use {word}")
+}
+
+fn say_refused<R: Eprint>(rt: &R, fault: &TryFault) -> io::Result<()> {
+    let number = fault.number();
+    let name = fault.name();
+    eprintln!(rt; "hookhost: refused: {number} {name}")
+}
