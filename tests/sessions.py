@@ -1,0 +1,112 @@
+#!/usr/bin/env python3
+"""Runs the sessions of tests/sessions/ with the built program and compares every byte that it prints.
+
+Usage: tests/sessions.py [PROGRAM]   (default: crates/hookhost/out/hookhost)
+
+A session file holds cases. `== NAME` begins a case, in an empty folder. Within it:
+  -- file PATH      the lines that follow are the file's content
+  -- bytes PATH     the same, with Python's escapes, for bytes that no text file keeps; line ends are as written
+  -- folder PATH    an empty folder
+  -- stdin          the lines that follow are the next command's standard input
+  -- run WORD ..    runs `hookhost WORD ..`, the words cut as a shell cuts them
+  -- stdout, -- stderr   what that command printed there, to the byte (nothing where left out)
+  -- stderr contains TEXT   a part of what it printed there
+  -- status N       its exit status (0 where left out)
+"""
+import os
+import shlex
+import subprocess
+import sys
+import tempfile
+
+HERE = os.path.dirname(os.path.abspath(__file__))
+PROGRAM = os.path.abspath(sys.argv[1] if len(sys.argv) > 1 else os.path.join(HERE, "..", "crates/hookhost/out/hookhost"))
+
+
+def cases_of(path):
+    """The cases of a session file: (name, [(head, body)])."""
+    cases, steps, body = [], None, None
+    with open(path, encoding="utf-8") as file:
+        for line in file:
+            if line.startswith("== "):
+                steps = []
+                cases.append((line[3:].strip(), steps))
+                body = None
+            elif line.startswith("-- "):
+                body = []
+                steps.append((line[3:].rstrip("\n"), body))
+            elif body is not None:
+                body.append(line)
+    return [(name, [(head, "".join(lines)) for head, lines in steps]) for name, steps in cases]
+
+
+def commands_of(steps):
+    """The steps as a list of files to lay and commands with what they must print."""
+    stdin, command = b"", None
+    for head, body in steps:
+        word, _, rest = head.partition(" ")
+        if word in ("file", "bytes", "folder"):
+            yield word, rest, body
+        elif word == "stdin":
+            stdin = body.encode()
+        elif word == "run":
+            command = {"words": shlex.split(rest), "stdin": stdin, "stdout": b"", "stderr": b"", "part": None, "status": 0}
+            stdin = b""
+            yield "run", command, None
+        elif word == "stdout":
+            command["stdout"] = body.encode()
+        elif word == "stderr" and rest.startswith("contains "):
+            command["part"] = rest[len("contains "):].encode()
+        elif word == "stderr":
+            command["stderr"] = body.encode()
+        elif word == "status":
+            command["status"] = int(rest)
+        else:
+            sys.exit(f"unknown step: {head}")
+
+
+def run(command):
+    """What is wrong with the command's answer, or None."""
+    done = subprocess.run([PROGRAM, *command["words"]], input=command["stdin"], capture_output=True, timeout=60)
+    if done.returncode != command["status"]:
+        return f"status {done.returncode}, wanted {command['status']}; printed {done.stdout[:300]!r} {done.stderr[:300]!r}"
+    if done.stdout != command["stdout"]:
+        return f"printed {done.stdout[:600]!r}, wanted {command['stdout'][:600]!r}"
+    if command["part"] is not None:
+        return None if command["part"] in done.stderr else f"{command['part']!r} isn't in {done.stderr[:600]!r}"
+    return None if done.stderr == command["stderr"] else f"standard error {done.stderr[:600]!r}, wanted {command['stderr'][:600]!r}"
+
+
+def play(steps):
+    for kind, what, body in list(commands_of(steps)):
+        if kind == "run":
+            wrong = run(what)
+            if wrong:
+                return f"hookhost {' '.join(what['words'])}: {wrong}"
+        elif kind == "folder":
+            os.makedirs(what)
+        else:
+            if os.path.dirname(what):
+                os.makedirs(os.path.dirname(what), exist_ok=True)
+            with open(what, "wb") as file:
+                file.write(body.encode() if kind == "file" else body.replace("\n", "").encode().decode("unicode_escape").encode("latin-1"))
+    return None
+
+
+def main():
+    passed, failed = 0, 0
+    folder = os.path.join(HERE, "sessions")
+    for name in sorted(os.listdir(folder)):
+        for case, steps in cases_of(os.path.join(folder, name)):
+            with tempfile.TemporaryDirectory() as place:
+                os.chdir(place)
+                wrong = play(steps)
+                os.chdir("/")
+            passed, failed = (passed, failed + 1) if wrong else (passed + 1, failed)
+            if wrong:
+                print(f"FAILED {name}: {case}: {wrong}")
+    print(f"sessions: {passed} passed, {failed} failed")
+    sys.exit(1 if failed or not passed else 0)
+
+
+main()
