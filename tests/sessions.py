@@ -12,6 +12,7 @@ A session file holds cases. `== NAME` begins a case, in an empty folder. Within 
   -- stdout, -- stderr   what that command printed there, to the byte (nothing where left out)
   -- stderr contains TEXT   a part of what it printed there
   -- status N       its exit status (0 where left out)
+  -- output FILE    its standard output goes to this file, as /dev/full, and isn't compared
 """
 import os
 import shlex
@@ -50,7 +51,8 @@ def commands_of(steps):
         elif word == "stdin":
             stdin = body.encode()
         elif word == "run":
-            command = {"words": shlex.split(rest), "stdin": stdin, "stdout": b"", "stderr": b"", "part": None, "status": 0}
+            command = {"words": shlex.split(rest), "stdin": stdin, "stdout": b"", "stderr": b"", "part": None, "status": 0,
+                       "output": None}
             stdin = b""
             yield "run", command, None
         elif word == "stdout":
@@ -59,6 +61,8 @@ def commands_of(steps):
             command["part"] = rest[len("contains "):].encode()
         elif word == "stderr":
             command["stderr"] = body.encode()
+        elif word == "output":
+            command["output"] = rest
         elif word == "status":
             command["status"] = int(rest)
         else:
@@ -67,10 +71,11 @@ def commands_of(steps):
 
 def run(command):
     """What is wrong with the command's answer, or None."""
-    done = subprocess.run([PROGRAM, *command["words"]], input=command["stdin"], capture_output=True, timeout=60)
+    stdout = open(command["output"], "wb") if command["output"] else subprocess.PIPE
+    done = subprocess.run([PROGRAM, *command["words"]], input=command["stdin"], stdout=stdout, stderr=subprocess.PIPE, timeout=60)
     if done.returncode != command["status"]:
-        return f"status {done.returncode}, wanted {command['status']}; printed {done.stdout[:300]!r} {done.stderr[:300]!r}"
-    if done.stdout != command["stdout"]:
+        return f"status {done.returncode}, wanted {command['status']}; printed {(done.stdout or b'')[:300]!r} {done.stderr[:300]!r}"
+    if done.stdout is not None and done.stdout != command["stdout"]:
         return f"printed {done.stdout[:600]!r}, wanted {command['stdout'][:600]!r}"
     if command["part"] is not None:
         return None if command["part"] in done.stderr else f"{command['part']!r} isn't in {done.stderr[:600]!r}"
