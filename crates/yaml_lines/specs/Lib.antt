@@ -1,8 +1,11 @@
+pub mod BlockTexts
 pub mod Characters
 pub mod Entries
 pub mod Faults
 pub mod Lines
 pub mod Meaning
 pub mod Plain
+pub mod Quoted
+pub mod Scalars
 pub mod View
 pub mod ViewLaws

@@ -1,0 +1,10 @@
+pub mod ColumnLemmas
+pub mod Compiles
+pub mod MakeLemmas
+pub mod QueryLemmas
+pub mod ReadLemmas
+pub mod RisingLemmas
+pub mod RowLemmas
+pub mod StepLemmas
+pub mod TableLemmas
+pub mod WriteLemmas
