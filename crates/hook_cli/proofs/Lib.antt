@@ -1,5 +1,6 @@
 pub mod Joins
 pub mod KnownBytes
+pub mod Lines
 pub mod Runs
 pub mod Selections
 pub mod Trims

@@ -1,5 +1,5 @@
 -- A run of a stage, hook by hook from the front.
-use Rattle.std.proofs.Common.{◌≡◌, ◌∙◌, ap, sym, subst, refl, arith, add-one, add-zero, append_assoc, ℕ, suc, ◌+◌, ◌<◌, ◌≤◌, All, Bool, true, false, List, [], ◌∷◌, ◌++◌, length, drop, get_or, map}
+use Rattle.std.proofs.Common.{◌≡◌, ◌∙◌, ap, ap₂, sym, subst, refl, arith, add-one, add-zero, append_assoc, ℕ, suc, ◌+◌, ◌<◌, ◌≤◌, All, Bool, true, false, List, [], ◌∷◌, ◌++◌, Bor, length, drop, get_or, map}
 use Rattle.std.proofs.lemmas.List.{append-nil}
 use Rattle.std.proofs.lemmas.List.Elements.{All-cons, All-nil}
 use Rattle.std.proofs.Math.Seq.{drop-cons}
@@ -10,9 +10,11 @@ use Rattle.child_port.specs.declared.answer.Outcome.{Outcome}
 use Rattle.hook_config.specs.declared.configuration.Config.{Config}
 use Rattle.hook_config.specs.declared.configuration.Hook.{Hook}
 use Rattle.hook_cli.specs.declared.report_text.result.HookResult.{HookResult}
-use Rattle.hook_cli.specs.Report.{columns_of, greatest_width, width_of}
+use Rattle.std.specs.List.{flat_map}
+use Rattle.hook_cli.specs.Report.{columns_of, greatest_width, hook_text, report_text, width_of}
 use Rattle.hook_cli.specs.TryOver.{ask_for_all, faults_of}
-use Rattle.hook_cli.specs.StageRun.{Ask, AllTold, IsResult, IsRun, IsStageRun, Part, all_parts, is_last, no_parts}
+use Rattle.hook_config.specs.declared.stage.Stage.TheVariants.{PreCommit}
+use Rattle.hook_cli.specs.StageRun.{Ask, AllTold, IsResult, IsRun, IsStageRun, Part, all_parts, hooks_of_stage, is_last, no_parts}
 
 -- whatever runs the hooks that are left runs, behind the results so far, all hooks
 pub record Continues (fail_fast : Bool) (ask : Ask) (tree : List File) (hooks left : List Hook) (results : List HookResult) : Type 0 where
@@ -40,46 +42,53 @@ run-last : (fail_fast : Bool) (ask : Ask) (tree : List File) (hook : Hook) (hook
 run-last fail_fast ask tree hook hooks result is last =
     (is, subst (λ (b : Bool). MatchBool b (NothingMore [] []) (IsRun fail_fast ask tree hooks [] [])) (sym last) (refl, refl))
 
-left_of : (hooks : List Hook) (place : ℕ) (hook : Hook) → place < length hooks → hook ≡ get_or hooks place hook
-    → drop place hooks ≡ hook ∷ drop (place + 1) hooks
-left_of hooks place hook within is =
-    drop-cons hooks place hook within ∙ ap (λ h. h ∷ drop (suc place) hooks) (sym is) ∙ ap (λ n. hook ∷ drop n hooks) (sym (add-one place))
+-- the hooks that references lead to
+abbrev pub hooks_behind : List (Bor Hook) → List Hook
+hooks_behind hooks = map (λ hook. hook.now) hooks
 
-pub continues-more : (fail_fast : Bool) (ask : Ask) (tree : List File) (hooks : List Hook) (place : ℕ) (hook : Hook) (result : HookResult)
-    (results after : List HookResult) → Continues fail_fast ask tree hooks (drop place hooks) results → place < length hooks
-    → hook ≡ get_or hooks place hook → IsResult ask hook tree [] result → is_last fail_fast hook result.ending ≡ false
-    → after ≡ results ++ result ∷ [] → Continues fail_fast ask tree hooks (drop (place + 1) hooks) after
-continues-more fail_fast ask tree hooks place hook result results after so_far within is ran more made = record {
+left_of : (hooks : List (Bor Hook)) (place : ℕ) (hook : Bor Hook) → place < length hooks → hook ≡ get_or hooks place hook
+    → hooks_behind (drop place hooks) ≡ hook.now ∷ hooks_behind (drop (place + 1) hooks)
+left_of hooks place hook within is =
+    ap hooks_behind (drop-cons hooks place hook within ∙ ap (λ h. h ∷ drop (suc place) hooks) (sym is)
+    ∙ ap (λ n. hook ∷ drop n hooks) (sym (add-one place)))
+
+pub continues-more : (fail_fast : Bool) (ask : Ask) (tree : List File) (all : List Hook) (hooks : List (Bor Hook)) (place : ℕ) (hook : Bor Hook)
+    (result : HookResult) (results after : List HookResult) → Continues fail_fast ask tree all (hooks_behind (drop place hooks)) results
+    → place < length hooks → hook ≡ get_or hooks place hook → IsResult ask hook.now tree [] result
+    → is_last fail_fast hook.now result.ending ≡ false → after ≡ results ++ result ∷ []
+    → Continues fail_fast ask tree all (hooks_behind (drop (place + 1) hooks)) after
+continues-more fail_fast ask tree all hooks place hook result results after so_far within is ran more made = record {
   join = λ rest run.
-      let all = so_far.join (result ∷ rest)
+      let joined = so_far.join (result ∷ rest)
       (subst (λ (left : List Hook). IsRun fail_fast ask tree left (no_parts (result ∷ rest)) (result ∷ rest)) (sym (left_of hooks place hook within is))
-      (run-first fail_fast ask tree hook (drop (place + 1) hooks) result rest ran more run)) in
-      subst (λ (r : List HookResult). IsRun fail_fast ask tree hooks (no_parts r) r)
-      (sym (append_assoc results (result ∷ []) rest) ∙ ap (λ r. r ++ rest) (sym made)) all;
+      (run-first fail_fast ask tree hook.now (hooks_behind (drop (place + 1) hooks)) result rest ran more run)) in
+      subst (λ (r : List HookResult). IsRun fail_fast ask tree all (no_parts r) r)
+      (sym (append_assoc results (result ∷ []) rest) ∙ ap (λ r. r ++ rest) (sym made)) joined;
 }
 
-pub run-stopped : (fail_fast : Bool) (ask : Ask) (tree : List File) (hooks : List Hook) (place : ℕ) (hook : Hook) (result : HookResult)
-    (results after : List HookResult) → Continues fail_fast ask tree hooks (drop place hooks) results → place < length hooks
-    → hook ≡ get_or hooks place hook → IsResult ask hook tree [] result → is_last fail_fast hook result.ending ≡ true
-    → after ≡ results ++ result ∷ [] → IsRun fail_fast ask tree hooks (no_parts after) after
-run-stopped fail_fast ask tree hooks place hook result results after so_far within is ran last made =
-    subst (λ (r : List HookResult). IsRun fail_fast ask tree hooks (no_parts r) r) (sym made)
+pub run-stopped : (fail_fast : Bool) (ask : Ask) (tree : List File) (all : List Hook) (hooks : List (Bor Hook)) (place : ℕ) (hook : Bor Hook)
+    (result : HookResult) (results after : List HookResult) → Continues fail_fast ask tree all (hooks_behind (drop place hooks)) results
+    → place < length hooks → hook ≡ get_or hooks place hook → IsResult ask hook.now tree [] result
+    → is_last fail_fast hook.now result.ending ≡ true → after ≡ results ++ result ∷ [] → IsRun fail_fast ask tree all (no_parts after) after
+run-stopped fail_fast ask tree all hooks place hook result results after so_far within is ran last made =
+    subst (λ (r : List HookResult). IsRun fail_fast ask tree all (no_parts r) r) (sym made)
     (so_far.join (result ∷ [])
     (subst (λ (left : List Hook). IsRun fail_fast ask tree left (no_parts (result ∷ [])) (result ∷ [])) (sym (left_of hooks place hook within is))
-    (run-last fail_fast ask tree hook (drop (place + 1) hooks) result ran last)))
+    (run-last fail_fast ask tree hook.now (hooks_behind (drop (place + 1) hooks)) result ran last)))
 
-drop-all : (hooks : List Hook) (place : ℕ) → length hooks ≤ place → drop place hooks ≡ []
-drop-all hooks place past = drop_of_length-le hooks past
+drop-all : (hooks : List (Bor Hook)) (place : ℕ) → length hooks ≤ place → hooks_behind (drop place hooks) ≡ []
+drop-all hooks place past = ap hooks_behind (drop_of_length-le hooks past)
 
-pub run-ended : (fail_fast : Bool) (ask : Ask) (tree : List File) (hooks : List Hook) (place : ℕ) (results : List HookResult)
-    → Continues fail_fast ask tree hooks (drop place hooks) results → length hooks ≤ place
-    → IsRun fail_fast ask tree hooks (no_parts results) results
-run-ended fail_fast ask tree hooks place results so_far past =
-    let all = so_far.join []
+pub run-ended : (fail_fast : Bool) (ask : Ask) (tree : List File) (all : List Hook) (hooks : List (Bor Hook)) (place : ℕ) (results : List HookResult)
+    → Continues fail_fast ask tree all (hooks_behind (drop place hooks)) results → length hooks ≤ place
+    → IsRun fail_fast ask tree all (no_parts results) results
+run-ended fail_fast ask tree all hooks place results so_far past =
+    let joined = so_far.join []
     (subst (λ (left : List Hook). IsRun fail_fast ask tree left (no_parts []) []) (sym (drop-all hooks place past)) tt) in
-    subst (λ (r : List HookResult). IsRun fail_fast ask tree hooks (no_parts r) r) (append-nil results) all
+    subst (λ (r : List HookResult). IsRun fail_fast ask tree all (no_parts r) r) (append-nil results) joined
 
-pub stage-run : (config : Config) (tree : List File) (hooks : List Hook) (results : List HookResult) → hooks ≡ config.hooks
+-- the run of the stage's hooks is the run that all are asked for
+pub stage-run : (config : Config) (tree : List File) (hooks : List Hook) (results : List HookResult) → hooks ≡ hooks_of_stage PreCommit config.hooks
     → IsRun config.fail_fast (ask_for_all tree) tree hooks (no_parts results) results
     → IsStageRun config (ask_for_all tree) tree (no_parts results) results
 stage-run config tree hooks results is run =
@@ -120,10 +129,18 @@ names-fit columns fail_fast ask tree (hook ∷ hooks) (result ∷ results) wide 
     (λ more. names-fit columns fail_fast ask tree hooks results rest more)
     run.1)
 
-pub stage-names-fit : (columns : ℕ) (names : List (List ℕ)) (config : Config) (tree : List File) (results : List HookResult)
-    → columns ≡ columns_of names → names ≡ map (λ hook. hook.name) config.hooks
-    → IsStageRun config (ask_for_all tree) tree (no_parts results) results
+pub stage-names-fit : (columns : ℕ) (names : List (List ℕ)) (fail_fast : Bool) (ask : Ask) (tree : List File) (hooks : List Hook) (results : List HookResult)
+    → columns ≡ columns_of names → names ≡ map (λ hook. hook.name) hooks → IsRun fail_fast ask tree hooks (no_parts results) results
     → All (λ result. width_of result.name + 30 ≤ columns) results
-stage-names-fit columns names config tree results are from run =
-    let wide : columns ≡ columns_of (map (λ hook. hook.name) config.hooks) = are ∙ ap columns_of from in
-    names-fit columns config.fail_fast (ask_for_all tree) tree config.hooks results (omega arith) run
+stage-names-fit columns names fail_fast ask tree hooks results are from run =
+    let wide : columns ≡ columns_of (map (λ hook. hook.name) hooks) = are ∙ ap columns_of from in
+    names-fit columns fail_fast ask tree hooks results (omega arith) run
+
+-- the names of the hooks that references lead to
+pub names-behind : (hooks : List (Bor Hook)) → map (λ hook. hook.now.name) hooks ≡ map (λ hook. hook.name) (hooks_behind hooks)
+names-behind [] = refl
+names-behind (hook ∷ hooks) = ap (λ names. hook.now.name ∷ names) (names-behind hooks)
+
+pub report-from : (columns : ℕ) (names : List (List ℕ)) (shown results : List HookResult) → columns ≡ columns_of names → shown ≡ results
+    → flat_map (hook_text columns) shown ≡ report_text names results
+report-from columns names shown results are is = ap₂ (λ k (r : List HookResult). flat_map (hook_text k) r) are is

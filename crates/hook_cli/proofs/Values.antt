@@ -1,5 +1,5 @@
 -- From what `clap` answers to what its rows hold.
-use Rattle.std.proofs.Common.{◌≡◌, ◌∙◌, ap, codes, sym, subst, ℕ, List, [], Option, None, Some, Bor, option_map}
+use Rattle.std.proofs.Common.{◌≡◌, ◌∙◌, ap, codes, inl, sym, subst, ℕ, List, [], Option, None, Some, Bor, option_map}
 use Rattle.std.specs.Prelude.{unwrap_or}
 use Rattle.clap.specs.Words.{Row, Text}
 use Rattle.hook_cli.specs.CommandLine.{IsLineOf, try_line}
@@ -21,4 +21,4 @@ line_from (Some b) name_at rows_at asked rows line is named found says =
     let name_is : name_at b ≡ codes "try" = cc in
     let rows_is : rows_at b ≡ rows = cc in
     let says_so : line ≡ try_line (rows_at b) = says ∙ ap try_line (sym rows_is) in
-    subst (λ (o : Option (Text × List Row)). IsLineOf o line) is (name_is, says_so)
+    subst (λ (o : Option (Text × List Row)). IsLineOf o line) is (inl (name_is, says_so))

@@ -1,3 +1,4 @@
+pub mod CheckText
 pub mod CommandLine
 pub mod FailAnswer
 pub mod Report

@@ -11,6 +11,8 @@ use Rattle.hook_config.specs.declared.configuration.Config.{Config}
 use Rattle.hook_config.specs.declared.configuration.Hook.{Hook}
 use Rattle.hook_config.specs.declared.configuration.Language.{Language}
 use Rattle.hook_config.specs.declared.configuration.Language.TheVariants.{Fail}
+use Rattle.hook_config.specs.declared.stage.Stage.{Stage}
+use Rattle.hook_config.specs.Stages.{has_stage}
 use Rattle.hook_cli.specs.declared.report_text.result.Ending.{Ending}
 use Rattle.hook_cli.specs.declared.report_text.result.Ending.TheVariants.{SkippedAsked, SkippedNoFiles, Ran}
 use Rattle.hook_cli.specs.declared.report_text.result.HookResult.{HookResult}
@@ -38,9 +40,10 @@ abbrev pub all_parts : List (List Part) → List Part
 all_parts [] = []
 all_parts (parts ∷ trace) = parts ++ all_parts trace
 
--- what is asked of a run: the paths that hooks may be run on, the one name whose hooks are run, or none for all, and
--- the names whose hooks are skipped
+-- what is asked of a run: the stage, the paths that hooks may be run on, the one name whose hooks are run, or none for
+-- all, and the names whose hooks are skipped
 pub record Ask : Type 0 where
+  pub stage : Stage
   pub candidates : List (List ℕ)
   pub only : Option (List ℕ)
   pub skip : List (List ℕ)
@@ -49,10 +52,17 @@ pub record Ask : Type 0 where
 abbrev pub is_named : List ℕ → Hook → Bool
 is_named name hook = bytes_eq name hook.id || (not (is_empty hook.alias) && bytes_eq name hook.alias)
 
--- the hooks that a run goes through
+-- the hooks of the stage, in order
+abbrev pub hooks_of_stage : Stage → List Hook → List Hook
+hooks_of_stage stage hooks = filter (λ hook. has_stage hook.stages stage) hooks
+
 abbrev pub asked_hooks : Option (List ℕ) → List Hook → List Hook
 asked_hooks None hooks = hooks
 asked_hooks (Some name) hooks = filter (is_named name) hooks
+
+-- the hooks that a run goes through: those of its stage and of its one name
+abbrev pub hooks_of_run : Ask → List Hook → List Hook
+hooks_of_run ask hooks = asked_hooks ask.only (hooks_of_stage ask.stage hooks)
 
 abbrev pub is_skipped : List (List ℕ) → Hook → Bool
 is_skipped skip hook = list_any (λ name. is_named name hook) skip
@@ -110,11 +120,11 @@ IsRun fail_fast ask tree _ _ _ = ⊥
 
 abbrev pub IsStageRun : Config → Ask → List File → List (List Part) → List HookResult → Type 0
 IsStageRun config ask tree trace results =
-    IsRun config.fail_fast ask tree (asked_hooks ask.only config.hooks) trace results
+    IsRun config.fail_fast ask tree (hooks_of_run ask config.hooks) trace results
 
--- the names of the hooks that a run goes through, those after a stop among them
+-- the names of the hooks that a run goes through, skipped ones and those after a stop among them
 abbrev pub names_of_run : Config → Ask → List (List ℕ)
-names_of_run config ask = map (λ hook. hook.name) (asked_hooks ask.only config.hooks)
+names_of_run config ask = map (λ hook. hook.name) (hooks_of_run ask config.hooks)
 
 -- no hook failed
 abbrev pub has_passed : List HookResult → Bool

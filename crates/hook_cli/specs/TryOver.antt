@@ -8,6 +8,8 @@ use Rattle.child_port.specs.Outcomes.{faults_in}
 use Rattle.hook_config.specs.declared.configuration.Config.{Config}
 use Rattle.hook_config.specs.declared.config_fault.ConfigFault.{ConfigFault}
 use Rattle.hook_config.specs.declared.config_fault.ConfigKind.TheVariants as kind
+use Rattle.yaml_lines.specs.declared.fault.YamlKind.TheVariants.{TooLarge}
+use Rattle.hook_config.specs.declared.stage.Stage.TheVariants.{PreCommit}
 use Rattle.hook_config.specs.Configuration.{configuration_of}
 use Rattle.hook_cli.specs.declared.report_text.result.HookResult.{HookResult}
 use Rattle.hook_cli.specs.declared.try_fault.TryFault.{TryFault}
@@ -52,9 +54,9 @@ pub record IsReadWhole (given left : Option (List ℕ)) (bytes : List ℕ) : Typ
   pub read : Consumes given left bytes
   pub ended : IsAtEnd left
 
--- all files of the tree are candidates, no hook is skipped and none is left out
+-- the hooks of the stage `pre-commit`, with all files of the tree as candidates: no hook is skipped and none left out
 abbrev pub ask_for_all : List File → Ask
-ask_for_all tree = record { candidates = map (λ row. row.path) tree; only = None; skip = [] }
+ask_for_all tree = record { stage = PreCommit; candidates = map (λ row. row.path) tree; only = None; skip = [] }
 
 -- how many faults the parts are
 abbrev pub faults_of : List Part → ℕ
@@ -81,16 +83,20 @@ pub record IsTriedOver (given left held holds : Option (List ℕ)) (tells : List
   pub verdict : passed ≡ has_passed results
   pub written : Appends held holds (report_text (names_of_run config (ask_for_all tree)) results)
 
+-- the refusal of a text of too many bytes
+abbrev pub too_large : ConfigFault
+too_large = record { kind = kind.Yaml (record { kind = TooLarge; line = 1 }); at = 1 }
+
 -- the bytes that were read are one too many, or are all and no configuration
-pub record IsNoConfiguration (given left : Option (List ℕ)) : Type 0 where
+pub record IsNoConfiguration (given left : Option (List ℕ)) (fault : ConfigFault) : Type 0 where
   pub bytes : List ℕ
   pub read : Consumes given left bytes
-  pub none : (length bytes ≡ most_bytes + 1) ⊎ (IsAtEnd left × (configuration_of bytes ≡ None))
+  pub none : ((length bytes ≡ most_bytes + 1) × (fault ≡ too_large)) ⊎ (IsAtEnd left × (configuration_of bytes ≡ None))
 
 -- what holds where a run is refused: `calls` is how many outcomes the children have told
 abbrev pub IsRefusedBy : Option (List ℕ) → Option (List ℕ) → ℕ → TryFault → Type 0
 IsRefusedBy given left calls Read = Unit {0}
-IsRefusedBy given left calls (BadConfig fault) = (fault.kind ≢ kind.OutOfMemory) × IsNoConfiguration given left
+IsRefusedBy given left calls (BadConfig fault) = (fault.kind ≢ kind.OutOfMemory) × IsNoConfiguration given left fault
 IsRefusedBy given left calls Write = Unit {0}
 IsRefusedBy given left calls OutOfMemory = Unit {0}
 IsRefusedBy given left calls Spent = calls ≡ 2 ^ 64 - 1

@@ -1,7 +1,7 @@
 ghost use Rattle.std.specs.Prelude.{◌≡◌, IfOk, Some, [], codes, map, false, unwrap_or};
 ghost use Rattle.clap.specs.Words.{FailsBy, all_of, app_of, fault_of, first_of, found_of, rows_of, rule_of, subcommand_name_of, subcommand_of, subcommand_rows_of};
 ghost use Rattle.clap.specs.declared.builder.Command.TheViews.{out-Command as fields_of};
-ghost use Rattle.hook_cli.specs.CommandLine.{IsLineOf, config_rule, hookhost_app, path_rule, try_app};
+ghost use Rattle.hook_cli.specs.CommandLine.{IsLineOf, IsNamed, check_app, config_rule, hookhost_app, path_rule, try_app};
 
 use clap::{Arg, ArgMatches, Command, Error};
 use hook_base::{Items, Text};
@@ -17,6 +17,8 @@ pub enum Line {
         /// The names of the files, one at least.
         paths: Items<Text>,
     },
+    /// A reading of the working folder's configuration, and what it says.
+    Check,
 }
 
 /// What the words, without the program's own name, ask for.
@@ -29,7 +31,7 @@ pub fn line_of<'a>(alloc: Global, words: &'a [&'a str]) -> Result<Line, Error>
 {
     let matches = matches_of(alloc, words)?;
     let Some(values) = matches.subcommand_matches("try") else {
-        unreachable!()
+        return Ok(Line::Check);
     };
     Ok(Line::Try {
         config: text_of(alloc, values, "CONFIG")?,
@@ -37,10 +39,10 @@ pub fn line_of<'a>(alloc: Global, words: &'a [&'a str]) -> Result<Line, Error>
     })
 }
 
-// What `clap` finds in the words. There is one subcommand, and it must be there.
+// What `clap` finds in the words. A subcommand must be there.
 fn matches_of<'a>(alloc: Global, words: &'a [&'a str]) -> Result<ArgMatches<'a>, Error>
     ensures rows { IfOk result (λ m. subcommand_rows_of m ≡ subcommand_of hookhost_app (map (λ s. s.now) words.entry.now)) }
-    ensures name { IfOk result (λ m. subcommand_name_of m ≡ Some (codes "try")) }
+    ensures name { IfOk result (λ m. IsNamed (subcommand_name_of m)) }
     ensures fault { FailsBy (fault_of hookhost_app (map (λ s. s.now) words.entry.now)) result }
 {
     hookhost(alloc)?.try_get_matches_from(words)
@@ -54,7 +56,8 @@ fn hookhost<'a>(alloc: Global) -> Result<Command<'a>, AllocError>
         .no_binary_name(true)
         .disable_help_subcommand(true)
         .subcommand_required(true)
-        .subcommand(try_command(alloc)?)
+        .subcommand(try_command(alloc)?)?
+        .subcommand(check_command(alloc))
 }
 
 fn try_command<'a>(alloc: Global) -> Result<Command<'a>, AllocError>
@@ -65,6 +68,15 @@ fn try_command<'a>(alloc: Global) -> Result<Command<'a>, AllocError>
         .about("Runs the hooks of a configuration on files, and prints the report")
         .arg(config_argument(alloc))?
         .arg(path_argument(alloc))
+}
+
+fn check_command<'a>(alloc: Global) -> Command<'a>
+    ensures app { app_of result ≡ check_app }
+    ensures local { (fields_of result).has_globals ≡ false }
+{
+    Command::new(alloc, "check").about(
+        "Reads .pre-commit-config.yaml, and prints how many hooks it has and which keys are ignored",
+    )
 }
 
 fn config_argument<'a>(alloc: Global) -> Arg<'a>

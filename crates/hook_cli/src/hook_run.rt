@@ -1,33 +1,51 @@
-//! The run of a stage's hooks over a tree, with all its files as candidates, no hook skipped and none left out.
+//! The hooks of a stage, and their run over a tree, with all its files as candidates and no hook skipped.
 //!
 //! The contracts cite `specs/StageRun.antt`.
 
 ghost use Rattle.std.specs.Prelude.{◌≡◌, [], IfOk, List, map};
 ghost use Rattle.hook_base.specs.declared.file.File.{File};
-ghost use Rattle.hook_cli.specs.StageRun.{Ask, IsEnding, IsResult, IsStageRun, ending_of_answer, has_passed, is_last, names_for, no_parts, selected};
+ghost use Rattle.hook_cli.specs.StageRun.{Ask, IsEnding, IsResult, IsRun, ending_of_answer, has_passed, hooks_of_stage, is_last, names_for, no_parts, selected};
 ghost use Rattle.hook_cli.specs.TryOver.{ask_for_all};
 
 use crate::builtin_hooks::fail_answer;
 use crate::report_text::{Ending, HookResult};
 use child_port::Answer;
 use hook_base::{Items, OutOfMemory, Text, Tree};
-use hook_config::{Config, Hook, Language};
+use hook_config::{Config, Hook, Language, Stage};
 use std::alloc::Global;
 
-/// What a run of the configuration's hooks on the tree gives, hook by hook, up to the last that is run.
-pub fn run_stage(
+/// The hooks of the stage, in the order of the configuration.
+pub fn hooks_of_stage<'a>(
     alloc: Global,
-    config: &Config,
+    config: &'a Config,
+    stage: Stage,
+) -> Result<Vec<&'a Hook>, OutOfMemory>
+    ensures { IfOk result (λ chosen. map (λ hook. hook.now) chosen.items ≡ hooks_of_stage stage config.now.hooks) }
+{
+    let hooks = config.hooks.as_slice();
+    let mut chosen = Vec::new(alloc);
+    for hook in hooks {
+        if hook.stages.has(stage) {
+            chosen.push(hook)?;
+        }
+    }
+    Ok(chosen)
+}
+
+/// What a run of these hooks on the tree gives, hook by hook, up to the last that is run.
+pub fn run_hooks(
+    alloc: Global,
+    fail_fast: bool,
+    hooks: &[&Hook],
     tree: &Tree,
 ) -> Result<Vec<HookResult>, OutOfMemory>
-    ensures { IfOk result (λ results. IsStageRun config.now (ask_for_all tree.now) tree.now (no_parts results.items) results.items) }
+    ensures { IfOk result (λ results. IsRun fail_fast (ask_for_all tree.now) tree.now (map (λ hook. hook.now) hooks.now) (no_parts results.items) results.items) }
 {
     let files = paths_of(alloc, tree)?;
-    let hooks = config.hooks.as_slice();
     let mut results = Vec::new(alloc);
     for hook in hooks {
         let outcome = result_of(alloc, hook, files.as_slice())?;
-        let is_last = is_last(config.fail_fast, hook, &outcome.ending);
+        let is_last = is_last(fail_fast, hook, &outcome.ending);
         results.push(outcome)?;
         if is_last {
             return Ok(results);

@@ -1,11 +1,12 @@
 //! The command line of `hookhost` as a library: the run of a configuration over a tree with its report written out
-//! (`try_over`), and what a line of words asks for (`line_of`).
+//! (`try_over`), what `check` prints of a configuration (`check_text`), and what a line of words asks for (`line_of`).
 //!
-//! Their contracts cite `specs/TryOver.antt`, which stands on `specs/StageRun.antt` and `specs/Report.antt`, and
-//! `specs/CommandLine.antt`.
+//! Their contracts cite `specs/TryOver.antt`, which stands on `specs/StageRun.antt` and `specs/Report.antt`,
+//! `specs/CheckText.antt` and `specs/CommandLine.antt`.
 #![tactic(auto)]
 
 mod builtin_hooks;
+mod check;
 mod command_line;
 mod hook_run;
 mod reading;
@@ -15,6 +16,7 @@ mod tests;
 mod trial;
 mod try_fault;
 
+pub use check::check_text;
 pub use command_line::{Line, line_of};
 pub use trial::try_over;
 pub use try_fault::TryFault;

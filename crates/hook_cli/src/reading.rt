@@ -1,7 +1,6 @@
-ghost use Rattle.std.specs.Prelude.{◌≡◌, ◌≢◌, ◌⊎◌, ◌≤◌, ℕ, IfOk, IfErr};
-ghost use Rattle.hook_cli.specs.TryOver.{IsReadWhole, IsRefusedBy, ReadsPiece, ReadsWithin};
+ghost use Rattle.std.specs.Prelude.{◌≡◌, ◌⊎◌, ◌≤◌, ℕ, IfOk, IfErr};
+ghost use Rattle.hook_cli.specs.TryOver.{IsReadWhole, IsRefusedBy, ReadsPiece, ReadsWithin, too_large};
 ghost use Rattle.hook_cli.specs.declared.try_fault.TryFault.TheVariants as fault;
-ghost use Rattle.hook_config.specs.declared.config_fault.ConfigKind.TheVariants as kind;
 
 use crate::TryFault;
 use hook_config::{ConfigFault, ConfigKind};
@@ -50,7 +49,7 @@ fn read_piece<R: Read>(reader: &mut R, bytes: &mut Vec<u8>, most: usize) -> Resu
 }
 
 fn too_large() -> ConfigFault
-    ensures { result.kind ≢ kind.OutOfMemory }
+    ensures { result ≡ too_large }
 {
     ConfigFault {
         kind: ConfigKind::Yaml(YamlFault {

@@ -13,6 +13,7 @@ mod trim;
 
 use first_line::push_first_line;
 use hook_base::OutOfMemory;
+pub use lines::{push, push_line};
 use lines::{push_ending_lines, push_id_line};
 pub use result::{Ending, HookResult, LineFault};
 use std::alloc::Global;

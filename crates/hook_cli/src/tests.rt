@@ -1,4 +1,6 @@
+mod checks;
 mod reports;
+mod stages;
 mod streams;
 mod texts;
 mod words;

@@ -8,12 +8,12 @@ ghost use Rattle.hook_cli.specs.declared.report_text.result.HookResult.{HookResu
 ghost use Rattle.hook_cli.specs.declared.try_fault.TryFault.TheVariants as fault;
 
 use crate::TryFault;
-use crate::hook_run::{has_passed, run_stage};
+use crate::hook_run::{has_passed, hooks_of_stage, run_hooks};
 use crate::reading::read_bytes;
 use crate::report_text::{columns, hook_texts};
 use child_port::Children;
 use hook_base::{OutOfMemory, Tree};
-use hook_config::{Config, read_config};
+use hook_config::{Config, Hook, Stage, read_config};
 use std::alloc::Global;
 use std::io::{Read, Write};
 
@@ -62,21 +62,21 @@ fn trial_of(alloc: Global, config: &Config, tree: &Tree) -> Result<Trial, OutOfM
         × (trial.report.items ≡ report_text (names_of_run config.now (ask_for_all tree.now)) results)
         × (trial.passed ≡ has_passed results)) }
 {
-    let names = names_of(alloc, config)?;
+    let hooks = hooks_of_stage(alloc, config, Stage::PreCommit)?;
+    let names = names_of(alloc, hooks.as_slice())?;
     let columns = columns(names.as_slice());
-    let results = run_stage(alloc, config, tree)?;
+    let results = run_hooks(alloc, config.fail_fast, hooks.as_slice(), tree)?;
     Ok(Trial {
         report: hook_texts(alloc, columns, results.as_slice())?,
         passed: has_passed(results.as_slice()),
     })
 }
 
-// The names of all hooks, those after the last one that is run among them.
-fn names_of<'a>(alloc: Global, config: &'a Config) -> Result<Vec<&'a str>, OutOfMemory>
-    ensures same { IfOk result (λ names. map (λ name. name.now) names.items ≡ map (λ hook. hook.name) config.now.hooks) }
+// The names of the hooks, those after the last one that is run among them.
+fn names_of<'a>(alloc: Global, hooks: &[&'a Hook]) -> Result<Vec<&'a str>, OutOfMemory>
+    ensures same { IfOk result (λ names. map (λ name. name.now) names.items ≡ map (λ hook. hook.now.name) hooks.now) }
     ensures within { IfOk result (λ names. All (λ name. length name.now ≤ 1048576) names.items) }
 {
-    let hooks = config.hooks.as_slice();
     let mut names = Vec::new(alloc);
     for hook in hooks {
         names.push(hook.name.as_str())?;

@@ -1,3 +1,5 @@
 pub mod HookFields
 pub mod Views
 pub mod HookLists
+pub mod StageLists
+pub mod TextLists

@@ -2,19 +2,22 @@
 use Rattle.std.specs.Prelude.{List, [], true, false, if◌then◌else◌, Option, Some, None, option_and_then}
 use Rattle.yaml_lines.specs.Meaning.{Meaning}
 use Rattle.hook_config.specs.Rows.{Row, has_key_among, table_of}
-use Rattle.hook_config.specs.Kinds.{text_of, truth_of, language_of, required, or_default}
+use Rattle.hook_config.specs.Kinds.{text_of, truth_of, language_of, texts_of, stages_of, empty_text_of, empty_texts_of, required, or_default}
 use Rattle.hook_config.specs.declared.configuration.Hook.{Hook}
-use Rattle.hook_config.specs.declared.known_keys.TheConstants.{ID, NAME, ALIAS, LANGUAGE, ENTRY, ALWAYS_RUN, VERBOSE, PASS_FILENAMES, FAIL_FAST}
+use Rattle.hook_config.specs.declared.stage.Stages.{Stages}
+use Rattle.hook_config.specs.declared.known_keys.TheConstants.{ID, NAME, ALIAS, LANGUAGE, ENTRY, ARGS, STAGES, ALWAYS_RUN, VERBOSE, PASS_FILENAMES, FAIL_FAST, LOG_FILE, ADDITIONAL_DEPENDENCIES}
 use Rattle.hook_config.specs.KnownKeys.{later_hook_keys}
 
--- each field is the value at its key or the key's default
-unfoldable pub hook_of_fields : List Row → Option Hook
-hook_of_fields rows =
+-- each field is the value at its key or the key's default; that of `stages` is given
+unfoldable pub hook_of_fields : Stages → List Row → Option Hook
+hook_of_fields default rows =
     option_and_then (λ id.
     option_and_then (λ name.
     option_and_then (λ alias.
     option_and_then (λ language.
     option_and_then (λ entry.
+    option_and_then (λ args.
+    option_and_then (λ stages.
     option_and_then (λ always_run.
     option_and_then (λ verbose.
     option_and_then (λ pass_filenames.
@@ -25,6 +28,8 @@ hook_of_fields rows =
       alias = alias;
       language = language;
       entry = entry;
+      args = args;
+      stages = stages;
       always_run = always_run;
       verbose = verbose;
       pass_filenames = pass_filenames;
@@ -34,15 +39,25 @@ hook_of_fields rows =
     (or_default truth_of true PASS_FILENAMES.now rows))
     (or_default truth_of false VERBOSE.now rows))
     (or_default truth_of false ALWAYS_RUN.now rows))
+    (or_default (stages_of default) default STAGES.now rows))
+    (or_default texts_of [] ARGS.now rows))
     (required text_of ENTRY.now rows))
     (required language_of LANGUAGE.now rows))
     (or_default text_of [] ALIAS.now rows))
     (required text_of NAME.now rows))
     (required text_of ID.now rows)
 
--- none where a key stands that isn't served yet
-abbrev pub hook_of_rows : List Row → Option Hook
-hook_of_rows rows = if has_key_among later_hook_keys rows then None else hook_of_fields rows
+-- none where `log_file` or `additional_dependencies` is more than empty: neither is served
+abbrev pub hook_of_served : Stages → List Row → Option Hook
+hook_of_served default rows =
+    option_and_then (λ log_file.
+    option_and_then (λ dependencies. hook_of_fields default rows)
+    (or_default empty_texts_of [] ADDITIONAL_DEPENDENCIES.now rows))
+    (or_default empty_text_of [] LOG_FILE.now rows)
 
-abbrev pub hook_of : Meaning → Option Hook
-hook_of value = option_and_then hook_of_rows (table_of value)
+-- none where a key stands that isn't served yet
+abbrev pub hook_of_rows : Stages → List Row → Option Hook
+hook_of_rows default rows = if has_key_among later_hook_keys rows then None else hook_of_served default rows
+
+abbrev pub hook_of : Stages → Meaning → Option Hook
+hook_of default value = option_and_then (hook_of_rows default) (table_of value)

@@ -5,6 +5,7 @@ use Rattle.hook_config.specs.Rows.{Row, table_of, list_of}
 use Rattle.hook_config.specs.Kinds.{text_of, required}
 use Rattle.hook_config.specs.HookTable.{hook_of}
 use Rattle.hook_config.specs.declared.configuration.Hook.{Hook}
+use Rattle.hook_config.specs.declared.stage.Stages.{Stages}
 use Rattle.hook_config.specs.declared.known_keys.TheConstants.{REPO, HOOKS, LOCAL}
 
 -- the lists that f gives for each value, joined, or none where it gives none for one of them
@@ -13,22 +14,23 @@ joined f [] = Some []
 joined f (x ∷ xs) = option_and_then (λ ys. option_map (λ rest. ys ++ rest) (joined f xs)) (f x)
 
 -- the one hook of a hook's table
-abbrev pub hook_alone : Meaning → Option (List Hook)
-hook_alone value = option_map (λ hook. hook ∷ []) (hook_of value)
+abbrev pub hook_alone : Stages → Meaning → Option (List Hook)
+hook_alone default value = option_map (λ hook. hook ∷ []) (hook_of default value)
 
 -- the hooks of a list of hook tables
-abbrev pub hooks_of_list : List Meaning → Option (List Hook)
-hooks_of_list = joined hook_alone
+abbrev pub hooks_of_list : Stages → List Meaning → Option (List Hook)
+hooks_of_list default = joined (hook_alone default)
 
-abbrev pub hooks_of_named : List Row → List ℕ → Option (List Hook)
-hooks_of_named rows repository = if bytes_eq repository LOCAL.now then option_and_then hooks_of_list (required list_of HOOKS.now rows) else None
+abbrev pub hooks_of_named : Stages → List Row → List ℕ → Option (List Hook)
+hooks_of_named default rows repository =
+    if bytes_eq repository LOCAL.now then option_and_then (hooks_of_list default) (required list_of HOOKS.now rows) else None
 
 -- the hooks of a repository's table, where that repository is `local`
-abbrev pub hooks_of_rows : List Row → Option (List Hook)
-hooks_of_rows rows = option_and_then (hooks_of_named rows) (required text_of REPO.now rows)
+abbrev pub hooks_of_rows : Stages → List Row → Option (List Hook)
+hooks_of_rows default rows = option_and_then (hooks_of_named default rows) (required text_of REPO.now rows)
 
-abbrev pub hooks_of_repository : Meaning → Option (List Hook)
-hooks_of_repository value = option_and_then hooks_of_rows (table_of value)
+abbrev pub hooks_of_repository : Stages → Meaning → Option (List Hook)
+hooks_of_repository default value = option_and_then (hooks_of_rows default) (table_of value)
 
 -- at most 500 hooks
 abbrev pub within_limit : List Hook → Option (List Hook)
@@ -38,5 +40,6 @@ within_limit hooks = if nat_le (length hooks) 500 then Some hooks else None
 abbrev pub after : List Hook → Option (List Hook) → Option (List Hook)
 after before found = option_and_then (λ hooks. within_limit (before ++ hooks)) found
 
-abbrev pub hooks_of_repositories : List Meaning → Option (List Hook)
-hooks_of_repositories repositories = option_and_then within_limit (joined hooks_of_repository repositories)
+-- the hooks of all repositories; the stages are those of a hook that names none
+abbrev pub hooks_of_repositories : Stages → List Meaning → Option (List Hook)
+hooks_of_repositories default repositories = option_and_then within_limit (joined (hooks_of_repository default) repositories)

@@ -1,9 +1,12 @@
 -- The kinds of a configuration's values, and how a value is taken from a table.
-use Rattle.std.specs.Prelude.{ℕ, List, length, Bool, true, false, if◌then◌else◌, nat_le, bytes_eq, Option, Some, None, option_and_then}
+use Rattle.std.specs.Prelude.{ℕ, List, [], ◌∷◌, length, Bool, true, false, if◌then◌else◌, nat_le, bytes_eq, Option, Some, None, option_map, option_and_then}
 use Rattle.yaml_lines.specs.Meaning.{Meaning, text, list, table, empty}
-use Rattle.hook_config.specs.Rows.{Row, value_at, is_among}
+use Rattle.hook_config.specs.Rows.{Row, value_at, is_among, list_of}
+use Rattle.hook_config.specs.Stages.{stage_of_word, stages_among}
 use Rattle.hook_config.specs.declared.configuration.Language.{Language}
 use Rattle.hook_config.specs.declared.configuration.Language.TheVariants.{Fail}
+use Rattle.hook_config.specs.declared.stage.Stage.{Stage}
+use Rattle.hook_config.specs.declared.stage.Stages.{Stages}
 use Rattle.hook_config.specs.declared.known_keys.TheConstants.{FAIL}
 use Rattle.hook_config.specs.KnownKeys.{true_words, false_words}
 
@@ -30,6 +33,44 @@ language_of_word word = if bytes_eq word FAIL.now then Some Fail else None
 -- a text that names a language that is served
 abbrev pub language_of : Meaning → Option Language
 language_of value = option_and_then language_of_word (text_of value)
+
+-- ---- lists
+
+-- what the kind makes of each of them, or none where it makes none of one
+abbrev pub each : {A : Type 0} → (Meaning → Option A) → List Meaning → Option (List A)
+each kind [] = Some []
+each kind (item ∷ items) = option_and_then (λ first. option_map (λ others. first ∷ others) (each kind items)) (kind item)
+
+-- a list of texts
+abbrev pub texts_of : Meaning → Option (List (List ℕ))
+texts_of value = option_and_then (each text_of) (list_of value)
+
+-- a text that names a stage
+abbrev pub stage_of : Meaning → Option Stage
+stage_of value = option_and_then stage_of_word (text_of value)
+
+-- the stages of a list, or the default where it has no items
+abbrev pub stages_of_items : Stages → List Meaning → Option Stages
+stages_of_items default [] = Some default
+stages_of_items default (item ∷ items) = option_map stages_among (each stage_of (item ∷ items))
+
+-- a list of stages, or the default where it is empty
+abbrev pub stages_of : Stages → Meaning → Option Stages
+stages_of default value = option_and_then (stages_of_items default) (list_of value)
+
+-- ---- values that are served where they are empty alone
+
+abbrev pub only_empty : {A : Type 0} → List A → Option (List A)
+only_empty [] = Some []
+only_empty (x ∷ xs) = None
+
+abbrev pub empty_text_of : Meaning → Option (List ℕ)
+empty_text_of value = option_and_then only_empty (text_of value)
+
+abbrev pub empty_texts_of : Meaning → Option (List (List ℕ))
+empty_texts_of value = option_and_then only_empty (texts_of value)
+
+-- ---- values at keys
 
 -- the value that must stand at the key
 abbrev pub required : {A : Type 0} → (Meaning → Option A) → List ℕ → List Row → Option A

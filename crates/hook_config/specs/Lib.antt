@@ -6,4 +6,5 @@ pub mod Kinds
 pub mod KnownKeys
 pub mod Refusals
 pub mod Rows
+pub mod Stages
 pub mod UnknownKeys

@@ -35,17 +35,22 @@ name_of Unsupported = codes "Unsupported"
 name_of TooMany = codes "TooMany"
 name_of OutOfMemory = codes "OutOfMemory"
 
-abbrev pub kind_of_yaml : YamlKind → YamlFault → ConfigKind
-kind_of_yaml NotUtf8 fault = Yaml fault
-kind_of_yaml TabIndent fault = Yaml fault
-kind_of_yaml NotSupported fault = Yaml fault
-kind_of_yaml Layout fault = Yaml fault
-kind_of_yaml Quote fault = Yaml fault
-kind_of_yaml DoubledKey fault = Yaml fault
-kind_of_yaml TooDeep fault = Yaml fault
-kind_of_yaml TooLarge fault = Yaml fault
-kind_of_yaml YamlOutOfMemory fault = OutOfMemory
-
 -- a fault of the text, at its line
+abbrev pub in_line : YamlFault → ConfigFault
+in_line fault = record { kind = Yaml fault; at = fault.line }
+
+-- want of memory is at no line of the text
+abbrev pub refusal_of_yaml : YamlKind → YamlFault → ConfigFault
+refusal_of_yaml NotUtf8 fault = in_line fault
+refusal_of_yaml TabIndent fault = in_line fault
+refusal_of_yaml NotSupported fault = in_line fault
+refusal_of_yaml Layout fault = in_line fault
+refusal_of_yaml Quote fault = in_line fault
+refusal_of_yaml DoubledKey fault = in_line fault
+refusal_of_yaml TooDeep fault = in_line fault
+refusal_of_yaml TooLarge fault = in_line fault
+refusal_of_yaml YamlOutOfMemory fault = record { kind = OutOfMemory; at = 0 }
+
+-- what a fault of the text is as a refusal of the configuration
 abbrev pub of_yaml : YamlFault → ConfigFault
-of_yaml fault = record { kind = kind_of_yaml fault.kind fault; at = fault.line }
+of_yaml fault = refusal_of_yaml fault.kind fault

@@ -1,4 +1,4 @@
--- The keys that no table of a configuration knows, in the order of the text: the keys of a repository or a hook stand
+-- The keys that the table they stand in doesn't know, in the order of the text: the keys of a repository or a hook stand
 -- where its table stands.
 use Rattle.std.specs.Prelude.{ℕ, List, [], ◌∷◌, if◌then◌else◌, bytes_eq, unwrap_or}
 use Rattle.std.specs.List.{flat_map}

@@ -18,7 +18,7 @@ pub enum ConfigKind {
     /// A key that its table must have isn't there.
     #[error("a required key is missing")]
     MissingKey,
-    /// A stage isn't one of githooks(5) that pre-commit knows.
+    /// A text in a list of stages names no stage.
     #[error("a stage is not known")]
     BadStage,
     /// A language isn't one of the four that are known.
@@ -36,7 +36,7 @@ pub enum ConfigKind {
     /// An argument isn't one that the language takes.
     #[error("an argument is not known")]
     BadArgs,
-    /// A key or a language is known and not served.
+    /// A key or a language is known and not served, or a key is served only where its value is empty.
     #[error("a key or a language is not supported")]
     Unsupported,
     /// There are more than 500 hooks.
@@ -148,7 +148,7 @@ impl From<ConfigKind> for ConfigFault {
     }
 }
 
-/// A fault of the text, at its line.
+/// A fault of the text, at its line. Want of memory is at no line.
 impl From<YamlFault> for ConfigFault {
     ghost use Rattle.std.specs.Prelude.{◌≡◌};
     ghost use Rattle.hook_config.specs.Refusals.{of_yaml};
@@ -156,13 +156,12 @@ impl From<YamlFault> for ConfigFault {
     ghost from_gives = { λ fault refusal. refusal ≡ of_yaml fault };
 
     fn from(fault: YamlFault) -> Self {
-        let kind = match fault.kind {
-            YamlKind::OutOfMemory => ConfigKind::OutOfMemory,
-            _ => ConfigKind::Yaml(fault),
-        };
-        ConfigFault {
-            kind,
-            at: fault.line as u64,
+        match fault.kind {
+            YamlKind::OutOfMemory => ConfigFault::from(ConfigKind::OutOfMemory),
+            _ => ConfigFault {
+                kind: ConfigKind::Yaml(fault),
+                at: fault.line as u64,
+            },
         }
     }
 }

@@ -1,4 +1,5 @@
 use crate::config_text::ConfigText;
+use crate::stage::Stages;
 use hook_base::{Items, Text};
 
 /// What a `.pre-commit-config.yaml` asks for.
@@ -22,6 +23,10 @@ pub struct Hook {
     pub alias: ConfigText,
     pub language: Language,
     pub entry: ConfigText,
+    /// The words that follow those of the entry.
+    pub args: Items<ConfigText>,
+    /// The stages in which the hook is run: those that its table names, else the configuration's default stages.
+    pub stages: Stages,
     /// Whether the hook runs also where no file is selected for it.
     pub always_run: bool,
     /// Whether the hook's details are reported also where it passed.

@@ -3,13 +3,17 @@
 ghost use Rattle.std.specs.Prelude.{◌≡◌, option_map, []};
 ghost use Rattle.yaml_lines.specs.View.{view};
 ghost use Rattle.hook_config.specs.Gives.{GivesBy, GivesSurely};
-ghost use Rattle.hook_config.specs.Kinds.{text_of, truth_of, language_of, required, or_default};
+ghost use Rattle.hook_config.specs.Kinds.{text_of, truth_of, language_of, texts_of, stages_of, empty_text_of, empty_texts_of, required, or_default};
 ghost use Rattle.hook_config.specs.Rows.{rows_of, meanings_of_nodes, value_at, has_key_among, texts, list_of};
 
 use crate::config_fault::ConfigKind;
 use crate::config_text::ConfigText;
 use crate::configuration::Language;
 use crate::kinds::{is_among, language_of, list_of, text_of, truth_of};
+use crate::stage::Stages;
+use crate::stage_lists::stages_of;
+use crate::text_lists::{empty_text_of, empty_texts_of, texts_of};
+use hook_base::Items;
 use std::alloc::Global;
 use yaml_profile::Node;
 
@@ -97,5 +101,53 @@ pub(crate) fn truth_or(
     match value_at(rows, key) {
         Some(value) => truth_of(value),
         None => Ok(default),
+    }
+}
+
+/// The texts at the key, none where the key isn't there.
+pub(crate) fn texts_or_none(
+    alloc: Global,
+    rows: &[(String, Node)],
+    key: &str,
+) -> Result<Items<ConfigText>, ConfigKind>
+    ensures { GivesBy (λ texts. texts) result (or_default texts_of [] key.now (rows_of rows.now)) }
+{
+    match value_at(rows, key) {
+        Some(value) => texts_of(alloc, value),
+        None => Ok(Items::new(alloc)),
+    }
+}
+
+/// The stages at the key, or the default where the key isn't there or its list is empty.
+pub(crate) fn stages_or(
+    rows: &[(String, Node)],
+    key: &str,
+    default: Stages,
+) -> Result<Stages, ConfigKind>
+    ensures { GivesSurely (λ stages. stages) result (or_default (stages_of default) default key.now (rows_of rows.now)) }
+{
+    match value_at(rows, key) {
+        Some(value) => stages_of(value, default),
+        None => Ok(default),
+    }
+}
+
+/// Refuses the text at the key where it isn't empty, as `Unsupported`.
+pub(crate) fn refuse_text(rows: &[(String, Node)], key: &str) -> Result<(), ConfigKind>
+    ensures { GivesSurely (λ _. []) result (or_default empty_text_of [] key.now (rows_of rows.now)) }
+{
+    match value_at(rows, key) {
+        Some(value) => empty_text_of(value),
+        None => Ok(()),
+    }
+}
+
+/// Refuses the texts at the key where there are any, as `Unsupported`.
+pub(crate) fn refuse_texts(rows: &[(String, Node)], key: &str) -> Result<(), ConfigKind>
+    ensures { GivesSurely (λ _. []) result (or_default empty_texts_of [] key.now (rows_of rows.now)) }
+{
+    match value_at(rows, key) {
+        Some(value) => empty_texts_of(value),
+        None => Ok(()),
     }
 }

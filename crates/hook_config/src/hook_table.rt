@@ -8,29 +8,39 @@ ghost use Rattle.hook_config.specs.Rows.{rows_of};
 
 use crate::config_fault::ConfigKind;
 use crate::configuration::Hook;
-use crate::fields::{has_key_among, required_language, required_text, text_or_empty, truth_or};
+use crate::fields::{
+    has_key_among, refuse_text, refuse_texts, required_language, required_text, stages_or,
+    text_or_empty, texts_or_none, truth_or,
+};
 use crate::kinds::table_of;
 use crate::known_keys::{
-    ALIAS, ALWAYS_RUN, ENTRY, FAIL_FAST, ID, LANGUAGE, LATER_HOOK_KEYS, NAME, PASS_FILENAMES,
-    VERBOSE,
+    ADDITIONAL_DEPENDENCIES, ALIAS, ALWAYS_RUN, ARGS, ENTRY, FAIL_FAST, ID, LANGUAGE,
+    LATER_HOOK_KEYS, LOG_FILE, NAME, PASS_FILENAMES, STAGES, VERBOSE,
 };
+use crate::stage::Stages;
 use std::alloc::Global;
 use yaml_profile::Node;
 
-/// The hook that a table describes.
-pub(crate) fn hook_of(alloc: Global, node: &Node) -> Result<Hook, ConfigKind>
-    ensures { GivesBy (λ hook. hook) result (hook_of (view node.now)) }
+/// The hook that a table describes, where a hook that names no stage has the default ones.
+pub(crate) fn hook_of(alloc: Global, node: &Node, default: Stages) -> Result<Hook, ConfigKind>
+    ensures { GivesBy (λ hook. hook) result (hook_of default (view node.now)) }
 {
     let rows = table_of(node)?;
     if has_key_among(rows, &LATER_HOOK_KEYS) {
         return Err(ConfigKind::Unsupported);
     }
-    hook_of_fields(alloc, rows)
+    refuse_text(rows, LOG_FILE)?;
+    refuse_texts(rows, ADDITIONAL_DEPENDENCIES)?;
+    hook_of_fields(alloc, rows, default)
 }
 
 #[tactic(auto, using(crate::proofs::HookFields::refused_fields, crate::proofs::HookFields::hook_from_fields))]
-fn hook_of_fields(alloc: Global, rows: &[(String, Node)]) -> Result<Hook, ConfigKind>
-    ensures { GivesBy (λ hook. hook) result (hook_of_fields (rows_of rows.now)) }
+fn hook_of_fields(
+    alloc: Global,
+    rows: &[(String, Node)],
+    default: Stages,
+) -> Result<Hook, ConfigKind>
+    ensures { GivesBy (λ hook. hook) result (hook_of_fields default (rows_of rows.now)) }
 {
     Ok(Hook {
         id: required_text(alloc, rows, ID)?,
@@ -38,6 +48,8 @@ fn hook_of_fields(alloc: Global, rows: &[(String, Node)]) -> Result<Hook, Config
         alias: text_or_empty(alloc, rows, ALIAS)?,
         language: required_language(rows, LANGUAGE)?,
         entry: required_text(alloc, rows, ENTRY)?,
+        args: texts_or_none(alloc, rows, ARGS)?,
+        stages: stages_or(rows, STAGES, default)?,
         always_run: truth_or(rows, ALWAYS_RUN, false)?,
         verbose: truth_or(rows, VERBOSE, false)?,
         pass_filenames: truth_or(rows, PASS_FILENAMES, true)?,

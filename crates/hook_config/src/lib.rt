@@ -1,6 +1,6 @@
 //! Reads the bytes of a `.pre-commit-config.yaml` to a `Config`, or says by a `ConfigFault` why they are none.
 //!
-//! `Config` holds `Hook`s, whose texts are `ConfigText`s. What a configuration is stands in
+//! `Config` holds `Hook`s, whose texts are `ConfigText`s and whose stages are `Stages`. What a configuration is stands in
 //! `specs/Configuration.antt`: `configuration_of` says which `Config` a text's bytes describe, if any.
 #![tactic(auto)]
 
@@ -13,11 +13,15 @@ mod kinds;
 mod known_keys;
 mod reader;
 mod repositories;
+mod stage;
+mod stage_lists;
 #[cfg(test)]
 mod tests;
+mod text_lists;
 mod unknown_keys;
 
 pub use config_fault::{ConfigFault, ConfigKind};
 pub use config_text::{ConfigText, MAX_TEXT_BYTES};
 pub use configuration::{Config, Hook, Language};
 pub use reader::read_config;
+pub use stage::{Stage, Stages};

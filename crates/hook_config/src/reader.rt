@@ -6,18 +6,23 @@ ghost use Rattle.hook_config.specs.Rows.{rows_of};
 
 use crate::config_fault::{ConfigFault, ConfigKind};
 use crate::configuration::Config;
-use crate::fields::{has_key_among, required_list, truth_or};
+use crate::fields::{has_key_among, required_list, stages_or, truth_or};
 use crate::kinds::table_of;
-use crate::known_keys::{FAIL_FAST, LATER_TOP_KEYS, REPOS};
+use crate::known_keys::{DEFAULT_STAGES, FAIL_FAST, LATER_TOP_KEYS, REPOS};
 use crate::repositories::hooks_of_repositories;
+use crate::stage::Stages;
 use crate::unknown_keys::unknown_of_top;
 use hook_base::Items;
 use std::alloc::Global;
 use yaml_profile::{Node, read};
 
-/// The configuration that the bytes of a `.pre-commit-config.yaml` describe. They are refused by a kind of
-/// `ConfigKind`: `Yaml` where they are no YAML of this profile, `OutOfMemory` where memory was refused, and else for
-/// what the node that they describe lacks or holds in place of a configuration.
+/// The configuration that the bytes of a `.pre-commit-config.yaml` describe.
+///
+/// A refusal is one of `ConfigKind`: `Yaml` where the bytes are no YAML of this profile; `Shape` where the text, or a
+/// repository or a hook, is no table, or a known key's value is of another kind; `MissingKey` where a required key isn't
+/// there; `BadStage`, `BadLanguage` and `RemoteRepo` for a stage, a language or a repository that isn't known;
+/// `Unsupported` for what is known and not served; `TooMany` for more than 500 hooks; `OutOfMemory` where memory was
+/// refused.
 #[tactic(auto, unfolding(crate::specs::Configuration::configuration_of))]
 pub fn read_config(alloc: Global, bytes: &[u8]) -> Result<Config, ConfigFault>
     ensures { Gives result (configuration_of bytes.now) }
@@ -30,7 +35,7 @@ pub fn read_config(alloc: Global, bytes: &[u8]) -> Result<Config, ConfigFault>
 
 /// The configuration that a text's node describes.
 #[tactic(auto, unfolding(crate::specs::Configuration::configuration_of_meaning))]
-fn config_of_node(alloc: Global, node: &Node) -> Result<Config, ConfigFault>
+pub(crate) fn config_of_node(alloc: Global, node: &Node) -> Result<Config, ConfigFault>
     ensures { Gives result (configuration_of_meaning (view node.now)) }
 {
     config_of_rows(alloc, table_of(node)?)
@@ -43,8 +48,9 @@ fn config_of_rows(alloc: Global, rows: &[(String, Node)]) -> Result<Config, Conf
     if has_key_among(rows, &LATER_TOP_KEYS) {
         return Err(ConfigFault::from(ConfigKind::Unsupported));
     }
+    let default = stages_or(rows, DEFAULT_STAGES, Stages::all())?;
     let fail_fast = truth_or(rows, FAIL_FAST, false)?;
-    let hooks = hooks_of_repositories(alloc, required_list(rows, REPOS)?)?;
+    let hooks = hooks_of_repositories(alloc, required_list(rows, REPOS)?, default)?;
     let unknown = unknown_of_top(alloc, rows)?;
     Ok(Config {
         hooks: Items::from(hooks),

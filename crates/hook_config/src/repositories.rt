@@ -12,23 +12,25 @@ use crate::fields::{required, required_list};
 use crate::hook_table::hook_of;
 use crate::kinds::{table_of, text_in};
 use crate::known_keys::{HOOKS, LOCAL, REPO};
+use crate::stage::Stages;
 use std::alloc::Global;
 use yaml_profile::Node;
 
 /// The greatest number of hooks of a configuration.
 pub const MAX_HOOKS: usize = 500;
 
-/// The hooks of all repositories.
+/// The hooks of all repositories. A hook that names no stage has the default ones.
 #[tactic(auto, using(crate::proofs::HookLists::finding))]
 pub(crate) fn hooks_of_repositories(
     alloc: Global,
     repositories: &[Node],
+    default: Stages,
 ) -> Result<Vec<Hook>, ConfigFault>
-    ensures { GivesSeen (λ hooks. hooks.items) result (hooks_of_repositories (meanings_of_nodes repositories.now)) }
+    ensures { GivesSeen (λ hooks. hooks.items) result (hooks_of_repositories default (meanings_of_nodes repositories.now)) }
 {
     let mut hooks = Vec::new(alloc);
     for repository in repositories {
-        add_repository(alloc, repository, &mut hooks)?;
+        add_repository(alloc, repository, default, &mut hooks)?;
     }
     Ok(hooks)
 }
@@ -37,27 +39,33 @@ pub(crate) fn hooks_of_repositories(
 fn add_repository(
     alloc: Global,
     repository: &Node,
+    default: Stages,
     hooks: &mut Vec<Hook>,
 ) -> Result<(), ConfigFault>
     requires { length hooks.old.items ≤ 500 }
-    ensures { GivesSeen (λ _. hooks.new.items) result (after hooks.old.items (hooks_of_repository (view repository.now))) }
+    ensures { GivesSeen (λ _. hooks.new.items) result (after hooks.old.items (hooks_of_repository default (view repository.now))) }
 {
     let rows = table_of(repository)?;
     if text_in(required(rows, REPO)?)? != LOCAL {
         return Err(ConfigFault::from(ConfigKind::RemoteRepo));
     }
-    add_hooks(alloc, required_list(rows, HOOKS)?, hooks)
+    add_hooks(alloc, required_list(rows, HOOKS)?, default, hooks)
 }
 
 /// Adds the hooks of a list. A fault in one of them has its number, counted from 1 over all repositories.
 #[tactic(auto, using(crate::proofs::HookLists::finding))]
-fn add_hooks(alloc: Global, tables: &[Node], hooks: &mut Vec<Hook>) -> Result<(), ConfigFault>
+fn add_hooks(
+    alloc: Global,
+    tables: &[Node],
+    default: Stages,
+    hooks: &mut Vec<Hook>,
+) -> Result<(), ConfigFault>
     requires { length hooks.old.items ≤ 500 }
-    ensures { GivesSeen (λ _. hooks.new.items) result (after hooks.old.items (hooks_of_list (meanings_of_nodes tables.now))) }
+    ensures { GivesSeen (λ _. hooks.new.items) result (after hooks.old.items (hooks_of_list default (meanings_of_nodes tables.now))) }
 {
     for table in tables {
         let number = hooks.len() as u64 + 1;
-        if let Err(kind) = add_hook(alloc, table, hooks) {
+        if let Err(kind) = add_hook(alloc, table, default, hooks) {
             return Err(ConfigFault { kind, at: number });
         }
     }
@@ -65,13 +73,18 @@ fn add_hooks(alloc: Global, tables: &[Node], hooks: &mut Vec<Hook>) -> Result<()
 }
 
 /// Adds the hook of one table, or answers `TooMany` where there are as many as there may be.
-fn add_hook(alloc: Global, table: &Node, hooks: &mut Vec<Hook>) -> Result<(), ConfigKind>
-    ensures { GivesBy (λ _. hooks.new.items) result (after hooks.old.items (hook_alone (view table.now))) }
+fn add_hook(
+    alloc: Global,
+    table: &Node,
+    default: Stages,
+    hooks: &mut Vec<Hook>,
+) -> Result<(), ConfigKind>
+    ensures { GivesBy (λ _. hooks.new.items) result (after hooks.old.items (hook_alone default (view table.now))) }
 {
     if hooks.len() >= MAX_HOOKS {
         return Err(ConfigKind::TooMany);
     }
-    let hook = hook_of(alloc, table)?;
+    let hook = hook_of(alloc, table, default)?;
     hooks.push(hook)?;
     Ok(())
 }

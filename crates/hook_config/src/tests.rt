@@ -1,5 +1,8 @@
 //! The kinds of refusals and their places, which no contract says, and texts whose configuration is known.
 
+mod lists;
+mod stages;
+
 use crate::config_fault::ConfigFault;
 use crate::config_text::ConfigText;
 use crate::configuration::{Config, Hook};
@@ -17,15 +20,20 @@ const START: &str = "repos:\n- repo: local\n  hooks:\n";
 /// A hook with the keys that it must have, and no further ones.
 const PLAIN_HOOK: &str = "  - id: a\n    name: A\n    language: fail\n    entry: e\n";
 
-/// A hook's fields, in the order of the type, with bars between them.
+/// A hook's fields but its stages, in the order of the type, with bars between them.
 fn hook_line(alloc: Global, hook: &Hook) -> Result<String, AllocError> {
     let (id, name, alias) = (hook.id.as_str(), hook.name.as_str(), hook.alias.as_str());
     let (language, entry) = (hook.language, hook.entry.as_str());
+    let mut line = format!(in alloc; "{id}|{name}|{alias}|{language:?}|{entry}")?;
+    for arg in hook.args.as_slice() {
+        line.push_str("+")?;
+        line.push_str(arg.as_str())?;
+    }
     let (always_run, verbose) = (hook.always_run, hook.verbose);
     let (pass_filenames, fail_fast) = (hook.pass_filenames, hook.fail_fast);
-    format!(in alloc;
-        "{id}|{name}|{alias}|{language:?}|{entry}|{always_run}|{verbose}|{pass_filenames}|{fail_fast}"
-    )
+    let rest = format!(in alloc; "|{always_run}|{verbose}|{pass_filenames}|{fail_fast}")?;
+    line.push_str(rest.as_str())?;
+    Ok(line)
 }
 
 /// The number of hooks, `fail_fast` and the unknown keys; or a refusal's number, name and place.
@@ -86,8 +94,24 @@ fn one_hook_has_the_defaults(rt: HostRuntime) -> Result<(), Fail> {
 
 #[test]
 fn each_key_sets_its_own_field(rt: HostRuntime) -> Result<(), Fail> {
-    const CASES: [(&str, &str); 5] = [
+    const CASES: [(&str, &str); 9] = [
         ("    alias: b\n", "a|A|b|Fail|e|false|false|true|false"),
+        (
+            "    args:\n    - --all\n    - x y\n",
+            "a|A||Fail|e+--all+x y|false|false|true|false",
+        ),
+        (
+            "    stages:\n    - push\n",
+            "a|A||Fail|e|false|false|true|false",
+        ),
+        (
+            "    language_version: a\n    minimum_pre_commit_version:\n    - b\n",
+            "a|A||Fail|e|false|false|true|false",
+        ),
+        (
+            "    require_serial:\n      a: b\n    description:\n",
+            "a|A||Fail|e|false|false|true|false",
+        ),
         (
             "    always_run: true\n",
             "a|A||Fail|e|true|false|true|false",
@@ -115,11 +139,11 @@ fn each_key_sets_its_own_field(rt: HostRuntime) -> Result<(), Fail> {
 
 #[test]
 fn texts_are_read_or_refused_in_their_place(rt: HostRuntime) -> Result<(), Fail> {
-    const CASES: [(&str, &str); 26] = [
+    const CASES: [(&str, &str); 41] = [
         ("", "2 Shape at 0"),
         ("a", "2 Shape at 0"),
         ("- a\n", "2 Shape at 0"),
-        ("repos: []\n", "1 Yaml at 1"),
+        ("repos: &a b\n", "1 Yaml at 1"),
         ("a: 1\na: 2\n", "1 Yaml at 2"),
         ("repos:\n\tb: 1\n", "1 Yaml at 2"),
         ("fail_fast: true\n", "3 MissingKey at 0"),
@@ -127,6 +151,17 @@ fn texts_are_read_or_refused_in_their_place(rt: HostRuntime) -> Result<(), Fail>
         ("repos: a\n", "2 Shape at 0"),
         ("repos:\n  a: 1\n", "2 Shape at 0"),
         ("repos:\n- a\n", "2 Shape at 0"),
+        ("repos:\n-\n", "2 Shape at 0"),
+        ("default_stages: push\n", "2 Shape at 0"),
+        ("default_stages:\n", "2 Shape at 0"),
+        ("default_stages:\n- push\n-\n", "2 Shape at 0"),
+        ("default_stages:\n- push\n- a: b\n", "2 Shape at 0"),
+        ("default_stages:\n- push\n- pushes\n", "4 BadStage at 0"),
+        (
+            "default_stages:\n- push\nfail_fast:\n- true\n",
+            "2 Shape at 0",
+        ),
+        ("default_stages:\n- push\n", "3 MissingKey at 0"),
         ("repos:\n- hooks:\n  - id: a\n", "3 MissingKey at 0"),
         ("repos:\n- repo: local\n", "3 MissingKey at 0"),
         ("repos:\n- repo: local\n  hooks: a\n", "2 Shape at 0"),
@@ -172,6 +207,34 @@ fn texts_are_read_or_refused_in_their_place(rt: HostRuntime) -> Result<(), Fail>
             "3 MissingKey at 2",
         ),
         (
+            "repos:\n- repo: local\n  hooks:\n  - id: a\n    name: A\n    language: fail\n    entry: e\n    stages: push\n",
+            "2 Shape at 1",
+        ),
+        (
+            "repos:\n- repo: local\n  hooks:\n  - id: a\n    name: A\n    language: fail\n    entry: e\n    stages:\n    - - push\n",
+            "2 Shape at 1",
+        ),
+        (
+            "repos:\n- repo: local\n  hooks:\n  - id: a\n    name: A\n    language: fail\n    entry: e\n    stages:\n    - push\n    - Push\n",
+            "4 BadStage at 1",
+        ),
+        (
+            "repos:\n- repo: local\n  hooks:\n  - id: a\n    name: A\n    language: fail\n    entry: e\n    args: b\n",
+            "2 Shape at 1",
+        ),
+        (
+            "repos:\n- repo: local\n  hooks:\n  - id: a\n    name: A\n    language: fail\n    entry: e\n    args:\n    - b\n    -\n",
+            "2 Shape at 1",
+        ),
+        (
+            "repos:\n- repo: local\n  hooks:\n  - id: a\n    name: A\n    language: fail\n    entry: e\n    log_file: b\n",
+            "10 Unsupported at 1",
+        ),
+        (
+            "repos:\n- repo: local\n  hooks:\n  - id: a\n    name: A\n    language: fail\n    entry: e\n    additional_dependencies:\n    - b\n",
+            "10 Unsupported at 1",
+        ),
+        (
             "fail_fast: TRUE\nrepos:\n- repo: local\n  hooks:\n  - id: a\n    name: A\n    language: fail\n    entry: e\n  - id: a\n    name: A\n    language: fail\n    entry: e\n",
             "2 hooks, true",
         ),
@@ -196,30 +259,8 @@ fn a_fault_has_its_hooks_number_over_all_repositories(rt: HostRuntime) -> Result
 
 #[test]
 fn keys_and_languages_that_come_later_are_refused(rt: HostRuntime) -> Result<(), Fail> {
-    const TOP_KEYS: [&str; 7] = [
-        "default_stages",
-        "files",
-        "exclude",
-        "ci",
-        "default_install_hook_types",
-        "default_language_version",
-        "minimum_pre_commit_version",
-    ];
-    const HOOK_KEYS: [&str; 13] = [
-        "files",
-        "exclude",
-        "types",
-        "types_or",
-        "exclude_types",
-        "args",
-        "stages",
-        "log_file",
-        "additional_dependencies",
-        "language_version",
-        "minimum_pre_commit_version",
-        "require_serial",
-        "description",
-    ];
+    const TOP_KEYS: [&str; 2] = ["files", "exclude"];
+    const HOOK_KEYS: [&str; 5] = ["files", "exclude", "types", "types_or", "exclude_types"];
     const LANGUAGES: [&str; 3] = ["system", "script", "pygrep"];
     let alloc = rt.alloc();
     for key in &TOP_KEYS {
@@ -240,8 +281,83 @@ fn keys_and_languages_that_come_later_are_refused(rt: HostRuntime) -> Result<(),
 }
 
 #[test]
+fn a_known_key_of_another_kind_is_refused(rt: HostRuntime) -> Result<(), Fail> {
+    const TEXTS: [&str; 2] = ["alias", "log_file"];
+    const TRUTHS: [&str; 4] = ["always_run", "verbose", "pass_filenames", "fail_fast"];
+    const LISTS: [&str; 3] = ["args", "stages", "additional_dependencies"];
+    let alloc = rt.alloc();
+    for key in &TEXTS {
+        let text = format!(in alloc; "{ONE_HOOK}    {key}:\n    - a\n")?;
+        expect_line(&rt, alloc, text.as_str(), "2 Shape at 1")?;
+    }
+    for key in &TRUTHS {
+        let text = format!(in alloc; "{ONE_HOOK}    {key}:\n    - true\n")?;
+        expect_line(&rt, alloc, text.as_str(), "2 Shape at 1")?;
+    }
+    for key in &LISTS {
+        let text = format!(in alloc; "{ONE_HOOK}    {key}:\n      a: b\n")?;
+        expect_line(&rt, alloc, text.as_str(), "2 Shape at 1")?;
+    }
+    Ok(())
+}
+
+#[test]
+fn each_required_key_is_a_text(rt: HostRuntime) -> Result<(), Fail> {
+    const REQUIRED: [(&str, &str); 4] = [
+        ("id", "a"),
+        ("name", "A"),
+        ("language", "fail"),
+        ("entry", "e"),
+    ];
+    let alloc = rt.alloc();
+    for (listed, _) in &REQUIRED {
+        let mut text = joined(alloc, START, "  - x: 1\n")?;
+        for (key, value) in &REQUIRED {
+            let blank = if key == listed { "\n    - " } else { " " };
+            let row = format!(in alloc; "    {key}:{blank}{value}\n")?;
+            text.push_str(row.as_str())?;
+        }
+        expect_line(&rt, alloc, text.as_str(), "2 Shape at 1")?;
+    }
+    Ok(())
+}
+
+#[test]
+fn ignored_keys_take_any_value_and_are_not_listed(rt: HostRuntime) -> Result<(), Fail> {
+    const TOP_KEYS: [&str; 4] = [
+        "ci",
+        "default_install_hook_types",
+        "default_language_version",
+        "minimum_pre_commit_version",
+    ];
+    const HOOK_KEYS: [&str; 4] = [
+        "language_version",
+        "minimum_pre_commit_version",
+        "require_serial",
+        "description",
+    ];
+    const VALUES: [&str; 4] = [" a", "", "\n      - b", "\n      c: d"];
+    let alloc = rt.alloc();
+    for value in &VALUES {
+        for key in &TOP_KEYS {
+            let text = format!(in alloc; "{ONE_HOOK}{key}:{value}\n")?;
+            expect_line(&rt, alloc, text.as_str(), "1 hooks, false")?;
+        }
+        for key in &HOOK_KEYS {
+            let text = format!(in alloc; "{ONE_HOOK}    {key}:{value}\n")?;
+            expect_line(&rt, alloc, text.as_str(), "1 hooks, false")?;
+        }
+    }
+    Ok(())
+}
+
+#[test]
 fn unknown_keys_are_listed_in_the_order_of_the_text(rt: HostRuntime) -> Result<(), Fail> {
-    const CASES: [(&str, &str); 3] = [
+    const CASES: [(&str, &str); 4] = [
+        (
+            "x: 1\nrepos:\n- repo: local\n  hooks:\n  - id: a\n    name: A\n    language: fail\n    entry: e\n    foo: 2\n    description: d\n",
+            "1 hooks, false x foo",
+        ),
         (
             "x: 1\nrepos:\n- rev: 2\n  repo: local\n  hooks:\n  - foo: 3\n    id: a\n    name: A\n    language: fail\n    entry: e\n    bar: 4\n  last: 5\ny: 6\n",
             "1 hooks, false x rev foo bar last y",

@@ -8,12 +8,16 @@ mod stop;
 use child_port::TableChildren;
 use files::{read_configuration, read_tree};
 use hook_base::{Items, Text, Tree};
-use hook_cli::{Line, line_of, try_over};
-use std::io::Read;
+use hook_cli::{Line, TryFault, check_text, line_of, try_over};
+use hook_config::read_config;
+use std::io::{Read, Write};
 use std::process::ExitCode;
 use std::rt::{Env, Files};
 use std::{env, io};
 use stop::{Stop, tell};
+
+/// The file that `check` reads, in the working folder.
+const CONFIGURATION: &str = ".pre-commit-config.yaml";
 
 /// The exit status of a run in which a hook failed.
 const HOOK_FAILED: u8 = 1;
@@ -26,7 +30,7 @@ fn main(rt: HostRuntime) -> ExitCode {
     }
 }
 
-/// Does what the process's words ask for, and answers whether every hook passed.
+/// Does what the process's words ask for, and answers whether every hook that was run passed.
 fn run<R: Env + Files + Input + Print + AllocGlobal>(rt: &R) -> Result<bool, Stop> {
     let mut words = env::args(rt).map_err(Stop::of_words)?;
     let _program = words.next();
@@ -40,7 +44,26 @@ fn run<R: Env + Files + Input + Print + AllocGlobal>(rt: &R) -> Result<bool, Sto
     }
     match line_of(rt.alloc(), texts.as_slice())? {
         Line::Try { config, paths } => try_files(rt, config, paths),
+        Line::Check => {
+            check(rt).map_err(Stop::of_check)?;
+            Ok(true)
+        }
     }
+}
+
+/// `check`: reads the working folder's configuration, and prints how many hooks it has and which keys are ignored.
+fn check<R: Files + Print + AllocGlobal>(rt: &R) -> Result<(), Stop> {
+    let alloc = rt.alloc();
+    let bytes = read_configuration(rt, Text::copy_of(alloc, CONFIGURATION)?)?;
+    let config = read_config(alloc, bytes.as_slice())?;
+    let text = check_text(alloc, &config)?;
+    print(rt, text.as_slice()).map_err(|_| Stop::Refused(TryFault::Write))
+}
+
+fn print<R: Print>(rt: &R, text: &[u8]) -> io::Result<()> {
+    let mut writer = io::writer(rt);
+    writer.write_all(text)?;
+    writer.flush()
 }
 
 /// `try CONFIG PATH..`: the first word whose file can't be used decides, and the run comes last.

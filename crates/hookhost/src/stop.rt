@@ -1,10 +1,11 @@
-//! Why the program ends without having run its hooks, and how it says so.
+//! Why the program ends without having done what its words ask for, and how it says so.
 
 ghost use Rattle.std.specs.Prelude.{◌≡◌};
-ghost use Rattle.hookhost.specs.Stops.{IsMemoryOr, status_of};
+ghost use Rattle.hookhost.specs.Stops.{IsMemoryOr, of_check, status_of};
 
 use hook_base::{OutOfMemory, Text};
 use hook_cli::TryFault;
+use hook_config::ConfigFault;
 use std::alloc::{AllocError, AllocFailed};
 use std::io;
 
@@ -14,7 +15,7 @@ const USAGE: u8 = 2;
 /// The exit status of a refusal.
 const REFUSED: u8 = 3;
 
-/// Why no report stands on standard output, or not the whole of it.
+/// Why what was asked for doesn't stand on standard output, or not the whole of it.
 #[derive(Debug, Drop)]
 pub(crate) enum Stop {
     /// The words name no command, or ask for help.
@@ -25,6 +26,8 @@ pub(crate) enum Stop {
     CannotUse(Text),
     /// The run was refused.
     Refused(TryFault),
+    /// The configuration was read alone, and refused.
+    NoConfiguration(ConfigFault),
 }
 
 impl Stop {
@@ -51,6 +54,20 @@ impl Stop {
     }
 }
 
+impl Stop {
+    /// The same stop where a configuration is read alone: want of memory is then its refusal.
+    pub(crate) fn of_check(self) -> Stop
+        ensures { result ≡ of_check self }
+    {
+        match self {
+            Stop::Refused(TryFault::OutOfMemory) => {
+                Stop::NoConfiguration(ConfigFault::from(OutOfMemory))
+            }
+            stop => stop,
+        }
+    }
+}
+
 /// Whether the program itself was refused memory: the system's own want of memory has a number.
 fn is_memory(error: &io::Error) -> bool {
     error.kind() == io::ErrorKind::OutOfMemory && error.raw_os_error().is_none()
@@ -69,6 +86,12 @@ impl From<clap::Error> for Stop {
 impl From<TryFault> for Stop {
     fn from(fault: TryFault) -> Stop {
         Stop::Refused(fault)
+    }
+}
+
+impl From<ConfigFault> for Stop {
+    fn from(fault: ConfigFault) -> Stop {
+        Stop::NoConfiguration(fault)
     }
 }
 
@@ -99,7 +122,8 @@ pub(crate) fn tell<R: Eprint>(rt: &R, stop: &Stop) -> u8
         Stop::Usage(error) => (rt.eprint(error), USAGE),
         Stop::NotText => (rt.eprintln("error: a word is not UTF-8"), USAGE),
         Stop::CannotUse(word) => (say_unusable(rt, word), REFUSED),
-        Stop::Refused(fault) => (say_refused(rt, fault), REFUSED),
+        Stop::Refused(fault) => (say_refused(rt, fault.number(), fault.name()), REFUSED),
+        Stop::NoConfiguration(fault) => (say_refused(rt, fault.number(), fault.name()), REFUSED),
     };
     let _ = said;
     status
@@ -110,8 +134,6 @@ fn say_unusable<R: Eprint>(rt: &R, word: &Text) -> io::Result<()> {
     eprintln!(rt; "hookhost: cannot use {word}")
 }
 
-fn say_refused<R: Eprint>(rt: &R, fault: &TryFault) -> io::Result<()> {
-    let number = fault.number();
-    let name = fault.name();
+fn say_refused<R: Eprint>(rt: &R, number: u8, name: &str) -> io::Result<()> {
     eprintln!(rt; "hookhost: refused: {number} {name}")
 }

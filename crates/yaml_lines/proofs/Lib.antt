@@ -1,5 +1,16 @@
+mod BlockSteps
 mod Contents
 mod Decoded
+mod Held
+mod KeyQuoting
+mod Left
+mod QuotedSteps
+mod QuotedTrailing
+mod Quoting
 mod RawLines
+mod Saying
 mod Scans
+mod Skims
+mod Trailing
 mod Walks
+mod Written

@@ -2,7 +2,9 @@
 use Rattle.std.proofs.Common.{◌≡◌, ◌==◌, ℕ, ◌+◌, ◌<◌, ◌≤◌, Bool, true, false, cond, ◌&&◌, ◌||◌, List, [], ◌∷◌, ◌++◌, length, take, drop, slice_index, refl, sym, ap, ◌∙◌, arith, take-append-drop, append_assoc, true≢false}
 use Rattle.std.specs.List.{list_any}
 use Rattle.std.proofs.lemmas.List.{append-nil, drop_more, drop_all}
-use Rattle.yaml_lines.specs.Lines.{LineText, before_lines, begins_with, line_texts, without_return}
+use Rattle.yaml_lines.specs.BlockTexts.{LineText}
+use Rattle.yaml_lines.specs.Characters.{begins_with}
+use Rattle.yaml_lines.specs.Lines.{before_lines, line_texts, without_return}
 
 line_texts-nil : line_texts [] ≡ []
 unfolding line_texts

@@ -2,9 +2,9 @@
 use Rattle.std.proofs.Common.{take_all, ◌≡◌, ℕ, ◌+◌, ◌-◌, ◌<◌, ◌≤◌, Bool, true, false, cond, ◌&&◌, eqb, List, [], ◌∷◌, ◌++◌, length, take, drop, get_or, Option, Some, None, option_map, refl, sym, ap, ◌∙◌, arith, append_assoc}
 use Rattle.std.proofs.lemmas.Bool.{ne_eqb}
 use Rattle.std.proofs.lemmas.List.{drop_more, take_more, append-nil, drop_all}
-use Rattle.yaml_lines.specs.Characters.{is_blank, blank_or_end}
-use Rattle.yaml_lines.specs.Lines.{trim_end, is_nil, uncommented, without_return}
-use Rattle.yaml_lines.specs.Plain.{Sides, before_side, sides_of}
+use Rattle.yaml_lines.specs.Characters.{is_blank, is_nil, blank_or_end}
+use Rattle.yaml_lines.specs.Lines.{without_return}
+use Rattle.yaml_lines.specs.Plain.{Sides, before_side, sides_of, trim_end, uncommented}
 
 and_false : (b : Bool) → (b && false) ≡ false
 and_false true = refl
@@ -51,66 +51,6 @@ trim_end-other t n c above within e h =
     let more : n - 1 + 1 ≡ n = omega arith in
     let last : take n t ≡ take (n - 1) t ++ c ∷ [] = ap (λ (k : ℕ). take k t) (sym more) ∙ taken t (n - 1) c (omega arith) e in
     ap trim_end last ∙ (trim_end_push_other (take (n - 1) t) c h ∙ sym last)
-
--- both sides with characters more in front
-abbrev pub before_sides : List ℕ → Sides → Sides
-before_sides xs sides = record { before = xs ++ sides.before; behind = sides.behind }
-
-before_sides-push : (xs : List ℕ) (c : ℕ) (o : Option Sides) → option_map (before_sides xs) (option_map (before_side c) o) ≡ option_map (before_sides (xs ++ c ∷ [])) o
-before_sides-push xs c None = refl
-before_sides-push xs c (Some s) =
-    let f : List ℕ → Option Sides = λ bs. Some (record { before = bs; behind = s.behind }) in
-    ap f (sym (append_assoc xs (c ∷ []) s.before))
-
-sides_of-other : (c : ℕ) (cs : List ℕ) → (eqb c 58 && blank_or_end cs) ≡ false → sides_of (c ∷ cs) ≡ option_map (before_side c) (sides_of cs)
-unfolding sides_of
-sides_of-other c cs h = rw h
-
-sides_of-colon : (c : ℕ) (cs : List ℕ) → (eqb c 58 && blank_or_end cs) ≡ true → sides_of (c ∷ cs) ≡ Some (record { before = []; behind = cs })
-unfolding sides_of
-sides_of-colon c cs h = rw h
-
-sides_of-nil : sides_of [] ≡ None
-unfolding sides_of
-sides_of-nil = refl
-
--- the sides of all, from those of what is left
-abbrev pub sides_from : List ℕ → ℕ → Option Sides
-sides_from t i = option_map (before_sides (take i t)) (sides_of (drop i t))
-
-same_sides : (o : Option Sides) → option_map (before_sides []) o ≡ o
-same_sides None = refl
-same_sides (Some s) = refl
-
-pub sides_from_start : (t : List ℕ) → sides_of t ≡ sides_from t 0
-sides_from_start t = sym (same_sides (sides_of t))
-
-pub sides_from_other : (t : List ℕ) (i c : ℕ) → i < length t → c ≡ get_or t i c → (eqb c 58 && blank_or_end (drop (i + 1) t)) ≡ false → sides_from t i ≡ sides_from t (i + 1)
-sides_from_other t i c l e h =
-    let f : Option Sides → Option Sides = option_map (before_sides (take i t)) in
-    ap (λ (cs : List ℕ). f (sides_of cs)) (left t i c l e)
-    ∙ (ap f (sides_of-other c (drop (i + 1) t) h)
-    ∙ (before_sides-push (take i t) c (sides_of (drop (i + 1) t))
-    ∙ ap (λ (xs : List ℕ). option_map (before_sides xs) (sides_of (drop (i + 1) t))) (sym (taken t i c l e))))
-
-pub sides_from_colon : (t : List ℕ) (i c : ℕ) → i < length t → c ≡ get_or t i c → (eqb c 58 && blank_or_end (drop (i + 1) t)) ≡ true → sides_from t i ≡ Some (record { before = take i t; behind = drop (i + 1) t })
-sides_from_colon t i c l e h =
-    let f : Option Sides → Option Sides = option_map (before_sides (take i t)) in
-    let g : List ℕ → Option Sides = λ bs. Some (record { before = bs; behind = drop (i + 1) t }) in
-    ap (λ (cs : List ℕ). f (sides_of cs)) (left t i c l e)
-    ∙ (ap f (sides_of-colon c (drop (i + 1) t) h) ∙ ap g (append-nil (take i t)))
-
-pub sides_from_end : (t : List ℕ) (i : ℕ) → length t ≤ i → sides_from t i ≡ None
-sides_from_end t i l = ap (λ (cs : List ℕ). option_map (before_sides (take i t)) (sides_of cs)) (drop_all i t l) ∙ ap (option_map (before_sides (take i t))) sides_of-nil
-
-pub is_colon : (c : ℕ) (b : Bool) → c ≡ 58 → b ≡ true → (eqb c 58 && b) ≡ true
-is_colon c b e h = ap (λ (x : ℕ). eqb x 58 && b) e ∙ h
-
-pub no_colon : (c : ℕ) (b : Bool) → (c ≡ 58 → ⊥) → (eqb c 58 && b) ≡ false
-no_colon c b e = ap (λ (x : Bool). x && b) (ne_eqb c 58 e)
-
-pub no_blank_after : (c : ℕ) (b : Bool) → b ≡ false → (eqb c 58 && b) ≡ false
-no_blank_after c b h = ap (λ (x : Bool). eqb c 58 && x) h ∙ and_false (eqb c 58)
 
 -- what stands before a comment, from the part that was passed and what is left
 abbrev pub uncommented_from : List ℕ → Bool → ℕ → List ℕ
@@ -187,3 +127,69 @@ without_return-other t c some e h =
 pub without_return-nil : (t : List ℕ) → length t ≡ 0 → without_return t ≡ t
 without_return-nil [] h = refl
 without_return-nil (c ∷ cs) h = absurd (omega arith)
+
+-- both sides of a colon with characters more in front
+abbrev pub before_sides : List ℕ → Sides → Sides
+before_sides xs sides = record { before = xs ++ sides.before; behind = sides.behind }
+
+before_sides-push : (xs : List ℕ) (c : ℕ) (o : Option Sides) → option_map (before_sides xs) (option_map (before_side c) o) ≡ option_map (before_sides (xs ++ c ∷ [])) o
+before_sides-push xs c None = refl
+before_sides-push xs c (Some s) =
+    let f : List ℕ → Option Sides = λ bs. Some (record { before = bs; behind = s.behind }) in ap f (sym (append_assoc xs (c ∷ []) s.before))
+
+-- what one character does to the search for a colon
+abbrev colon_step : Bool → Bool → ℕ → List ℕ → Option Sides
+colon_step hash colon c cs = cond hash None (cond colon (Some (record { before = []; behind = cs })) (option_map (before_side c) (sides_of (is_blank c) cs)))
+
+sides_of-cons : (free : Bool) (c : ℕ) (cs : List ℕ) (hash colon : Bool) → (free && eqb c 35) ≡ hash → (eqb c 58 && blank_or_end cs) ≡ colon → sides_of free (c ∷ cs) ≡ colon_step hash colon c cs
+unfolding sides_of
+sides_of-cons free c cs hash colon h k = ap (λ (b : Bool). colon_step b (eqb c 58 && blank_or_end cs) c cs) h ∙ ap (λ (b : Bool). colon_step hash b c cs) k
+
+sides_of-nil : (free : Bool) → sides_of free [] ≡ None
+unfolding sides_of
+sides_of-nil free = refl
+
+-- the sides of all, from those of what is left
+abbrev pub sides_from : List ℕ → Bool → ℕ → Option Sides
+sides_from t free i = option_map (before_sides (take i t)) (sides_of free (drop i t))
+
+same_sides : (o : Option Sides) → option_map (before_sides []) o ≡ o
+same_sides None = refl
+same_sides (Some s) = refl
+
+pub sides_from_start : (t : List ℕ) → sides_of true t ≡ sides_from t true 0
+sides_from_start t = sym (same_sides (sides_of true t))
+
+sides_from_step : (t : List ℕ) (free : Bool) (i c : ℕ) (hash colon : Bool) → i < length t → c ≡ get_or t i c → (free && eqb c 35) ≡ hash → (eqb c 58 && blank_or_end (drop (i + 1) t)) ≡ colon
+    → sides_from t free i ≡ option_map (before_sides (take i t)) (colon_step hash colon c (drop (i + 1) t))
+sides_from_step t free i c hash colon l e h k =
+    let f : Option Sides → Option Sides = option_map (before_sides (take i t)) in
+    ap (λ (cs : List ℕ). f (sides_of free cs)) (left t i c l e) ∙ ap f (sides_of-cons free c (drop (i + 1) t) hash colon h k)
+
+pub sides_from_hash : (t : List ℕ) (free : Bool) (i c : ℕ) → i < length t → c ≡ get_or t i c → (free && eqb c 35) ≡ true → sides_from t free i ≡ None
+sides_from_hash t free i c l e h = sides_from_step t free i c true (eqb c 58 && blank_or_end (drop (i + 1) t)) l e h refl
+
+pub sides_from_colon : (t : List ℕ) (free : Bool) (i c : ℕ) → i < length t → c ≡ get_or t i c → (free && eqb c 35) ≡ false → (eqb c 58 && blank_or_end (drop (i + 1) t)) ≡ true
+    → sides_from t free i ≡ Some (record { before = take i t; behind = drop (i + 1) t })
+sides_from_colon t free i c l e h k =
+    let g : List ℕ → Option Sides = λ bs. Some (record { before = bs; behind = drop (i + 1) t }) in
+    sides_from_step t free i c false true l e h k ∙ ap g (append-nil (take i t))
+
+pub sides_from_other : (t : List ℕ) (free : Bool) (i c : ℕ) → i < length t → c ≡ get_or t i c → (free && eqb c 35) ≡ false → (eqb c 58 && blank_or_end (drop (i + 1) t)) ≡ false
+    → sides_from t free i ≡ sides_from t (is_blank c) (i + 1)
+sides_from_other t free i c l e h k =
+    sides_from_step t free i c false false l e h k
+    ∙ (before_sides-push (take i t) c (sides_of (is_blank c) (drop (i + 1) t))
+    ∙ ap (λ (xs : List ℕ). option_map (before_sides xs) (sides_of (is_blank c) (drop (i + 1) t))) (sym (taken t i c l e)))
+
+pub sides_from_end : (t : List ℕ) (free : Bool) (i : ℕ) → length t ≤ i → sides_from t free i ≡ None
+sides_from_end t free i l = ap (λ (cs : List ℕ). option_map (before_sides (take i t)) (sides_of free cs)) (drop_all i t l) ∙ ap (option_map (before_sides (take i t))) (sides_of-nil free)
+
+pub is_colon : (c : ℕ) (b : Bool) → c ≡ 58 → b ≡ true → (eqb c 58 && b) ≡ true
+is_colon c b e h = ap (λ (x : ℕ). eqb x 58 && b) e ∙ h
+
+pub no_colon : (c : ℕ) (b : Bool) → (c ≡ 58 → ⊥) → (eqb c 58 && b) ≡ false
+no_colon c b e = ap (λ (x : Bool). x && b) (ne_eqb c 58 e)
+
+pub no_blank_after : (c : ℕ) (b : Bool) → b ≡ false → (eqb c 58 && b) ≡ false
+no_blank_after c b h = ap (λ (x : Bool). eqb c 58 && x) h ∙ and_false (eqb c 58)

@@ -3,17 +3,21 @@
 use Rattle.std.proofs.Common.{◌≡◌, ℕ, ◌+◌, ◌<◌, ◌≤◌, Bool, true, false, cond, ◌&&◌, ◌||◌, ◌==◌, List, [], ◌∷◌, ◌++◌, length, drop, get_or, Option, Some, None, option_map, option_and_then, refl, sym, ap, ◌∙◌, append_assoc}
 use Rattle.std.specs.List.{list_any}
 use Rattle.std.proofs.lemmas.List.{append-nil, drop_more, drop_all}
-use Rattle.yaml_lines.specs.Lines.{LineText, Place, place_of, before_places, all_places, begins_with_three, begins_with, is_mark, is_start, unmarked, document, line_texts, places_of}
+use Rattle.yaml_lines.specs.BlockTexts.{LineText}
+use Rattle.yaml_lines.specs.Characters.{blank_or_end, comment_or_end, trim_start, begins_with}
+use Rattle.yaml_lines.specs.Entries.{Place}
+use Rattle.yaml_lines.specs.FlowLines.{outside}
+use Rattle.yaml_lines.specs.declared.standing.Standing.{Standing}
+use Rattle.yaml_lines.specs.Lines.{Left, standing, left_at, before_places, all_places, three, is_mark, is_start, unmarked, document, places_from}
 
--- one line on: `same` are the places of the later lines if a `---` may still stand first, `later` if it may not
-abbrev pub step : Bool → Option (Option Place) → Option (List Place) → Option (List Place) → Option (List Place)
-step fresh None same later = None
-step fresh (Some None) same later = same
-step fresh (Some (Some p)) same later = cond (is_mark p) (cond (fresh && is_start p) later None) (option_map (λ ps. p ∷ ps) later)
+-- the places before those of the later lines, which `later` gives if a `---` may still stand first, or not
+abbrev pub with_place : Bool → Option Place → (Bool → Option (List Place)) → Option (List Place)
+with_place fresh None later = later fresh
+with_place fresh (Some p) later = cond (is_mark p) (cond (fresh && is_start p) (later false) None) (option_map (λ ps. p ∷ ps) (later false))
 
-unfoldable pub walk : Bool → List LineText → Option (List Place)
-walk fresh [] = Some []
-walk fresh (l ∷ ls) = step fresh (place_of l.text) (walk fresh ls) (walk false ls)
+unfoldable pub walk : Standing → Bool → List LineText → Option (List Place)
+walk at fresh [] = Some []
+walk at fresh (l ∷ ls) = option_and_then (λ left. with_place fresh left.place (λ b. walk left.next b ls)) (left_at at l.text ls)
 
 -- no places at all
 abbrev no_places : Option (List Place)
@@ -28,26 +32,39 @@ none_left : (m : Bool) → cond m no_places no_places ≡ no_places
 none_left true = refl
 none_left false = refl
 
-step_later : (o : Option (Option Place)) (rest later : Option (List Place)) → option_and_then unmarked rest ≡ later → option_and_then unmarked (before_places o rest) ≡ step false o later later
-step_later None rest later e = refl
-step_later (Some None) rest later e = e
-step_later (Some (Some p)) None later e = sym (none_left (is_mark p)) ∙ ap (λ (o : Option (List Place)). cond (is_mark p) None (option_map (λ qs. p ∷ qs) o)) e
-step_later (Some (Some p)) (Some ps) later e =
+place_later : (o : Option Place) (rest later : Option (List Place)) → option_and_then unmarked rest ≡ later
+    → option_and_then unmarked (option_map (before_places o) rest) ≡ with_place false o (λ _. later)
+place_later None None later e = e
+place_later None (Some ps) later e = e
+place_later (Some p) None later e = sym (none_left (is_mark p)) ∙ ap (λ (o : Option (List Place)). cond (is_mark p) None (option_map (λ qs. p ∷ qs) o)) e
+place_later (Some p) (Some ps) later e =
     one_more (is_mark p) (list_any is_mark ps) p ps ∙ ap (λ (o : Option (List Place)). cond (is_mark p) None (option_map (λ qs. p ∷ qs) o)) e
 
-walk_later : (ls : List LineText) → option_and_then unmarked (all_places ls) ≡ walk false ls
+-- `with_place` looks at `later` with `false` alone, but where there is no place
+seen_false : (o : Option Place) (later : Bool → Option (List Place)) → with_place false o (λ _. later false) ≡ with_place false o later
+seen_false None later = refl
+seen_false (Some p) later = refl
+
+line_later : (o : Option Left) (all : Standing → Option (List Place)) (later : Standing → Bool → Option (List Place)) → ((k : Standing) → option_and_then unmarked (all k) ≡ later k false)
+    → option_and_then unmarked (option_and_then (λ left. option_map (before_places left.place) (all left.next)) o) ≡ option_and_then (λ left. with_place false left.place (later left.next)) o
+line_later None all later e = refl
+line_later (Some left) all later e = place_later left.place (all left.next) (later left.next false) (e left.next) ∙ seen_false left.place (later left.next)
+
+walk_later : (ls : List LineText) (at : Standing) → option_and_then unmarked (all_places at ls) ≡ walk at false ls
 unfolding walk all_places
-walk_later [] = refl
-walk_later (l ∷ ls) = step_later (place_of l.text) (all_places ls) (walk false ls) (walk_later ls)
+walk_later [] at = refl
+walk_later (l ∷ ls) at = line_later (left_at at l.text ls) (λ k. all_places k ls) (λ k b. walk k b ls) (walk_later ls)
 
 -- a `---` that stands alone is a mark
-marked : (a b c d e : Bool) → (a && b && e) ≡ true → (a && (b || c || d)) ≡ true
-marked true true c d e h = refl
-marked true false c d e h = cc
-marked false b c d e h = cc
+marked : (a b e f c d : Bool) → (a && b && (e && f)) ≡ true → (a && ((b && e) || c || d)) ≡ true
+marked true true true f c d h = refl
+marked true true false f c d h = cc
+marked true false e f c d h = cc
+marked false b e f c d h = cc
 
 pub is_mark-start : (p : Place) → is_start p ≡ true → is_mark p ≡ true
-is_mark-start p h = marked (p.indent == 0) (begins_with_three 45 p.content) (begins_with_three 46 p.content) (begins_with 37 p.content) (length p.content == 3) h
+is_mark-start p h =
+    marked (p.indent == 0) (three 45 p.content) (blank_or_end (drop 3 p.content)) (comment_or_end (trim_start (drop 3 p.content))) (three 46 p.content && blank_or_end (drop 3 p.content)) (begins_with 37 p.content) h
 
 start_or_not : (s m n : Bool) (p : Place) (ps : List Place) → (s ≡ true → m ≡ true)
     → cond s (cond n None (Some ps)) (cond (m || n) None (Some (p ∷ ps))) ≡ cond m (cond s (cond n None (Some ps)) None) (option_map (λ qs. p ∷ qs) (cond n None (Some ps)))
@@ -60,85 +77,96 @@ nothing : (s m : Bool) → cond m (cond s no_places no_places) no_places ≡ no_
 nothing s false = refl
 nothing s true = none_left s
 
-step_first : (o : Option (Option Place)) (rest same later : Option (List Place)) → option_and_then document rest ≡ same → option_and_then unmarked rest ≡ later
-    → option_and_then document (before_places o rest) ≡ step true o same later
+place_first : (o : Option Place) (rest : Option (List Place)) (later : Bool → Option (List Place)) → option_and_then document rest ≡ later true → option_and_then unmarked rest ≡ later false
+    → option_and_then document (option_map (before_places o) rest) ≡ with_place true o later
 unfolding document
-step_first None rest same later d u = refl
-step_first (Some None) rest same later d u = d
-step_first (Some (Some p)) None same later d u =
+place_first None None later d u = d
+place_first None (Some ps) later d u = d
+place_first (Some p) None later d u =
     sym (nothing (is_start p) (is_mark p)) ∙ ap (λ (o : Option (List Place)). cond (is_mark p) (cond (is_start p) o None) (option_map (λ qs. p ∷ qs) o)) u
-step_first (Some (Some p)) (Some ps) same later d u =
+place_first (Some p) (Some ps) later d u =
     start_or_not (is_start p) (is_mark p) (list_any is_mark ps) p ps (is_mark-start p)
     ∙ ap (λ (o : Option (List Place)). cond (is_mark p) (cond (is_start p) o None) (option_map (λ qs. p ∷ qs) o)) u
 
-walk_first : (ls : List LineText) → option_and_then document (all_places ls) ≡ walk true ls
+line_first : (o : Option Left) (all : Standing → Option (List Place)) (later : Standing → Bool → Option (List Place)) → ((k : Standing) → option_and_then document (all k) ≡ later k true) → ((k : Standing) → option_and_then unmarked (all k) ≡ later k false)
+    → option_and_then document (option_and_then (λ left. option_map (before_places left.place) (all left.next)) o) ≡ option_and_then (λ left. with_place true left.place (later left.next)) o
+line_first None all later d u = refl
+line_first (Some left) all later d u = place_first left.place (all left.next) (later left.next) (d left.next) (u left.next)
+
+walk_first : (ls : List LineText) (at : Standing) → option_and_then document (all_places at ls) ≡ walk at true ls
 unfolding walk all_places document
-walk_first [] = refl
-walk_first (l ∷ ls) = step_first (place_of l.text) (all_places ls) (walk true ls) (walk false ls) (walk_first ls) (walk_later ls)
+walk_first [] at = refl
+walk_first (l ∷ ls) at = line_first (left_at at l.text ls) (λ k. all_places k ls) (λ k b. walk k b ls) (walk_first ls) (walk_later ls)
 
 -- the places of a text are those that were read, and those of the walk over what is left
-abbrev pub walked : List Place → Bool → List LineText → ℕ → Option (List Place)
-walked read fresh ls i = option_map (λ ps. read ++ ps) (walk fresh (drop i ls))
+abbrev pub walked : List Place → Bool → Standing → List LineText → ℕ → Option (List Place)
+walked read fresh at ls i = option_map (λ ps. read ++ ps) (walk at fresh (drop i ls))
 
 unmoved : (o : Option (List Place)) → option_map (λ ps. [] ++ ps) o ≡ o
 unmoved None = refl
 unmoved (Some ps) = refl
 
-pub walked_start : (t : List ℕ) (ls : List LineText) → ls ≡ line_texts t → places_of t ≡ walked [] true ls 0
-unfolding places_of
-walked_start t ls e = ap (λ (lines : List LineText). option_and_then document (all_places lines)) (sym e) ∙ (walk_first ls ∙ sym (unmoved (walk true ls)))
+pub walked_start : (ls : List LineText) (read : List Place) → read ≡ [] → places_from ls ≡ walked read true (standing 0 outside) ls 0
+unfolding places_from
+walked_start ls read e = walk_first ls (standing 0 outside) ∙ (sym (unmoved (walk (standing 0 outside) true ls)) ∙ ap (λ (ps : List Place). walked ps true (standing 0 outside) ls 0) (sym e))
 
-walk-nil : (fresh : Bool) → walk fresh [] ≡ Some []
+walk-nil : (at : Standing) (fresh : Bool) → walk at fresh [] ≡ Some []
 unfolding walk
-walk-nil fresh = refl
+walk-nil at fresh = refl
 
-pub walked_end : (read : List Place) (fresh : Bool) (ls : List LineText) (i : ℕ) → length ls ≤ i → walked read fresh ls i ≡ Some read
-walked_end read fresh ls i past =
-    ap (λ (rest : List LineText). option_map (λ ps. read ++ ps) (walk fresh rest)) (drop_all i ls past)
-    ∙ (ap (option_map (λ ps. read ++ ps)) (walk-nil fresh) ∙ ap Some (append-nil read))
+pub walked_end : (read : List Place) (fresh : Bool) (at : Standing) (ls : List LineText) (i : ℕ) → length ls ≤ i → walked read fresh at ls i ≡ Some read
+walked_end read fresh at ls i past =
+    ap (λ (rest : List LineText). option_map (λ ps. read ++ ps) (walk at fresh rest)) (drop_all i ls past)
+    ∙ (ap (option_map (λ ps. read ++ ps)) (walk-nil at fresh) ∙ ap Some (append-nil read))
 
-walk-cons : (fresh : Bool) (l : LineText) (ls : List LineText) → walk fresh (l ∷ ls) ≡ step fresh (place_of l.text) (walk fresh ls) (walk false ls)
+walk-cons : (at : Standing) (fresh : Bool) (l : LineText) (ls : List LineText) → walk at fresh (l ∷ ls) ≡ option_and_then (λ left. with_place fresh left.place (λ b. walk left.next b ls)) (left_at at l.text ls)
 unfolding walk
-walk-cons fresh l ls = refl
+walk-cons at fresh l ls = refl
 
--- one line on, by what the line leaves
-pub walked_step : (read : List Place) (fresh : Bool) (ls : List LineText) (i : ℕ) (l : LineText) (o : Option (Option Place)) → i < length ls → l ≡ get_or ls i l → place_of l.text ≡ o
-    → walked read fresh ls i ≡ option_map (λ ps. read ++ ps) (step fresh o (walk fresh (drop (i + 1) ls)) (walk false (drop (i + 1) ls)))
-walked_step read fresh ls i l o within is e =
+-- where the walk stands, and what the line there leaves
+pub record Stands (at : Standing) (ls : List LineText) (i : ℕ) (l : LineText) (o : Option Left) : Type 0 where
+  pub within : i < length ls
+  pub is : l ≡ get_or ls i l
+  pub left : left_at at l.text (drop (i + 1) ls) ≡ o
+
+walked_step : (read : List Place) (fresh : Bool) (at : Standing) (ls : List LineText) (i : ℕ) (l : LineText) (o : Option Left) → Stands at ls i l o
+    → walked read fresh at ls i ≡ option_map (λ ps. read ++ ps) (option_and_then (λ left. with_place fresh left.place (λ b. walk left.next b (drop (i + 1) ls))) o)
+walked_step read fresh at ls i l o s =
     let rest = drop (i + 1) ls in
     let add : Option (List Place) → Option (List Place) = option_map (λ ps. read ++ ps) in
-    ap (λ (lines : List LineText). add (walk fresh lines)) (drop_more ls i l within ∙ ap (λ (x : LineText). x ∷ rest) (sym is))
-    ∙ (ap add (walk-cons fresh l rest) ∙ ap (λ (x : Option (Option Place)). add (step fresh x (walk fresh rest) (walk false rest))) e)
+    ap (λ (lines : List LineText). add (walk at fresh lines)) (drop_more ls i l s.within ∙ ap (λ (x : LineText). x ∷ rest) (sym s.is))
+    ∙ (ap add (walk-cons at fresh l rest) ∙ ap (λ (x : Option Left). add (option_and_then (λ left. with_place fresh left.place (λ b. walk left.next b rest)) x)) s.left)
 
-pub walked_fault : (read : List Place) (fresh : Bool) (ls : List LineText) (i : ℕ) (l : LineText) → i < length ls → l ≡ get_or ls i l → place_of l.text ≡ None → walked read fresh ls i ≡ None
-walked_fault read fresh ls i l within is e = walked_step read fresh ls i l None within is e
+pub walked_fault : (read : List Place) (fresh : Bool) (at : Standing) (ls : List LineText) (i : ℕ) (l : LineText) → Stands at ls i l None → walked read fresh at ls i ≡ None
+walked_fault read fresh at ls i l s = walked_step read fresh at ls i l None s
 
-pub walked_nothing : (read : List Place) (fresh : Bool) (ls : List LineText) (i : ℕ) (l : LineText) → i < length ls → l ≡ get_or ls i l → place_of l.text ≡ Some None → walked read fresh ls i ≡ walked read fresh ls (i + 1)
-walked_nothing read fresh ls i l within is e = walked_step read fresh ls i l (Some None) within is e
+pub walked_nothing : (read : List Place) (fresh : Bool) (at : Standing) (ls : List LineText) (i : ℕ) (l : LineText) (more : Standing) → Stands at ls i l (Some (record { place = None; next = more }))
+    → walked read fresh at ls i ≡ walked read fresh more ls (i + 1)
+walked_nothing read fresh at ls i l more s = walked_step read fresh at ls i l (Some (record { place = None; next = more })) s
 
 added : (read : List Place) (p : Place) (o : Option (List Place)) → option_map (λ ps. read ++ ps) (option_map (λ ps. p ∷ ps) o) ≡ option_map (λ ps. (read ++ p ∷ []) ++ ps) o
 added read p None = refl
 added read p (Some ps) = ap Some (sym (append_assoc read (p ∷ []) ps))
 
-pub walked_place : (read : List Place) (fresh : Bool) (ls : List LineText) (i : ℕ) (l : LineText) (p : Place) → i < length ls → l ≡ get_or ls i l → place_of l.text ≡ Some (Some p) → is_mark p ≡ false
-    → walked read fresh ls i ≡ walked (read ++ p ∷ []) false ls (i + 1)
-walked_place read fresh ls i l p within is e m =
-    let later = walk false (drop (i + 1) ls) in
-    walked_step read fresh ls i l (Some (Some p)) within is e
+pub walked_place : (read : List Place) (fresh : Bool) (at : Standing) (ls : List LineText) (i : ℕ) (l : LineText) (p : Place) (more : Standing) → Stands at ls i l (Some (record { place = Some p; next = more })) → is_mark p ≡ false
+    → walked read fresh at ls i ≡ walked (read ++ p ∷ []) false more ls (i + 1)
+walked_place read fresh at ls i l p more s m =
+    let later = walk more false (drop (i + 1) ls) in
+    walked_step read fresh at ls i l (Some (record { place = Some p; next = more })) s
     ∙ (ap (λ (b : Bool). option_map (λ ps. read ++ ps) (cond b (cond (fresh && is_start p) later None) (option_map (λ ps. p ∷ ps) later))) m ∙ added read p later)
 
-pub walked_mark : (read : List Place) (fresh : Bool) (ls : List LineText) (i : ℕ) (l : LineText) (p : Place) → i < length ls → l ≡ get_or ls i l → place_of l.text ≡ Some (Some p) → is_mark p ≡ true
-    → (fresh && is_start p) ≡ false → walked read fresh ls i ≡ None
-walked_mark read fresh ls i l p within is e m s =
-    let later = walk false (drop (i + 1) ls) in
-    walked_step read fresh ls i l (Some (Some p)) within is e
+pub walked_mark : (read : List Place) (fresh : Bool) (at : Standing) (ls : List LineText) (i : ℕ) (l : LineText) (p : Place) (more : Standing) → Stands at ls i l (Some (record { place = Some p; next = more })) → is_mark p ≡ true
+    → (fresh && is_start p) ≡ false → walked read fresh at ls i ≡ None
+walked_mark read fresh at ls i l p more s m f =
+    let later = walk more false (drop (i + 1) ls) in
+    walked_step read fresh at ls i l (Some (record { place = Some p; next = more })) s
     ∙ (ap (λ (b : Bool). option_map (λ ps. read ++ ps) (cond b (cond (fresh && is_start p) later None) (option_map (λ ps. p ∷ ps) later))) m
-    ∙ ap (λ (b : Bool). option_map (λ ps. read ++ ps) (cond b later None)) s)
+    ∙ ap (λ (b : Bool). option_map (λ ps. read ++ ps) (cond b later None)) f)
 
-pub walked_begin : (read : List Place) (fresh : Bool) (ls : List LineText) (i : ℕ) (l : LineText) (p : Place) → i < length ls → l ≡ get_or ls i l → place_of l.text ≡ Some (Some p) → is_mark p ≡ true
-    → (fresh && is_start p) ≡ true → walked read fresh ls i ≡ walked read false ls (i + 1)
-walked_begin read fresh ls i l p within is e m s =
-    let later = walk false (drop (i + 1) ls) in
-    walked_step read fresh ls i l (Some (Some p)) within is e
+pub walked_begin : (read : List Place) (fresh : Bool) (at : Standing) (ls : List LineText) (i : ℕ) (l : LineText) (p : Place) (more : Standing) → Stands at ls i l (Some (record { place = Some p; next = more })) → is_mark p ≡ true
+    → (fresh && is_start p) ≡ true → walked read fresh at ls i ≡ walked read false more ls (i + 1)
+walked_begin read fresh at ls i l p more s m f =
+    let later = walk more false (drop (i + 1) ls) in
+    walked_step read fresh at ls i l (Some (record { place = Some p; next = more })) s
     ∙ (ap (λ (b : Bool). option_map (λ ps. read ++ ps) (cond b (cond (fresh && is_start p) later None) (option_map (λ ps. p ∷ ps) later))) m
-    ∙ ap (λ (b : Bool). option_map (λ ps. read ++ ps) (cond b later None)) s)
+    ∙ ap (λ (b : Bool). option_map (λ ps. read ++ ps) (cond b later None)) f)

@@ -1,5 +1,6 @@
 -- The characters of a text, and the tests of one of them. (YAML 1.2.2, chapter 5.)
-use Rattle.std.specs.Prelude.{ℕ, Bool, true, ◌||◌, List, [], ◌∷◌, Option, Some, None, length, nat_lt, nat_le, ◌==◌, if◌then◌else◌, chars}
+use Rattle.std.specs.Prelude.{ℕ, Bool, true, false, ◌&&◌, ◌||◌, List, [], ◌∷◌, Option, Some, None, length, drop, nat_lt, nat_le, ◌==◌, if◌then◌else◌, chars}
+use Rattle.std.specs.List.{prefix_len}
 use Rattle.std.specs.Str.{is_utf8}
 
 -- the most bytes that a text may have
@@ -32,3 +33,24 @@ is_allowed c = nat_le 32 c || c == 9
 abbrev pub blank_or_end : List ℕ → Bool
 blank_or_end [] = true
 blank_or_end (c ∷ _) = is_blank c
+
+-- the blanks at the start of a list of characters aside
+abbrev pub trim_start : List ℕ → List ℕ
+trim_start cs = drop (prefix_len is_blank cs) cs
+
+abbrev pub is_nil : List ℕ → Bool
+is_nil [] = true
+is_nil (_ ∷ _) = false
+
+abbrev pub begins_with : ℕ → List ℕ → Bool
+begins_with c [] = false
+begins_with c (d ∷ _) = d == c
+
+-- a comment, or nothing
+abbrev pub comment_or_end : List ℕ → Bool
+comment_or_end [] = true
+comment_or_end (c ∷ _) = c == 35
+
+-- what may follow a text, a flow or a mark on its line: nothing, or blanks and then nothing or a comment
+abbrev pub is_over : List ℕ → Bool
+is_over cs = blank_or_end cs && comment_or_end (trim_start cs)

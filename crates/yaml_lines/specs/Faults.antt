@@ -23,7 +23,7 @@ Gives see (Ok x) meant = meant ≡ Some (see x)
 Gives see (Err fault) meant = fault.kind ≢ OutOfMemory → meant ≡ None
 
 -- the same of a call that takes no memory
-abbrev pub GivesSurely : {A B : Type 0} → (A → B) → Result A YamlFault → Option B → Type 0
+abbrev pub GivesSurely : {A B E : Type 0} → (A → B) → Result A E → Option B → Type 0
 GivesSurely see (Ok x) meant = meant ≡ Some (see x)
 GivesSurely see (Err _) meant = meant ≡ None
 

@@ -1,8 +1,14 @@
+pub mod BlockTexts
 pub mod Characters
 pub mod Entries
 pub mod Faults
+pub mod FlowLines
+pub mod LineLaws
 pub mod Lines
 pub mod Meaning
 pub mod Plain
+pub mod Quoted
+pub mod QuotingLaws
+pub mod Scalars
 pub mod View
 pub mod ViewLaws

@@ -1,26 +1,20 @@
--- The lines of a text, and the places that they leave once comments, empty lines and the document's mark are gone.
--- (YAML 1.2.2, sections 5.4 "Line Break Characters", 6.1 "Indentation Spaces", 6.6 "Comments" and 9.1 "Documents".)
-use Rattle.std.specs.Prelude.{ℕ, Bool, true, false, ◌&&◌, ◌||◌, List, [], ◌∷◌, length, drop, Option, Some, None, option_map, option_and_then, ◌==◌, if◌then◌else◌}
+-- The lines of a text, and the places that they leave once comments, empty lines, the lines of block texts and the
+-- document's mark are gone. (YAML 1.2.2, sections 5.4 "Line Break Characters", 6.1 "Indentation Spaces", 6.6 "Comments"
+-- and 9.1 "Documents".)
+use Rattle.std.specs.Prelude.{ℕ, Bool, true, false, not, zero, suc, ◌+◌, ◌&&◌, ◌||◌, List, [], ◌∷◌, take, drop, Option, Some, None, option_map, option_and_then, ◌==◌, if◌then◌else◌}
 use Rattle.std.specs.List.{prefix_len, list_all, list_any}
-use Rattle.yaml_lines.specs.Characters.{characters_of, is_space, is_blank, is_allowed, blank_or_end}
-
--- a line as it stands in the text, without its end, and whether it has one
-pub record LineText : Type 0 where
-  pub text : List ℕ
-  pub ended : Bool
+use Rattle.yaml_lines.specs.BlockTexts.{LineText, header_of, begins_block, margin_of, extent, is_ragged, block_text}
+use Rattle.yaml_lines.specs.Characters.{characters_of, is_space, is_blank, is_allowed, is_nil, is_over, begins_with, blank_or_end, comment_or_end, trim_start}
+use Rattle.yaml_lines.specs.declared.header.Header.{Header}
+use Rattle.yaml_lines.specs.declared.flow_state.FlowState.{FlowState}
+use Rattle.yaml_lines.specs.declared.standing.Standing.{Standing}
+use Rattle.yaml_lines.specs.Entries.{Place, KeyAndValue, entry_of}
+use Rattle.yaml_lines.specs.FlowLines.{outside, is_closed, skim, state_behind}
 
 -- one character more in front of the first line
 abbrev pub before_lines : ℕ → List LineText → List LineText
 before_lines c [] = record { text = c ∷ []; ended = false } ∷ []
 before_lines c (l ∷ ls) = record { text = c ∷ l.text; ended = l.ended } ∷ ls
-
-abbrev pub begins_with : ℕ → List ℕ → Bool
-begins_with c [] = false
-begins_with c (d ∷ _) = d == c
-
-abbrev pub is_nil : List ℕ → Bool
-is_nil [] = true
-is_nil (_ ∷ _) = false
 
 -- without a carriage return at the end
 abbrev pub without_return : List ℕ → List ℕ
@@ -34,62 +28,104 @@ line_texts (c ∷ cs) =
     if c == 10 then record { text = []; ended = true } ∷ line_texts cs
     else (if c == 13 && begins_with 10 cs then line_texts cs else before_lines c (line_texts cs))
 
--- A `#` at the start of a line or after a blank begins a comment, which ends with the line. `free` says whether a
--- comment may begin with the first character.
-unfoldable pub uncommented : Bool → List ℕ → List ℕ
-uncommented free [] = []
-uncommented free (c ∷ cs) = if free && c == 35 then [] else c ∷ uncommented (is_blank c) cs
-
--- without the blanks at the end
-unfoldable pub trim_end : List ℕ → List ℕ
-trim_end [] = []
-trim_end (c ∷ cs) = let rest = trim_end cs in if is_blank c && is_nil rest then [] else c ∷ rest
-
--- without the blanks at the start
-abbrev pub trim_start : List ℕ → List ℕ
-trim_start cs = drop (prefix_len is_blank cs) cs
-
--- Where a line's content begins, and the content: it begins and ends with other characters than blanks, and holds no
--- comment.
-pub record Place : Type 0 where
-  pub indent : ℕ
+-- a value, and the column of the key or the dash that it belongs to
+pub record PlacedValue : Type 0 where
+  pub column : ℕ
   pub content : List ℕ
 
--- the place of a line's text without its comment and the blanks at its end; a tab can't indent
-unfoldable pub indented : List ℕ → Option (Option Place)
-indented [] = Some None
-indented (c ∷ cs) =
-    let n = prefix_len is_space (c ∷ cs) in
-    let content = drop n (c ∷ cs) in
-    if begins_with 9 content then None else Some (Some (record { indent = n; content = content }))
+-- the value of the entry that stands at `at`, or of the last dash before it
+abbrev pub value_at : ℕ → Option ℕ → List ℕ → Option KeyAndValue → Option PlacedValue
+value_at at dash content (Some entry) = Some (record { column = at; content = entry.value })
+value_at at dash content None = option_map (λ column. record { column = column; content = content }) dash
 
--- what a line leaves: its place, or nothing if it holds only blanks or a comment; none if it can't be read
-unfoldable pub place_of : List ℕ → Option (Option Place)
-place_of text = if list_all is_allowed text then indented (trim_end (uncommented true text)) else None
+-- The value that stands last on a line, behind its dashes and its key. `at` is the column of the first character, `dash`
+-- that of the last dash before it. None where nothing follows, and where there is neither a dash nor a key.
+unfoldable pub last_value : ℕ → Option ℕ → List ℕ → Option PlacedValue
+last_value at dash [] = None
+last_value at dash (c ∷ cs) =
+    if is_blank c then last_value (at + 1) dash cs
+    else (if c == 45 && blank_or_end cs then last_value (at + 1) (Some at) cs
+    else value_at at dash (c ∷ cs) (entry_of (c ∷ cs)))
 
--- one line's place before those of the later lines
-abbrev pub before_places : Option (Option Place) → Option (List Place) → Option (List Place)
-before_places None later = None
-before_places (Some None) later = later
-before_places (Some (Some p)) later = option_map (λ ps. p ∷ ps) later
+-- what a line leaves: its place, or no place if it holds only blanks or a comment, and where the next line stands
+pub record Left : Type 0 where
+  pub place : Option Place
+  pub next : Standing
 
--- the places of all lines
-unfoldable pub all_places : List LineText → Option (List Place)
-all_places [] = Some []
-all_places (l ∷ ls) = before_places (place_of l.text) (all_places ls)
+abbrev pub standing : ℕ → FlowState → Standing
+standing taken flow = record { taken = taken; flow = flow }
 
--- three times the character, then a blank or the end
-abbrev pub begins_with_three : ℕ → List ℕ → Bool
-begins_with_three m (a ∷ b ∷ c ∷ cs) = a == m && b == m && c == m && blank_or_end cs
-begins_with_three m _ = false
+-- a place without a block text, behind which this flow is open
+abbrev pub bare : ℕ → List ℕ → FlowState → Left
+bare indent content flow = record { place = Some (record { indent = indent; content = content; block = None }); next = standing 0 flow }
 
--- a line without indentation that marks a document: `---`, `...` or a directive
+-- a place whose last value is a block text with this header and margin; none where a line before its text is ragged
+unfoldable pub with_text : ℕ → List ℕ → List LineText → Option ℕ → Header → Option Left
+with_text indent content later margin header =
+    if is_ragged margin later then None
+    else Some (record {
+      place = Some (record { indent = indent; content = content; block = Some (block_text header margin (take (extent margin later) later)) });
+      next = standing (extent margin later) outside;
+    })
+
+-- a place with the block text or the flow that its last value begins, if it begins one; none where a header can't be
+-- read
+unfoldable pub with_value : ℕ → List ℕ → List LineText → Option PlacedValue → Option Left
+with_value indent content later None = Some (bare indent content (state_behind content))
+with_value indent content later (Some value) =
+    if begins_block value.content
+    then option_and_then (with_text indent content later (margin_of value.column later)) (header_of value.content)
+    else Some (bare indent content (state_behind value.content))
+
+-- a place: within a flow no line has a value of its own
+unfoldable pub with_flow : FlowState → ℕ → List ℕ → List LineText → Option Left
+with_flow flow indent content later =
+    if is_closed flow then with_value indent content later (last_value indent None content)
+    else Some (bare indent content (skim flow content))
+
+-- what a line leaves before these later lines; none if it can't be read. A tab can't indent.
+unfoldable pub left_of : FlowState → List ℕ → List LineText → Option Left
+left_of flow text later =
+    let n = prefix_len is_space text in
+    let content = drop n text in
+    if not (list_all is_allowed text) then None
+    else (if comment_or_end (trim_start text) then Some (record { place = None; next = standing 0 flow })
+    else (if begins_with 9 content then None else with_flow flow n content later))
+
+-- what a line leaves if the first `taken` lines from it on are a block text
+abbrev pub left_by : ℕ → FlowState → List ℕ → List LineText → Option Left
+left_by zero flow text later = left_of flow text later
+left_by (suc taken) flow text later =
+    if list_all is_allowed text then Some (record { place = None; next = standing taken flow }) else None
+
+-- what a line leaves by where it stands
+unfoldable pub left_at : Standing → List ℕ → List LineText → Option Left
+left_at at text later = left_by at.taken at.flow text later
+
+abbrev pub before_places : Option Place → List Place → List Place
+before_places None later = later
+before_places (Some p) later = p ∷ later
+
+-- the places of all lines, of which the first stands so
+unfoldable pub all_places : Standing → List LineText → Option (List Place)
+all_places at [] = Some []
+all_places at (l ∷ ls) =
+    option_and_then (λ left. option_map (before_places left.place) (all_places left.next ls)) (left_at at l.text ls)
+
+-- three times the character
+abbrev pub three : ℕ → List ℕ → Bool
+three m (a ∷ b ∷ c ∷ cs) = a == m && b == m && c == m
+three m _ = false
+
+-- a line without indentation that marks a document: `---` or `...` before a blank or the end, or a directive
 abbrev pub is_mark : Place → Bool
-is_mark p = p.indent == 0 && (begins_with_three 45 p.content || begins_with_three 46 p.content || begins_with 37 p.content)
+is_mark p =
+    p.indent == 0
+    && ((three 45 p.content && blank_or_end (drop 3 p.content)) || (three 46 p.content && blank_or_end (drop 3 p.content)) || begins_with 37 p.content)
 
--- `---` alone
+-- `---` alone, but for a comment
 abbrev pub is_start : Place → Bool
-is_start p = p.indent == 0 && begins_with_three 45 p.content && length p.content == 3
+is_start p = p.indent == 0 && three 45 p.content && is_over (drop 3 p.content)
 
 abbrev pub unmarked : List Place → Option (List Place)
 unmarked ps = if list_any is_mark ps then None else Some ps
@@ -99,9 +135,13 @@ unfoldable pub document : List Place → Option (List Place)
 document [] = Some []
 document (p ∷ ps) = if is_start p then unmarked ps else unmarked (p ∷ ps)
 
+-- the places that the lines of a text leave
+unfoldable pub places_from : List LineText → Option (List Place)
+places_from ls = option_and_then document (all_places (standing 0 outside) ls)
+
 -- the places that a text of characters leaves
 unfoldable pub places_of : List ℕ → Option (List Place)
-places_of text = option_and_then document (all_places (line_texts text))
+places_of text = places_from (line_texts text)
 
 -- the places that a text of bytes leaves
 unfoldable pub places_of_bytes : List ℕ → Option (List Place)

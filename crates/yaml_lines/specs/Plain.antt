@@ -1,7 +1,6 @@
 -- Plain texts on one line. (YAML 1.2.2, section 7.3.3 "Plain Style".)
-use Rattle.std.specs.Prelude.{ℕ, Bool, false, not, ◌&&◌, ◌||◌, List, [], ◌∷◌, Option, Some, None, option_map, is_none, ◌==◌, if◌then◌else◌, encode_utf8_all}
-use Rattle.yaml_lines.specs.Characters.{blank_or_end}
-use Rattle.yaml_lines.specs.Meaning.{Meaning, text}
+use Rattle.std.specs.Prelude.{ℕ, Bool, true, false, not, ◌&&◌, ◌||◌, List, [], ◌∷◌, Option, Some, None, option_map, is_none, ◌==◌, if◌then◌else◌, encode_utf8_all}
+use Rattle.yaml_lines.specs.Characters.{is_blank, is_nil, blank_or_end}
 
 -- one of `, [ ] { } # & * ! | > ' " % @` and the backtick, which begin no plain text
 abbrev pub is_indicator : ℕ → Bool
@@ -18,6 +17,17 @@ unfoldable pub begins_plain : List ℕ → Bool
 begins_plain [] = false
 begins_plain (c ∷ cs) = not (is_indicator c) && not (is_mark_character c && blank_or_end cs)
 
+-- A `#` at the start of a line or after a blank begins a comment, which ends with the line. `free` says whether a
+-- comment may begin with the first character.
+unfoldable pub uncommented : Bool → List ℕ → List ℕ
+uncommented free [] = []
+uncommented free (c ∷ cs) = if free && c == 35 then [] else c ∷ uncommented (is_blank c) cs
+
+-- without the blanks at the end
+unfoldable pub trim_end : List ℕ → List ℕ
+trim_end [] = []
+trim_end (c ∷ cs) = let rest = trim_end cs in if is_blank c && is_nil rest then [] else c ∷ rest
+
 -- the characters before a colon, and those behind it
 pub record Sides : Type 0 where
   pub before : List ℕ
@@ -26,14 +36,17 @@ pub record Sides : Type 0 where
 abbrev pub before_side : ℕ → Sides → Sides
 before_side c sides = record { before = c ∷ sides.before; behind = sides.behind }
 
--- both sides of the first `:` that is followed by a blank or the end; none where there is no such colon
-unfoldable pub sides_of : List ℕ → Option Sides
-sides_of [] = None
-sides_of (c ∷ cs) =
-    if c == 58 && blank_or_end cs then Some (record { before = []; behind = cs })
-    else option_map (before_side c) (sides_of cs)
+-- Both sides of the first `:` that is followed by a blank or the end and stands in no comment; none where there is no
+-- such colon. `free` says whether a comment may begin with the first character.
+unfoldable pub sides_of : Bool → List ℕ → Option Sides
+sides_of free [] = None
+sides_of free (c ∷ cs) =
+    if free && c == 35 then None
+    else (if c == 58 && blank_or_end cs then Some (record { before = []; behind = cs })
+    else option_map (before_side c) (sides_of (is_blank c) cs))
 
--- what a whole content means as a plain text
-unfoldable pub plain_meaning : List ℕ → Option Meaning
-plain_meaning content =
-    if begins_plain content && is_none (sides_of content) then Some (text (encode_utf8_all content) false) else None
+-- the plain text in UTF-8 that the whole content is, but for blanks and a comment behind it
+unfoldable pub plain_of : List ℕ → Option (List ℕ)
+plain_of content =
+    if begins_plain content && is_none (sides_of true content)
+    then Some (encode_utf8_all (trim_end (uncommented true content))) else None

@@ -2,8 +2,8 @@ ghost use Rattle.std.specs.Prelude.{◌≡◌, true, option_to_list};
 ghost use Rattle.yaml_lines.specs.Entries.{is_item, item_of};
 ghost use Rattle.yaml_lines.specs.Faults.{GivesSurely};
 
-use crate::scan::{all_spaces, blank_or_end, blanks, front, skip};
-use crate::{Line, YamlFault, YamlKind};
+use crate::scan::{all_spaces, blank_or_end, blanks, comment_or_end, front, skip};
+use crate::{BlockText, Line, YamlFault, YamlKind};
 
 /// Whether the content begins a list's item: with a `-` that is followed by a blank or the end.
 #[tactic(auto, unfolding(crate::specs::Entries::is_item))]
@@ -16,16 +16,26 @@ pub fn is_item(content: &[char]) -> bool
     }
 }
 
+// The line's block text once more.
+fn same_block<'a, 'b>(line: &Line<'a, 'b>) -> Option<BlockText<'a, 'b>>
+    ensures { result ≡ line.now.block }
+{
+    match line.block() {
+        Some(block) => Some(block.again()),
+        None => None,
+    }
+}
+
 /// What follows the dash of an item, as a line whose indentation is the column where it stands, or nothing where nothing
-/// follows. A tab between is `TabIndent`.
-pub fn after_dash<'a>(line: &Line<'a>) -> Result<Option<Line<'a>>, YamlFault>
+/// or a comment follows. A tab between is `TabIndent`.
+pub fn after_dash<'a, 'b>(line: &Line<'a, 'b>) -> Result<Option<Line<'a, 'b>>, YamlFault>
     requires { is_item line.now.content ≡ true }
     ensures { GivesSurely option_to_list result (item_of line.now) }
 {
     let rest = skip(line.content(), 1);
     let blanks = blanks(rest);
     let content = skip(rest, blanks);
-    if content.is_empty() {
+    if comment_or_end(content) {
         return Ok(None);
     }
     if !all_spaces(front(rest, blanks)) {
@@ -34,5 +44,6 @@ pub fn after_dash<'a>(line: &Line<'a>) -> Result<Option<Line<'a>>, YamlFault>
             line: line.number(),
         });
     }
-    Ok(Some(Line::new(line.number(), line.indent() + 1 + blanks, content)))
+    let column = line.indent() + 1 + blanks;
+    Ok(Some(Line::new(line.number(), column, content, same_block(line))))
 }

@@ -1,30 +1,49 @@
 //! The base of the YAML reader: from bytes to characters, from characters to lines, and what one line's content says.
 //!
-//! [`characters`] decodes the bytes, [`read_lines`] leaves the lines that hold something, each a place: where its content
-//! begins, and the content. [`is_item`], [`after_dash`], [`read_entry`] and [`plain`] read one content. What a text means is
-//! a [`Node`]. The contracts cite `specs/Characters.antt`, `specs/Lines.antt`, `specs/Entries.antt` and
-//! `specs/Plain.antt`; `Gives` of `specs/Faults.antt` and its like tie an answer to what a definition says of the text.
+//! [`characters`] decodes the bytes, [`raw_lines`] cuts them at line ends, and [`read_lines`] leaves the lines that hold
+//! something, each a place: where its content begins, the content, and the block text that follows it. [`is_item`],
+//! [`after_dash`], [`read_entry`], [`scalar`] and [`read_quoted`] read one content. What a text means is a [`Node`]. The
+//! contracts cite `specs/Characters.antt`, `specs/Lines.antt`, `specs/FlowLines.antt`, `specs/BlockTexts.antt`,
+//! `specs/Entries.antt`, `specs/Scalars.antt`, `specs/Plain.antt` and `specs/Quoted.antt`; `Gives` of `specs/Faults.antt`
+//! and its like tie an answer to what a definition says of the text, and [`laws`] says of the definitions what a user of
+//! YAML would expect.
 #![tactic(auto)]
 
+mod block_lines;
+mod block_text;
 mod decode;
 mod entries;
 mod fault;
+mod flow_state;
+mod header;
 mod item;
+mod last_value;
+pub mod laws;
 mod line;
 mod node;
 mod places;
 mod plain_text;
+mod quoted_text;
 mod raw_line;
 mod scan;
+mod standing;
+mod text_scalar;
 
+pub use block_lines::begins_block;
+pub use block_text::BlockText;
 pub use decode::{MOST_BYTES, characters};
 pub use entries::{Entry, read_entry};
 pub use fault::{YamlFault, YamlKind};
+pub use flow_state::begins_flow;
+pub use header::{Chomping, Header};
 pub use item::{after_dash, is_item};
 pub use line::Line;
 pub use node::Node;
 pub use places::{Lines, read_lines};
-pub use plain_text::{plain, refusal};
+pub use plain_text::refusal;
+pub use quoted_text::{QuotedText, read_quoted};
+pub use raw_line::{RawLine, raw_lines};
+pub use text_scalar::scalar;
 
 #[cfg(test)]
 mod tests;

@@ -1,39 +1,46 @@
-ghost use Rattle.std.specs.Prelude.{◌≡◌, ◌+◌, ◌^◌, ◌≤◌, length};
+ghost use Rattle.std.specs.Prelude.{◌≡◌, ◌+◌, ◌^◌, ◌≤◌, length, option_copied};
 
+use crate::BlockText;
 use std::marker::Model;
 
-/// A line that holds something: its number from 1, where its content begins, and the content, which neither begins nor
-/// ends with a blank and holds no comment. Contracts see its place, the indentation with the content, so the number is
-/// shown by tests alone.
+/// A line that holds something: its number from 1, where its content begins, the content, and the block text that
+/// follows it, if there is one. As [`read_lines`](crate::read_lines) gives it, the content begins with neither a blank
+/// nor a comment; both may stand at its end. Contracts see its place, so the number is shown by tests alone.
 #[derive(Debug, Drop)]
-pub struct Line<'a> {
+pub struct Line<'a, 'b> {
     number: usize,
     indent: usize,
-    content: &'a [char],
+    content: &'b [char],
+    block: Option<BlockText<'a, 'b>>,
 }
 
-impl<'a> Model for Line<'a> {
+impl<'a, 'b> Model for Line<'a, 'b> {
     ghost use Rattle.std.specs.Prelude.{◌+◌, ◌^◌, ◌≤◌, length};
-    ghost use Rattle.yaml_lines.specs.Lines.{Place};
+    ghost use Rattle.yaml_lines.specs.Entries.{Place};
 
     ghost Value = { Place };
 
-    ghost view = { λ line. record { indent = line.indent; content = line.content.now } };
+    ghost view = { λ line. record { indent = line.indent; content = line.content.now; block = line.block } };
 
     ghost invariant = { λ line. line.indent + length line.content.now ≤ 2 ^ 32 };
 }
 
-impl<'a> Line<'a> {
+impl<'a, 'b> Line<'a, 'b> {
     /// The line with this number, whose content begins after `indent` columns.
-    pub fn new(number: usize, indent: usize, content: &'a [char]) -> Self
+    pub fn new(
+        number: usize,
+        indent: usize,
+        content: &'b [char],
+        block: Option<BlockText<'a, 'b>>,
+    ) -> Self
         requires { indent + length content.now ≤ 2 ^ 32 }
-        ensures indentation { result.indent ≡ indent }
-        ensures characters { result.content ≡ content.now }
+        ensures { result ≡ record { indent = indent; content = content.now; block = block.entry } }
     {
         Line {
             number,
             indent,
             content,
+            block,
         }
     }
 
@@ -50,10 +57,17 @@ impl<'a> Line<'a> {
     }
 
     /// The content's characters.
-    pub fn content(&self) -> &'a [char]
+    pub fn content(&self) -> &'b [char]
         ensures characters { result.now ≡ self.now.content }
         ensures bounded { self.now.indent + length self.now.content ≤ 2 ^ 32 }
     {
         self.content
+    }
+
+    /// The block text that the content's last value begins.
+    pub fn block(&self) -> Option<&BlockText<'a, 'b>>
+        ensures { option_copied result ≡ self.now.block }
+    {
+        self.block.as_ref()
     }
 }

@@ -1,27 +1,155 @@
-ghost use Rattle.std.specs.Prelude.{◌≡◌, ◌≤◌, ◌&&◌, IfOk, length};
+ghost use Rattle.std.specs.Prelude.{◌≡◌, ◌+◌, ◌^◌, ◌<◌, ◌≤◌, IfOk, length};
 ghost use Rattle.yaml_lines.specs.Characters.{most_bytes};
-ghost use Rattle.yaml_lines.specs.Faults.{GivesSurely, GivesUpTo};
-ghost use Rattle.yaml_lines.specs.Lines.{begins_with_three, is_mark, is_start, place_of, places_of};
+ghost use Rattle.yaml_lines.specs.Entries.{Place};
+ghost use Rattle.yaml_lines.specs.Faults.{Gives, GivesSurely, GivesUpTo};
+ghost use Rattle.yaml_lines.specs.Lines.{bare, is_mark, is_start, last_value, left_at, left_by, left_of, places_from, with_flow, with_text, with_value};
 
-use crate::raw_line::raw_lines;
+use crate::block_lines::{begins_block, extent, header_of, margin_of, ragged_at};
+use crate::flow_state::{FlowState, skim, state_behind};
+use crate::last_value::{LastValue, last_value};
 use crate::scan::{
-    all_allowed, begins_with_tab, blank_or_end, skip, spaces, trim_end, uncommented,
+    after_blanks, all_allowed, begins_with_tab, blank_or_end, comment_or_end, is_over, skip, spaces,
 };
-use crate::{Line, YamlFault, YamlKind};
+use crate::standing::Standing;
+use crate::{BlockText, Header, Line, RawLine, YamlFault, YamlKind};
 use std::alloc::{AllocError, Global};
+use std::marker::Model;
 
 /// The lines of a text that were read before the first fault.
-#[derive(Debug, Drop)]
-pub struct Lines<'a> {
+#[derive(Drop)]
+pub struct Lines<'a, 'b> {
     /// All lines that hold something, if there is no fault, else those before it.
-    pub lines: Vec<Line<'a>>,
+    pub lines: Vec<Line<'a, 'b>>,
     pub fault: Option<YamlFault>,
 }
 
-// The line that one line of the text leaves, or nothing where it holds only blanks or a comment.
-fn place<'a>(text: &'a [char], number: usize) -> Result<Option<Line<'a>>, YamlFault>
-    requires { length text.now ≤ most_bytes }
-    ensures { GivesSurely (λ line. line) result (place_of text.now) }
+// What one line of the text leaves: its line, or none if it holds only blanks or a comment or is a block text's, and
+// where the next line stands.
+#[derive(Drop)]
+struct LeftLine<'a, 'b> {
+    line: Option<Line<'a, 'b>>,
+    next: Standing,
+}
+
+impl<'a, 'b> Model for LeftLine<'a, 'b> {
+    ghost use Rattle.yaml_lines.specs.Lines.{Left};
+
+    ghost Value = { Left };
+
+    ghost view = { λ left. record { place = left.line; next = left.next } };
+}
+
+// A line without a block text, behind which this flow is open.
+fn bare<'a, 'b>(
+    number: usize,
+    indent: usize,
+    content: &'b [char],
+    flow: FlowState,
+) -> LeftLine<'a, 'b>
+    requires { indent + length content.now ≤ 2 ^ 32 }
+    ensures { result ≡ bare indent content.now flow }
+{
+    LeftLine {
+        line: Some(Line::new(number, indent, content, None)),
+        next: Standing { taken: 0, flow },
+    }
+}
+
+// A line whose last value is a block text with this header and margin.
+#[tactic(auto, unfolding(crate::specs::Lines::with_text))]
+fn with_text<'a, 'b>(
+    number: usize,
+    indent: usize,
+    content: &'b [char],
+    later: &'a [RawLine<'b>],
+    margin: Option<usize>,
+    header: Header,
+) -> Result<LeftLine<'a, 'b>, YamlFault>
+    requires content { indent + length content.now ≤ 2 ^ 32 }
+    requires numbers { number + length later.now < 2 ^ 64 }
+    ensures { GivesSurely (λ left. left) result (with_text indent content.now later.now margin header) }
+{
+    if let Some(at) = ragged_at(margin, later) {
+        return Err(YamlFault {
+            kind: YamlKind::Layout,
+            line: number + 1 + at,
+        });
+    }
+    let taken = extent(margin, later);
+    let block = BlockText::new(header, margin, &later[..taken]);
+    Ok(LeftLine {
+        line: Some(Line::new(number, indent, content, Some(block))),
+        next: Standing {
+            taken,
+            flow: FlowState::outside(),
+        },
+    })
+}
+
+// A line with the block text or the flow that its last value begins, if it begins one.
+#[tactic(auto, unfolding(crate::specs::Lines::with_value))]
+fn with_value<'a, 'b>(
+    number: usize,
+    indent: usize,
+    content: &'b [char],
+    later: &'a [RawLine<'b>],
+    value: Option<LastValue<'b>>,
+) -> Result<LeftLine<'a, 'b>, YamlFault>
+    requires content { indent + length content.now ≤ 2 ^ 32 }
+    requires numbers { number + length later.now < 2 ^ 64 }
+    ensures { GivesSurely (λ left. left) result (with_value indent content.now later.now value.entry) }
+{
+    let Some(value) = value else {
+        return Ok(bare(number, indent, content, state_behind(content)));
+    };
+    if !begins_block(value.content()) {
+        return Ok(bare(number, indent, content, state_behind(value.content())));
+    }
+    match header_of(value.content()) {
+        Ok(header) => with_text(
+            number,
+            indent,
+            content,
+            later,
+            margin_of(value.column(), later),
+            header,
+        ),
+        Err(kind) => Err(YamlFault { kind, line: number }),
+    }
+}
+
+// A line that stands within this flow, or outside of flows.
+#[tactic(auto, unfolding(crate::specs::Lines::with_flow))]
+fn with_flow<'a, 'b>(
+    alloc: Global,
+    flow: FlowState,
+    number: usize,
+    indent: usize,
+    content: &'b [char],
+    later: &'a [RawLine<'b>],
+) -> Result<LeftLine<'a, 'b>, YamlFault>
+    requires content { indent + length content.now ≤ 2 ^ 32 }
+    requires numbers { number + length later.now < 2 ^ 64 }
+    ensures { Gives (λ left. left) result (with_flow flow indent content.now later.now) }
+{
+    if !flow.is_over() {
+        return Ok(bare(number, indent, content, skim(flow, content)));
+    }
+    let value = last_value(alloc, indent, content)?;
+    with_value(number, indent, content, later, value)
+}
+
+// What the line leaves before these later lines.
+fn left_of<'a, 'b>(
+    alloc: Global,
+    flow: FlowState,
+    number: usize,
+    text: &'b [char],
+    later: &'a [RawLine<'b>],
+) -> Result<LeftLine<'a, 'b>, YamlFault>
+    requires content { length text.now ≤ most_bytes }
+    requires numbers { number + length later.now < 2 ^ 64 }
+    ensures { Gives (λ left. left) result (left_of flow text.now later.now) }
 {
     if !all_allowed(text) {
         return Err(YamlFault {
@@ -29,19 +157,52 @@ fn place<'a>(text: &'a [char], number: usize) -> Result<Option<Line<'a>>, YamlFa
             line: number,
         });
     }
-    let kept = trim_end(uncommented(text));
-    if kept.is_empty() {
-        return Ok(None);
+    if comment_or_end(after_blanks(text)) {
+        return Ok(LeftLine {
+            line: None,
+            next: Standing { taken: 0, flow },
+        });
     }
-    let indent = spaces(kept);
-    let content = skip(kept, indent);
+    let indent = spaces(text);
+    let content = skip(text, indent);
     if begins_with_tab(content) {
         return Err(YamlFault {
             kind: YamlKind::TabIndent,
             line: number,
         });
     }
-    Ok(Some(Line::new(number, indent, content)))
+    with_flow(alloc, flow, number, indent, content, later)
+}
+
+// What the line leaves by where it stands: a block text's line leaves nothing.
+#[tactic(auto, unfolding(crate::specs::Lines::left_at))]
+fn left_at<'a, 'b>(
+    alloc: Global,
+    at: Standing,
+    number: usize,
+    text: &'b [char],
+    later: &'a [RawLine<'b>],
+) -> Result<LeftLine<'a, 'b>, YamlFault>
+    requires content { length text.now ≤ most_bytes }
+    requires numbers { number + length later.now < 2 ^ 64 }
+    ensures { Gives (λ left. left) result (left_at at text.now later.now) }
+{
+    if at.taken == 0 {
+        return left_of(alloc, at.flow, number, text, later);
+    }
+    if !all_allowed(text) {
+        return Err(YamlFault {
+            kind: YamlKind::Unsupported,
+            line: number,
+        });
+    }
+    Ok(LeftLine {
+        line: None,
+        next: Standing {
+            taken: at.taken - 1,
+            flow: at.flow,
+        },
+    })
 }
 
 // Whether the line marks a document: by `---`, `...` or a directive.
@@ -56,35 +217,53 @@ fn is_mark(line: &Line) -> bool
         }
 }
 
-// Whether the line is `---` alone.
+// Whether the line is `---` alone, but for a comment.
 fn is_start(line: &Line) -> bool
     ensures { result ≡ is_start line.now }
 {
-    line.indent() == 0 && matches!(line.content(), ['-', '-', '-'])
+    line.indent() == 0
+        && match line.content() {
+            ['-', '-', '-', rest @ ..] => is_over(rest),
+            _ => false,
+        }
 }
 
-/// The lines of the text that hold something, without a `---` that stands alone before the others, up to the first
-/// fault.
+/// The lines that hold something, without a `---` that stands alone before the others and without those of block texts,
+/// up to the first fault.
 ///
 /// A tab in an indentation is `TabIndent`. A control character other than a tab or a line's end, a carriage return
-/// without a line feed too, and a document's mark in any other place are `Unsupported`.
-pub fn read_lines<'a>(alloc: Global, text: &'a [char]) -> Result<Lines<'a>, AllocError>
-    requires { length text.now ≤ most_bytes }
-    ensures { IfOk result (λ read. GivesUpTo read.lines.items read.fault (places_of text.now)) }
+/// without a line feed too, a document's mark in any other place and a block text's header with a digit are
+/// `Unsupported`; another header, and a line of more spaces than the first text line of its block text before that line,
+/// are `Layout`.
+pub fn read_lines<'a, 'b>(
+    alloc: Global,
+    raws: &'a [RawLine<'b>],
+) -> Result<Lines<'a, 'b>, AllocError>
+    ensures { IfOk result (λ read. GivesUpTo read.lines.items read.fault (places_from raws.now)) }
 {
-    let raws = raw_lines(alloc, text)?;
     let mut lines = Vec::new(alloc);
     let mut fresh = true;
+    let mut at = Standing {
+        taken: 0,
+        flow: FlowState::outside(),
+    };
     for (i, raw) in raws.iter().enumerate() {
-        let line = match place(raw.text(), i + 1) {
-            Ok(None) => continue,
-            Ok(Some(line)) => line,
+        let later = &raws[i + 1..];
+        let LeftLine { line, next } = match left_at(alloc, at, i + 1, raw.text(), later) {
+            Ok(left) => left,
             Err(fault) => {
-                return Ok(Lines {
-                    lines,
-                    fault: Some(fault),
-                });
+                return match fault.kind {
+                    YamlKind::OutOfMemory => Err(AllocError),
+                    _ => Ok(Lines {
+                        lines,
+                        fault: Some(fault),
+                    }),
+                };
             }
+        };
+        at = next;
+        let Some(line) = line else {
+            continue;
         };
         if !is_mark(&line) {
             lines.push(line)?;

@@ -1,11 +1,8 @@
-ghost use Rattle.std.specs.Prelude.{◌≡◌, ◌⊎◌, ◌<◌, ◌+◌, Some, None, MatchOption, length, take, drop};
-ghost use Rattle.yaml_lines.specs.Faults.{Gives};
-ghost use Rattle.yaml_lines.specs.Plain.{begins_plain, is_indicator, is_mark_character, plain_meaning, sides_of};
-ghost use Rattle.yaml_lines.specs.View.{view};
+ghost use Rattle.std.specs.Prelude.{◌≡◌, ◌⊎◌, ◌<◌, ◌+◌, Some, None, true, MatchOption, length, take, drop};
+ghost use Rattle.yaml_lines.specs.Plain.{begins_plain, is_indicator, is_mark_character, sides_of};
 
-use crate::scan::{blank_or_end, skip, text_of};
-use crate::{Node, YamlFault, YamlKind};
-use std::alloc::Global;
+use crate::scan::{blank_or_end, is_blank, skip};
+use crate::{YamlFault, YamlKind};
 
 // One of the characters that begin no plain text.
 fn is_indicator(c: char) -> bool
@@ -51,15 +48,20 @@ pub(crate) fn begins_plain(content: &[char]) -> bool
     }
 }
 
-// Where the first `:` stands that is followed by a blank or the end.
+// Where the first `:` stands that is followed by a blank or the end, and in no comment.
 pub(crate) fn colon(content: &[char]) -> Option<usize>
-    ensures { MatchOption result (sides_of content.now ≡ None) (λ at. (at < length content.now)
-        × (sides_of content.now ≡ Some (record { before = take at content.now; behind = drop (at + 1) content.now }))) }
+    ensures { MatchOption result (sides_of true content.now ≡ None) (λ at. (at < length content.now)
+        × (sides_of true content.now ≡ Some (record { before = take at content.now; behind = drop (at + 1) content.now }))) }
 {
+    let mut free = true;
     for (i, c) in content.iter().enumerate() {
+        if free && *c == '#' {
+            return None;
+        }
         if *c == ':' && blank_or_end(skip(content, i + 1)) {
             return Some(i);
         }
+        free = is_blank(*c);
     }
     None
 }
@@ -71,26 +73,8 @@ pub fn refusal(number: usize, content: &[char]) -> YamlFault
     ensures kind { (result.kind ≡ YamlKind.Unsupported) ⊎ (result.kind ≡ YamlKind.Layout) }
 {
     let kind = match content {
-        [
-            '&' | '*' | '!' | '%' | '@' | '`' | '\'' | '"' | '[' | '{' | '|' | '>',
-            ..
-        ]
-        | ['?', ' ' | '\t', ..] => YamlKind::Unsupported,
+        ['&' | '*' | '!' | '%' | '@' | '`', ..] | ['?', ' ' | '\t', ..] => YamlKind::Unsupported,
         _ => YamlKind::Layout,
     };
     YamlFault { kind, line: number }
-}
-
-/// The plain text that the whole content is. A content that is none is refused as [`refusal`] says, in line `number`.
-pub fn plain(alloc: Global, number: usize, content: &[char]) -> Result<Node, YamlFault>
-    ensures { Gives view result (plain_meaning content.now) }
-{
-    if !begins_plain(content) || colon(content).is_some() {
-        return Err(refusal(number, content));
-    }
-    let text = text_of(alloc, content)?;
-    Ok(Node::Text {
-        text,
-        quoted: false,
-    })
 }

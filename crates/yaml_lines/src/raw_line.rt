@@ -6,9 +6,9 @@ use crate::scan::{feed, front, skip};
 use std::alloc::{AllocError, Global};
 use std::marker::Model;
 
-// A line as it stands in the text, without its end, and whether it has one.
+/// A line as it stands in the text, without its end. Contracts see its characters, and whether it has an end.
 #[derive(Debug, Drop)]
-pub(crate) struct RawLine<'a> {
+pub struct RawLine<'a> {
     text: &'a [char],
     ended: bool,
 }
@@ -16,7 +16,7 @@ pub(crate) struct RawLine<'a> {
 impl<'a> Model for RawLine<'a> {
     ghost use Rattle.std.specs.Prelude.{◌≤◌, length};
     ghost use Rattle.yaml_lines.specs.Characters.{most_bytes};
-    ghost use Rattle.yaml_lines.specs.Lines.{LineText};
+    ghost use Rattle.yaml_lines.specs.BlockTexts.{LineText};
 
     ghost Value = { LineText };
 
@@ -26,11 +26,19 @@ impl<'a> Model for RawLine<'a> {
 }
 
 impl<'a> RawLine<'a> {
-    pub(crate) fn text(&self) -> &'a [char]
+    /// The line's characters.
+    pub fn text(&self) -> &'a [char]
         ensures characters { result.now ≡ self.now.text }
         ensures bounded { length result.now ≤ most_bytes }
     {
         self.text
+    }
+
+    /// Whether the line has an end.
+    pub fn is_ended(&self) -> bool
+        ensures { result ≡ self.now.ended }
+    {
+        self.ended
     }
 }
 
@@ -73,8 +81,9 @@ fn next_line<'a>(text: &'a [char]) -> Cut<'a>
     }
 }
 
-// All lines of the text.
-pub(crate) fn raw_lines<'a>(alloc: Global, text: &'a [char]) -> Result<Vec<RawLine<'a>>, AllocError>
+/// All lines of the text. A line feed ends a line, and so does a carriage return with a line feed; the last line may lack
+/// its end.
+pub fn raw_lines<'a>(alloc: Global, text: &'a [char]) -> Result<Vec<RawLine<'a>>, AllocError>
     requires { length text.now ≤ most_bytes }
     ensures { IfOk result (λ lines. lines.items ≡ line_texts text.now) }
 {

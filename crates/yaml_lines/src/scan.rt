@@ -1,7 +1,7 @@
 ghost use Rattle.std.specs.Prelude.{◌≡◌, ◌==◌, ◌<◌, ◌≤◌, ◌&&◌, true, false, IfOk, MatchOption, length, take, drop, slice_index, string_bytes, encode_utf8_all};
 ghost use Rattle.std.specs.List.{list_all, list_any, prefix_len};
-ghost use Rattle.yaml_lines.specs.Characters.{blank_or_end, is_allowed, is_blank, is_space};
-ghost use Rattle.yaml_lines.specs.Lines.{begins_with, trim_end, uncommented};
+ghost use Rattle.yaml_lines.specs.Characters.{begins_with, blank_or_end, comment_or_end, is_allowed, is_over, trim_start, is_blank, is_space};
+ghost use Rattle.yaml_lines.specs.Plain.{trim_end, uncommented};
 
 use std::alloc::{AllocError, Global};
 
@@ -45,6 +45,20 @@ pub(crate) fn begins_with_tab(text: &[char]) -> bool
     matches!(text, ['\t', ..])
 }
 
+// Whether the characters are a comment, or there are none.
+pub(crate) fn comment_or_end(text: &[char]) -> bool
+    ensures { result ≡ comment_or_end text.now }
+{
+    matches!(text, [] | ['#', ..])
+}
+
+// Whether nothing stands here but blanks and, behind a blank, a comment.
+pub(crate) fn is_over(text: &[char]) -> bool
+    ensures { result ≡ is_over text.now }
+{
+    blank_or_end(text) && comment_or_end(after_blanks(text))
+}
+
 // How many blanks the characters begin with.
 pub(crate) fn blanks(text: &[char]) -> usize
     ensures counted { result ≡ prefix_len is_blank text.now }
@@ -56,6 +70,13 @@ pub(crate) fn blanks(text: &[char]) -> usize
         }
     }
     text.len()
+}
+
+// The characters from the first on that is no blank.
+pub(crate) fn after_blanks(text: &[char]) -> &[char]
+    ensures { result.now ≡ trim_start text.now }
+{
+    skip(text, blanks(text))
 }
 
 // How many spaces the characters begin with.

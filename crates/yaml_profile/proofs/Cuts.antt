@@ -1,7 +1,7 @@
 -- A cut's first lines, and the parts behind them, by how many lines pass the test.
 use Rattle.std.proofs.Common.{◌≡◌, ℕ, suc, ◌+◌, Bool, true, false, cond, List, [], ◌∷◌, take, drop, refl, ap, ◌∙◌, arith}
 use Rattle.std.specs.List.{prefix_len}
-use Rattle.yaml_lines.specs.Lines.{Place}
+use Rattle.yaml_lines.specs.Entries.{Place}
 use Rattle.yaml_profile.specs.Blocks.{Cut, put, cut, parts}
 
 one_plus : (n : ℕ) → suc n ≡ 1 + n

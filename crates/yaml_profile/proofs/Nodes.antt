@@ -1,10 +1,9 @@
 -- A node by its first line, a case at a time.
 use Rattle.std.proofs.Common.{◌≡◌, ℕ, zero, suc, ◌-◌, ◌<◌, true, false, List, [], ◌∷◌, Some, None, is_some, refl, ap, ◌∙◌, arith}
 use Rattle.yaml_lines.specs.Entries.{is_item, entry_of}
-use Rattle.yaml_lines.specs.Lines.{Place}
+use Rattle.yaml_lines.specs.Entries.{Place}
 use Rattle.yaml_lines.specs.Meaning.{empty}
-use Rattle.yaml_lines.specs.Plain.{plain_meaning}
-use Rattle.yaml_profile.specs.Blocks.{node, items, rows, block, lone, list_of, table_of, text_within}
+use Rattle.yaml_profile.specs.Blocks.{node, line_node, items, rows, block, list_of, table_of}
 
 pub node-no_room : (room : ℕ) (lines : List Place) → room ≡ 0 → node room lines ≡ None
 unfolding node
@@ -20,35 +19,28 @@ less_one : (room : ℕ) → room ≡ suc room - 1
 less_one room = omega arith
 
 pub node-lines : (room : ℕ) (first : Place) (later : List Place) → 0 < room
-    → node room (first ∷ later) ≡ block (node (room - 1)) (text_within (room - 1)) (is_item first.content) (is_some (entry_of first.content)) first later
+    → node room (first ∷ later) ≡ block (node (room - 1)) (line_node (room - 1)) (line_node room first later) (is_item first.content) (is_some (entry_of first.content)) first later
 unfolding node
 node-lines zero first later some = absurd (omega arith)
 node-lines (suc room) first later some =
-    ap (λ r. block (node r) (text_within r) (is_item first.content) (is_some (entry_of first.content)) first later) (less_one room)
+    ap (λ r. block (node r) (line_node r) (line_node (suc room) first later) (is_item first.content) (is_some (entry_of first.content)) first later) (less_one room)
 
 pub node-list : (room : ℕ) (first : Place) (later : List Place) → 0 < room → is_item first.content ≡ true
     → node room (first ∷ later) ≡ list_of (items (node (room - 1)) first later)
 node-list room first later some e =
-    node-lines room first later some ∙ ap (λ b. block (node (room - 1)) (text_within (room - 1)) b (is_some (entry_of first.content)) first later) e
+    node-lines room first later some
+    ∙ ap (λ b. block (node (room - 1)) (line_node (room - 1)) (line_node room first later) b (is_some (entry_of first.content)) first later) e
 
 pub node-table : (room : ℕ) (first : Place) (later : List Place) → 0 < room → is_item first.content ≡ false → is_some (entry_of first.content) ≡ true
-    → node room (first ∷ later) ≡ table_of (rows (node (room - 1)) (text_within (room - 1)) first later)
+    → node room (first ∷ later) ≡ table_of (rows (node (room - 1)) (line_node (room - 1)) first later)
 node-table room first later some e f =
     node-lines room first later some
-    ∙ ap (λ b. block (node (room - 1)) (text_within (room - 1)) b (is_some (entry_of first.content)) first later) e
-    ∙ ap (λ b. block (node (room - 1)) (text_within (room - 1)) false b first later) f
+    ∙ ap (λ b. block (node (room - 1)) (line_node (room - 1)) (line_node room first later) b (is_some (entry_of first.content)) first later) e
+    ∙ ap (λ b. block (node (room - 1)) (line_node (room - 1)) (line_node room first later) false b first later) f
 
-pub node-text : (room : ℕ) (first : Place) (later : List Place) → 0 < room → is_item first.content ≡ false → is_some (entry_of first.content) ≡ false
-    → node room (first ∷ later) ≡ lone (plain_meaning first.content) later
-node-text room first later some e f =
+pub node-line : (room : ℕ) (first : Place) (later : List Place) → 0 < room → is_item first.content ≡ false → is_some (entry_of first.content) ≡ false
+    → node room (first ∷ later) ≡ line_node room first later
+node-line room first later some e f =
     node-lines room first later some
-    ∙ ap (λ b. block (node (room - 1)) (text_within (room - 1)) b (is_some (entry_of first.content)) first later) e
-    ∙ ap (λ b. block (node (room - 1)) (text_within (room - 1)) false b first later) f
-
-pub text_within-no_room : (room : ℕ) (content : List ℕ) → room ≡ 0 → text_within room content ≡ None
-text_within-no_room zero content none = refl
-text_within-no_room (suc room) content none = absurd (omega arith)
-
-pub text_within-room : (room : ℕ) (content : List ℕ) → 0 < room → text_within room content ≡ plain_meaning content
-text_within-room zero content some = absurd (omega arith)
-text_within-room (suc room) content some = refl
+    ∙ ap (λ b. block (node (room - 1)) (line_node (room - 1)) (line_node room first later) b (is_some (entry_of first.content)) first later) e
+    ∙ ap (λ b. block (node (room - 1)) (line_node (room - 1)) (line_node room first later) false b first later) f

@@ -2,13 +2,13 @@
 use Rattle.std.proofs.Common.{◌≡◌, ℕ, List, Some, None, option_and_then, ap}
 use Rattle.yaml_lines.specs.Characters.{characters_of}
 use Rattle.yaml_lines.specs.Lines.{places_of, places_of_bytes}
-use Rattle.yaml_profile.specs.Blocks.{node}
+use Rattle.yaml_profile.specs.Blocks.{whole}
 use Rattle.yaml_profile.specs.Text.{meaning_of, most_nodes}
 
-pub meaning_of-characters : (bytes text : List ℕ) → characters_of bytes ≡ Some text → meaning_of bytes ≡ option_and_then (node most_nodes) (places_of text)
+pub meaning_of-characters : (bytes text : List ℕ) → characters_of bytes ≡ Some text → meaning_of bytes ≡ option_and_then (whole most_nodes) (places_of text)
 unfolding meaning_of places_of_bytes
-meaning_of-characters bytes text e = ap (λ cs. option_and_then (node most_nodes) (option_and_then places_of cs)) e
+meaning_of-characters bytes text e = ap (λ cs. option_and_then (whole most_nodes) (option_and_then places_of cs)) e
 
 pub meaning_of-none : (bytes : List ℕ) → characters_of bytes ≡ None → meaning_of bytes ≡ None
 unfolding meaning_of places_of_bytes
-meaning_of-none bytes e = ap (λ cs. option_and_then (node most_nodes) (option_and_then places_of cs)) e
+meaning_of-none bytes e = ap (λ cs. option_and_then (whole most_nodes) (option_and_then places_of cs)) e

@@ -2,7 +2,7 @@
 use Rattle.std.proofs.Common.{◌≡◌, ℕ, ◌-◌, ◌≤◌, Bool, List, [], ◌∷◌, ◌++◌, map, length, get_or, take, drop, Option, option_and_then, refl, sym, ap, ap₂, ◌∙◌, arith}
 use Rattle.std.proofs.lemmas.List.{map-append}
 use Rattle.std.proofs.Math.Seq.{take-length}
-use Rattle.yaml_lines.specs.Lines.{Place}
+use Rattle.yaml_lines.specs.Entries.{Place}
 use Rattle.yaml_lines.specs.Meaning.{Meaning}
 use Rattle.yaml_profile.specs.Blocks.{Part, cut, parts, all_of, is_deeper, is_below_key, item, items, entry, rows, distinct}
 use Rattle.yaml_profile.proofs.Lists.{prepend, none_before}
@@ -36,8 +36,8 @@ items_at node first later indent e =
     none_before (items node first later)
     ∙ ap (λ i. prepend [] (all_of (item node i) (parts (is_deeper i) (first ∷ later)))) (sym e)
 
-pub rows_at : (node : List Place → Option Meaning) (text : List ℕ → Option Meaning) (first : Place) (later : List Place) (indent : ℕ) → indent ≡ first.indent
-    → rows node text first later ≡ rows_with (entry node text indent) [] (parts (is_below_key indent) (first ∷ later))
-rows_at node text first later indent e =
-    ap (option_and_then distinct) (none_before (all_of (entry node text first.indent) (parts (is_below_key first.indent) (first ∷ later))))
-    ∙ ap (λ i. rows_with (entry node text i) [] (parts (is_below_key i) (first ∷ later))) (sym e)
+pub rows_at : (node : List Place → Option Meaning) (line : Place → List Place → Option Meaning) (first : Place) (later : List Place) (indent : ℕ) → indent ≡ first.indent
+    → rows node line first later ≡ rows_with (entry node line indent) [] (parts (is_below_key indent) (first ∷ later))
+rows_at node line first later indent e =
+    ap (option_and_then distinct) (none_before (all_of (entry node line first.indent) (parts (is_below_key first.indent) (first ∷ later))))
+    ∙ ap (λ i. rows_with (entry node line i) [] (parts (is_below_key i) (first ∷ later))) (sym e)

@@ -1,12 +1,15 @@
--- What the lines of a text mean: lists and tables by their indentation, and single texts. (YAML 1.2.2, sections 8.2.1
--- "Block Sequences", 8.2.2 "Block Mappings" and 8.2.3 "Block Nodes".)
+-- What the lines of a text mean: lists and tables by their indentation, flows and single texts. (YAML 1.2.2, sections
+-- 8.2.1 "Block Sequences", 8.2.2 "Block Mappings" and 8.2.3 "Block Nodes".)
 use Rattle.std.specs.Prelude.{ℕ, zero, suc, Bool, true, false, not, ◌&&◌, ◌||◌, List, [], ◌∷◌, ◌++◌, Option, Some, None, option_map, option_and_then, is_some, nat_lt, ◌==◌, if◌then◌else◌}
-use Rattle.std.specs.List.{list_any}
+use Rattle.std.specs.List.{list_all, list_any}
 use Rattle.std.specs.Str.{bytes_eq}
-use Rattle.yaml_lines.specs.Entries.{KeyAndValue, is_item, item_of, entry_of}
-use Rattle.yaml_lines.specs.Lines.{Place}
-use Rattle.yaml_lines.specs.Meaning.{Meaning, list, table, empty, meanings_of, members_of}
-use Rattle.yaml_lines.specs.Plain.{plain_meaning}
+use Rattle.yaml_lines.specs.BlockTexts.{begins_block}
+use Rattle.yaml_lines.specs.Characters.{is_nil}
+use Rattle.yaml_lines.specs.Entries.{Place, KeyAndValue, is_item, item_of, entry_of}
+use Rattle.yaml_flows.specs.Flows.{flow_meaning}
+use Rattle.yaml_lines.specs.FlowLines.{begins_flow, is_closing}
+use Rattle.yaml_lines.specs.Meaning.{Meaning, text, list, table, empty, meanings_of, members_of}
+use Rattle.yaml_lines.specs.Scalars.{scalar_meaning}
 
 -- A part of a list or a table: the line that begins it, and the lines after it that belong to it.
 pub record Part : Type 0 where
@@ -37,10 +40,21 @@ parts belongs (first ∷ later) = record { head = first; below = (cut belongs la
 abbrev pub is_deeper : ℕ → Place → Bool
 is_deeper indent line = nat_lt indent line.indent
 
--- the line belongs to a table's entry: it stands deeper than the keys, or it begins an item of a list that stands as deep
--- as the keys
+-- the line begins with a closing bracket
+abbrev pub begins_closing : List ℕ → Bool
+begins_closing [] = false
+begins_closing (c ∷ _) = is_closing c
+
+-- the line belongs to a table's entry: it stands deeper than the keys, or as deep as they do and begins an item of a list
+-- or with a closing bracket
 abbrev pub is_below_key : ℕ → Place → Bool
-is_below_key indent line = nat_lt indent line.indent || (line.indent == indent && is_item line.content)
+is_below_key indent line =
+    nat_lt indent line.indent || (line.indent == indent && (is_item line.content || begins_closing line.content))
+
+-- the line belongs to a flow that begins on a line at `indent`: it stands deeper, or as deep and begins with a closing
+-- bracket
+abbrev pub is_in_flow : ℕ → Place → Bool
+is_in_flow indent line = nat_lt indent line.indent || (line.indent == indent && begins_closing line.content)
 
 -- what f gives of each, where it gives something of all
 unfoldable pub all_of : {A B : Type 0} → (A → Option B) → List A → Option (List B)
@@ -60,22 +74,48 @@ abbrev pub lone : Option Meaning → List Place → Option Meaning
 lone meant [] = meant
 lone meant (line ∷ lines) = None
 
--- A key's value: the text on its line, with no lines below, else the node of the lines below.
-abbrev pub value : (List Place → Option Meaning) → (List ℕ → Option Meaning) → List ℕ → List Place → Option Meaning
-value node text [] below = node below
-value node text (c ∷ cs) below = lone (text (c ∷ cs)) below
+-- A text: the block text that the content begins, else the plain or quoted text that it is. A block text belongs to a
+-- key or a dash: on a line of its own none begins.
+abbrev pub text_of : Place → Option Meaning
+text_of place =
+    if begins_block place.content then option_map (λ bytes. text bytes false) place.block else scalar_meaning place.content
+
+-- the characters of further lines, each behind a line feed
+unfoldable pub further : List Place → List ℕ
+further [] = []
+further (line ∷ lines) = 10 ∷ (line.content ++ further lines)
+
+-- A flow: from its first bracket on, over all these lines. (YAML 1.2.2, section 7.4 "Flow Collection Styles".)
+abbrev pub flow : ℕ → List ℕ → List Place → Option Meaning
+flow room content later = flow_meaning room (content ++ further later)
+
+-- What begins on one line, with the lines below it, where at most `room` nodes may lie within one another: a flow, or a
+-- text with no lines below.
+abbrev pub line_node : ℕ → Place → List Place → Option Meaning
+line_node zero place below = None
+line_node (suc room) place below =
+    if begins_flow place.content then (if list_all (is_in_flow place.indent) below then flow (suc room) place.content below else None)
+    else lone (text_of place) below
+
+-- A key's value: the node that begins on its line, else the node of the lines below.
+abbrev pub value : (List Place → Option Meaning) → (Place → List Place → Option Meaning) → Place → List Place → Option Meaning
+value node line place below = if is_nil place.content then node below else line place below
+
+-- a key's value as a place: it stands as deep as its line
+abbrev pub value_place : Place → KeyAndValue → Place
+value_place head entry = record { indent = head.indent; content = entry.value; block = head.block }
 
 abbrev pub Row : Type 0
 Row = List ℕ × Meaning
 
 -- a key with its value
-abbrev pub row : (List Place → Option Meaning) → (List ℕ → Option Meaning) → List Place → KeyAndValue → Option Row
-row node text below entry = option_map (λ v. (entry.key, v)) (value node text entry.value below)
+abbrev pub row : (List Place → Option Meaning) → (Place → List Place → Option Meaning) → Part → KeyAndValue → Option Row
+row node line part entry = option_map (λ v. (entry.key, v)) (value node line (value_place part.head entry) part.below)
 
 -- An entry of a table: a key with its value. Each key stands at the same indentation.
-abbrev pub entry : (List Place → Option Meaning) → (List ℕ → Option Meaning) → ℕ → Part → Option Row
-entry node text indent part =
-    if part.head.indent == indent then option_and_then (row node text part.below) (entry_of part.head.content) else None
+abbrev pub entry : (List Place → Option Meaning) → (Place → List Place → Option Meaning) → ℕ → Part → Option Row
+entry node line indent part =
+    if part.head.indent == indent then option_and_then (row node line part) (entry_of part.head.content) else None
 
 -- no key stands twice
 unfoldable pub keys_differ : List Row → Bool
@@ -90,32 +130,34 @@ abbrev pub items : (List Place → Option Meaning) → Place → List Place → 
 items node first later = all_of (item node first.indent) (parts (is_deeper first.indent) (first ∷ later))
 
 -- the keys of a table with their values, the first line given with the lines after it
-abbrev pub rows : (List Place → Option Meaning) → (List ℕ → Option Meaning) → Place → List Place → Option (List Row)
-rows node text first later =
-    option_and_then distinct (all_of (entry node text first.indent) (parts (is_below_key first.indent) (first ∷ later)))
+abbrev pub rows : (List Place → Option Meaning) → (Place → List Place → Option Meaning) → Place → List Place → Option (List Row)
+rows node line first later =
+    option_and_then distinct (all_of (entry node line first.indent) (parts (is_below_key first.indent) (first ∷ later)))
 
--- what a list, a table and a single text mean
+-- what a list and a table mean
 abbrev pub list_of : Option (List Meaning) → Option Meaning
 list_of found = option_map (λ ms. list (meanings_of ms)) found
 
 abbrev pub table_of : Option (List Row) → Option Meaning
 table_of found = option_map (λ rs. table (members_of rs)) found
 
--- A node by its first line: a list where it begins with a dash, a table where it begins with a key, else a text on that
--- line alone.
-abbrev pub block : (List Place → Option Meaning) → (List ℕ → Option Meaning) → Bool → Bool → Place → List Place → Option Meaning
-block node text true keyed first later = list_of (items node first later)
-block node text false true first later = table_of (rows node text first later)
-block node text false false first later = lone (plain_meaning first.content) later
-
--- a single text, where `room` nodes may lie within one another there
-abbrev pub text_within : ℕ → List ℕ → Option Meaning
-text_within zero content = None
-text_within (suc room) content = plain_meaning content
+-- A node by its first line: a list where it begins with a dash, a table where it begins with a key, else what stands on
+-- that line.
+abbrev pub block : (List Place → Option Meaning) → (Place → List Place → Option Meaning) → Option Meaning → Bool → Bool → Place → List Place → Option Meaning
+block node line own true keyed first later = list_of (items node first later)
+block node line own false true first later = table_of (rows node line first later)
+block node line own false false first later = own
 
 -- What lines mean, where at most `room` nodes may lie within one another: texts and empty nodes count.
 unfoldable pub node : ℕ → List Place → Option Meaning
 node zero lines = None
 node (suc room) [] = Some empty
 node (suc room) (first ∷ later) =
-    block (node room) (text_within room) (is_item first.content) (is_some (entry_of first.content)) first later
+    block (node room) (line_node room) (line_node (suc room) first later) (is_item first.content) (is_some (entry_of first.content)) first later
+
+-- What the lines of a whole text mean: no block text is one, and the lines of a flow stand as deep as they may.
+unfoldable pub whole : ℕ → List Place → Option Meaning
+whole room [] = node room []
+whole room (first ∷ later) =
+    if begins_block first.content then None
+    else (if begins_flow first.content then flow room first.content later else node room (first ∷ later))

@@ -3,5 +3,6 @@ pub use Rattle.yaml_lines.specs.Meaning
 pub use Rattle.yaml_lines.specs.View
 pub use Rattle.yaml_lines.specs.ViewLaws
 pub mod Blocks
+pub mod ListLaws
 pub mod Rows
 pub mod Text

@@ -2,7 +2,7 @@
 use Rattle.std.specs.Prelude.{ℕ, List, Option, option_and_then}
 use Rattle.yaml_lines.specs.Lines.{places_of_bytes}
 use Rattle.yaml_lines.specs.Meaning.{Meaning}
-use Rattle.yaml_profile.specs.Blocks.{node}
+use Rattle.yaml_profile.specs.Blocks.{whole}
 
 -- the most nodes that may lie within one another: a node lies within at most 32 others
 abbrev pub most_nodes : ℕ
@@ -10,4 +10,4 @@ most_nodes = 33
 
 -- the node of the text, or none where this profile reads none
 unfoldable pub meaning_of : List ℕ → Option Meaning
-meaning_of bytes = option_and_then (node most_nodes) (places_of_bytes bytes)
+meaning_of bytes = option_and_then (whole most_nodes) (places_of_bytes bytes)

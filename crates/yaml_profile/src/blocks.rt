@@ -1,39 +1,34 @@
-// Nodes by their lines: lists and tables by the indentation, and single texts.
+// Nodes by their lines: lists and tables by the indentation, and what stands on one line.
 ghost use Rattle.std.specs.Prelude.{◌≡◌, ℕ, List, [], ◌∷◌, ◌<◌, ◌≤◌, length, map, IfOk, if◌then◌else◌, true, string_bytes, IsOk, ◌↔◌};
 ghost use Rattle.std.specs.BTreeSet.{contains_text};
 ghost use Rattle.std.specs.Str.{bytes_eq};
 ghost use Rattle.yaml_lines.specs.Faults.{Gives};
-ghost use Rattle.yaml_lines.specs.Plain.{plain_meaning};
 ghost use Rattle.yaml_lines.specs.View.{view};
 ghost use Rattle.yaml_lines.specs.ViewLaws.{member_view};
 ghost use Rattle.yaml_profile.specs.Blocks as blocks;
 ghost use Rattle.yaml_profile.specs.Rows.{fresh, rows_of};
 
+use crate::inline::{Inline, fault, line_node};
 use crate::keys::see;
 use crate::parts::{split_below_key, split_deeper};
 use std::alloc::Global;
 use std::collections::BTreeSet;
-use yaml_lines::{
-    Line, Node, YamlFault, YamlKind, after_dash, is_item, plain, read_entry, refusal,
-};
-
-fn fault(kind: YamlKind, line: usize) -> YamlFault {
-    YamlFault { kind, line }
-}
+use yaml_lines::{Line, Node, YamlFault, YamlKind, after_dash, is_item, read_entry, scalar};
 
 /// The node of the lines, where at most `room` nodes may lie within one another. `number` is the line of what they
-/// belong to.
+/// belong to, `end` the fault where the lines end within a flow.
 #[cycle(blocks)]
 pub(crate) fn block(
     alloc: Global,
-    lines: &[Line<'_>],
+    lines: &[Line<'_, '_>],
     room: usize,
     number: usize,
+    end: YamlFault,
 ) -> Result<Node, YamlFault>
     ensures { Gives view result (blocks.node room lines.now) }
 {
     match lines {
-        [first, later @ ..] => node(alloc, first, later, room),
+        [first, later @ ..] => node(alloc, first, later, room, end),
         [] => no_lines(room, number),
     }
 }
@@ -50,7 +45,13 @@ fn no_lines(room: usize, number: usize) -> Result<Node, YamlFault>
 
 // The node whose first line is given with the lines after it.
 #[cycle(blocks)]
-fn node(alloc: Global, first: &Line<'_>, later: &[Line<'_>], room: usize) -> Result<Node, YamlFault>
+fn node(
+    alloc: Global,
+    first: &Line<'_, '_>,
+    later: &[Line<'_, '_>],
+    room: usize,
+    end: YamlFault,
+) -> Result<Node, YamlFault>
     ensures { Gives view result (blocks.node room (first.now ∷ later.now)) }
 {
     if room == 0 {
@@ -58,34 +59,34 @@ fn node(alloc: Global, first: &Line<'_>, later: &[Line<'_>], room: usize) -> Res
     }
     let content = first.content();
     if is_item(content) {
-        let found = items(alloc, first, later, room - 1)?;
+        let found = items(alloc, first, later, room - 1, end)?;
         return Ok(Node::List(found));
     }
-    if read_entry(content).is_some() {
-        let found = rows(alloc, first, later, room - 1)?;
+    if read_entry(alloc, content)?.is_some() {
+        let found = rows(alloc, first, later, room - 1, end)?;
         return Ok(Node::Table(found));
     }
-    lone_text(alloc, content, later, first.number())
+    line_node(alloc, &Inline::line(first), later, room, end)
 }
 
-// A single text, below which no lines stand.
-fn lone_text(
-    alloc: Global,
-    text: &[char],
-    below: &[Line<'_>],
-    number: usize,
-) -> Result<Node, YamlFault>
-    ensures { Gives view result (blocks.lone (plain_meaning text.now) below.now) }
-{
-    let node = plain(alloc, number, text)?;
-    match below {
-        [] => Ok(node),
-        [line, ..] => Err(fault(YamlKind::Layout, line.number())),
+// Why a line that begins no item or no entry, as those before it do, can't be read.
+fn no_part(alloc: Global, line: &Line<'_, '_>) -> YamlFault {
+    let other = fault(YamlKind::Layout, line.number());
+    scalar(alloc, line.number(), line.content())
+        .err()
+        .unwrap_or(other)
+}
+
+// The fault where a part's lines end within a flow: the line that follows them is left of the flow.
+fn end_before(rest: &[Line<'_, '_>], end: YamlFault) -> YamlFault {
+    match rest {
+        [] => end,
+        [line, ..] => fault(YamlKind::Layout, line.number()),
     }
 }
 
 // A list's items and a table's keys all stand as deep as the first.
-fn check_indent(line: &Line<'_>, indent: usize) -> Result<(), YamlFault>
+fn check_indent(line: &Line<'_, '_>, indent: usize) -> Result<(), YamlFault>
     ensures { IsOk result ↔ (line.now.indent ≡ indent) }
 {
     if line.indent() == indent {
@@ -99,19 +100,20 @@ fn check_indent(line: &Line<'_>, indent: usize) -> Result<(), YamlFault>
 #[cycle(blocks)]
 fn items(
     alloc: Global,
-    first: &Line<'_>,
-    later: &[Line<'_>],
+    first: &Line<'_, '_>,
+    later: &[Line<'_, '_>],
     room: usize,
+    end: YamlFault,
 ) -> Result<Vec<Node>, YamlFault>
     ensures { Gives (λ v. map view v.items) result (blocks.items (blocks.node room) first.now later.now) }
 {
     let indent = first.indent();
     let (below, mut rest) = split_deeper(later, indent);
     let mut found = Vec::new(alloc);
-    found.push(item(alloc, first, below, indent, room)?)?;
+    found.push(item(alloc, first, below, indent, room, end_before(rest, end))?)?;
     'items: while let [next, others @ ..] = rest {
         let (below, after) = split_deeper(others, indent);
-        found.push(item(alloc, next, below, indent, room)?)?;
+        found.push(item(alloc, next, below, indent, room, end_before(after, end))?)?;
         rest = after;
     }
     Ok(found)
@@ -121,21 +123,22 @@ fn items(
 #[cycle(blocks)]
 fn item(
     alloc: Global,
-    line: &Line<'_>,
-    below: &[Line<'_>],
+    line: &Line<'_, '_>,
+    below: &[Line<'_, '_>],
     indent: usize,
     room: usize,
+    end: YamlFault,
 ) -> Result<Node, YamlFault>
     ensures { Gives view result
         (blocks.item (blocks.node room) indent (record { head = line.now; below = below.now })) }
 {
     check_indent(line, indent)?;
     if !is_item(line.content()) {
-        return Err(refusal(line.number(), line.content()));
+        return Err(no_part(alloc, line));
     }
     match after_dash(line)? {
-        Some(rest) => node(alloc, &rest, below, room),
-        None => block(alloc, below, room, line.number()),
+        Some(rest) => node(alloc, &rest, below, room, end),
+        None => block(alloc, below, room, line.number(), end),
     }
 }
 
@@ -143,21 +146,38 @@ fn item(
 #[cycle(blocks)]
 fn rows(
     alloc: Global,
-    first: &Line<'_>,
-    later: &[Line<'_>],
+    first: &Line<'_, '_>,
+    later: &[Line<'_, '_>],
     room: usize,
+    end: YamlFault,
 ) -> Result<Vec<(String, Node)>, YamlFault>
     ensures { Gives rows_of result
-        (blocks.rows (blocks.node room) (blocks.text_within room) first.now later.now) }
+        (blocks.rows (blocks.node room) (blocks.line_node room) first.now later.now) }
 {
     let indent = first.indent();
     let (below, mut rest) = split_below_key(later, indent);
     let mut seen = BTreeSet::new(alloc);
     let mut found = Vec::new(alloc);
-    found.push(entry(alloc, &mut seen, first, below, indent, room)?)?;
+    found.push(entry(
+        alloc,
+        &mut seen,
+        first,
+        below,
+        indent,
+        room,
+        end_before(rest, end),
+    )?)?;
     'rows: while let [next, others @ ..] = rest {
         let (below, after) = split_below_key(others, indent);
-        found.push(entry(alloc, &mut seen, next, below, indent, room)?)?;
+        found.push(entry(
+            alloc,
+            &mut seen,
+            next,
+            below,
+            indent,
+            room,
+            end_before(after, end),
+        )?)?;
         rest = after;
     }
     Ok(found)
@@ -169,44 +189,43 @@ fn rows(
 fn entry(
     alloc: Global,
     seen: &mut BTreeSet<String>,
-    line: &Line<'_>,
-    below: &[Line<'_>],
+    line: &Line<'_, '_>,
+    below: &[Line<'_, '_>],
     indent: usize,
     room: usize,
+    end: YamlFault,
 ) -> Result<(String, Node), YamlFault>
     ensures given { Gives member_view result (fresh (contains_text seen.old)
-        (blocks.entry (blocks.node room) (blocks.text_within room) indent
+        (blocks.entry (blocks.node room) (blocks.line_node room) indent
         (record { head = line.now; below = below.now }))) }
     ensures seen { IfOk result (λ row. (q : List ℕ) → contains_text seen.new q
         ≡ (if bytes_eq (string_bytes row.0) q then true else contains_text seen.old q)) }
 {
     check_indent(line, indent)?;
-    let Some(found) = read_entry(line.content()) else {
-        return Err(refusal(line.number(), line.content()));
+    let Some(found) = read_entry(alloc, line.content())? else {
+        return Err(no_part(alloc, line));
     };
-    let key = found.key(alloc)?;
+    let place = Inline::value(line, found.value());
+    let key = found.into_key();
     see(alloc, seen, key.as_str(), line.number())?;
-    let node = value(alloc, found.value(), below, room, line.number())?;
+    let node = value(alloc, &place, below, room, end)?;
     Ok((key, node))
 }
 
-// A key's value: the text on its line, or the node of the lines below.
+// A key's value: what stands on its line, or the node of the lines below.
 #[cycle(blocks)]
 fn value(
     alloc: Global,
-    text: &[char],
-    below: &[Line<'_>],
+    place: &Inline<'_, '_, '_>,
+    below: &[Line<'_, '_>],
     room: usize,
-    number: usize,
+    end: YamlFault,
 ) -> Result<Node, YamlFault>
     ensures { Gives view result
-        (blocks.value (blocks.node room) (blocks.text_within room) text.now below.now) }
+        (blocks.value (blocks.node room) (blocks.line_node room) place.now below.now) }
 {
-    if text.is_empty() {
-        return block(alloc, below, room, number);
+    match place.content() {
+        [] => block(alloc, below, room, place.number(), end),
+        _ => line_node(alloc, place, below, room, end),
     }
-    if room == 0 {
-        return Err(fault(YamlKind::TooDeep, number));
-    }
-    lone_text(alloc, text, below, number)
 }

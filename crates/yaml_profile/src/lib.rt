@@ -1,12 +1,16 @@
 //! The YAML reader: from the bytes of a text to its [`Node`], or the first fault and its line.
 //!
 //! [`read`] takes this project's profile of YAML 1.2.2: comments, one document, block lists and tables by their
-//! indentation, and plain texts. Its contract cites `specs/Text.antt`, which says what bytes mean, and
-//! `specs/Blocks.antt`, which says what their lines mean.
+//! indentation, plain and quoted texts, flows and block texts. Its contract cites `specs/Text.antt`, which says what bytes
+//! mean, and `specs/Blocks.antt`, which says what their lines mean; [`laws`] says of that meaning what a user of YAML would
+//! expect.
 #![tactic(auto)]
 
 mod blocks;
+mod flow;
+mod inline;
 mod keys;
+pub mod laws;
 mod parts;
 mod text;
 

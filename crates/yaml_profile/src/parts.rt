@@ -1,15 +1,15 @@
 // Where the lines that belong to the part above them end.
 ghost use Rattle.std.specs.Prelude.{◌≡◌, ◌≤◌, length};
 ghost use Rattle.std.specs.List.{prefix_len};
-ghost use Rattle.yaml_profile.specs.Blocks.{cut, parts, is_deeper, is_below_key};
+ghost use Rattle.yaml_profile.specs.Blocks.{begins_closing, cut, parts, is_deeper, is_below_key, is_in_flow};
 
 use yaml_lines::{Line, is_item};
 
 /// The lines from the first on that stand deeper than `indent`, and the others.
-pub(crate) fn split_deeper<'a, 'b>(
-    lines: &'a [Line<'b>],
+pub(crate) fn split_deeper<'a, 'b, 'c>(
+    lines: &'a [Line<'b, 'c>],
     indent: usize,
-) -> (&'a [Line<'b>], &'a [Line<'b>])
+) -> (&'a [Line<'b, 'c>], &'a [Line<'b, 'c>])
     ensures below { result.0.now ≡ (cut (is_deeper indent) lines.now).before }
     ensures rest { parts (is_deeper indent) result.1.now ≡ (cut (is_deeper indent) lines.now).parts }
     ensures fewer { length result.1.now ≤ length lines.now }
@@ -17,11 +17,11 @@ pub(crate) fn split_deeper<'a, 'b>(
     lines.split_at(count_deeper(lines, indent))
 }
 
-/// The same for lines that stand deeper than a table's keys or begin an item of a list as deep as they are.
-pub(crate) fn split_below_key<'a, 'b>(
-    lines: &'a [Line<'b>],
+/// The same for lines that stand deeper than a table's keys or begin an item of a list as deep as they are, or with a closing bracket.
+pub(crate) fn split_below_key<'a, 'b, 'c>(
+    lines: &'a [Line<'b, 'c>],
     indent: usize,
-) -> (&'a [Line<'b>], &'a [Line<'b>])
+) -> (&'a [Line<'b, 'c>], &'a [Line<'b, 'c>])
     ensures below { result.0.now ≡ (cut (is_below_key indent) lines.now).before }
     ensures rest { parts (is_below_key indent) result.1.now ≡ (cut (is_below_key indent) lines.now).parts }
     ensures fewer { length result.1.now ≤ length lines.now }
@@ -29,7 +29,7 @@ pub(crate) fn split_below_key<'a, 'b>(
     lines.split_at(count_below_key(lines, indent))
 }
 
-fn count_deeper(lines: &[Line<'_>], indent: usize) -> usize
+fn count_deeper(lines: &[Line<'_, '_>], indent: usize) -> usize
     ensures within { result ≤ length lines.now }
     ensures value { result ≡ prefix_len (is_deeper indent) lines.now }
 {
@@ -41,14 +41,42 @@ fn count_deeper(lines: &[Line<'_>], indent: usize) -> usize
     lines.len()
 }
 
-// Whether the line belongs to the key above it: it stands deeper, or it begins an item of a list as deep as the key.
-fn is_line_below_key(line: &Line<'_>, indent: usize) -> bool
-    ensures { result ≡ is_below_key indent line.now }
+fn begins_closing(content: &[char]) -> bool
+    ensures { result ≡ begins_closing content.now }
 {
-    line.indent() > indent || (line.indent() == indent && is_item(line.content()))
+    matches!(content, [']' | '}', ..])
 }
 
-fn count_below_key(lines: &[Line<'_>], indent: usize) -> usize
+// Whether the line belongs to the key above it: it stands deeper, or as deep and begins an item or with a closing bracket.
+fn is_line_below_key(line: &Line<'_, '_>, indent: usize) -> bool
+    ensures { result ≡ is_below_key indent line.now }
+{
+    let content = line.content();
+    line.indent() > indent
+        || (line.indent() == indent && (is_item(content) || begins_closing(content)))
+}
+
+// Whether the line belongs to the flow that begins on a line at `indent`.
+fn is_line_in_flow(line: &Line<'_, '_>, indent: usize) -> bool
+    ensures { result ≡ is_in_flow indent line.now }
+{
+    line.indent() > indent || (line.indent() == indent && begins_closing(line.content()))
+}
+
+/// How many of the lines belong to the flow that begins on a line at `indent`.
+pub(crate) fn count_in_flow(lines: &[Line<'_, '_>], indent: usize) -> usize
+    ensures within { result ≤ length lines.now }
+    ensures value { result ≡ prefix_len (is_in_flow indent) lines.now }
+{
+    for (count, line) in lines.iter().enumerate() {
+        if !is_line_in_flow(line, indent) {
+            return count;
+        }
+    }
+    lines.len()
+}
+
+fn count_below_key(lines: &[Line<'_, '_>], indent: usize) -> usize
     ensures within { result ≤ length lines.now }
     ensures value { result ≡ prefix_len (is_below_key indent) lines.now }
 {

@@ -1,8 +1,11 @@
 // Nodes, and kinds and lines of faults, which no clause gives.
+use super::cases::{self, BROKEN};
 use super::*;
 use std::alloc::AllocError;
 use std::process::Abort;
 use std::test::Fail;
+use yaml_flows::read_flow;
+use yaml_lines::MOST_BYTES;
 
 const CONFIGURATION: &str = "repos:
 - repo: local
@@ -13,115 +16,65 @@ const CONFIGURATION: &str = "repos:
     entry: no such names
 ";
 
-// A text, and its node as a flow, where `~` is an empty node.
-const READ: [(&str, &str); 27] = [
-    ("", "~"),
-    ("\n  \n\t\n# nothing\n", "~"),
-    ("---\n", "~"),
-    ("---\na\n", "a"),
-    ("a", "a"),
-    ("  a b # a comment\n", "a b"),
-    ("- a\n- b\n", "[a, b, ]"),
-    ("-\n- # nothing\n-\n", "[~, ~, ~, ]"),
-    ("-\n  a\n- b", "[a, b, ]"),
-    ("-   - a\n    - b\n- c\n", "[[a, b, ], c, ]"),
-    ("- - a\n  -\n    - b\n", "[[a, [b, ], ], ]"),
-    ("a: 1\nb: 2\n", "{a: 1, b: 2, }"),
-    ("a : 1\nb:\t2\n", "{a: 1, b: 2, }"),
-    ("a:\nb:\n", "{a: ~, b: ~, }"),
-    ("a:\n  b\nc: d\n", "{a: b, c: d, }"),
-    (
-        "a:\n  b:\n    c: 1\n  d: 2\ne: 3\n",
-        "{a: {b: {c: 1, }, d: 2, }, e: 3, }",
-    ),
-    ("- a: 1\n  b: 2\n- c: 3\n", "[{a: 1, b: 2, }, {c: 3, }, ]"),
-    ("-\n  a: 1\n  b: 2\n", "[{a: 1, b: 2, }, ]"),
-    ("a:\n  - 1\n  - 2\nb: 3\n", "{a: [1, 2, ], b: 3, }"),
-    ("a:\n- 1\n- 2\nb: 3\n", "{a: [1, 2, ], b: 3, }"),
-    (
-        "a:\n- 1\n- b: 2\n  c:\n  - 3\nd:\n",
-        "{a: [1, {b: 2, c: [3, ], }, ], d: ~, }",
-    ),
-    ("- a:\n- b\n", "[{a: ~, }, b, ]"),
-    ("- a:\n  - b\n", "[{a: [b, ], }, ]"),
-    ("- a:\n  - b\n  c: 1\n", "[{a: [b, ], c: 1, }, ]"),
-    (
-        "# 1\na: # 2\n    # 3\n  b: 1 # 4\n# 5\n\n  c: 2\n#6",
-        "{a: {b: 1, c: 2, }, }",
-    ),
-    ("a: 1\nA: 2\n", "{a: 1, A: 2, }"),
-    ("\u{e9}: \u{65e5}\n", "{\u{e9}: \u{65e5}, }"),
-];
-
-// A text, and the kind and line of its fault.
-const REFUSED: [(&[u8], YamlKind, usize); 38] = [
-    (b"a: 1\na: 2\n", YamlKind::DoubledKey, 2),
-    (
-        b"a: 1\nb:\n  a: 2\n  c: 3\n  a : 4\nd",
-        YamlKind::DoubledKey,
-        5,
-    ),
-    (b"a:\n\tb: 1\n", YamlKind::TabIndent, 2),
-    (b"- a\n-\tb\n", YamlKind::TabIndent, 2),
-    (b"a: &x 1\n", YamlKind::Unsupported, 1),
-    (b"a: \"b", YamlKind::Unsupported, 1),
-    (b"a: 1\n\"b\": 2\n", YamlKind::Unsupported, 2),
-    (b"- a\n- [b]\n", YamlKind::Unsupported, 2),
-    (b"a: |\n  b\n", YamlKind::Unsupported, 1),
-    (b"- a\n*b\n", YamlKind::Unsupported, 2),
-    (b"? a\n", YamlKind::Unsupported, 1),
-    (b"a\n--- b\n", YamlKind::Unsupported, 2),
-    (b"a: \x01\n", YamlKind::Unsupported, 1),
-    (b"a\nb\n", YamlKind::Layout, 2),
-    (b"a\n  b\n", YamlKind::Layout, 2),
-    (b"a: 1\n# 2\n  b: 2\n", YamlKind::Layout, 3),
-    (b"a: 1\nb\n", YamlKind::Layout, 2),
-    (b"a: 1\n- 2\n", YamlKind::Layout, 2),
-    (b"a: - b\n", YamlKind::Layout, 1),
-    (b"a: b: c\n", YamlKind::Layout, 1),
-    (b"- a\nb: 1\n", YamlKind::Layout, 2),
-    (b"- a\n   b\n", YamlKind::Layout, 2),
-    (b"- a: 1\n   b: 2\n", YamlKind::Layout, 2),
-    (b"- a: 1\n b: 2\n", YamlKind::Layout, 2),
-    (b"  a: 1\nb: 2\n", YamlKind::Layout, 2),
-    (b"  - a\n- b\n", YamlKind::Layout, 2),
-    (b"a:\n    b: 1\n  c: 2\n", YamlKind::Layout, 3),
-    (b"a:\n  - 1\n- 2\n", YamlKind::Layout, 3),
-    (b"a:\n- 1\nb\n", YamlKind::Layout, 3),
-    (b"a:\n- 1\n 2\n", YamlKind::Layout, 3),
-    (b"-\n  a\n b\n", YamlKind::Layout, 3),
-    (b": 1\n", YamlKind::Layout, 1),
-    (b"?\n", YamlKind::Layout, 1),
-    (b"a\nb\n\tc: 1\n", YamlKind::Layout, 2),
+// Bytes that aren't UTF-8 at their end or in their midst, and the kind and the line of their fault.
+const REFUSED_BYTES: [(&[u8], YamlKind, usize); 6] = [
     (b"a\nb\n\xff\n", YamlKind::Layout, 2),
     (b"a:\n\tb\n\xff\n", YamlKind::TabIndent, 2),
     (b"a:\n  b\xff\nc", YamlKind::NotUtf8, 2),
     (b"a: \x01\xff\n", YamlKind::NotUtf8, 1),
+    (b"[a,\nb\xff]\n", YamlKind::NotUtf8, 2),
+    (b"- {a: \xff]\n", YamlKind::NotUtf8, 1),
 ];
 
-// Writes the node as `READ` has it.
+// The text between these marks, its escapes written as in the tables.
+fn show_text(text: &str, mark: char, out: &mut String) -> Result<(), AllocError> {
+    out.push(mark)?;
+    for c in text.chars() {
+        match c {
+            '\n' => out.push_str("\\n")?,
+            '\t' => out.push_str("\\t")?,
+            '\r' => out.push_str("\\r")?,
+            '\0' => out.push_str("\\0")?,
+            '\\' => out.push_str("\\\\")?,
+            _ if c == mark => {
+                out.push('\\')?;
+                out.push(c)?;
+            }
+            _ => out.push(c)?,
+        }
+    }
+    out.push(mark)
+}
+
+// Writes the node as the tables have it.
 fn show(node: &Node, out: &mut String) -> Result<(), AllocError> {
     match node {
-        Node::Text { text, .. } => out.push_str(text.as_str()),
+        Node::Text { text, quoted } => {
+            show_text(text.as_str(), if *quoted { '"' } else { '\'' }, out)
+        }
         Node::List(items) => {
             out.push_str("[")?;
-            for item in items {
+            for (i, item) in items.iter().enumerate() {
+                if i > 0 {
+                    out.push_str(", ")?;
+                }
                 show(item, out)?;
-                out.push_str(", ")?;
             }
             out.push_str("]")
         }
         Node::Table(rows) => {
             out.push_str("{")?;
-            for (key, value) in rows {
-                out.push_str(key.as_str())?;
+            for (i, row) in rows.iter().enumerate() {
+                if i > 0 {
+                    out.push_str(", ")?;
+                }
+                show_text(row.0.as_str(), '\'', out)?;
                 out.push_str(": ")?;
-                show(value, out)?;
-                out.push_str(", ")?;
+                show(&row.1, out)?;
             }
             out.push_str("}")
         }
-        Node::Empty => out.push_str("~"),
+        Node::Empty => out.push_str("None"),
     }
 }
 
@@ -132,10 +85,173 @@ fn shown(alloc: Global, text: &str) -> Result<String, Fail> {
     Ok(out)
 }
 
+// Whether the bytes are read, or refused at one of their lines.
+fn is_read_or_refused(alloc: Global, bytes: &[u8]) -> bool {
+    let lines = bytes.split(|byte| *byte == b'\n').count();
+    match read(alloc, bytes) {
+        Ok(_) => true,
+        Err(fault) => fault.kind != YamlKind::OutOfMemory && 1 <= fault.line && fault.line <= lines,
+    }
+}
+
+fn expect_prefixes(rt: &impl Abort, alloc: Global, text: &str) {
+    let bytes = text.as_bytes();
+    for at in 0..bytes.len() {
+        assert!(rt;
+            is_read_or_refused(alloc, &bytes[..at]),
+            "the first {at} bytes of {text:?}"
+        );
+    }
+}
+
+// Each text is read into its node, and each of its beginnings is read or refused.
+fn expect_read(rt: &impl Abort, alloc: Global, rows: &[(&str, &str)]) -> Result<(), Fail> {
+    for (text, node) in rows {
+        assert_eq!(rt; shown(alloc, *text)?.as_str(), *node, "of {text:?}");
+        expect_prefixes(rt, alloc, *text);
+    }
+    Ok(())
+}
+
+fn expect_refused(
+    rt: &impl Abort,
+    alloc: Global,
+    rows: &[(&str, YamlKind, usize)],
+) -> Result<(), Fail> {
+    for (text, kind, line) in rows {
+        let fault = read(alloc, text.as_bytes()).err().ok_or("read")?;
+        let wanted = YamlFault {
+            kind: *kind,
+            line: *line,
+        };
+        assert_eq!(rt; fault, wanted, "of {text:?}");
+    }
+    Ok(())
+}
+
 #[test]
-fn reads_nodes_by_their_indentation(rt: HostRuntime) -> Result<(), Fail> {
-    for (text, node) in READ {
-        assert_eq!(rt; shown(rt.alloc(), text)?.as_str(), node, "of {text:?}");
+fn reads_what_stands_between_comments(rt: HostRuntime) -> Result<(), Fail> {
+    expect_read(&rt, rt.alloc(), cases::COMMENTS)
+}
+
+#[test]
+fn reads_quoted_texts(rt: HostRuntime) -> Result<(), Fail> {
+    expect_read(&rt, rt.alloc(), cases::QUOTED_TEXTS)
+}
+
+#[test]
+fn reads_plain_texts(rt: HostRuntime) -> Result<(), Fail> {
+    expect_read(&rt, rt.alloc(), cases::PLAIN_TEXTS)
+}
+
+#[test]
+fn reads_lists_and_tables_by_their_indentation(rt: HostRuntime) -> Result<(), Fail> {
+    expect_read(&rt, rt.alloc(), cases::LISTS_AND_TABLES)
+}
+
+#[test]
+fn reads_flows(rt: HostRuntime) -> Result<(), Fail> {
+    expect_read(&rt, rt.alloc(), cases::FLOWS)
+}
+
+#[test]
+fn reads_flows_over_lines(rt: HostRuntime) -> Result<(), Fail> {
+    expect_read(&rt, rt.alloc(), cases::FLOWS_OVER_LINES)
+}
+
+#[test]
+fn reads_literal_texts(rt: HostRuntime) -> Result<(), Fail> {
+    expect_read(&rt, rt.alloc(), cases::LITERAL_TEXTS)
+}
+
+#[test]
+fn reads_folded_texts(rt: HostRuntime) -> Result<(), Fail> {
+    expect_read(&rt, rt.alloc(), cases::FOLDED_TEXTS)
+}
+
+#[test]
+fn reads_what_teams_write(rt: HostRuntime) -> Result<(), Fail> {
+    expect_read(&rt, rt.alloc(), cases::CONFIGURATIONS)
+}
+
+#[test]
+fn refuses_lines_that_no_text_has(rt: HostRuntime) -> Result<(), Fail> {
+    expect_refused(&rt, rt.alloc(), cases::REFUSED_LINES)
+}
+
+#[test]
+fn refuses_lines_at_another_indentation(rt: HostRuntime) -> Result<(), Fail> {
+    expect_refused(&rt, rt.alloc(), cases::REFUSED_LISTS_AND_TABLES)
+}
+
+#[test]
+fn refuses_doubled_keys(rt: HostRuntime) -> Result<(), Fail> {
+    expect_refused(&rt, rt.alloc(), cases::DOUBLED_KEYS)
+}
+
+#[test]
+fn refuses_what_begins_no_plain_text(rt: HostRuntime) -> Result<(), Fail> {
+    expect_refused(&rt, rt.alloc(), cases::REFUSED_PLAIN_TEXTS)
+}
+
+#[test]
+fn refuses_quoted_texts_that_do_not_end_or_escape(rt: HostRuntime) -> Result<(), Fail> {
+    expect_refused(&rt, rt.alloc(), cases::REFUSED_QUOTED_TEXTS)
+}
+
+#[test]
+fn refuses_flows(rt: HostRuntime) -> Result<(), Fail> {
+    expect_refused(&rt, rt.alloc(), cases::REFUSED_FLOWS)
+}
+
+#[test]
+fn refuses_flows_over_lines(rt: HostRuntime) -> Result<(), Fail> {
+    expect_refused(&rt, rt.alloc(), cases::REFUSED_FLOWS_OVER_LINES)
+}
+
+#[test]
+fn refuses_block_texts(rt: HostRuntime) -> Result<(), Fail> {
+    expect_refused(&rt, rt.alloc(), cases::REFUSED_BLOCK_TEXTS)
+}
+
+#[test]
+fn refuses_bytes_that_are_not_utf8_after_what_stands_before_them(
+    rt: HostRuntime,
+) -> Result<(), Fail> {
+    for (text, kind, line) in REFUSED_BYTES {
+        let fault = read(rt.alloc(), text).err().ok_or("read")?;
+        assert_eq!(rt; fault, YamlFault { kind, line }, "of {text:?}");
+    }
+    Ok(())
+}
+
+// Reads the flow of these two lines, as a whole text and by the reader of flows, which looks for no block texts.
+fn expect_same(rt: &impl Abort, alloc: Global, first: &[u8], second: &[u8]) -> Result<(), Fail> {
+    let mut broken = Vec::from_slice(alloc, first)?;
+    broken.push(b'\n')?;
+    broken.extend_from_slice(second)?;
+    let characters = characters(alloc, broken.as_slice())?;
+    let mut whole = String::new(alloc);
+    if let Ok(node) = read(alloc, broken.as_slice()) {
+        show(&node, &mut whole)?;
+    }
+    let mut lone = String::new(alloc);
+    if let Ok(node) = read_flow(alloc, characters.as_slice(), MOST_NODES) {
+        show(&node, &mut lone)?;
+    }
+    assert_eq!(rt; whole.as_str(), lone.as_str(), "of {broken:?}");
+    Ok(())
+}
+
+#[test]
+fn a_flow_that_is_broken_anywhere_is_read_if_it_is_one(rt: HostRuntime) -> Result<(), Fail> {
+    for text in BROKEN {
+        let bytes = text.as_bytes();
+        assert!(rt; read(rt.alloc(), bytes).is_ok(), "of {text:?}");
+        for at in 1..bytes.len() {
+            let (first, second) = bytes.split_at(at);
+            expect_same(&rt, rt.alloc(), first, second)?;
+        }
     }
     Ok(())
 }
@@ -155,11 +271,37 @@ fn reads_a_configuration(rt: HostRuntime) -> Result<(), Fail> {
     Ok(())
 }
 
+// What stands before the brackets, how many brackets, what stands between them, and whether that is read.
+const BRACKETS: [(&str, usize, &str, bool); 8] = [
+    ("", 33, "", true),
+    ("", 34, "", false),
+    ("", 32, "a", true),
+    ("", 33, "a", false),
+    ("a: ", 32, "", true),
+    ("a: ", 33, "", false),
+    ("- - ", 31, "", true),
+    ("- - ", 32, "", false),
+];
+
 #[test]
-fn refuses_at_the_first_line_that_cannot_be_read(rt: HostRuntime) -> Result<(), Fail> {
-    for (text, kind, line) in REFUSED {
-        let fault = read(rt.alloc(), text).err().ok_or("read")?;
-        assert_eq!(rt; fault, YamlFault { kind, line }, "of {text:?}");
+fn a_flow_lies_within_at_most_32_others(rt: HostRuntime) -> Result<(), Fail> {
+    for (first, count, inner, is_read) in BRACKETS {
+        let mut text = String::from_str(rt.alloc(), first)?;
+        for _ in 0..count {
+            text.push_str("[")?;
+        }
+        text.push_str(inner)?;
+        for _ in 0..count {
+            text.push_str("]")?;
+        }
+        let kind = YamlKind::TooDeep;
+        let fault = read(rt.alloc(), text.as_bytes()).err();
+        let wanted = if is_read {
+            None
+        } else {
+            Some(YamlFault { kind, line: 1 })
+        };
+        assert_eq!(rt; fault, wanted, "of {text:?}");
     }
     Ok(())
 }
@@ -221,5 +363,15 @@ fn each_prefix_is_read_or_refused_in_its_last_line(rt: HostRuntime) -> Result<()
             assert_eq!(rt; fault, YamlFault { kind, line }, "of the first {at} bytes");
         }
     }
+    Ok(())
+}
+
+#[test]
+fn a_text_of_too_many_bytes_is_refused_in_its_first_line(rt: HostRuntime) -> Result<(), Fail> {
+    let mut bytes = Vec::new(rt.alloc());
+    bytes.resize(MOST_BYTES + 1, b'\n')?;
+    let fault = read(rt.alloc(), bytes.as_slice()).err().ok_or("read")?;
+    let kind = YamlKind::TooLarge;
+    assert_eq!(rt; fault, YamlFault { kind, line: 1 });
     Ok(())
 }

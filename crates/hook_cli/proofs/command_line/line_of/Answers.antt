@@ -1,4 +1,4 @@
-use Rattle.std.proofs.Common.{ap₂}
+use Rattle.std.proofs.Common.{ap₂, refl}
 use Rattle.clap.specs.declared.parser.ArgMatches.TheViews.{out-ArgMatches, out-SubCommand}
 use Rattle.clap.specs.Words.{found_of, rows_of}
 use Rattle.std.specs.Box.{box_value}
@@ -11,5 +11,5 @@ returns-clause-line c =
     line_from (out-ArgMatches c.in_ok-matches.matches).subcommand
     (λ b. (out-SubCommand (box_value b)).name.now)
     (λ b. rows_of (found_of (out-SubCommand (box_value b)).matches))
-    _ (rows_of (found_of c.in-Some.values.now)) _ c.in_ok-matches.ensures.rows c.in_ok-matches.ensures.name
+    _ (rows_of (found_of c.in-Some.values.now)) _ c.in_ok-matches.ensures.rows (c.in-Some.ensures.found.0 refl)
     c.in-Some.ensures.rows (ap₂ Try c.in_ok-text_of.ensures c.in_ok-texts_of.ensures)

@@ -9,4 +9,4 @@ returns-in_err-add_repository c =
     let p = err_from_is_err_and c.from_residual.result c.from_residual.ensures.1 in
     rw (p.1, p.2)
     (λ other. c.loop-repository.invariant.same
-    ∙ refused_at hooks_of_repository c.loop-repository.hooks.items c.args.repositories.now c.loop-repository.repository-index c.repository-item.result (omega arith) c.repository-item.is (c.in_err-add_repository.ensures other))
+    ∙ refused_at (hooks_of_repository c.args.default) c.loop-repository.hooks.items c.args.repositories.now c.loop-repository.repository-index c.repository-item.result (omega arith) c.repository-item.is (c.in_err-add_repository.ensures other))

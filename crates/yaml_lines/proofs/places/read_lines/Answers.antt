@@ -1,58 +1,90 @@
-use Rattle.std.proofs.Common.{◌≡◌, ◌∙◌, ◌&&◌, ◌++◌, ◌∷◌, [], ◌+◌, sym, ap, Bool, List, Option, Some, None, true, false, true≢false}
-use Rattle.yaml_lines.specs.Lines.{Place, is_mark, is_start, place_of}
-use Rattle.yaml_lines.proofs.Walks.{walked, walked_start, walked_end, walked_fault, walked_nothing, walked_place, walked_mark, walked_begin}
+use Rattle.std.proofs.Common.{◌≡◌, ◌∙◌, ◌&&◌, ◌++◌, ◌∷◌, [], ◌+◌, ◌-◌, ◌<◌, get_or, sym, ap, ℕ, Bool, List, Option, Some, None, true, false, drop, length, take, true≢false}
+use Rattle.std.proofs.lemmas.List.{take_rest}
+use Rattle.yaml_lines.specs.BlockTexts.{LineText}
+use Rattle.yaml_lines.specs.declared.standing.Standing.{Standing}
+use Rattle.yaml_lines.specs.Entries.{Place}
+use Rattle.yaml_lines.specs.Lines.{Left, standing, is_mark, is_start, left_at}
+use Rattle.yaml_lines.specs.declared.flow_state.FlowState.{FlowState}
+use Rattle.yaml_lines.proofs.Walks.{Stands, walked, walked_start, walked_end, walked_fault, walked_nothing, walked_place, walked_mark, walked_begin}
 use Rattle.yaml_lines.proofs.places.read_lines.Goals as goal
-use Rattle.yaml_lines.proofs.places.read_lines.Goals.{then-not-is_mark+in_ok-push, else-not-is_mark+else-not-is_start, then-fresh, else-fresh}
+use Rattle.yaml_lines.proofs.places.read_lines.Goals.{in-OutOfMemory, in_default, then-not-is_mark+in_ok-push, else-not-is_mark+else-not-is_start, then-fresh, else-fresh}
 
 pub loop-i-init : goal.loop-i-init
 loop-i-init c =
-    walked_start c.args.text.now c.deref-raw-items.result.now (c.deref-raw-items.ensures.value ∙ c.in_ok-raws.ensures)
-    ∙ ap (λ (ps : List Place). walked ps true c.deref-raw-items.result.now 0) (sym c.new-lines.ensures.items)
+    walked_start c.args.raws.now c.new-lines.result.items c.new-lines.ensures.items
+    ∙ ap (λ (f : FlowState). walked c.new-lines.result.items true (standing 0 f) c.args.raws.now 0) (sym c.outside.ensures)
 
-pub loop-i-preserved-in-Ok-None : goal.loop-i-preserved-in-Ok-None
-loop-i-preserved-in-Ok-None c =
-    let left : place_of c.raw-item.result.text ≡ Some None = ap place_of (sym c.text.ensures.characters) ∙ (c.in-Ok-None.ensures ∙ ap Some c.in-Ok-None.field-0-is) in
-    c.loop-i.invariant ∙ walked_nothing c.loop-i.lines.items c.loop-i.fresh c.deref-raw-items.result.now c.loop-i.i c.raw-item.result c.loop-i-test.true c.raw-item.is left
+-- what the line at i leaves, by the code's slices
+stands : (at : Standing) (ls : List LineText) (i : ℕ) (l : LineText) (text : List ℕ) (o : Option Left) → i < length ls → l ≡ get_or ls i l → text ≡ l.text → left_at at text (take (length ls - (i + 1)) (drop (i + 1) ls)) ≡ o → Stands at ls i l o
+stands at ls i l text o within is t e = record {
+  within = within;
+  is = is;
+  left = ap (λ (cs : List ℕ). left_at at cs (drop (i + 1) ls)) (sym t) ∙ (ap (left_at at text) (sym (take_rest ls (i + 1))) ∙ e);
+}
 
 pub returns-in-Err : goal.returns-in-Err
 returns-in-Err c =
-    let left : place_of c.raw-item.result.text ≡ None = ap place_of (sym c.text.ensures.characters) ∙ c.in-Err.ensures in
-    c.loop-i.invariant ∙ walked_fault c.loop-i.lines.items c.loop-i.fresh c.deref-raw-items.result.now c.loop-i.i c.raw-item.result c.loop-i-test.true c.raw-item.is left
+    elim c.match-fault.branch [
+      | in-OutOfMemory w ↦ rw w.result-is tt
+      | in_default w ↦
+          rw w.result-is
+          (c.loop-i.invariant
+          ∙ walked_fault c.loop-i.lines.items c.loop-i.fresh c.loop-i.at c.args.raws.now c.loop-i.i c.index-raws-i.result
+          (stands c.loop-i.at c.args.raws.now c.loop-i.i c.index-raws-i.result c.text.result.now None c.loop-i-test.true c.index-raws-i.is c.text.ensures.characters (c.in-Err.ensures w.in_default.not-OutOfMemory)))
+    ]
+
+pub loop-i-preserved-in_default-line : goal.loop-i-preserved-in_default-line
+loop-i-preserved-in_default-line c =
+    let leaves : Option Place → Option Left = λ o. Some (record { place = o; next = c.line.inside.next }) in
+    c.loop-i.invariant
+    ∙ walked_nothing c.loop-i.lines.items c.loop-i.fresh c.loop-i.at c.args.raws.now c.loop-i.i c.index-raws-i.result c.line.inside.next
+    (stands c.loop-i.at c.args.raws.now c.loop-i.i c.index-raws-i.result c.text.result.now (leaves None) c.loop-i-test.true c.index-raws-i.is c.text.ensures.characters
+    (c.in-Ok.ensures ∙ (ap Some (sym c.line.view_is) ∙ ap leaves c.in_default-line.is)))
 
 pub returns-then-not-is_start : goal.returns-then-not-is_start
 returns-then-not-is_start c =
-    let left : place_of c.raw-item.result.text ≡ Some (Some c.in-Ok-Some.line) = ap place_of (sym c.text.ensures.characters) ∙ (c.in-Ok-Some.ensures ∙ ap Some c.in-Ok-Some.field-0-is) in
-    let mark : is_mark c.in-Ok-Some.line ≡ true = sym c.is_mark.ensures ∙ c.if-not-is_mark.false in
-    let other : (c.loop-i.fresh && is_start c.in-Ok-Some.line) ≡ false =
+    let p = c.in-Some.line in
+    let leaves : Option Place → Option Left = λ o. Some (record { place = o; next = c.line.inside.next }) in
+    let mark : is_mark p ≡ true = sym c.is_mark.ensures ∙ c.if-not-is_mark.false in
+    let other : (c.loop-i.fresh && is_start p) ≡ false =
     elim c.if-fresh.branch [
-      | then-fresh w ↦ ap (λ (b : Bool). b && is_start c.in-Ok-Some.line) w.if-fresh.true ∙ (sym w.is_start.ensures ∙ (sym w.value-is ∙ c.if-not-is_start.true))
-      | else-fresh w ↦ ap (λ (b : Bool). b && is_start c.in-Ok-Some.line) w.if-fresh.false
+      | then-fresh w ↦ ap (λ (b : Bool). b && is_start p) w.if-fresh.true ∙ (sym w.is_start.ensures ∙ (sym w.value-is ∙ c.if-not-is_start.true))
+      | else-fresh w ↦ ap (λ (b : Bool). b && is_start p) w.if-fresh.false
     ] in
-    c.loop-i.invariant ∙ walked_mark c.loop-i.lines.items c.loop-i.fresh c.deref-raw-items.result.now c.loop-i.i c.raw-item.result c.in-Ok-Some.line c.loop-i-test.true c.raw-item.is left mark other
+    c.loop-i.invariant
+    ∙ walked_mark c.loop-i.lines.items c.loop-i.fresh c.loop-i.at c.args.raws.now c.loop-i.i c.index-raws-i.result p c.line.inside.next
+    (stands c.loop-i.at c.args.raws.now c.loop-i.i c.index-raws-i.result c.text.result.now (leaves (Some p)) c.loop-i-test.true c.index-raws-i.is c.text.ensures.characters
+    (c.in-Ok.ensures ∙ (ap Some (sym c.line.view_is) ∙ ap leaves c.in-Some.is)))
+    mark other
 
 pub loop-i-preserved : goal.loop-i-preserved
 loop-i-preserved c =
-    let left : place_of c.raw-item.result.text ≡ Some (Some c.in-Ok-Some.line) = ap place_of (sym c.text.ensures.characters) ∙ (c.in-Ok-Some.ensures ∙ ap Some c.in-Ok-Some.field-0-is) in
-    let next : List Place → Bool → Option (List Place) = λ ps b. walked ps b c.deref-raw-items.result.now (c.loop-i.i + 1) in
+    let p = c.in-Some.line in
+    let more = c.line.inside.next in
+    let leaves : Option Place → Option Left = λ o. Some (record { place = o; next = more }) in
+    let stands_at : Stands c.loop-i.at c.args.raws.now c.loop-i.i c.index-raws-i.result (leaves (Some p)) =
+    stands c.loop-i.at c.args.raws.now c.loop-i.i c.index-raws-i.result c.text.result.now (leaves (Some p)) c.loop-i-test.true c.index-raws-i.is c.text.ensures.characters
+    (c.in-Ok.ensures ∙ (ap Some (sym c.line.view_is) ∙ ap leaves c.in-Some.is)) in
+    let next : List Place → Bool → Option (List Place) = λ ps b. walked ps b more c.args.raws.now (c.loop-i.i + 1) in
     elim c.if-not-is_mark.branch [
       | then-not-is_mark+in_ok-push w ↦
-          (let other : is_mark c.in-Ok-Some.line ≡ false = sym c.is_mark.ensures ∙ w.if-not-is_mark.true in
-          let items : c.if-not-is_mark.lines.items ≡ c.loop-i.lines.items ++ c.in-Ok-Some.line ∷ [] = ap (λ v. v.items) w.lines-is ∙ w.in_ok-push.ensures.items in
+          (let other : is_mark p ≡ false = sym c.is_mark.ensures ∙ w.if-not-is_mark.true in
+          let items : c.if-not-is_mark.lines.items ≡ c.loop-i.lines.items ++ p ∷ [] = ap (λ v. v.items) w.lines-is ∙ w.in_ok-push.ensures.items in
           c.loop-i.invariant
-          ∙ (walked_place c.loop-i.lines.items c.loop-i.fresh c.deref-raw-items.result.now c.loop-i.i c.raw-item.result c.in-Ok-Some.line c.loop-i-test.true c.raw-item.is left other
+          ∙ (walked_place c.loop-i.lines.items c.loop-i.fresh c.loop-i.at c.args.raws.now c.loop-i.i c.index-raws-i.result p more stands_at other
           ∙ (ap (λ (ps : List Place). next ps false) (sym items) ∙ ap (next c.if-not-is_mark.lines.items) (sym w.fresh-is))))
       | else-not-is_mark+else-not-is_start w ↦
-          (let mark : is_mark c.in-Ok-Some.line ≡ true = sym c.is_mark.ensures ∙ w.if-not-is_mark.false in
-          let first : (c.loop-i.fresh && is_start c.in-Ok-Some.line) ≡ true =
+          (let mark : is_mark p ≡ true = sym c.is_mark.ensures ∙ w.if-not-is_mark.false in
+          let first : (c.loop-i.fresh && is_start p) ≡ true =
           elim w.if-fresh.branch [
-            | then-fresh v ↦ ap (λ (b : Bool). b && is_start c.in-Ok-Some.line) v.if-fresh.true ∙ (sym v.is_start.ensures ∙ (sym v.value-is ∙ w.if-not-is_start.false))
+            | then-fresh v ↦ ap (λ (b : Bool). b && is_start p) v.if-fresh.true ∙ (sym v.is_start.ensures ∙ (sym v.value-is ∙ w.if-not-is_start.false))
             | else-fresh v ↦ absurd (true≢false (sym w.if-not-is_start.false ∙ (v.value-is ∙ v.if-fresh.false)))
           ] in
           let items : c.if-not-is_mark.lines.items ≡ c.loop-i.lines.items = ap (λ v. v.items) w.lines-is in
           c.loop-i.invariant
-          ∙ (walked_begin c.loop-i.lines.items c.loop-i.fresh c.deref-raw-items.result.now c.loop-i.i c.raw-item.result c.in-Ok-Some.line c.loop-i-test.true c.raw-item.is left mark first
+          ∙ (walked_begin c.loop-i.lines.items c.loop-i.fresh c.loop-i.at c.args.raws.now c.loop-i.i c.index-raws-i.result p more stands_at mark first
           ∙ (ap (λ (ps : List Place). next ps false) (sym items) ∙ ap (next c.if-not-is_mark.lines.items) (sym w.fresh-is))))
     ]
 
 pub returns : goal.returns
-returns c = c.loop-i.invariant ∙ walked_end c.loop-i.lines.items c.loop-i.fresh c.deref-raw-items.result.now c.loop-i.i c.loop-i-test.false
+returns c = c.loop-i.invariant ∙ walked_end c.loop-i.lines.items c.loop-i.fresh c.loop-i.at c.args.raws.now c.loop-i.i c.loop-i-test.false

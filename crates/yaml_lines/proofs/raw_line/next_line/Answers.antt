@@ -1,5 +1,6 @@
 use Rattle.std.proofs.Common.{◌∙◌, ◌∷◌, ◌+◌, sym, ap, ℕ, List, drop, true, false, arith, length}
-use Rattle.yaml_lines.specs.Lines.{LineText, line_texts, without_return}
+use Rattle.yaml_lines.specs.BlockTexts.{LineText}
+use Rattle.yaml_lines.specs.Lines.{line_texts, without_return}
 use Rattle.yaml_lines.proofs.RawLines.{line_texts-at, line_texts-all}
 use Rattle.yaml_lines.proofs.raw_line.next_line.Goals as goal
 

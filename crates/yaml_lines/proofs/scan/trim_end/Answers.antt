@@ -1,6 +1,6 @@
 use Rattle.std.proofs.Common.{◌≡◌, ◌∙◌, sym, arith, take, ap, ℕ}
 use Rattle.yaml_lines.proofs.Scans.{trim_end-nil, trim_end-blank, trim_end-other}
-use Rattle.yaml_lines.specs.Lines.{trim_end}
+use Rattle.yaml_lines.specs.Plain.{trim_end}
 use Rattle.yaml_lines.proofs.scan.trim_end.Goals as goal
 use Rattle.yaml_lines.proofs.scan.trim_end.Goals.{then-loop-end-test+else-is_blank, else-loop-end-test}
 

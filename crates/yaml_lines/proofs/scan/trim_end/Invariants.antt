@@ -1,5 +1,5 @@
 use Rattle.std.proofs.Common.{◌≡◌, ◌≤◌, length, take}
-use Rattle.yaml_lines.specs.Lines.{trim_end}
+use Rattle.yaml_lines.specs.Plain.{trim_end}
 use Rattle.yaml_lines.proofs.scan.trim_end.Given as goal
 
 abbrev pub invariant-loop-end : goal.invariant-loop-end

@@ -1,5 +1,5 @@
 use Rattle.std.proofs.Common.{◌≡◌, ◌++◌, true, take, drop}
-use Rattle.yaml_lines.specs.Lines.{uncommented}
+use Rattle.yaml_lines.specs.Plain.{uncommented}
 use Rattle.yaml_lines.proofs.scan.uncommented.Given as goal
 
 abbrev pub invariant-loop-i : goal.invariant-loop-i

@@ -6,7 +6,7 @@ use Rattle.yaml_profile.specs.Blocks as blocks
 use Rattle.yaml_profile.specs.Blocks.{all_of, parts, is_deeper, is_below_key, list_of, table_of}
 use Rattle.yaml_lines.specs.ViewLaws.{member_view, view-List, view-Table}
 use Rattle.yaml_profile.proofs.Lists.{prepend, one_more, refused, all_read}
-use Rattle.yaml_profile.proofs.Nodes.{node-no_room, node-list, node-table, node-text}
+use Rattle.yaml_profile.proofs.Nodes.{node-no_room, node-list, node-table, node-line}
 use Rattle.yaml_profile.proofs.Tables.{has_key, none_seen, alone, rows_with, row_read, row_refused, rows_read, unseen, keys_differ-push, seen-push}
 use Rattle.yaml_profile.proofs.Turns.{begun, first_and_others, none_left, map_push, items_at, rows_at}
 use Rattle.yaml_profile.proofs.blocks.+blocks.Goals as goal
@@ -102,26 +102,25 @@ node-returns-then-is_some t c =
 
 pub node-returns : goal.node-returns
 node-returns t c =
-    let content : c.args.first.now.content ≡ c.content-content.result.now = sym c.content-content.ensures.characters in
-    rw (node-text c.args.room c.args.first.now c.args.later.now (omega arith) (grind arith) (grind arith), content) c.lone_text.ensures
+    rw (node-line c.args.room c.args.first.now c.args.later.now (omega arith) (grind arith) (grind arith), ← c.line.ensures) c.line_node.ensures
 
 -- ---- a table's rows
 
 pub rows-returns-in_err-entry : goal.rows-returns-in_err-entry
 rows-returns-in_err-entry t c =
     let node = blocks.node c.args.room in
-    let text = blocks.text_within c.args.room in
+    let line = blocks.line_node c.args.room in
     let indent = c.indent-indent.result in
     let p = err_from_is_err_and c.from_residual.result c.from_residual.ensures.1 in
     rw (p.1, p.2) (λ other.
-    rows_at node text c.args.first.now c.args.later.now indent c.indent-indent.ensures
-    ∙ ap (rows_with (blocks.entry node text indent) []) (begun (is_below_key indent) _ _ _ _ _ refl c.split_below_key.ensures.below c.split_below_key.ensures.rest)
-    ∙ row_refused (blocks.entry node text indent) (contains_text c.new-seen.result) [] _ _ (none_seen c.new-seen.result c.new-seen.ensures.empty) (c.in_err-entry.ensures.given other))
+    rows_at node line c.args.first.now c.args.later.now indent c.indent-indent.ensures
+    ∙ ap (rows_with (blocks.entry node line indent) []) (begun (is_below_key indent) _ _ _ _ _ refl c.split_below_key.ensures.below c.split_below_key.ensures.rest)
+    ∙ row_refused (blocks.entry node line indent) (contains_text c.new-seen.result) [] _ _ (none_seen c.new-seen.result c.new-seen.ensures.empty) (c.in_err-entry.ensures.given other))
 
 pub rows-rows-init : goal.rows-rows-init
 rows-rows-init t c =
     let node = blocks.node c.args.room in
-    let text = blocks.text_within c.args.room in
+    let line = blocks.line_node c.args.room in
     let indent = c.indent-indent.result in
     let row = member_view c.in_ok-entry.field-0 in
     let entry = unseen (contains_text c.new-seen.result) _ row c.in_ok-entry.ensures.given in
@@ -131,10 +130,10 @@ rows-rows-init t c =
     record {
       placed = c.indent-indent.ensures;
       all =
-          rows_at node text c.args.first.now c.args.later.now indent c.indent-indent.ensures
-          ∙ ap (rows_with (blocks.entry node text indent) []) (begun (is_below_key indent) _ _ _ _ _ refl c.split_below_key.ensures.below c.split_below_key.ensures.rest)
-          ∙ row_read (blocks.entry node text indent) [] _ _ row entry.0
-          ∙ ap (λ rs. rows_with (blocks.entry node text indent) rs (parts (is_below_key indent) c.split_below_key.result.1.now)) (sym found);
+          rows_at node line c.args.first.now c.args.later.now indent c.indent-indent.ensures
+          ∙ ap (rows_with (blocks.entry node line indent) []) (begun (is_below_key indent) _ _ _ _ _ refl c.split_below_key.ensures.below c.split_below_key.ensures.rest)
+          ∙ row_read (blocks.entry node line indent) [] _ _ row entry.0
+          ∙ ap (λ rs. rows_with (blocks.entry node line indent) rs (parts (is_below_key indent) c.split_below_key.result.1.now)) (sym found);
       apart = ap blocks.keys_differ found ∙ keys_differ-push [] row alone refl;
       seen = λ q.
           c.in_ok-entry.ensures.seen q ∙ seen-push q [] row _ (none_seen c.new-seen.result c.new-seen.ensures.empty q) ∙ ap (has_key q) (sym found);
@@ -143,21 +142,21 @@ rows-rows-init t c =
 pub rows-returns-in_err-entry-2 : goal.rows-returns-in_err-entry-2
 rows-returns-in_err-entry-2 t c =
     let node = blocks.node c.args.room in
-    let text = blocks.text_within c.args.room in
+    let line = blocks.line_node c.args.room in
     let indent = c.indent-indent.result in
     let found = map member_view c.rows.found.items in
     let next = first_and_others c.rows.rest.now c.next-item.result c.next-item.is c.in-len1-up.len_at_least in
     let p = err_from_is_err_and c.from_residual-in_err-entry-2.result c.from_residual-in_err-entry-2.ensures.1 in
     rw (p.1, p.2) (λ other.
     c.rows.invariant.all
-    ∙ ap (rows_with (blocks.entry node text indent) found)
+    ∙ ap (rows_with (blocks.entry node line indent) found)
     (begun (is_below_key indent) c.rows.rest.now _ _ _ c.next-item.result next c.split_below_key-in-len1-up.ensures.below c.split_below_key-in-len1-up.ensures.rest)
-    ∙ row_refused (blocks.entry node text indent) (contains_text c.rows.seen) found _ _ c.rows.invariant.seen (c.in_err-entry-2.ensures.given other))
+    ∙ row_refused (blocks.entry node line indent) (contains_text c.rows.seen) found _ _ c.rows.invariant.seen (c.in_err-entry-2.ensures.given other))
 
 pub rows-rows-preserved : goal.rows-rows-preserved
 rows-rows-preserved t c =
     let node = blocks.node c.args.room in
-    let text = blocks.text_within c.args.room in
+    let line = blocks.line_node c.args.room in
     let indent = c.indent-indent.result in
     let before = map member_view c.rows.found.items in
     let next = first_and_others c.rows.rest.now c.next-item.result c.next-item.is c.in-len1-up.len_at_least in
@@ -169,17 +168,17 @@ rows-rows-preserved t c =
       placed = c.indent-indent.ensures;
       all =
           c.rows.invariant.all
-          ∙ ap (rows_with (blocks.entry node text indent) before)
+          ∙ ap (rows_with (blocks.entry node line indent) before)
           (begun (is_below_key indent) c.rows.rest.now _ _ _ c.next-item.result next c.split_below_key-in-len1-up.ensures.below c.split_below_key-in-len1-up.ensures.rest)
-          ∙ row_read (blocks.entry node text indent) before _ _ row entry.0
-          ∙ ap (λ rs. rows_with (blocks.entry node text indent) rs (parts (is_below_key indent) c.split_below_key-in-len1-up.result.1.now)) (sym found);
+          ∙ row_read (blocks.entry node line indent) before _ _ row entry.0
+          ∙ ap (λ rs. rows_with (blocks.entry node line indent) rs (parts (is_below_key indent) c.split_below_key-in-len1-up.result.1.now)) (sym found);
       apart = ap blocks.keys_differ found ∙ keys_differ-push before row c.rows.invariant.apart (sym (c.rows.invariant.seen row.0) ∙ entry.1);
       seen = λ q. c.in_ok-entry-2.ensures.seen q ∙ seen-push q before row _ (c.rows.invariant.seen q) ∙ ap (has_key q) (sym found);
     }
 
 pub rows-returns : goal.rows-returns
 rows-returns t c =
-    let entry = blocks.entry (blocks.node c.args.room) (blocks.text_within c.args.room) c.indent-indent.result in
+    let entry = blocks.entry (blocks.node c.args.room) (blocks.line_node c.args.room) c.indent-indent.result in
     let found = map member_view c.rows.found.items in
     c.rows.invariant.all
     ∙ ap (λ ls. rows_with entry found (parts (is_below_key c.indent-indent.result) ls)) (none_left c.rows.rest.now (omega arith))

@@ -42,10 +42,10 @@ decreases-items-items l = length l.rest
 -- the same for a table's rows, whose keys differ and are the keys that were seen
 abbrev pub invariant-rows-rows : goal.invariant-rows-rows
 invariant-rows-rows l =
-    let entry = blocks.entry (blocks.node l.room) (blocks.text_within l.room) l.indent in
+    let entry = blocks.entry (blocks.node l.room) (blocks.line_node l.room) l.indent in
     let found = map member_view l.found.items in record {
       placed : l.indent ≡ l.first.indent;
-      all : blocks.rows (blocks.node l.room) (blocks.text_within l.room) l.first l.later ≡ rows_with entry found (parts (is_below_key l.indent) l.rest);
+      all : blocks.rows (blocks.node l.room) (blocks.line_node l.room) l.first l.later ≡ rows_with entry found (parts (is_below_key l.indent) l.rest);
       apart : keys_differ found ≡ true;
       seen : (q : List ℕ) → contains_text l.seen q ≡ has_key q found;
     }

@@ -1,0 +1,116 @@
+//! Empty lists and quoted texts, in nodes that are made by hand.
+
+use super::stages::stage_line;
+use super::{ONE_HOOK, outcome_line};
+use crate::config_fault::{ConfigFault, ConfigKind};
+use crate::configuration::{Config, Hook};
+use crate::hook_table::hook_of;
+use crate::reader::config_of_node;
+use crate::stage::{Stage, Stages};
+use std::alloc::{AllocError, Global};
+use std::test::Fail;
+use yaml_profile::{Node, read};
+
+/// A hook's table with the keys that it must have.
+const HOOK_TABLE: &str = "id: a\nname: A\nlanguage: fail\nentry: e\n";
+
+fn empty_list(alloc: Global) -> Node {
+    Node::List(Vec::new(alloc))
+}
+
+fn quoted(alloc: Global, text: &str) -> Result<Node, AllocError> {
+    Ok(Node::Text {
+        text: String::from_str(alloc, text)?,
+        quoted: true,
+    })
+}
+
+/// The table of the text with one more key behind the others.
+fn table_with(alloc: Global, text: &str, key: &str, value: Node) -> Result<Node, Fail> {
+    let mut node = read(alloc, text.as_bytes())?;
+    if let Node::Table(rows) = &mut node {
+        rows.push((String::from_str(alloc, key)?, value))?;
+    }
+    Ok(node)
+}
+
+/// The hook of a table with one more key, which is run by default at `pre-push`.
+fn hook_with(alloc: Global, key: &str, value: Node) -> Result<Result<Hook, ConfigKind>, Fail> {
+    let node = table_with(alloc, HOOK_TABLE, key, value)?;
+    Ok(hook_of(alloc, &node, Stages::none().with(Stage::PrePush)))
+}
+
+/// The configuration of a text with one more key at the top.
+fn config_with(
+    alloc: Global,
+    text: &str,
+    key: &str,
+    value: Node,
+) -> Result<Result<Config, ConfigFault>, Fail> {
+    Ok(config_of_node(alloc, &table_with(alloc, text, key, value)?))
+}
+
+#[test]
+fn no_repositories_are_no_hooks(rt: HostRuntime) -> Result<(), Fail> {
+    let alloc = rt.alloc();
+    let outcome = config_with(alloc, "x: 1\n", "repos", empty_list(alloc))?;
+    assert_eq!(rt; outcome_line(alloc, &outcome)?.as_str(), "0 hooks, false x");
+    let outcome = config_with(alloc, "x: 1\n", "repos", Node::Empty)?;
+    assert_eq!(rt; outcome_line(alloc, &outcome)?.as_str(), "2 Shape at 0");
+    Ok(())
+}
+
+#[test]
+fn no_default_stages_mean_all(rt: HostRuntime) -> Result<(), Fail> {
+    let alloc = rt.alloc();
+    let config = config_with(alloc, ONE_HOOK, "default_stages", empty_list(alloc))??;
+    for hook in config.hooks.as_slice() {
+        assert!(rt; hook.stages == Stages::all());
+    }
+    assert_eq!(rt; config.hooks.as_slice().len(), 1);
+    let outcome = config_with(alloc, ONE_HOOK, "default_stages", Node::Empty)?;
+    assert_eq!(rt; outcome_line(alloc, &outcome)?.as_str(), "2 Shape at 0");
+    Ok(())
+}
+
+#[test]
+fn a_hook_without_stages_has_the_default_ones(rt: HostRuntime) -> Result<(), Fail> {
+    let alloc = rt.alloc();
+    let hook = hook_with(alloc, "stages", empty_list(alloc))??;
+    assert_eq!(rt; stage_line(alloc, hook.stages)?.as_str(), "pre-push ");
+    Ok(())
+}
+
+#[test]
+fn what_is_not_served_is_taken_where_it_is_empty(rt: HostRuntime) -> Result<(), Fail> {
+    let alloc = rt.alloc();
+    let hook = hook_with(alloc, "log_file", quoted(alloc, "")?)??;
+    assert_eq!(rt; hook.id.as_str(), "a");
+    let hook = hook_with(alloc, "additional_dependencies", empty_list(alloc))??;
+    assert_eq!(rt; hook.id.as_str(), "a");
+    let hook = hook_with(alloc, "args", empty_list(alloc))??;
+    assert!(rt; hook.args.is_empty());
+    Ok(())
+}
+
+#[test]
+fn a_quoted_text_is_a_text_and_no_truth(rt: HostRuntime) -> Result<(), Fail> {
+    let alloc = rt.alloc();
+    let hook = hook_with(alloc, "alias", quoted(alloc, "true")?)??;
+    assert_eq!(rt; hook.alias.as_str(), "true");
+    let refused = hook_with(alloc, "verbose", quoted(alloc, "true")?)?;
+    assert!(rt; matches!(&refused, Err(ConfigKind::Shape)));
+    let outcome = config_with(alloc, ONE_HOOK, "fail_fast", quoted(alloc, "true")?)?;
+    assert_eq!(rt; outcome_line(alloc, &outcome)?.as_str(), "2 Shape at 0");
+    Ok(())
+}
+
+#[test]
+fn a_quoted_word_names_a_stage(rt: HostRuntime) -> Result<(), Fail> {
+    let alloc = rt.alloc();
+    let mut items = Vec::new(alloc);
+    items.push(quoted(alloc, "manual")?)?;
+    let hook = hook_with(alloc, "stages", Node::List(items))??;
+    assert_eq!(rt; stage_line(alloc, hook.stages)?.as_str(), "manual ");
+    Ok(())
+}

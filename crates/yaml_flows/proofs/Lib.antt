@@ -1,0 +1,5 @@
+pub mod Keys
+mod Nodes
+mod Parts
+mod Scans
+mod Tables

@@ -1,0 +1,78 @@
+ghost use Rattle.std.specs.Prelude.{◌≡◌, ◌≢◌, ℕ, true, false, List, OnOk, IfErr, option_map, if◌then◌else◌};
+ghost use Rattle.std.specs.BTreeSet.{contains_text};
+ghost use Rattle.std.specs.Str.{bytes_eq};
+ghost use Rattle.yaml_lines.specs.declared.fault.YamlKind.TheVariants.{OutOfMemory};
+ghost use Rattle.yaml_flows.specs.Flows as flows;
+ghost use Rattle.yaml_flows.specs.Faults.{Gives};
+
+use crate::fault::{FlowFault, fault_at};
+use crate::gap::after_gap;
+use crate::scan::ends_key;
+use std::alloc::Global;
+use std::collections::BTreeSet;
+use yaml_lines::YamlKind;
+
+/// Where the next part or the closing bracket stands, if these characters follow a part and its gap.
+pub(crate) fn next_part(close: char, text: &[char]) -> Option<&[char]>
+    ensures { option_map (λ rest. rest.now) result ≡ flows.next_part close text.now }
+{
+    match text {
+        [',', rest @ ..] => Some(after_gap(rest)),
+        [first, ..] if *first == close => Some(text),
+        _ => None,
+    }
+}
+
+/// What follows a key's colon. Behind a plain key the colon must end it.
+pub(crate) fn behind_colon(quoted: bool, text: &[char]) -> Option<&[char]>
+    ensures { option_map (λ rest. rest.now) result ≡ flows.behind_colon quoted text.now }
+{
+    match text {
+        [':', rest @ ..] if quoted || ends_key(rest) => Some(rest),
+        _ => None,
+    }
+}
+
+/// Why no item follows the item `item`, behind whose gap `rest` stands: as `Unsupported` where the item is the key of a pair.
+pub(crate) fn no_next_item(item: &[char], rest: &[char]) -> FlowFault {
+    let is_key = match item {
+        ['[' | '{', ..] => false,
+        ['\'' | '"', ..] => behind_colon(true, rest).is_some(),
+        _ => behind_colon(false, rest).is_some(),
+    };
+    let kind = if is_key {
+        YamlKind::Unsupported
+    } else {
+        YamlKind::Layout
+    };
+    fault_at(kind, rest)
+}
+
+/// Why no colon follows a key, behind whose gap `rest` stands: as `Unsupported` where the key stands alone.
+pub(crate) fn no_colon(rest: &[char]) -> FlowFault {
+    let kind = match rest {
+        [',' | '}', ..] => YamlKind::Unsupported,
+        _ => YamlKind::Layout,
+    };
+    fault_at(kind, rest)
+}
+
+/// From now on the key that stands first in `place` was seen. One that was seen before is `DoubledKey` there.
+pub(crate) fn see(
+    alloc: Global,
+    seen: &mut BTreeSet<String>,
+    key: &str,
+    place: &[char],
+) -> Result<(), FlowFault>
+    ensures new { OnOk result (contains_text seen.old key.now ≡ false) }
+    ensures added { OnOk result ((q : List ℕ) → contains_text seen.new q
+        ≡ (if bytes_eq key.now q then true else contains_text seen.old q)) }
+    ensures doubled { IfErr result (λ fault. fault.kind ≢ OutOfMemory
+        → contains_text seen.old key.now ≡ true) }
+{
+    if seen.insert(String::from_str(alloc, key)?)? {
+        Ok(())
+    } else {
+        Err(fault_at(YamlKind::DoubledKey, place))
+    }
+}

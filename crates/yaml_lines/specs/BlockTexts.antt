@@ -1,0 +1,95 @@
+-- Block texts: their headers, the lines that belong to them, and their text. (YAML 1.2.2, section 8.1 "Block Scalar
+-- Styles".)
+use Rattle.std.specs.Prelude.{ℕ, Bool, true, false, not, suc, ◌+◌, ◌&&◌, ◌||◌, ◌++◌, List, [], ◌∷◌, length, drop, replicate, Option, Some, None, nat_lt, nat_le, ◌==◌, if◌then◌else◌, encode_utf8_all}
+use Rattle.std.specs.List.{prefix_len, list_all}
+use Rattle.yaml_lines.specs.Characters.{is_space, is_blank, is_nil, is_over}
+use Rattle.yaml_lines.specs.declared.header.Chomping.{Chomping}
+use Rattle.yaml_lines.specs.declared.header.Chomping.TheVariants.{Strip, Clip, Keep}
+use Rattle.yaml_lines.specs.declared.header.Header.{Header}
+
+-- a line as it stands in the text, without its end, and whether it has one
+pub record LineText : Type 0 where
+  pub text : List ℕ
+  pub ended : Bool
+
+-- what stands behind a header's `|` or `>`
+abbrev pub header_behind : Bool → List ℕ → Option Header
+header_behind folded [] = Some (record { folded = folded; chomping = Clip })
+header_behind folded (c ∷ cs) =
+    if c == 45 && is_over cs then Some (record { folded = folded; chomping = Strip })
+    else (if c == 43 && is_over cs then Some (record { folded = folded; chomping = Keep })
+    else (if is_over (c ∷ cs) then Some (record { folded = folded; chomping = Clip }) else None))
+
+abbrev pub begins_block : List ℕ → Bool
+begins_block [] = false
+begins_block (c ∷ _) = c == 124 || c == 62
+
+-- the header that a value is: `|` or `>`, then `-`, `+` or nothing, then blanks and a comment
+unfoldable pub header_of : List ℕ → Option Header
+header_of [] = None
+header_of (c ∷ cs) =
+    if c == 124 then header_behind false cs else (if c == 62 then header_behind true cs else None)
+
+abbrev pub all_spaces : LineText → Bool
+all_spaces line = list_all is_space line.text
+
+abbrev pub spaces : LineText → ℕ
+spaces line = prefix_len is_space line.text
+
+-- The indentation of the text whose header belongs to a key or dash at `column`: that of the first line that isn't all
+-- spaces, where it is deeper; none where there is no such line, and then the text has no text line.
+unfoldable pub margin_of : ℕ → List LineText → Option ℕ
+margin_of column [] = None
+margin_of column (l ∷ ls) =
+    if all_spaces l then margin_of column ls else (if nat_lt column (spaces l) then Some (spaces l) else None)
+
+abbrev pub belongs : Option ℕ → LineText → Bool
+belongs None line = all_spaces line
+belongs (Some margin) line = all_spaces line || nat_le margin (spaces line)
+
+-- how many of the lines belong to the text
+abbrev pub extent : Option ℕ → List LineText → ℕ
+extent margin ls = prefix_len (belongs margin) ls
+
+-- before the first line that isn't all spaces stands one of more spaces than the margin
+unfoldable pub is_ragged : Option ℕ → List LineText → Bool
+is_ragged None ls = false
+is_ragged (Some margin) [] = false
+is_ragged (Some margin) (l ∷ ls) = all_spaces l && (nat_lt margin (length l.text) || is_ragged (Some margin) ls)
+
+-- a line's part behind the margin
+abbrev pub behind_margin : Option ℕ → LineText → List ℕ
+behind_margin None line = []
+behind_margin (Some margin) line = drop margin line.text
+
+-- what stands between two text lines with k empty lines between them, or before the first text line
+abbrev pub between : Bool → Option Bool → ℕ → Bool → List ℕ
+between folded None k blank = replicate k 10
+between folded (Some before) k blank =
+    if not folded || before || blank then replicate (suc k) 10 else (if k == 0 then 32 ∷ [] else replicate k 10)
+
+-- what stands behind the last text line, from which on `ends` lines have an end
+abbrev pub behind_last : Chomping → Option Bool → ℕ → List ℕ
+behind_last Strip before ends = []
+behind_last Clip None ends = []
+behind_last Clip (Some _) ends = if ends == 0 then [] else 10 ∷ []
+behind_last Keep before ends = replicate ends 10
+
+abbrev pub begins_blank : List ℕ → Bool
+begins_blank [] = false
+begins_blank (c ∷ _) = is_blank c
+
+-- The text of the lines in UTF-8. `before` says of the last text line whether it begins with a blank, none if there is
+-- no text line yet; since then `empties` lines are empty, and `ends` lines, that text line among them, have an end.
+unfoldable pub joined : Header → Option ℕ → Option Bool → ℕ → ℕ → List LineText → List ℕ
+joined header margin before empties ends [] = behind_last header.chomping before ends
+joined header margin before empties ends (l ∷ ls) =
+    let ended = if l.ended then 1 else 0 in
+    let part = behind_margin margin l in
+    if is_nil part then joined header margin before (suc empties) (ends + ended) ls
+    else between header.folded before empties (begins_blank part)
+    ++ (encode_utf8_all part ++ joined header margin (Some (begins_blank part)) 0 ended ls)
+
+-- the text of a block text with this header and margin, from the lines that belong to it
+abbrev pub block_text : Header → Option ℕ → List LineText → List ℕ
+block_text header margin ls = joined header margin None 0 0 ls

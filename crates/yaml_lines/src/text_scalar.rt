@@ -1,0 +1,56 @@
+ghost use Rattle.std.specs.Prelude.{option_and_then, option_map, false};
+ghost use Rattle.yaml_lines.specs.Faults.{Gives};
+ghost use Rattle.yaml_lines.specs.Meaning.{text};
+ghost use Rattle.yaml_lines.specs.Plain.{plain_of};
+ghost use Rattle.yaml_lines.specs.Quoted.{quoted_of};
+ghost use Rattle.yaml_lines.specs.Scalars.{alone, scalar_meaning};
+ghost use Rattle.yaml_lines.specs.View.{view};
+
+use crate::plain_text::{begins_plain, colon};
+use crate::quoted_text::begins_quoted;
+use crate::scan::{is_over, text_of, trim_end, uncommented};
+use crate::{Node, YamlFault, YamlKind, read_quoted, refusal};
+use std::alloc::Global;
+
+fn plain_scalar(alloc: Global, number: usize, content: &[char]) -> Result<Node, YamlFault>
+    ensures { Gives view result (option_map (λ bytes. text bytes false) (plain_of content.now)) }
+{
+    if !begins_plain(content) || colon(content).is_some() {
+        return Err(refusal(number, content));
+    }
+    let text = text_of(alloc, trim_end(uncommented(content)))?;
+    Ok(Node::Text {
+        text,
+        quoted: false,
+    })
+}
+
+fn quoted_scalar(alloc: Global, number: usize, content: &[char]) -> Result<Node, YamlFault>
+    ensures { Gives view result (option_and_then alone (quoted_of content.now)) }
+{
+    let quoted = read_quoted(alloc, number, content)?;
+    if !is_over(quoted.rest()) {
+        return Err(YamlFault {
+            kind: YamlKind::Layout,
+            line: number,
+        });
+    }
+    Ok(Node::Text {
+        text: quoted.into_text(),
+        quoted: true,
+    })
+}
+
+/// The text, plain or quoted, that the whole content is, but for blanks and a comment behind it. A content that is none is
+/// refused in line `number`: as [`read_quoted`](crate::read_quoted) and [`refusal`](crate::refusal) say, and as `Layout`
+/// where something else follows a quoted text.
+#[tactic(auto, unfolding(crate::specs::Scalars::scalar_meaning))]
+pub fn scalar(alloc: Global, number: usize, content: &[char]) -> Result<Node, YamlFault>
+    ensures { Gives view result (scalar_meaning content.now) }
+{
+    if begins_quoted(content) {
+        quoted_scalar(alloc, number, content)
+    } else {
+        plain_scalar(alloc, number, content)
+    }
+}

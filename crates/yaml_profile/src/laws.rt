@@ -1,0 +1,48 @@
+//! Laws of the definitions that the contracts cite, in the words of YAML itself. Each is a function that gives nothing:
+//! what it ensures is a theorem over the definitions alone.
+
+ghost use Rattle.std.specs.Prelude.{◌≡◌, ℕ, ◌≤◌, ◌++◌, List, [], ◌∷◌, map, Some, false};
+ghost use Rattle.std.specs.List.{list_any};
+ghost use Rattle.yaml_flows.specs.Flows.{flow_meaning};
+ghost use Rattle.yaml_lines.specs.Characters.{characters_of};
+ghost use Rattle.yaml_lines.specs.LineLaws.{saying, begins_text};
+ghost use Rattle.yaml_lines.specs.Lines.{line_texts};
+ghost use Rattle.yaml_profile.specs.Blocks.{node};
+ghost use Rattle.yaml_profile.specs.ListLaws.{AreWords, list_of_words, item_line, flow_of_words, lines_of_words};
+ghost use Rattle.yaml_profile.specs.Text.{meaning_of};
+
+use yaml_lines::laws::comments_and_empty_lines_say_nothing;
+
+/// A list of words is the same in lines and in brackets:
+///
+/// ```yaml
+/// - main.c
+/// - src/app.c
+/// ```
+///
+/// and `[main.c,src/app.c]` are both the list of the texts `main.c` and `src/app.c`, neither of them quoted. `lines` says
+/// so of the lines of such a list, at any indentation; `brackets` of the characters of the flow; `text_of_lines` and
+/// `text_in_brackets` of the bytes of whole texts. Room for two nodes within one another is enough.
+pub fn a_list_has_one_meaning_in_both_forms()
+    ensures lines { (room indent : ℕ) (words : List (List ℕ)) → 2 ≤ room → AreWords words → node room (map (item_line indent) words) ≡ Some (list_of_words words) }
+    ensures brackets { (room : ℕ) (words : List (List ℕ)) → 2 ≤ room → AreWords words → flow_meaning room (flow_of_words words) ≡ Some (list_of_words words) }
+    ensures text_of_lines { (words : List (List ℕ)) (bytes : List ℕ) → AreWords words → characters_of bytes ≡ Some (lines_of_words words) → meaning_of bytes ≡ Some (list_of_words words) }
+    ensures text_in_brackets { (words : List (List ℕ)) (bytes : List ℕ) → AreWords words → characters_of bytes ≡ Some (flow_of_words words ++ 10 ∷ [])
+        → meaning_of bytes ≡ Some (list_of_words words) }
+{}
+
+/// Comments and empty lines change no meaning. Two texts, of which the one has the lines of the other without those that
+/// hold only blanks, or blanks and a comment, mean the same, and where one can't be read, neither can the other:
+///
+/// ```yaml
+/// # what is built
+/// app: main.c
+/// ```
+///
+/// means what `app: main.c` means. It holds where no line begins a block text, of whose text such lines are a part.
+pub fn comments_and_empty_lines_change_no_meaning()
+    ensures { (bytes others characters kept : List ℕ) → characters_of bytes ≡ Some characters → characters_of others ≡ Some kept
+        → list_any begins_text (line_texts characters) ≡ false → line_texts kept ≡ saying (line_texts characters) → meaning_of others ≡ meaning_of bytes }
+{
+    comments_and_empty_lines_say_nothing();
+}
