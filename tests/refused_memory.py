@@ -3,7 +3,7 @@
 
 Usage: tests/refused_memory.py [PROGRAM]   (default: crates/hookhost/out/hookhost)
 
-Each refused run has to say `hookhost: refused: 4 OutOfMemory`, write nothing to standard output and end with status 3,
+Each refused run has to say `hookhost: refused: 4 OutOfMemory` (or `12 OutOfMemory` in `check`), write nothing to standard output and end with status 3,
 or else to answer just as with ample memory (a growth that was refused may be tried again with less). The allocator is
 stood in for by tests/refuse_allocation.c.
 """
@@ -14,8 +14,9 @@ import tempfile
 
 HERE = os.path.dirname(os.path.abspath(__file__))
 PROGRAM = os.path.abspath(sys.argv[1] if len(sys.argv) > 1 else os.path.join(HERE, "..", "crates/hookhost/out/hookhost"))
-CONFIGURATION = b"""# Two hooks, a list as deep as its key, and a key that nothing knows.
+CONFIGURATION = b"""# Three hooks in all forms of YAML that are read, and a key that nothing knows.
 shade: blue
+default_stages: [pre-commit, "push"]
 repos:
 - repo: local
   hooks:
@@ -23,18 +24,34 @@ repos:
     name: Check names
     language: fail
     entry: no such names
-  - id: second
-    name: Second
-    alias: other
+    args: [
+      one, 'tw''o',   # and a comment
+      "thr\\u00e9e",
+    ]
+  - {id: second, name: "Second", alias: other, language: fail, entry: 'nor these', verbose: true}
+- repo: 'local'
+  hooks:
+  - id: third
+    name: Third
     language: fail
-    entry: nor these
-    verbose: true
+    entry: >-
+      a folded
+      text
+
+      of lines
+    description: |+
+      kept
+
+    stages: []
 """
+# A run's want of memory, and that of a configuration that is read alone.
+REFUSALS = [(3, b"", f"hookhost: refused: {number} OutOfMemory\n".encode()) for number in (4, 12)]
 PLAYS = [
     ("the run without words", [], CONFIGURATION, 0),
     ("a run over files", ["try", "config.yaml", "b.txt", "a.txt", "dir/c.txt"], b"", 1),
     ("a refused configuration", [], b"a: 1\na: 2\n", 3),
     ("words that name no command", ["try", "config.yaml"], b"", 2),
+    ("the check of a configuration", ["check"], b"", 0),
 ]
 
 
@@ -58,7 +75,7 @@ def play(words, stdin, status, library, mark):
         answer = run(words, stdin, number, library, mark)
         if not answer[3]:
             return number - 1, gave_up, None if answer == plain else f"answered {answer} with nothing refused"
-        if answer[:3] == (3, b"", b"hookhost: refused: 4 OutOfMemory\n"):
+        if answer[:3] in REFUSALS:
             gave_up += 1
         elif answer[:3] != plain[:3]:
             return number, gave_up, f"answered {answer[:3]} where allocation {number} was refused"
@@ -72,7 +89,7 @@ def main():
         subprocess.run(["cc", "-shared", "-fPIC", "-O1", "-o", library, os.path.join(HERE, "refuse_allocation.c"), "-ldl"], check=True)
         os.makedirs(os.path.join(folder, "work", "dir"))
         os.chdir(os.path.join(folder, "work"))
-        for name, text in (("config.yaml", CONFIGURATION), ("a.txt", b"a\n"), ("b.txt", b""), ("dir/c.txt", b"c" * 9000)):
+        for name, text in (("config.yaml", CONFIGURATION), (".pre-commit-config.yaml", CONFIGURATION), ("a.txt", b"a\n"), ("b.txt", b""), ("dir/c.txt", b"c" * 9000)):
             with open(name, "wb") as file:
                 file.write(text)
         for name, words, stdin, status in PLAYS:

@@ -1,0 +1,32 @@
+"""What the benchmarks share: which program is timed, the least time of a command, and a line of figures."""
+import os
+import sys
+import time
+
+HERE = os.path.dirname(os.path.abspath(__file__))
+
+
+def program():
+    """The program that is timed: the first argument, or the built one."""
+    return os.path.abspath(sys.argv[1] if len(sys.argv) > 1 else os.path.join(HERE, "..", "crates/hookhost/out/hookhost"))
+
+
+def least(words, runs=15):
+    """The least wall time of the command in milliseconds, its output going to /dev/null."""
+    null_out = [(os.POSIX_SPAWN_OPEN, fd, "/dev/null", os.O_WRONLY, 0) for fd in (1, 2)]
+    null_in = [(os.POSIX_SPAWN_OPEN, 0, "/dev/null", os.O_RDONLY, 0)]
+    best = None
+    for _ in range(runs):
+        start = time.perf_counter()
+        child = os.posix_spawnp(words[0], words, os.environ, file_actions=null_in + null_out)
+        _, status = os.waitpid(child, 0)
+        took = (time.perf_counter() - start) * 1000
+        if os.waitstatus_to_exitcode(status) not in (0, 1):
+            sys.exit(f"{words[0]} ended with {os.waitstatus_to_exitcode(status)}")
+        best = took if best is None else min(best, took)
+    return best
+
+
+def show(what, ours, other, beside):
+    """One line: our time, the other program's, and their ratio."""
+    print(f"{what:44} {ours:9.2f} ms  {beside} {other:8.2f} ms  ratio {ours / other:6.2f}")
