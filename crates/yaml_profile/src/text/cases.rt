@@ -379,6 +379,8 @@ pub(super) const FLOWS_OVER_LINES: &[(&str, &str)] = &[
 
 // Literal block texts, and block texts of all kinds: 8.1.1, 8.1.2
 pub(super) const LITERAL_TEXTS: &[(&str, &str)] = &[
+    ("e: |\n  a\n", "{'e': 'a\\n'}"),
+    ("e: |\n  a", "{'e': 'a'}"),
     ("a: |\n  b\n  c\nd: e\n", "{'a': 'b\\nc\\n', 'd': 'e'}"),
     ("a: |\n b\n  c\n\n d\n", "{'a': 'b\\n c\\n\\nd\\n'}"),
     ("a: |-\n  b\n\nc: d\n", "{'a': 'b', 'c': 'd'}"),
@@ -447,6 +449,11 @@ pub(super) const LITERAL_TEXTS: &[(&str, &str)] = &[
 
 // Folded block texts: 8.1.3
 pub(super) const FOLDED_TEXTS: &[(&str, &str)] = &[
+    (
+        "e: >\n  (?x)^(\n      a/.*|\n      b/.*\n  )$\n",
+        "{'e': '(?x)^(\\n    a/.*|\\n    b/.*\\n)$\\n'}",
+    ),
+    ("e: >-\n  a\n  b\n\n  c\n", "{'e': 'a b\\nc'}"),
     ("a: >\n  b\n  c\n", "{'a': 'b c\\n'}"),
     ("a: >\n  b\n\n  c\n", "{'a': 'b\\nc\\n'}"),
     ("a: >\n  b\n\n\n  c\n", "{'a': 'b\\n\\nc\\n'}"),

@@ -368,8 +368,11 @@ fn each_prefix_is_read_or_refused_in_its_last_line(rt: HostRuntime) -> Result<()
 
 #[test]
 fn a_text_of_too_many_bytes_is_refused_in_its_first_line(rt: HostRuntime) -> Result<(), Fail> {
-    let mut bytes = Vec::new(rt.alloc());
-    bytes.resize(MOST_BYTES + 1, b'\n')?;
+    let mut bytes = Vec::from_slice(rt.alloc(), b"#")?;
+    bytes.resize(MOST_BYTES, b'c')?;
+    let node = read(rt.alloc(), bytes.as_slice())?;
+    assert!(rt; matches!(node, Node::Empty));
+    bytes.push(b'\n')?;
     let fault = read(rt.alloc(), bytes.as_slice()).err().ok_or("read")?;
     let kind = YamlKind::TooLarge;
     assert_eq!(rt; fault, YamlFault { kind, line: 1 });
