@@ -3,9 +3,9 @@
 
 Usage: tests/compare_yaml.py
 
-The rows are those of crates/yaml_profile/src/text/cases.rt, which the tests of that crate hold the reader to. Where
-PyYAML takes a text, the values must agree. Each text that only one of the two takes is printed with its reason; one
-without a known reason is a failure.
+The rows are those of cases.rt and refused_cases.rt in crates/yaml_profile/src/text, which the tests of that crate hold
+the reader to. Where PyYAML takes a text, the values must agree. Each text that only one of the two takes is printed
+with its reason; one without a known reason is a failure.
 """
 import ast
 import os
@@ -13,7 +13,7 @@ import re
 import sys
 
 HERE = os.path.dirname(os.path.abspath(__file__))
-CASES = os.path.join(HERE, "..", "crates/yaml_profile/src/text/cases.rt")
+CASES = os.path.join(HERE, "..", "crates/yaml_profile/src/text")
 
 # Why PyYAML refuses a text that is read here.
 TABS = "a tab separates tokens in YAML 1.2.2, 6.2; PyYAML takes spaces only"
@@ -45,6 +45,11 @@ def rows_of(source, second):
     return [(literal(found[1]), found[2]) for found in re.finditer(r"\(\s*" + string + r",\s*" + second, source)]
 
 
+def source_of(name):
+    with open(os.path.join(CASES, name), encoding="utf-8") as file:
+        return file.read()
+
+
 def value_of(node):
     """A node as the table writes it, with an empty place as an empty text, as PyYAML's base loader gives it."""
     if isinstance(node, list):
@@ -60,10 +65,8 @@ def main():
     except ImportError:
         print("yaml: PyYAML isn't installed (Debian's python3-yaml), so nothing was compared")
         return
-    with open(CASES, encoding="utf-8") as file:
-        source = file.read()
-    read = rows_of(source, r'"((?:[^"\\]|\\.)*)"')
-    refused = rows_of(source, r"YamlKind::(\w+)")
+    read = rows_of(source_of("cases.rt"), r'"((?:[^"\\]|\\.)*)"')
+    refused = rows_of(source_of("refused_cases.rt"), r"YamlKind::(\w+)")
     wrong, agreed, only_here, only_there = [], 0, 0, 0
     for text, shown in read:
         ours = value_of(ast.literal_eval(literal(shown)))

@@ -3,9 +3,9 @@
 
 Usage: tests/refused_memory.py [PROGRAM]   (default: crates/hookhost/out/hookhost)
 
-Each refused run has to say `hookhost: refused: 4 OutOfMemory` (or `12 OutOfMemory` in `check`), write nothing to standard output and end with status 3,
-or else to answer just as with ample memory (a growth that was refused may be tried again with less). The allocator is
-stood in for by tests/refuse_allocation.c.
+Each refused run has to say `hookhost: refused: 4 OutOfMemory` (or `12 OutOfMemory` in `check`), write nothing to
+standard output and end with status 3, or else to answer just as with ample memory (a growth that was refused may be
+tried again with less). The allocator is stood in for by tests/refuse_allocation.c.
 """
 import os
 import subprocess

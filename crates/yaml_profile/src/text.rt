@@ -126,4 +126,6 @@ fn lines_before(bytes: &[u8], line: usize) -> &[u8] {
 #[cfg(test)]
 mod cases;
 #[cfg(test)]
+mod refused_cases;
+#[cfg(test)]
 mod tests;

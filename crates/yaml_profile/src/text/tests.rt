@@ -1,6 +1,6 @@
 // Nodes, and kinds and lines of faults, which no clause gives.
 use super::cases::{self, BROKEN};
-use super::*;
+use super::{refused_cases, *};
 use std::alloc::AllocError;
 use std::process::Abort;
 use std::test::Fail;
@@ -176,42 +176,42 @@ fn reads_what_teams_write(rt: HostRuntime) -> Result<(), Fail> {
 
 #[test]
 fn refuses_lines_that_no_text_has(rt: HostRuntime) -> Result<(), Fail> {
-    expect_refused(&rt, rt.alloc(), cases::REFUSED_LINES)
+    expect_refused(&rt, rt.alloc(), refused_cases::REFUSED_LINES)
 }
 
 #[test]
 fn refuses_lines_at_another_indentation(rt: HostRuntime) -> Result<(), Fail> {
-    expect_refused(&rt, rt.alloc(), cases::REFUSED_LISTS_AND_TABLES)
+    expect_refused(&rt, rt.alloc(), refused_cases::REFUSED_LISTS_AND_TABLES)
 }
 
 #[test]
 fn refuses_doubled_keys(rt: HostRuntime) -> Result<(), Fail> {
-    expect_refused(&rt, rt.alloc(), cases::DOUBLED_KEYS)
+    expect_refused(&rt, rt.alloc(), refused_cases::DOUBLED_KEYS)
 }
 
 #[test]
 fn refuses_what_begins_no_plain_text(rt: HostRuntime) -> Result<(), Fail> {
-    expect_refused(&rt, rt.alloc(), cases::REFUSED_PLAIN_TEXTS)
+    expect_refused(&rt, rt.alloc(), refused_cases::REFUSED_PLAIN_TEXTS)
 }
 
 #[test]
 fn refuses_quoted_texts_that_do_not_end_or_escape(rt: HostRuntime) -> Result<(), Fail> {
-    expect_refused(&rt, rt.alloc(), cases::REFUSED_QUOTED_TEXTS)
+    expect_refused(&rt, rt.alloc(), refused_cases::REFUSED_QUOTED_TEXTS)
 }
 
 #[test]
 fn refuses_flows(rt: HostRuntime) -> Result<(), Fail> {
-    expect_refused(&rt, rt.alloc(), cases::REFUSED_FLOWS)
+    expect_refused(&rt, rt.alloc(), refused_cases::REFUSED_FLOWS)
 }
 
 #[test]
 fn refuses_flows_over_lines(rt: HostRuntime) -> Result<(), Fail> {
-    expect_refused(&rt, rt.alloc(), cases::REFUSED_FLOWS_OVER_LINES)
+    expect_refused(&rt, rt.alloc(), refused_cases::REFUSED_FLOWS_OVER_LINES)
 }
 
 #[test]
 fn refuses_block_texts(rt: HostRuntime) -> Result<(), Fail> {
-    expect_refused(&rt, rt.alloc(), cases::REFUSED_BLOCK_TEXTS)
+    expect_refused(&rt, rt.alloc(), refused_cases::REFUSED_BLOCK_TEXTS)
 }
 
 #[test]
