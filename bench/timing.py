@@ -11,20 +11,32 @@ def program():
     return os.path.abspath(sys.argv[1] if len(sys.argv) > 1 else os.path.join(HERE, "..", "crates/hookhost/out/hookhost"))
 
 
-def least(words, runs=15):
-    """The least wall time of the command in milliseconds, its output going to /dev/null."""
+def once(words):
+    """The wall time of the command in milliseconds, its output going to /dev/null."""
     null_out = [(os.POSIX_SPAWN_OPEN, fd, "/dev/null", os.O_WRONLY, 0) for fd in (1, 2)]
     null_in = [(os.POSIX_SPAWN_OPEN, 0, "/dev/null", os.O_RDONLY, 0)]
-    best = None
+    start = time.perf_counter()
+    child = os.posix_spawnp(words[0], words, os.environ, file_actions=null_in + null_out)
+    _, status = os.waitpid(child, 0)
+    took = (time.perf_counter() - start) * 1000
+    if os.waitstatus_to_exitcode(status) not in (0, 1):
+        sys.exit(f"{words[0]} ended with {os.waitstatus_to_exitcode(status)}")
+    return took
+
+
+def least(words, runs=15):
+    """The least wall time of the command."""
+    return min(once(words) for _ in range(runs))
+
+
+def least_in_turn(commands, runs=40):
+    """The least wall time of each command, each in its folder. They take turns, so that a busy moment hits them alike."""
+    times = [[] for _ in commands]
     for _ in range(runs):
-        start = time.perf_counter()
-        child = os.posix_spawnp(words[0], words, os.environ, file_actions=null_in + null_out)
-        _, status = os.waitpid(child, 0)
-        took = (time.perf_counter() - start) * 1000
-        if os.waitstatus_to_exitcode(status) not in (0, 1):
-            sys.exit(f"{words[0]} ended with {os.waitstatus_to_exitcode(status)}")
-        best = took if best is None else min(best, took)
-    return best
+        for which, (folder, words) in enumerate(commands):
+            os.chdir(folder)
+            times[which].append(once(words))
+    return [min(each) for each in times]
 
 
 def show(what, ours, other, beside):

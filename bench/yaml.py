@@ -12,7 +12,7 @@ import sys
 import tempfile
 
 sys.path.insert(0, os.path.dirname(os.path.abspath(__file__)))
-from timing import least, program, show
+from timing import least_in_turn, program, show
 
 NAME = ".pre-commit-config.yaml"
 HEAD = "repos: []\n"
@@ -27,6 +27,10 @@ def quoted(number):
 
 
 def flow(number):
+    return f"  - [--option-{number}, \"a value\", 'another value', {{key: value, list: [first, second]}}]\n"
+
+
+def letters(number):
     return f"  - [a{number}, \"b\", 'c', {{d: e, f: [g, h]}}]\n"
 
 
@@ -54,6 +58,7 @@ KINDS = [
     ("plain texts", "ci:\n", plain, ""),
     ("quoted texts", "ci:\n", quoted, ""),
     ("flows", "ci:\n", flow, ""),
+    ("flows of letters", "ci:\n", letters, ""),
     ("one flow over lines", "ci: [\n", flow_over_lines, "]\n"),
     ("a literal text", "ci: |\n", literal, ""),
     ("a folded text", "ci: >\n", folded, ""),
@@ -75,20 +80,22 @@ def text_of(size, before, part, after):
 
 
 def main():
-    tool, folder = program(), tempfile.mkdtemp()
-    os.chdir(folder)
+    tool, top = program(), tempfile.mkdtemp()
+    half, whole = os.path.join(top, "half"), os.path.join(top, "whole")
+    os.mkdir(half)
+    os.mkdir(whole)
     try:
         for what, before, part, after in KINDS:
-            times = {}
-            for size in (524288, 1048576):
-                with open(NAME, "w", encoding="utf-8") as file:
+            for folder, size in ((half, 524288), (whole, 1048576)):
+                with open(os.path.join(folder, NAME), "w", encoding="utf-8") as file:
                     file.write(text_of(size, before, part, after))
-                times[size] = least([tool, "check"])
-                show(f"{os.path.getsize(NAME)} bytes of {what}", times[size], least(["cat", NAME]), "cat ")
-            print(f"{'twice the bytes of ' + what:44} {times[1048576] / times[524288]:.2f} times the time")
+            check, cat = [tool, "check"], ["cat", NAME]
+            ours, twice, beside = least_in_turn([(half, check), (whole, check), (whole, cat)])
+            show(f"{os.path.getsize(os.path.join(whole, NAME))} bytes of {what}", twice, beside, "cat ")
+            print(f"{'twice the bytes of ' + what:44} {twice / ours:.2f} times the time")
     finally:
         os.chdir("/")
-        shutil.rmtree(folder)
+        shutil.rmtree(top)
 
 
 main()
