@@ -8,12 +8,10 @@ the reader to. Where PyYAML takes a text, the values must agree. Each text that 
 with its reason; one without a known reason is a failure.
 """
 import ast
-import os
 import re
 import sys
 
-HERE = os.path.dirname(os.path.abspath(__file__))
-CASES = os.path.join(HERE, "..", "crates/yaml_profile/src/text")
+from yaml_texts import literal, read_rows, refused_rows
 
 # Why PyYAML refuses a text that is read here.
 TABS = "a tab separates tokens in YAML 1.2.2, 6.2; PyYAML takes spaces only"
@@ -33,23 +31,6 @@ REFUSED_HERE = {
 }
 
 
-def literal(text):
-    """The value of a string literal of Rust."""
-    text = re.sub(r"\\u\{([0-9a-f]+)\}", lambda found: chr(int(found[1], 16)), text)
-    return re.sub(r"\\(.)", lambda found: {"n": "\n", "t": "\t", "r": "\r", "0": "\0"}.get(found[1], found[1]), text)
-
-
-def rows_of(source, second):
-    """The rows whose first part is a string: that string, and what stands behind it."""
-    string = r'"((?:[^"\\]|\\.)*)"'
-    return [(literal(found[1]), found[2]) for found in re.finditer(r"\(\s*" + string + r",\s*" + second, source)]
-
-
-def source_of(name):
-    with open(os.path.join(CASES, name), encoding="utf-8") as file:
-        return file.read()
-
-
 def value_of(node):
     """A node as the table writes it, with an empty place as an empty text, as PyYAML's base loader gives it."""
     if isinstance(node, list):
@@ -65,8 +46,7 @@ def main():
     except ImportError:
         print("yaml: PyYAML isn't installed (Debian's python3-yaml), so nothing was compared")
         return
-    read = rows_of(source_of("cases.rt"), r'"((?:[^"\\]|\\.)*)"')
-    refused = rows_of(source_of("refused_cases.rt"), r"YamlKind::(\w+)")
+    read, refused = read_rows(), refused_rows()
     wrong, agreed, only_here, only_there = [], 0, 0, 0
     for text, shown in read:
         ours = value_of(ast.literal_eval(literal(shown)))

@@ -5,12 +5,17 @@ Usage: tests/refused_memory.py [PROGRAM]   (default: crates/hookhost/out/hookhos
 
 Each refused run has to say `hookhost: refused: 4 OutOfMemory` (or `12 OutOfMemory` in `check`), write nothing to
 standard output and end with status 3, or else to answer just as with ample memory (a growth that was refused may be
-tried again with less). The allocator is stood in for by tests/refuse_allocation.c.
+tried again with less). The allocator is stood in for by tests/refuse_allocation.c. Beside some plays of its own, each
+text of the tables of crates/yaml_profile is checked as a configuration.
 """
 import os
 import subprocess
 import sys
 import tempfile
+from concurrent.futures import ThreadPoolExecutor
+from dataclasses import dataclass
+
+from yaml_texts import read_rows, refused_rows
 
 HERE = os.path.dirname(os.path.abspath(__file__))
 PROGRAM = os.path.abspath(sys.argv[1] if len(sys.argv) > 1 else os.path.join(HERE, "..", "crates/hookhost/out/hookhost"))
@@ -46,61 +51,89 @@ repos:
 """
 # A run's want of memory, and that of a configuration that is read alone.
 REFUSALS = [(3, b"", f"hookhost: refused: {number} OutOfMemory\n".encode()) for number in (4, 12)]
+
+
+@dataclass
+class Play:
+    """The words and the standard input of a run, its configuration, and the status it has to end with (None: any)."""
+    name: str
+    words: list
+    stdin: bytes = b""
+    configuration: bytes = CONFIGURATION
+    status: int = None
+
+
 PLAYS = [
-    ("the run without words", [], CONFIGURATION, 0),
-    ("a run over files", ["try", "config.yaml", "b.txt", "a.txt", "dir/c.txt"], b"", 1),
-    ("a refused configuration", [], b"a: 1\na: 2\n", 3),
-    ("words that name no command", ["try", "config.yaml"], b"", 2),
-    ("the check of a configuration", ["check"], b"", 0),
+    Play("the run without words", [], stdin=CONFIGURATION, status=0),
+    Play("a run over files", ["try", ".pre-commit-config.yaml", "b.txt", "a.txt", "dir/c.txt"], status=1),
+    Play("a refused configuration", [], stdin=b"a: 1\na: 2\n", status=3),
+    Play("words that name no command", ["try", "config.yaml"], status=2),
+    Play("the check of a configuration", ["check"], status=0),
 ]
 
 
-def run(words, stdin, refused, library, mark):
+def run(play, refused, library, folder):
     """One run with the allocation of this number refused (0: none): its status, outputs, and whether it was refused."""
+    mark = os.path.join(folder, "refused")
     if os.path.exists(mark):
         os.remove(mark)
     env = dict(os.environ, LD_PRELOAD=library, REFUSE_ALLOCATION=str(refused), REFUSED_FILE=mark)
-    done = subprocess.run([PROGRAM, *words], input=stdin, capture_output=True, env=env, timeout=60)
+    done = subprocess.run([PROGRAM, *play.words], input=play.stdin, capture_output=True, env=env, timeout=60, cwd=os.path.join(folder, "work"))
     return done.returncode, done.stdout, done.stderr, os.path.exists(mark)
 
 
-def play(words, stdin, status, library, mark):
+def refuse_each(play, library, folder):
     """How many allocations were refused in turn, at how many the program gave up, and what was wrong, if anything."""
-    plain = run(words, stdin, 0, library, mark)
-    if plain[0] != status:
-        return 0, 0, f"status {plain[0]} with nothing refused, wanted {status}"
+    plain = run(play, 0, library, folder)
+    if play.status not in (None, plain[0]):
+        return 0, 0, f"status {plain[0]} with nothing refused, wanted {play.status}"
     number, gave_up = 0, 0
     while True:
         number += 1
-        answer = run(words, stdin, number, library, mark)
+        answer = run(play, number, library, folder)
         if not answer[3]:
-            return number - 1, gave_up, None if answer == plain else f"answered {answer} with nothing refused"
+            wrong = None if answer == plain else f"answered {answer} with nothing refused"
+            return number - 1, gave_up, wrong if gave_up else "no refused allocation was noticed"
         if answer[:3] in REFUSALS:
             gave_up += 1
         elif answer[:3] != plain[:3]:
             return number, gave_up, f"answered {answer[:3]} where allocation {number} was refused"
 
 
+def play_alone(play, library):
+    """The same in a folder of the play's own."""
+    with tempfile.TemporaryDirectory() as folder:
+        os.makedirs(os.path.join(folder, "work", "dir"))
+        files = ((".pre-commit-config.yaml", play.configuration), ("a.txt", b"a\n"), ("b.txt", b""), ("dir/c.txt", b"c" * 9000))
+        for name, text in files:
+            with open(os.path.join(folder, "work", name), "wb") as file:
+                file.write(text)
+        return refuse_each(play, library, folder)
+
+
+def play_all(plays, library):
+    """Each play's answer, some of them side by side."""
+    with ThreadPoolExecutor(os.cpu_count()) as pool:
+        return list(pool.map(lambda play: play_alone(play, library), plays))
+
+
 def main():
-    passed, failed = 0, 0
+    texts = [text for text, _ in read_rows() + refused_rows()]
+    checks = [Play(f"the check of {text!r}", ["check"], configuration=text.encode()) for text in texts]
     with tempfile.TemporaryDirectory() as folder:
         library = os.path.join(folder, "refuse.so")
-        mark = os.path.join(folder, "refused")
         subprocess.run(["cc", "-shared", "-fPIC", "-O1", "-o", library, os.path.join(HERE, "refuse_allocation.c"), "-ldl"], check=True)
-        os.makedirs(os.path.join(folder, "work", "dir"))
-        os.chdir(os.path.join(folder, "work"))
-        for name, text in (("config.yaml", CONFIGURATION), (".pre-commit-config.yaml", CONFIGURATION), ("a.txt", b"a\n"), ("b.txt", b""), ("dir/c.txt", b"c" * 9000)):
-            with open(name, "wb") as file:
-                file.write(text)
-        for name, words, stdin, status in PLAYS:
-            count, gave_up, wrong = play(words, stdin, status, library, mark)
-            if wrong is None and gave_up == 0:
-                wrong = "no refused allocation was noticed"
-            passed, failed = (passed, failed + 1) if wrong else (passed + 1, failed)
-            print(f"FAILED {name}: {wrong}" if wrong else f"{name}: {count} allocations refused in turn, {gave_up} times the program gave up")
-        os.chdir("/")
-    print(f"memory: {passed} passed, {failed} failed")
-    sys.exit(1 if failed else 0)
+        answers = play_all(PLAYS + checks, library)
+    failures = [(play.name, wrong) for play, (_, _, wrong) in zip(PLAYS + checks, answers) if wrong]
+    for play, (count, gave_up, wrong) in zip(PLAYS, answers):
+        print(f"{play.name}: {count} allocations refused in turn, {gave_up} times the program gave up")
+    of_texts = answers[len(PLAYS):]
+    print(f"the check of {len(checks)} texts: {sum(each[0] for each in of_texts)} allocations refused in turn, "
+          f"{sum(each[1] for each in of_texts)} times the program gave up")
+    for name, wrong in failures:
+        print(f"FAILED {name}: {wrong}")
+    print(f"memory: {len(answers) - len(failures)} passed, {len(failures)} failed")
+    sys.exit(1 if failures or not checks else 0)
 
 
 main()

@@ -113,6 +113,7 @@ fn expect_read(rt: &impl Abort, alloc: Global, rows: &[(&str, &str)]) -> Result<
     Ok(())
 }
 
+// Each text is refused as its row says, and each of its beginnings is read or refused.
 fn expect_refused(
     rt: &impl Abort,
     alloc: Global,
@@ -125,6 +126,7 @@ fn expect_refused(
             line: *line,
         };
         assert_eq!(rt; fault, wanted, "of {text:?}");
+        expect_prefixes(rt, alloc, *text);
     }
     Ok(())
 }
