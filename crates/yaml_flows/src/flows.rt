@@ -114,13 +114,16 @@ fn item<'a>(alloc: Global, text: &'a [char], room: usize) -> Result<Found<'a, No
     }
 }
 
+// Room for so many rows is taken at once: most tables in a flow have one or two, and a row takes much memory.
+const FIRST_ROWS: usize = 2;
+
 // The same for a table.
 #[cycle(flows)]
 fn table<'a>(alloc: Global, inner: &'a [char], room: usize) -> Result<Found<'a, Node>, FlowFault>
     ensures { Gives (seen_by view) result (flows.table_at (flows.node room) inner.now) }
 {
     let start = after_gap(inner);
-    let mut rows = Vec::new(alloc);
+    let mut rows = Vec::with_capacity(alloc, FIRST_ROWS)?;
     let mut later = BTreeSet::new(alloc);
     let mut rest = start;
     'rows: for _ in 0..start.len() {

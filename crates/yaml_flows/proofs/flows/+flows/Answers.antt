@@ -76,11 +76,11 @@ as_table o = option_map (mapped (λ rs. table (members_of rs))) o
 
 pub table-rows-init : goal.table-rows-init
 table-rows-init t c =
-    let none : map member_view c.new-rows.result.items ≡ [] = ap (map member_view) c.new-rows.ensures.items in
+    let none : map member_view c.in_ok-rows.rows.items ≡ [] = ap (map member_view) c.in_ok-rows.ensures.items in
     record {
-      all = rows_start (flows.entry (flows.node c.args.room)) c.args.inner.now c.after_gap-start.result.now (map member_view c.new-rows.result.items) c.after_gap-start.ensures none;
+      all = rows_start (flows.entry (flows.node c.args.room)) c.args.inner.now c.after_gap-start.result.now (map member_view c.in_ok-rows.rows.items) c.after_gap-start.ensures none;
       apart = ap keys_differ none ∙ none_apart;
-      seen = λ q. is_seen-none c.new-rows.result.items (contains_text c.new-later.result) q c.new-rows.ensures.items (none_later c.new-later.result c.new-later.ensures.empty q);
+      seen = λ q. is_seen-none c.in_ok-rows.rows.items (contains_text c.new-later.result) q c.in_ok-rows.ensures.items (none_later c.new-later.result c.new-later.ensures.empty q);
     }
 
 pub table-returns-in-Some : goal.table-returns-in-Some
@@ -93,7 +93,7 @@ table-returns-in-Some t c =
 pub table-returns-in_err-found : goal.table-returns-in_err-found
 table-returns-in_err-found t c =
     let entry = flows.entry (flows.node c.args.room) in
-    let p = err_from_is_err_and c.from_residual.result c.from_residual.ensures.1 in
+    let p = err_from_is_err_and c.from_residual-in_err-found.result c.from_residual-in_err-found.ensures.1 in
     rw (p.1, p.2) (λ other.
     ap as_table (c.rows.invariant.all
     ∙ row_refused entry (is_seen c.as_slice.result.now (contains_text c.rows.later)) (length c.after_gap-start.result.now) c.rows.counter c.rows.rest.now (map member_view c.rows.rows.items) c.rows-test.true c.in_default.ensures (λ q. ap (λ rs. is_seen rs (contains_text c.rows.later) q) c.as_slice.ensures.value ∙ c.rows.invariant.seen q) (c.in_err-found.ensures.given other)))
