@@ -1,11 +1,17 @@
--- Rows whose keys differ, a row at a time, and the set of the keys that were seen.
-use Rattle.std.proofs.Common.{◌≡◌, ℕ, Bool, true, false, not, cond, ◌&&◌, ◌||◌, List, [], ◌∷◌, ◌++◌, String, Global, refl, sym, ap, ◌∙◌, rules}
+-- Rows whose keys differ, a row at a time, and the keys that were seen.
+use Rattle.std.proofs.Common.{◌≡◌, ℕ, ◌<◌, ◌≤◌, Bool, true, false, not, cond, ◌&&◌, ◌||◌, List, [], ◌∷◌, ◌++◌, length, take, map, String, Global, string_bytes, refl, sym, ap, ◌∙◌, arith, rules}
+use Rattle.std.proofs.Math.Dec.{ltb}
+use Rattle.std.proofs.lemmas.Bool.{ltb-true, ltb-false}
+use Rattle.std.proofs.lemmas.List.{length-append, map-append, take_all, take-append-le}
 use Rattle.std.proofs.lemmas.List.Folds.{list_any-append}
 use Rattle.std.proofs.lemmas.Slice.Eq.{bytes_eq-Decides}
 use Rattle.std.specs.BTreeSet.{BTreeSet, contains_text}
 use Rattle.std.specs.List.{list_any}
 use Rattle.std.specs.Str.{bytes_eq}
+use Rattle.yaml_lines.specs.ViewLaws.{member_view}
+use Rattle.yaml_lines.specs.declared.node.Node.{Node}
 use Rattle.yaml_flows.specs.Keys.{Row, keys_differ}
+use Rattle.yaml_flows.specs.Views.{few, is_among, is_seen, seen_later}
 
 abbrev pub has_key : List ℕ → List Row → Bool
 has_key k rs = list_any (λ r. bytes_eq k r.0) rs
@@ -16,8 +22,8 @@ unfolding keys_differ
 none_apart = refl
 
 -- an empty set has no key
-pub none_seen : (seen : BTreeSet (String Global)) → seen.keys ≡ [] → (q : List ℕ) → contains_text seen q ≡ has_key q []
-none_seen seen e q = search (rules, e)
+pub none_later : (later : BTreeSet (String Global)) → later.keys ≡ [] → (q : List ℕ) → contains_text later q ≡ false
+none_later later e q = search (rules, e)
 
 -- ---- tests
 
@@ -70,15 +76,69 @@ keys_differ-push (s ∷ rs) r apart new =
     let others = or_parts (bytes_eq r.0 s.0) (has_key r.0 rs) new in
     both _ _ (absent s.0 rs r (opposite _ parts.0) others.0) (keys_differ-push rs r parts.1 others.1)
 
+-- ---- the rows that are looked through, and the keys that are kept of the later ones
+
+pub is_among-rows : (rows : List (String Global × Node)) (q : List ℕ) → is_among rows q ≡ has_key q (map member_view rows)
+is_among-rows [] q = refl
+is_among-rows (r ∷ rows) q = ap (λ b. bytes_eq q (string_bytes r.0) || b) (is_among-rows rows q)
+
+-- no rows have no key
+pub is_seen-none : (rows : List (String Global × Node)) (later : List ℕ → Bool) (q : List ℕ) → rows ≡ [] → later q ≡ false → is_seen rows later q ≡ has_key q (map member_view rows)
+unfolding is_seen
+is_seen-none [] later q none e = e
+is_seen-none (r ∷ rows) later q none e = absurd (cc)
+
+-- a row more among those that are looked through
+more_rows : (a e c : Bool) → (a || c) ≡ a → ((a || e) || c) ≡ (a || e)
+more_rows true e c h = refl
+more_rows false true c h = refl
+more_rows false false c h = h
+
 flipped : (a b : Bool) → cond a true b ≡ (b || a)
 flipped true true = refl
 flipped true false = refl
 flipped false true = refl
 flipped false false = refl
 
--- what is seen after a row is what was seen before it, and its key
-pub seen-push : (q : List ℕ) (rs : List Row) (r : Row) (b : Bool) → b ≡ has_key q rs → cond (bytes_eq r.0 q) true b ≡ has_key q (rs ++ r ∷ [])
-seen-push q rs r b e = flipped (bytes_eq r.0 q) b ∙ ap (λ s. s || bytes_eq r.0 q) e ∙ sym (has_key-push q rs r)
+-- a key more among those that are kept
+more_keys : (a k e c : Bool) → (a || c) ≡ k → (a || cond e true c) ≡ (k || e)
+more_keys true true e c h = refl
+more_keys true false e c h = absurd (cc)
+more_keys false k e c h = flipped e c ∙ ap (λ b. b || e) h
+
+has_key-behind : (rows : List (String Global × Node)) (r : String Global × Node) (q : List ℕ)
+    → has_key q (map member_view (rows ++ r ∷ [])) ≡ (has_key q (map member_view rows) || bytes_eq (string_bytes r.0) q)
+has_key-behind rows r q = ap (has_key q) (map-append member_view rows (r ∷ [])) ∙ has_key-push q (map member_view rows) (member_view r)
+
+seen_behind : (n : ℕ) (rows : List (String Global × Node)) (r : String Global × Node) (b c d : Bool) (q : List ℕ) → ltb (length rows) n ≡ b
+    → (is_among (take n rows) q || c) ≡ has_key q (map member_view rows)
+    → d ≡ cond b c (cond (bytes_eq (string_bytes r.0) q) true c)
+    → (is_among (take n (rows ++ r ∷ [])) q || d) ≡ has_key q (map member_view (rows ++ r ∷ []))
+seen_behind n rows r true c d q short before after =
+    let few : length rows < n = ltb-true (length rows) n short in
+    let one_more = length-append rows (r ∷ []) in
+    let all : take n rows ≡ rows = take_all n rows (omega arith) in
+    let all_more : take n (rows ++ r ∷ []) ≡ rows ++ r ∷ [] = take_all n (rows ++ r ∷ []) (omega arith) in
+    let seen : (has_key q (map member_view rows) || c) ≡ has_key q (map member_view rows) =
+    ap (λ b. b || c) (sym (ap (λ rs. is_among rs q) all ∙ is_among-rows rows q)) ∙ before in
+    ap (λ b. b || d) (ap (λ rs. is_among rs q) all_more ∙ is_among-rows (rows ++ r ∷ []) q ∙ has_key-behind rows r q)
+    ∙ ap (λ d. (has_key q (map member_view rows) || bytes_eq (string_bytes r.0) q) || d) after
+    ∙ more_rows _ _ c seen
+    ∙ sym (has_key-behind rows r q)
+seen_behind n rows r false c d q long before after =
+    let many : n ≤ length rows = ltb-false (length rows) n long in
+    ap (λ rs. is_among rs q || d) (take-append-le n rows (r ∷ []) many)
+    ∙ ap (λ d. is_among (take n rows) q || d) after
+    ∙ more_keys _ _ _ c before
+    ∙ sym (has_key-behind rows r q)
+
+-- what is seen behind a row is what was seen before it, and its key
+pub is_seen-push : (rows : List (String Global × Node)) (r : String Global × Node) (later more : List ℕ → Bool) (q : List ℕ)
+    → is_seen rows later q ≡ has_key q (map member_view rows)
+    → more q ≡ seen_later (length rows) (string_bytes r.0) later q
+    → is_seen (rows ++ r ∷ []) more q ≡ has_key q (map member_view (rows ++ r ∷ []))
+unfolding is_seen
+is_seen-push rows r later more q before after = seen_behind few rows r _ (later q) (more q) q refl before after
 
 -- ---- a key that stands there already
 

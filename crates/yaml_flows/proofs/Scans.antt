@@ -1,6 +1,9 @@
 -- How the scans of a flow's characters meet their definitions, one character further on.
 use Rattle.std.proofs.Common.{◌≡◌, ℕ, ◌+◌, ◌-◌, ◌<◌, ◌≤◌, Bool, true, false, cond, ◌&&◌, List, [], ◌∷◌, ◌++◌, length, take, drop, get_or, refl, sym, ap, ◌∙◌, arith}
-use Rattle.std.proofs.lemmas.List.{drop_more, take_more, drop_all}
+use Rattle.std.proofs.lemmas.List.{append-nil, drop_more, take_more, drop_all}
+use Rattle.std.proofs.lemmas.Str.{encodes-append}
+use Rattle.std.specs.Char.{encode_utf8}
+use Rattle.std.specs.Str.{encode_utf8_all}
 use Rattle.yaml_lines.specs.Characters.{is_blank, is_nil}
 use Rattle.yaml_lines.specs.Plain.{trim_end}
 use Rattle.yaml_flows.specs.Gaps.{is_of_gap, in_comment, behind_gap}
@@ -51,6 +54,15 @@ trim_end-other t n c above within e h =
     let more : n - 1 + 1 ≡ n = omega arith in
     let last : take n t ≡ take (n - 1) t ++ c ∷ [] = ap (λ (k : ℕ). take k t) (sym more) ∙ taken t (n - 1) c (omega arith) e in
     ap trim_end last ∙ (trim_end_push_other (take (n - 1) t) c h ∙ sym last)
+
+-- ---- a text
+
+-- one character more
+pub text_more : (t : List ℕ) (i c : ℕ) (old new : List ℕ) → i < length t → c ≡ get_or t i c → old ≡ encode_utf8_all (take i t) → new ≡ old ++ encode_utf8 c → new ≡ encode_utf8_all (take (i + 1) t)
+text_more t i c old new within is e p =
+    p ∙ (ap (λ (xs : List ℕ). xs ++ encode_utf8 c) e
+    ∙ (ap (λ (xs : List ℕ). encode_utf8_all (take i t) ++ xs) (sym (append-nil (encode_utf8 c)))
+    ∙ (sym (encodes-append (take i t) (c ∷ [])) ∙ ap encode_utf8_all (sym (taken t i c within is)))))
 
 -- ---- a gap
 

@@ -1,11 +1,32 @@
 -- What the answers of the reader's inner calls stand for, which no reader of `read_flow` needs: what was read with what
 -- follows it, and a row that is read while some keys were seen.
-use Rattle.std.specs.Prelude.{ℕ, Bool, List, Option, Some, None, string_bytes, if◌then◌else◌}
+use Rattle.std.specs.Prelude.{ℕ, Bool, true, ◌||◌, List, Option, Some, None, String, take, nat_lt, string_bytes, if◌then◌else◌}
+use Rattle.std.specs.List.{list_any}
+use Rattle.std.specs.Str.{bytes_eq}
+use Rattle.std.specs.declared.alloc.Global.{Global}
+use Rattle.yaml_lines.specs.declared.node.Node.{Node}
 use Rattle.yaml_flows.specs.Flows.{Found}
 use Rattle.yaml_flows.specs.Keys.{Row}
 use Rattle.yaml_flows.specs.Texts.{FlowText}
 use Rattle.yaml_flows.specs.declared.found.Found.{Found as FoundIn}
 use Rattle.yaml_flows.specs.declared.found.FlowText.{FlowText as TextIn}
+
+-- so many rows of a table are looked through for a key; the keys of later ones are kept apart
+abbrev pub few : ℕ
+few = 8
+
+-- one of the rows has this key
+abbrev pub is_among : List (String Global × Node) → List ℕ → Bool
+is_among rows key = list_any (λ row. bytes_eq key (string_bytes row.0)) rows
+
+-- one of the rows has this key, by the keys that are kept of the later ones
+unfoldable pub is_seen : List (String Global × Node) → (List ℕ → Bool) → List ℕ → Bool
+is_seen rows later key = is_among (take few rows) key || later key
+
+-- a later row has the key `q`, once a row with this key stands behind `count` others
+abbrev pub seen_later : ℕ → List ℕ → (List ℕ → Bool) → List ℕ → Bool
+seen_later count key later q =
+    if nat_lt count few then later q else (if bytes_eq key q then true else later q)
 
 -- what was read, its value seen by `see`
 abbrev pub seen_by : {A B : Type 0} → (A → B) → FoundIn A → Found B

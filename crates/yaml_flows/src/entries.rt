@@ -1,15 +1,9 @@
-ghost use Rattle.std.specs.Prelude.{◌≡◌, ◌≢◌, ℕ, true, false, List, OnOk, IfErr, option_map, if◌then◌else◌};
-ghost use Rattle.std.specs.BTreeSet.{contains_text};
-ghost use Rattle.std.specs.Str.{bytes_eq};
-ghost use Rattle.yaml_lines.specs.declared.fault.YamlKind.TheVariants.{OutOfMemory};
+ghost use Rattle.std.specs.Prelude.{◌≡◌, option_map};
 ghost use Rattle.yaml_flows.specs.Flows as flows;
-ghost use Rattle.yaml_flows.specs.Faults.{Gives};
 
 use crate::fault::{FlowFault, fault_at};
 use crate::gap::after_gap;
 use crate::scan::ends_key;
-use std::alloc::Global;
-use std::collections::BTreeSet;
 use yaml_lines::YamlKind;
 
 /// Where the next part or the closing bracket stands, if these characters follow a part and its gap.
@@ -55,24 +49,4 @@ pub(crate) fn no_colon(rest: &[char]) -> FlowFault {
         _ => YamlKind::Layout,
     };
     fault_at(kind, rest)
-}
-
-/// From now on the key that stands first in `place` was seen. One that was seen before is `DoubledKey` there.
-pub(crate) fn see(
-    alloc: Global,
-    seen: &mut BTreeSet<String>,
-    key: &str,
-    place: &[char],
-) -> Result<(), FlowFault>
-    ensures new { OnOk result (contains_text seen.old key.now ≡ false) }
-    ensures added { OnOk result ((q : List ℕ) → contains_text seen.new q
-        ≡ (if bytes_eq key.now q then true else contains_text seen.old q)) }
-    ensures doubled { IfErr result (λ fault. fault.kind ≢ OutOfMemory
-        → contains_text seen.old key.now ≡ true) }
-{
-    if seen.insert(String::from_str(alloc, key)?)? {
-        Ok(())
-    } else {
-        Err(fault_at(YamlKind::DoubledKey, place))
-    }
 }

@@ -1,17 +1,17 @@
 ghost use Rattle.std.specs.Prelude.{◌≡◌, ℕ, List, [], ◌∷◌, IfOk, if◌then◌else◌, true, string_bytes, length};
 ghost use Rattle.std.specs.BTreeSet.{contains_text};
-ghost use Rattle.std.specs.Str.{bytes_eq};
 ghost use Rattle.yaml_lines.specs.View.{view};
 ghost use Rattle.yaml_lines.specs.ViewLaws.{member_view};
 ghost use Rattle.yaml_flows.specs.Faults.{Gives};
 ghost use Rattle.yaml_flows.specs.Flows as flows;
-ghost use Rattle.yaml_flows.specs.Views.{seen_by, fresh};
+ghost use Rattle.yaml_flows.specs.Views.{seen_by, fresh, is_seen, seen_later};
 
-use crate::entries::{behind_colon, next_part, no_colon, no_next_item, see};
+use crate::entries::{behind_colon, next_part, no_colon, no_next_item};
 use crate::fault::{FlowFault, fault_at, no_room};
 use crate::found::{FlowText, Found};
 use crate::gap::{after_gap, end};
 use crate::scan::behind;
+use crate::seen_keys::see;
 use crate::texts::text_at;
 use std::alloc::Global;
 use std::collections::BTreeSet;
@@ -114,14 +114,17 @@ fn item<'a>(alloc: Global, text: &'a [char], room: usize) -> Result<Found<'a, No
     }
 }
 
+// Room for so many rows is taken at once: most tables in a flow have one or two, and a row takes much memory.
+const FIRST_ROWS: usize = 2;
+
 // The same for a table.
 #[cycle(flows)]
 fn table<'a>(alloc: Global, inner: &'a [char], room: usize) -> Result<Found<'a, Node>, FlowFault>
     ensures { Gives (seen_by view) result (flows.table_at (flows.node room) inner.now) }
 {
     let start = after_gap(inner);
-    let mut seen = BTreeSet::new(alloc);
-    let mut rows = Vec::new(alloc);
+    let mut rows = Vec::with_capacity(alloc, FIRST_ROWS)?;
+    let mut later = BTreeSet::new(alloc);
     let mut rest = start;
     'rows: for _ in 0..start.len() {
         if let Some(after) = behind('}', rest) {
@@ -130,27 +133,29 @@ fn table<'a>(alloc: Global, inner: &'a [char], room: usize) -> Result<Found<'a, 
                 rest: after,
             });
         }
-        let found = row(alloc, &mut seen, rest, room)?;
+        let found = row(alloc, rows.as_slice(), &mut later, rest, room)?;
         rows.push(found.value)?;
         rest = found.rest;
     }
     Err(fault_at(YamlKind::Layout, rest))
 }
 
-// A row of a table, and what follows it from the next row or the closing brace on.
+// A row of a table behind these rows, and what follows it from the next row or the closing brace on. `later` has the keys
+// of the later ones of them.
 #[cycle(flows)]
 fn row<'a>(
     alloc: Global,
-    seen: &mut BTreeSet<String>,
+    rows: &[(String, Node)],
+    later: &mut BTreeSet<String>,
     text: &'a [char],
     room: usize,
 ) -> Result<Found<'a, (String, Node)>, FlowFault>
     ensures given { Gives (seen_by member_view) result
-        (fresh (contains_text seen.old) (flows.part 125 (flows.entry (flows.node room)) text.now)) }
-    ensures seen { IfOk result (λ found. (q : List ℕ) → contains_text seen.new q
-        ≡ (if bytes_eq (string_bytes found.value.0) q then true else contains_text seen.old q)) }
+        (fresh (is_seen rows.now (contains_text later.old)) (flows.part 125 (flows.entry (flows.node room)) text.now)) }
+    ensures later { IfOk result (λ found. (q : List ℕ) → contains_text later.new q
+        ≡ seen_later (length rows.now) (string_bytes found.value.0) (contains_text later.old) q) }
 {
-    let Found { value, rest } = entry(alloc, seen, text, room)?;
+    let Found { value, rest } = entry(alloc, rows, later, text, room)?;
     let place = after_gap(rest);
     match next_part('}', place) {
         Some(next) => Ok(Found { value, rest: next }),
@@ -158,19 +163,20 @@ fn row<'a>(
     }
 }
 
-// A key with its value. The key counts as seen before its value is read, so a doubled key is named before a fault of its
-// value.
+// The same without the gap and the comma: a key with its value. The key counts as seen before its value is read, so a
+// doubled key is named before a fault of its value.
 #[cycle(flows)]
 fn entry<'a>(
     alloc: Global,
-    seen: &mut BTreeSet<String>,
+    rows: &[(String, Node)],
+    later: &mut BTreeSet<String>,
     text: &'a [char],
     room: usize,
 ) -> Result<Found<'a, (String, Node)>, FlowFault>
     ensures given { Gives (seen_by member_view) result
-        (fresh (contains_text seen.old) (flows.entry (flows.node room) text.now)) }
-    ensures seen { IfOk result (λ found. (q : List ℕ) → contains_text seen.new q
-        ≡ (if bytes_eq (string_bytes found.value.0) q then true else contains_text seen.old q)) }
+        (fresh (is_seen rows.now (contains_text later.old)) (flows.entry (flows.node room) text.now)) }
+    ensures later { IfOk result (λ found. (q : List ℕ) → contains_text later.new q
+        ≡ seen_later (length rows.now) (string_bytes found.value.0) (contains_text later.old) q) }
 {
     let FlowText {
         text: key,
@@ -181,7 +187,7 @@ fn entry<'a>(
     let Some(value) = behind_colon(quoted, place) else {
         return Err(no_colon(place));
     };
-    see(alloc, seen, key.as_str(), text)?;
+    see(alloc, rows, later, key.as_str(), text)?;
     let Found { value, rest } = node(alloc, after_gap(value), room)?;
     Ok(Found {
         value: (key, value),

@@ -13,6 +13,7 @@ mod found;
 mod gap;
 mod plain;
 mod scan;
+mod seen_keys;
 mod texts;
 
 pub use fault::{FaultPlace, FlowFault};

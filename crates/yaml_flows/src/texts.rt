@@ -15,7 +15,11 @@ use yaml_lines::{YamlKind, read_quoted};
 fn text_of(alloc: Global, characters: &[char]) -> Result<String, AllocError>
     ensures { IfOk result (λ text. string_bytes text ≡ encode_utf8_all characters.now) }
 {
-    characters.iter().copied().collect(alloc)
+    let mut text = String::with_capacity(alloc, characters.len())?;
+    for c in characters {
+        text.push(*c)?;
+    }
+    Ok(text)
 }
 
 #[tactic(auto, unfolding(crate::specs::Texts::plain_at))]

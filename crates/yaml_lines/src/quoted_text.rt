@@ -209,6 +209,11 @@ fn step<'a>(mark: char, text: &'a [char]) -> Result<QuoteStep<'a>, YamlKind>
     }
 }
 
+// How many characters stand before the first quote of this mark: a text has as many or, with a quote of its own, more.
+fn before_quote(mark: char, text: &[char]) -> usize {
+    text.iter().position(|c| *c == mark).unwrap_or(0)
+}
+
 // The text up to the closing quote of this mark.
 fn quoted_within<'a>(
     alloc: Global,
@@ -218,7 +223,7 @@ fn quoted_within<'a>(
 ) -> Result<QuotedText<'a>, YamlFault>
     ensures { Gives (λ quoted. quoted) result (quoted_within mark (length text.now) text.now) }
 {
-    let mut read = String::new(alloc);
+    let mut read = String::with_capacity(alloc, before_quote(mark, text))?;
     let mut rest = text;
     for _ in 0..text.len() {
         let QuoteStep {

@@ -116,7 +116,12 @@ pub(crate) fn feed(text: &[char]) -> Option<usize>
 pub(crate) fn all_allowed(text: &[char]) -> bool
     ensures { result ≡ list_all is_allowed text.now }
 {
-    text.iter().all(|c| *c >= ' ' || *c == '\t')
+    for c in text {
+        if *c < ' ' && *c != '\t' {
+            return false;
+        }
+    }
+    true
 }
 
 // The characters before a comment.
@@ -150,5 +155,9 @@ pub(crate) fn trim_end(text: &[char]) -> &[char]
 pub(crate) fn text_of(alloc: Global, characters: &[char]) -> Result<String, AllocError>
     ensures { IfOk result (λ text. string_bytes text ≡ encode_utf8_all characters.now) }
 {
-    characters.iter().copied().collect(alloc)
+    let mut text = String::with_capacity(alloc, characters.len())?;
+    for c in characters {
+        text.push(*c)?;
+    }
+    Ok(text)
 }

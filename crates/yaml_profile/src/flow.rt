@@ -1,6 +1,7 @@
 // Flows over the lines that belong to them.
 ghost use Rattle.std.specs.Prelude.{◌≡◌, ◌++◌, IfOk, if◌then◌else◌};
 ghost use Rattle.std.specs.List.{list_all};
+ghost use Rattle.yaml_flows.specs.Faults.{Gives as FlowGives};
 ghost use Rattle.yaml_lines.specs.Faults.{Gives};
 ghost use Rattle.yaml_lines.specs.View.{view};
 ghost use Rattle.yaml_lines.specs.declared.fault.YamlKind.TheVariants.{OutOfMemory};
@@ -46,10 +47,27 @@ pub(crate) fn flow_over(
 ) -> Result<Node, YamlFault>
     ensures { Gives view result (blocks.flow room content.now later.now) }
 {
-    let text = flow_text(alloc, content, later)?;
-    match read_flow(alloc, text.as_slice(), room) {
+    match read_over(alloc, content, later, room) {
         Ok(node) => Ok(node),
         Err(found) => Err(line_fault(found, number, later, end)),
+    }
+}
+
+// The same with the flow's own fault. A flow on one line needs no copy of its characters.
+fn read_over(
+    alloc: Global,
+    content: &[char],
+    later: &[Line<'_, '_>],
+    room: usize,
+) -> Result<Node, FlowFault>
+    ensures { FlowGives view result (blocks.flow room content.now later.now) }
+{
+    match later {
+        [] => read_flow(alloc, content, room),
+        _ => {
+            let text = flow_text(alloc, content, later)?;
+            read_flow(alloc, text.as_slice(), room)
+        }
     }
 }
 

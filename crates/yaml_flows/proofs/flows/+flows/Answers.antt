@@ -1,4 +1,4 @@
-use Rattle.std.proofs.Common.{◌≡◌, ℕ, ◌+◌, ◌-◌, List, [], ◌∷◌, ◌++◌, length, map, Option, Some, option_map, sym, ap, ap₂, ◌∙◌, arith}
+use Rattle.std.proofs.Common.{◌≡◌, ℕ, ◌+◌, ◌-◌, List, [], ◌∷◌, ◌++◌, length, map, Option, Some, option_map, string_bytes, sym, ap, ap₂, ◌∙◌, arith}
 use Rattle.std.proofs.lemmas.Result.{err_from_is_err_and}
 use Rattle.std.specs.BTreeSet.{contains_text}
 use Rattle.yaml_lines.specs.Meaning.{Meaning, list, table, meanings_of, members_of}
@@ -7,9 +7,10 @@ use Rattle.yaml_lines.specs.ViewLaws.{member_view, view-List, view-Table}
 use Rattle.yaml_flows.specs.Flows as flows
 use Rattle.yaml_flows.specs.Flows.{Found, mapped, parts_within}
 use Rattle.yaml_flows.specs.Keys.{Row, keys_differ}
+use Rattle.yaml_flows.specs.Views.{is_seen, seen_later}
 use Rattle.yaml_flows.proofs.Nodes.{node-no_room, node-list, node-table, node-text}
 use Rattle.yaml_flows.proofs.Parts.{prepend, part_closed, part_read, part_refused, no_more, map_push}
-use Rattle.yaml_flows.proofs.Keys.{has_key, none_seen, none_apart, keys_differ-push, seen-push}
+use Rattle.yaml_flows.proofs.Keys.{has_key, none_later, none_apart, keys_differ-push, is_seen-none, is_seen-push}
 use Rattle.yaml_flows.proofs.Tables.{rows_with, rows_start, row_read, row_refused, rows_read, rows_end, unseen}
 use Rattle.yaml_flows.proofs.flows.+flows.Goals as goal
 
@@ -75,11 +76,11 @@ as_table o = option_map (mapped (λ rs. table (members_of rs))) o
 
 pub table-rows-init : goal.table-rows-init
 table-rows-init t c =
-    let none : map member_view c.new-rows.result.items ≡ [] = ap (map member_view) c.new-rows.ensures.items in
+    let none : map member_view c.in_ok-rows.rows.items ≡ [] = ap (map member_view) c.in_ok-rows.ensures.items in
     record {
-      all = rows_start (flows.entry (flows.node c.args.room)) c.args.inner.now c.after_gap-start.result.now (map member_view c.new-rows.result.items) c.after_gap-start.ensures none;
+      all = rows_start (flows.entry (flows.node c.args.room)) c.args.inner.now c.after_gap-start.result.now (map member_view c.in_ok-rows.rows.items) c.after_gap-start.ensures none;
       apart = ap keys_differ none ∙ none_apart;
-      seen = λ q. none_seen c.new-seen.result c.new-seen.ensures.empty q ∙ ap (has_key q) (sym none);
+      seen = λ q. is_seen-none c.in_ok-rows.rows.items (contains_text c.new-later.result) q c.in_ok-rows.ensures.items (none_later c.new-later.result c.new-later.ensures.empty q);
     }
 
 pub table-returns-in-Some : goal.table-returns-in-Some
@@ -92,10 +93,10 @@ table-returns-in-Some t c =
 pub table-returns-in_err-found : goal.table-returns-in_err-found
 table-returns-in_err-found t c =
     let entry = flows.entry (flows.node c.args.room) in
-    let p = err_from_is_err_and c.from_residual.result c.from_residual.ensures.1 in
+    let p = err_from_is_err_and c.from_residual-in_err-found.result c.from_residual-in_err-found.ensures.1 in
     rw (p.1, p.2) (λ other.
     ap as_table (c.rows.invariant.all
-    ∙ row_refused entry (contains_text c.rows.seen) (length c.after_gap-start.result.now) c.rows.counter c.rows.rest.now (map member_view c.rows.rows.items) c.rows-test.true c.in_default.ensures c.rows.invariant.seen (c.in_err-found.ensures.given other)))
+    ∙ row_refused entry (is_seen c.as_slice.result.now (contains_text c.rows.later)) (length c.after_gap-start.result.now) c.rows.counter c.rows.rest.now (map member_view c.rows.rows.items) c.rows-test.true c.in_default.ensures (λ q. ap (λ rs. is_seen rs (contains_text c.rows.later) q) c.as_slice.ensures.value ∙ c.rows.invariant.seen q) (c.in_err-found.ensures.given other)))
 
 pub table-rows-preserved : goal.table-rows-preserved
 table-rows-preserved t c =
@@ -104,7 +105,9 @@ table-rows-preserved t c =
     let before = map member_view c.rows.rows.items in
     let found = c.in_ok-found.found in
     let row = member_view found.value in
-    let read = unseen (contains_text c.rows.seen) _ (record { value = row; rest = found.rest.now }) c.in_ok-found.ensures.given in
+    let seen : (q : List ℕ) → is_seen c.as_slice.result.now (contains_text c.rows.later) q ≡ has_key q before =
+    λ q. ap (λ rs. is_seen rs (contains_text c.rows.later) q) c.as_slice.ensures.value ∙ c.rows.invariant.seen q in
+    let read = unseen (is_seen c.as_slice.result.now (contains_text c.rows.later)) _ (record { value = row; rest = found.rest.now }) c.in_ok-found.ensures.given in
     let pushed : map member_view c.push.new.self.items ≡ before ++ row ∷ [] =
     map_push member_view c.rows.rows.items c.push.new.self.items found.value c.in_ok-push.ensures.items in
     record {
@@ -112,8 +115,12 @@ table-rows-preserved t c =
           c.rows.invariant.all
           ∙ (row_read entry n c.rows.counter c.rows.rest.now before (record { value = row; rest = found.rest.now }) c.rows-test.true c.in_default.ensures read.0
           ∙ ap (λ (rs : List Row). rows_with entry rs (n - (c.rows.counter + 1)) found.rest.now) (sym pushed));
-      apart = ap keys_differ pushed ∙ keys_differ-push before row c.rows.invariant.apart (sym (c.rows.invariant.seen row.0) ∙ read.1);
-      seen = λ q. c.in_ok-found.ensures.seen q ∙ (seen-push q before row _ (c.rows.invariant.seen q) ∙ ap (has_key q) (sym pushed));
+      apart = ap keys_differ pushed ∙ keys_differ-push before row c.rows.invariant.apart (sym (seen row.0) ∙ read.1);
+      seen = λ q.
+          ap (λ rs. is_seen rs (contains_text c.row.new.later) q) c.in_ok-push.ensures.items
+          ∙ is_seen-push c.rows.rows.items found.value (contains_text c.rows.later) (contains_text c.row.new.later) q (c.rows.invariant.seen q)
+          (c.in_ok-found.ensures.later q ∙ ap (λ rs. seen_later (length rs) (string_bytes found.value.0) (contains_text c.rows.later) q) c.as_slice.ensures.value)
+          ∙ ap (λ rs. has_key q (map member_view rs)) (sym c.in_ok-push.ensures.items);
     }
 
 pub table-returns : goal.table-returns

@@ -5,6 +5,7 @@ use Rattle.yaml_lines.specs.ViewLaws.{member_view}
 use Rattle.yaml_flows.specs.Flows as flows
 use Rattle.yaml_flows.specs.Flows.{parts, parts_within, distinct}
 use Rattle.yaml_flows.specs.Keys.{keys_differ}
+use Rattle.yaml_flows.specs.Views.{is_seen}
 use Rattle.yaml_flows.proofs.Parts.{prepend}
 use Rattle.yaml_flows.proofs.Keys.{has_key}
 use Rattle.yaml_flows.proofs.Tables.{rows_with}
@@ -40,5 +41,5 @@ invariant-table-rows l =
     let found = map member_view l.rows.items in record {
       all : option_and_then distinct (parts 125 entry l.inner) ≡ rows_with entry found (l.end - l.counter) l.rest;
       apart : keys_differ found ≡ true;
-      seen : (q : List ℕ) → contains_text l.seen q ≡ has_key q found;
+      seen : (q : List ℕ) → is_seen l.rows.items (contains_text l.later) q ≡ has_key q found;
     }
