@@ -74,6 +74,11 @@ fn is_memory(error: &io::Error) -> bool {
 }
 
 impl From<clap::Error> for Stop {
+    ghost use Rattle.hookhost.specs.Stops.{IsMemoryOr};
+    ghost use Rattle.hookhost.specs.declared.stop.Stop.TheVariants.{Usage};
+
+    ghost from_gives = { λ error. IsMemoryOr (Usage error) };
+
     fn from(error: clap::Error) -> Stop {
         if error.kind() == clap::error::ErrorKind::OutOfMemory {
             Stop::Refused(TryFault::OutOfMemory)
@@ -84,30 +89,58 @@ impl From<clap::Error> for Stop {
 }
 
 impl From<TryFault> for Stop {
+    ghost use Rattle.std.specs.Prelude.{◌≡◌};
+    ghost use Rattle.hookhost.specs.declared.stop.Stop.TheVariants.{Refused};
+
+    ghost from_gives = { λ fault stop. stop ≡ Refused fault };
+
     fn from(fault: TryFault) -> Stop {
         Stop::Refused(fault)
     }
 }
 
 impl From<ConfigFault> for Stop {
+    ghost use Rattle.std.specs.Prelude.{◌≡◌};
+    ghost use Rattle.hookhost.specs.declared.stop.Stop.TheVariants.{NoConfiguration};
+
+    ghost from_gives = { λ fault stop. stop ≡ NoConfiguration fault };
+
     fn from(fault: ConfigFault) -> Stop {
         Stop::NoConfiguration(fault)
     }
 }
 
 impl From<OutOfMemory> for Stop {
+    ghost use Rattle.std.specs.Prelude.{◌≡◌};
+    ghost use Rattle.hookhost.specs.declared.stop.Stop.TheVariants.{Refused};
+    ghost use Rattle.hook_cli.specs.declared.try_fault.TryFault.TheVariants.{OutOfMemory};
+
+    ghost from_gives = { λ _ stop. stop ≡ Refused OutOfMemory };
+
     fn from(_refused: OutOfMemory) -> Stop {
         Stop::Refused(TryFault::OutOfMemory)
     }
 }
 
 impl From<AllocError> for Stop {
+    ghost use Rattle.std.specs.Prelude.{◌≡◌};
+    ghost use Rattle.hookhost.specs.declared.stop.Stop.TheVariants.{Refused};
+    ghost use Rattle.hook_cli.specs.declared.try_fault.TryFault.TheVariants.{OutOfMemory};
+
+    ghost from_gives = { λ _ stop. stop ≡ Refused OutOfMemory };
+
     fn from(_refused: AllocError) -> Stop {
         Stop::Refused(TryFault::OutOfMemory)
     }
 }
 
 impl<T: Drop> From<AllocFailed<T>> for Stop {
+    ghost use Rattle.std.specs.Prelude.{◌≡◌};
+    ghost use Rattle.hookhost.specs.declared.stop.Stop.TheVariants.{Refused};
+    ghost use Rattle.hook_cli.specs.declared.try_fault.TryFault.TheVariants.{OutOfMemory};
+
+    ghost from_gives = { λ _ stop. stop ≡ Refused OutOfMemory };
+
     fn from(_refused: AllocFailed<T>) -> Stop {
         Stop::Refused(TryFault::OutOfMemory)
     }
