@@ -5,7 +5,9 @@ mod streams;
 mod texts;
 mod words;
 
-use hook_base::{Bytes, FileEntry, Mode, RepoPath, Tree};
+use crate::{TryFault, try_over};
+use child_port::TableChildren;
+use hook_base::{Bytes, FileEntry, Items, Mode, RepoPath, Tree};
 use std::alloc::Global;
 use std::io::{Read, Write};
 use std::test::Fail;
@@ -99,4 +101,15 @@ fn tree_of(alloc: Global, paths: &[&str]) -> Result<Tree, Fail> {
         tree.put(RepoPath::read(alloc, path)?, entry)?;
     }
     Ok(tree)
+}
+
+/// The answer of a run over the tree, which needs no child.
+fn tried(
+    alloc: Global,
+    reader: &mut Pieces,
+    writer: &mut Kept,
+    tree: &Tree,
+) -> Result<bool, TryFault> {
+    let mut children = TableChildren::new(Items::from(Vec::new(alloc)));
+    try_over(alloc, reader, writer, tree, &mut children)
 }

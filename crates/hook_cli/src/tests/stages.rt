@@ -1,9 +1,6 @@
 //! A run goes through the hooks of its stage alone.
 
-use super::{Kept, Pieces, tree_of};
-use crate::try_over;
-use child_port::TableChildren;
-use hook_base::Items;
+use super::{Kept, Pieces, tree_of, tried};
 use std::alloc::Global;
 use std::process::Abort;
 use std::test::Fail;
@@ -30,8 +27,7 @@ fn expect_report(
     let tree = tree_of(alloc, &["bad.txt"])?;
     let mut reader = Pieces::new(configuration.as_bytes());
     let mut writer = Kept::new(alloc);
-    let mut children = TableChildren::new(Items::from(Vec::new(alloc)));
-    let passed = try_over(alloc, &mut reader, &mut writer, &tree, &mut children)?;
+    let passed = tried(alloc, &mut reader, &mut writer, &tree)?;
     assert_eq!(rt;
         writer.bytes.as_slice(),
         report.as_bytes(),
@@ -41,32 +37,40 @@ fn expect_report(
     Ok(())
 }
 
+/// Default stages other than the run's, before and behind the only hook.
+fn expect_no_report(rt: &impl Abort, alloc: Global, stages: &[&str]) -> Result<(), Fail> {
+    for stage in stages {
+        let text = format!(in alloc; "default_stages:\n- {stage}\n{REPOSITORY}{HOOK}")?;
+        expect_report(rt, alloc, text.as_str(), "")?;
+        let text = format!(in alloc; "{REPOSITORY}{HOOK}default_stages:\n- {stage}\n")?;
+        expect_report(rt, alloc, text.as_str(), "")?;
+    }
+    Ok(())
+}
+
 #[test]
 fn default_stages_of_push_leave_an_empty_report(rt: HostRuntime) -> Result<(), Fail> {
-    let alloc = rt.alloc();
-    for stages in &["push", "pre-push", "manual"] {
-        let text = format!(in alloc; "default_stages:\n- {stages}\n{REPOSITORY}{HOOK}")?;
-        expect_report(&rt, alloc, text.as_str(), "")?;
-        let text = format!(in alloc; "{REPOSITORY}{HOOK}default_stages:\n- {stages}\n")?;
-        expect_report(&rt, alloc, text.as_str(), "")?;
+    expect_no_report(&rt, rt.alloc(), &["push", "pre-push", "manual"])
+}
+
+/// One hook has the run's stage of its own or by default, and the other is of another stage.
+fn expect_one_run(rt: &impl Abort, alloc: Global, stages: &[&str]) -> Result<(), Fail> {
+    for stage in stages {
+        let text = format!(in alloc;
+            "default_stages:\n- push\n{REPOSITORY}{HOOK}    stages:\n    - manual\n    - {stage}\n{HOOK}"
+        )?;
+        expect_report(rt, alloc, text.as_str(), FAILED)?;
+        let text = format!(in alloc;
+            "default_stages:\n- {stage}\n{REPOSITORY}{HOOK}{HOOK}    stages:\n    - push\n"
+        )?;
+        expect_report(rt, alloc, text.as_str(), FAILED)?;
     }
     Ok(())
 }
 
 #[test]
 fn hooks_of_the_stage_are_run(rt: HostRuntime) -> Result<(), Fail> {
-    let alloc = rt.alloc();
-    for stages in &["commit", "pre-commit"] {
-        let text = format!(in alloc;
-            "default_stages:\n- push\n{REPOSITORY}{HOOK}    stages:\n    - manual\n    - {stages}\n{HOOK}"
-        )?;
-        expect_report(&rt, alloc, text.as_str(), FAILED)?;
-        let text = format!(in alloc;
-            "default_stages:\n- {stages}\n{REPOSITORY}{HOOK}{HOOK}    stages:\n    - push\n"
-        )?;
-        expect_report(&rt, alloc, text.as_str(), FAILED)?;
-    }
-    Ok(())
+    expect_one_run(&rt, rt.alloc(), &["commit", "pre-commit"])
 }
 
 #[test]
