@@ -1,0 +1,11 @@
+pub mod CallLemmas
+pub mod FixLemmas
+pub mod IndexLemmas
+pub mod KeptLemmas
+pub mod ListLemmas
+pub mod PlaceLemmas
+pub mod SameLemmas
+pub mod SoundLemmas
+pub mod StandLemmas
+pub mod StepLemmas
+pub mod TreeLemmas

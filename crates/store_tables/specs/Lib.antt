@@ -1,0 +1,4 @@
+pub mod Rowids
+pub mod Schema
+pub mod Steps
+pub mod Tables
