@@ -27,10 +27,12 @@ pub record Stands {S : Type 0} (g : Ghosts S) (conn : Held S) (kept : Kept) : Ty
 abbrev pub Leaves : Kept → Trees → Type 0
 Leaves kept trees = Holds (with_schema trees) (tables_of kept.repo kept.contents)
 
--- One call that makes of a store what is kept after it, in one transaction: all of it at `Ok`, and nothing otherwise. A
--- crash leaves what it could leave before, or all of it; once the call has answered `Ok`, all of it.
+-- One call that makes of a store what is kept after it, in one transaction: all of it at `Ok`, and nothing otherwise. What
+-- the store shows then is what its tables hold. A crash leaves what it could leave before, or all of it; once the call has
+-- answered `Ok`, all of it.
 pub record Changes {S A E : Type 0} (g : Ghosts S) (old new : Shown S) (result : Result A E) (after : Kept) : Type 0 where
   pub done : OnOk result (new.kept ≡ after)
   pub same : OnErr result (new.kept ≡ old.kept)
+  pub stands : Stands g new.conn new.kept
   pub crash : Survives (state g old.conn) (state g new.conn) (Leaves after)
   pub durable : HasCleanDisk (state g new.conn) → OnOk result ((trees : Trees) → (state g new.conn).may_leave trees → Leaves after trees)

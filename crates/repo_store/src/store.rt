@@ -1,7 +1,8 @@
-ghost use Rattle.std.specs.Prelude.{◌≡◌, ◌≢◌, ◌+◌, ◌<◌, ◌≤◌, [], false, length, option_map, IfOk, IfErr, OnOk};
+ghost use Rattle.std.specs.Prelude.{◌≡◌, ◌≢◌, ◌+◌, ◌<◌, ◌≤◌, [], false, length, option_map, IfOk, IfErr, OnOk, IsTrue};
 ghost use Rattle.sha2.specs.Sha256.{sha256};
 ghost use Rattle.hook_base.specs.Paths.{message_path};
 ghost use Rattle.hook_base.specs.Trees.{IsRisingChanges, put_file};
+ghost use Rattle.store_tables.specs.Schema.{no_schema};
 ghost use Rattle.sqlite_trees.specs.Tree.{Trees};
 ghost use Rattle.sqlite.specs.Held.{state};
 ghost use Rattle.sqlite.specs.State.{HasCleanDisk, Survives};
@@ -12,7 +13,7 @@ ghost use Rattle.repo_store.specs.Kept.{FixCollides, HasLarge, accepting, commit
 ghost use Rattle.repo_store.specs.Limits.{Fits, IsSmall};
 ghost use Rattle.repo_store.specs.Log.{log_from};
 ghost use Rattle.repo_store.specs.Repository.{Commit, commit_at, empty, last_tree};
-ghost use Rattle.repo_store.specs.Shown.{Changes, Leaves};
+ghost use Rattle.repo_store.specs.Shown.{Changes, Leaves, Stands};
 
 use crate::accept::accept_rows;
 use crate::blobs::keep_rows;
@@ -58,6 +59,9 @@ impl<S: Alter> Store<S> {
     ) -> Result<Store<S>, (StoreFault, Connection<S>)>
         requires { conn.in_transaction ≡ false }
         ensures made { IfOk result (λ store. store.kept ≡ record { repo = empty; contents = [] }) }
+        ensures stands { IfOk result (λ store. Stands S.Store store.conn store.kept) }
+        ensures was_bare { IfOk result (λ _. IsTrue (state S.Store conn).is_open → (state S.Store conn).now.schema ≡ no_schema) }
+        ensures why { IfErr result (λ e. IsRefusal ⊥ ⊥ ⊥ e.0) }
         ensures refused { IfErr result (λ e. HasCleanDisk (state S.Store e.1) → Rests (state S.Store conn) (state S.Store e.1)) }
         ensures outside { IfErr result (λ e. e.1.in_transaction ≡ false) }
         ensures crash_made { IfOk result (λ store. Survives (state S.Store conn) (state S.Store store.conn) (Leaves (record { repo = empty; contents = [] }))) }
@@ -232,6 +236,7 @@ impl<S: Alter> Store<S> {
     /// The connection, outside a transaction, with the store as it stands.
     pub fn into_connection(self) -> Connection<S>
         ensures same { result ≡ self.conn }
+        ensures stands { Stands S.Store result self.kept }
         ensures outside { result.in_transaction ≡ false }
     {
         let Store { conn, lists: _ } = self;

@@ -1,20 +1,18 @@
-use Rattle.std.proofs.Common.{[], IsTrue, refl}
+use Rattle.std.proofs.Common.{[], refl}
 use Rattle.sqlite.specs.Held.{state}
 use Rattle.repo_store.specs.Repository.{empty}
 use Rattle.repo_store.specs.Rows.{tables_of}
-use Rattle.repo_store.proofs.CallLemmas.{clean_if_open, leaves_commit}
+use Rattle.repo_store.proofs.CallLemmas.{leaves_commit}
+use Rattle.repo_store.proofs.StandLemmas.{made_stands}
 use Rattle.repo_store.proofs.store.Store.create.Goals as goal
 
 pub invariant_of-result : goal.invariant_of-result
 invariant_of-result g c =
-    let new = c.make.new.conn in
-    let bare = c.if-not-has_no_tables.ensures.bare refl in
-    let clean = λ (h : IsTrue (state g.S.Store new).is_open). clean_if_open (state g.S.Store new).is_clean (state g.S.Store new).is_open (g.met.S.Store.shut_if_dirty new.store) h in
-    rw c.new.ensures (record {
-      outside = c.make.ensures.outside;
-      now = λ h. (c.in-Ok.ensures.done (clean h) bare).now;
-      committed = λ h. (c.in-Ok.ensures.done (clean h) bare).committed;
-    })
+    made_stands g.S.Store c.args.conn c.make.new.conn c.new.result.kept c.in-Ok.field-0 c.in-Ok.ensures (c.if-not-has_no_tables.ensures.bare refl) (g.met.S.Store.shut_if_dirty c.make.new.conn.store) c.new.ensures
+
+pub returns-in-Ok-clause-stands : goal.returns-in-Ok-clause-stands
+returns-in-Ok-clause-stands g c =
+    made_stands g.S.Store c.args.conn c.make.new.conn c.new.result.kept c.in-Ok.field-0 c.in-Ok.ensures (c.if-not-has_no_tables.ensures.bare refl) (g.met.S.Store.shut_if_dirty c.make.new.conn.store) c.new.ensures
 
 pub returns-in-Ok-clause-crash_made : goal.returns-in-Ok-clause-crash_made
 returns-in-Ok-clause-crash_made g c = c.make.ensures.survives (c.if-not-has_no_tables.ensures.bare refl)
