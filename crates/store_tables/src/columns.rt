@@ -64,18 +64,19 @@ pub(crate) fn blob_if_any(alloc: Global, row: &Row, at: usize) -> Result<Option<
     }
 }
 
-/// Each row of an answer, from a column on.
+/// Each row of an answer, from a column on. A row is let go as soon as it is decoded, so that its contents stand in
+/// memory once.
 pub(crate) fn decoded<T: FromColumns>(
     alloc: Global,
-    rows: &[Row],
+    rows: Vec<Row>,
     first: usize,
 ) -> Result<Vec<T>, Error>
     requires { first ≤ 1 }
-    ensures { IfOk result (λ items. map T.cells items.items ≡ map (drop first) rows.now) }
+    ensures { IfOk result (λ items. map T.cells items.items ≡ map (drop first) rows.items) }
 {
-    let mut items = Vec::new(alloc);
+    let mut items = Vec::with_capacity(alloc, rows.len())?;
     for row in rows {
-        items.push(T::from_columns(alloc, row, first)?)?;
+        items.push(T::from_columns(alloc, &row, first)?)?;
     }
     Ok(items)
 }

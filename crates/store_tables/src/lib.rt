@@ -11,6 +11,7 @@ mod empty;
 mod reads;
 mod rowids;
 mod rows;
+mod schema;
 #[cfg(test)]
 mod tests;
 mod writes;
@@ -21,6 +22,7 @@ pub use reads::{
     read_answers, read_blobs, read_commits, read_entries, read_fixes, read_meta, read_staged,
 };
 pub use rows::{AnswerRow, BlobRow, CommitRow, EntryRow, FixRow, MetaRow, StagedRow};
+pub use schema::has_store_tables;
 pub use writes::{
     clear_answers, clear_fixes, put_answer, put_blob, put_commit, put_entry, put_fix, put_meta,
     put_staged, take_staged,

@@ -18,7 +18,7 @@ pub fn read_meta<S: Alter>(
     ensures read { IsRead S.Store tx.old.conn.now tx.new.conn.now result (λ rows trees. Stored meta_cells (1 ∷ 2 ∷ []) rows.items (trees 0)) }
 {
     let shown = tx.query_all("SELECT name, value FROM meta ORDER BY name", &[])?;
-    decoded(alloc, &shown, 0)
+    decoded(alloc, shown, 0)
 }
 
 /// All contents, in the order of their digests.
@@ -30,7 +30,7 @@ pub fn read_blobs<S: Alter>(
     ensures read { IsRead S.Store tx.old.conn.now tx.new.conn.now result (λ rows trees. Stored blob_cells (1 ∷ 2 ∷ []) rows.items (trees 2)) }
 {
     let shown = tx.query_all("SELECT digest, bytes FROM blobs ORDER BY digest", &[])?;
-    decoded(alloc, &shown, 0)
+    decoded(alloc, shown, 0)
 }
 
 /// All commits, in the order of their numbers.
@@ -42,7 +42,7 @@ pub fn read_commits<S: Alter>(
     ensures read { IsRead S.Store tx.old.conn.now tx.new.conn.now result (λ rows trees. Stored commit_cells (0 ∷ 2 ∷ []) rows.items (trees 8)) }
 {
     let shown = tx.query_all("SELECT n, message FROM commits ORDER BY n", &[])?;
-    decoded(alloc, &shown, 0)
+    decoded(alloc, shown, 0)
 }
 
 /// The files of all commits, in the order of the commits' numbers and the paths.
@@ -57,7 +57,7 @@ pub fn read_entries<S: Alter>(
         "SELECT n, path, mode, digest FROM entries ORDER BY n, path",
         &[],
     )?;
-    decoded(alloc, &shown, 0)
+    decoded(alloc, shown, 0)
 }
 
 /// The staged files, in the order of their paths.
@@ -76,7 +76,7 @@ pub fn read_staged<S: Alter>(
     if !are_apart(&mut rowids) {
         return Err(Error::InvalidQuery);
     }
-    decoded(alloc, &shown, 1)
+    decoded(alloc, shown, 1)
 }
 
 /// The fixes, in the order of their paths.
@@ -92,7 +92,7 @@ pub fn read_fixes<S: Alter>(
         &[],
     )?;
     let _rowids = rowids_in(alloc, &shown)?;
-    decoded(alloc, &shown, 1)
+    decoded(alloc, shown, 1)
 }
 
 /// The remembered answers, in the order of their keys.
@@ -108,5 +108,5 @@ pub fn read_answers<S: Alter>(
         &[],
     )?;
     let _rowids = rowids_in(alloc, &shown)?;
-    decoded(alloc, &shown, 1)
+    decoded(alloc, shown, 1)
 }

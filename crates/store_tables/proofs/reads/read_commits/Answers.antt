@@ -13,4 +13,4 @@ returns-in_err-shown-clause-read g c =
 
 pub returns-clause-read : goal.returns-clause-read
 returns-clause-read g c =
-    read_ends g.S.Store c.args.tx.now.conn.now c.query_all.new.self.conn.now _ (λ (v : Vec Rows.Row Global). v.items) c.query_all.result c.query_all.ensures.ok c.query_all.ensures.err c.query_all.ensures.survives 8 _ _ _ text.all_commits_is c.in_ok-shown.shown c.in_ok-shown.was c.decoded.result (λ rows. rows.items) commit_cells (0 ∷ 2 ∷ []) 0 (λ row. refl) c.deref.result.now c.deref.ensures.value c.decoded.ensures
+    read_ends g.S.Store c.args.tx.now.conn.now c.query_all.new.self.conn.now _ (λ (v : Vec Rows.Row Global). v.items) c.query_all.result c.query_all.ensures.ok c.query_all.ensures.err c.query_all.ensures.survives 8 _ _ _ text.all_commits_is c.in_ok-shown.shown c.in_ok-shown.was c.decoded.result (λ rows. rows.items) commit_cells (0 ∷ 2 ∷ []) 0 (λ row. refl) c.in_ok-shown.shown.items refl c.decoded.ensures

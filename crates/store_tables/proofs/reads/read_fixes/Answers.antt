@@ -22,5 +22,5 @@ returns-in_err-_rowids-clause-read g c =
 
 pub returns-clause-read : goal.returns-clause-read
 returns-clause-read g c =
-    read_also g.S.Store c.args.tx.now.conn.now c.query_all.new.self.conn.now _ (λ (v : Vec Rows.Row Global). v.items) c.query_all.result c.query_all.ensures.ok c.query_all.ensures.err c.query_all.ensures.survives 6 _ _ _ text.all_fixes_is c.in_ok-shown.shown c.in_ok-shown.was (λ rows. have_rowids rows ≡ true) c.decoded.result (λ rows. rows.items) fix_cells (1 ∷ 2 ∷ 3 ∷ []) 1 (λ row. refl) c.deref-2.result.now c.deref-2.ensures.value
-    (λ rows same. ids_number rows c.in_ok-_rowids._rowids.items (ids_shown (col 1 0 ∷ col 1 1 ∷ col 1 2 ∷ col 1 3 ∷ []) rows _ c.in_ok-_rowids._rowids.items (λ row. refl) same (subst (λ l. map Int c.in_ok-_rowids._rowids.items ≡ map (λ (r : Row). column r 0) l) (c.deref.ensures.value ∙ sym c.deref-2.ensures.value) c.in_ok-_rowids.ensures))) c.decoded.ensures
+    read_also g.S.Store c.args.tx.now.conn.now c.query_all.new.self.conn.now _ (λ (v : Vec Rows.Row Global). v.items) c.query_all.result c.query_all.ensures.ok c.query_all.ensures.err c.query_all.ensures.survives 6 _ _ _ text.all_fixes_is c.in_ok-shown.shown c.in_ok-shown.was (λ rows. have_rowids rows ≡ true) c.decoded.result (λ rows. rows.items) fix_cells (1 ∷ 2 ∷ 3 ∷ []) 1 (λ row. refl) c.in_ok-shown.shown.items refl
+    (λ rows same. ids_number rows c.in_ok-_rowids._rowids.items (ids_shown (col 1 0 ∷ col 1 1 ∷ col 1 2 ∷ col 1 3 ∷ []) rows _ c.in_ok-_rowids._rowids.items (λ row. refl) same (subst (λ l. map Int c.in_ok-_rowids._rowids.items ≡ map (λ (r : Row). column r 0) l) c.deref.ensures.value c.in_ok-_rowids.ensures))) c.decoded.ensures

@@ -22,8 +22,8 @@ returns-in_err-rowids-clause-read g c =
 
 pub returns-clause-read : goal.returns-clause-read
 returns-clause-read g c =
-    read_also g.S.Store c.args.tx.now.conn.now c.query_all.new.self.conn.now _ (λ (v : Vec Rows.Row Global). v.items) c.query_all.result c.query_all.ensures.ok c.query_all.ensures.err c.query_all.ensures.survives 4 _ _ _ text.all_staged_is c.in_ok-shown.shown c.in_ok-shown.was (AreKeyed) c.decoded.result (λ rows. rows.items) staged_cells (1 ∷ 2 ∷ 3 ∷ []) 1 (λ row. refl) c.deref-2.result.now c.deref-2.ensures.value
-    (λ rows same. let ids = ids_shown (col 1 0 ∷ col 1 1 ∷ col 1 2 ∷ col 1 3 ∷ []) rows _ c.in_ok-rowids.rowids.items (λ row. refl) same (subst (λ l. map Int c.in_ok-rowids.rowids.items ≡ map (λ (r : Row). column r 0) l) (c.deref.ensures.value ∙ sym c.deref-2.ensures.value) c.in_ok-rowids.ensures) in record { numbered = ids_number rows c.in_ok-rowids.rowids.items ids; apart = apart_from_ids rows c.in_ok-rowids.rowids.items ids (c.if-not-are_apart.ensures refl) }) c.decoded.ensures
+    read_also g.S.Store c.args.tx.now.conn.now c.query_all.new.self.conn.now _ (λ (v : Vec Rows.Row Global). v.items) c.query_all.result c.query_all.ensures.ok c.query_all.ensures.err c.query_all.ensures.survives 4 _ _ _ text.all_staged_is c.in_ok-shown.shown c.in_ok-shown.was (AreKeyed) c.decoded.result (λ rows. rows.items) staged_cells (1 ∷ 2 ∷ 3 ∷ []) 1 (λ row. refl) c.in_ok-shown.shown.items refl
+    (λ rows same. let ids = ids_shown (col 1 0 ∷ col 1 1 ∷ col 1 2 ∷ col 1 3 ∷ []) rows _ c.in_ok-rowids.rowids.items (λ row. refl) same (subst (λ l. map Int c.in_ok-rowids.rowids.items ≡ map (λ (r : Row). column r 0) l) c.deref.ensures.value c.in_ok-rowids.ensures) in record { numbered = ids_number rows c.in_ok-rowids.rowids.items ids; apart = apart_from_ids rows c.in_ok-rowids.rowids.items ids (c.if-not-are_apart.ensures refl) }) c.decoded.ensures
 
 pub returns-then-not-are_apart-clause-read : goal.returns-then-not-are_apart-clause-read
 returns-then-not-are_apart-clause-read g c =
