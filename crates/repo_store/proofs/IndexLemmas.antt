@@ -12,7 +12,7 @@ use lib.Seq.{get_or-append_seam}
 use lib.ListN.{get_or-append}
 use Rattle.sha2.specs.Sha256.{sha256}
 use Rattle.hook_base.specs.RisingLaws.{bytes_same, bytes_differ}
-use Rattle.repo_store.specs.Contents.{has_digest, has_content, with_content, IsIndexed}
+use Rattle.repo_store.specs.Contents.{Collides, has_digest, has_content, with_content, IsIndexed}
 
 never : {X : Type 0} {x : X} → ◌≡◌ {A = Option X} None (Some x) → ⊥
 never e = cc
@@ -53,6 +53,13 @@ module _ {S : Type 0} (m : HashMap (List ℕ) ℕ S) (contents : List (List ℕ)
       let listed : get bytes_eq m (sha256 (at any.0)) ≡ Some any.0 = index.listed any.0 any.2 in
       let placed : get bytes_eq m digest ≡ Some any.0 = ap (get bytes_eq m) (same ∙ ap sha256 (sym read)) ∙ listed in
       cc)
+
+  -- the contents at the place of a digest are the only ones under it
+  pub one_alone : (content : List ℕ) (k : ℕ) → get bytes_eq m (sha256 content) ≡ Some k → at k ≡ content → ¬ Collides content contents
+  one_alone content k placed here other =
+      let listed : get bytes_eq m (sha256 (at other.at)) ≡ Some other.at = index.listed other.at other.within in
+      let same : k ≡ other.at = same_some (sym placed ∙ ap (get bytes_eq m) (sym other.same_digest) ∙ listed) in
+      other.differs (ap at (sym same) ∙ here)
 
 -- one more, whose digest no contents have
 pub index_pushed : {S : Type 0} (m n : HashMap (List ℕ) ℕ S) (contents : List (List ℕ)) (bytes : List ℕ) → IsIndexed m contents → has_digest (sha256 bytes) contents ≡ false
@@ -140,6 +147,19 @@ index_same m n contents same index = record {
   listed = λ k within. ap (λ es. lookup (bytes_eq (sha256 (get_or contents k []))) es) same ∙ index.listed k within;
   found = λ digest k is. index.found digest k (ap (λ es. lookup (bytes_eq digest) es) (sym same) ∙ is);
 }
+
+-- contents whose digest none has collide with none
+pub none_under : (bytes : List ℕ) (contents : List (List ℕ)) → has_digest (sha256 bytes) contents ≡ false → ¬ Collides bytes contents
+none_under bytes contents none other =
+    let there : has_digest (sha256 bytes) contents ≡ true =
+    list_any_at (λ (b : List ℕ). bytes_eq (sha256 bytes) (sha256 b)) contents other.at [] other.within (bytes_same (sha256 bytes) (sha256 (get_or contents other.at [])) (sym other.same_digest)) in
+    absurd (let never : true ≡ false = sym there ∙ none in cc)
+
+-- contents under the digest of these, which differ, collide with them
+pub other_under : (bytes content : List ℕ) (contents : List (List ℕ)) → Any (λ other. other ≡ content) contents → sha256 content ≡ sha256 bytes → (content ≡ bytes → ⊥) → Collides bytes contents
+other_under bytes content contents any under differs =
+    let read : get_or contents any.0 [] ≡ content = get_or_default contents any.0 [] any.1 any.2 ∙ any.3 ∙ any.4 in
+    record { at = any.0; within = any.2; same_digest = ap sha256 read ∙ under; differs = λ e. differs (sym read ∙ e) }
 
 -- contents whose digest none has are not among them
 pub unknown : (bytes : List ℕ) (contents : List (List ℕ)) → has_digest (sha256 bytes) contents ≡ false → has_content bytes contents ≡ false

@@ -1,4 +1,5 @@
 pub mod CallLemmas
+pub mod ChangeLemmas
 pub mod FixLemmas
 pub mod IndexLemmas
 pub mod KeptLemmas

@@ -42,16 +42,16 @@ setting changes kept = record { repo = with_fixes changes kept.repo; contents = 
 abbrev pub accepting : Kept → Kept
 accepting kept = record kept { repo = accepted kept.repo }
 
--- why the fixes can't be set: one of them is too large
+-- why fixes can't be set: one of them is too large
 abbrev pub HasLarge : List Change → Type 0
-HasLarge changes = Any (λ (change : Change). MatchOption change.now ⊥ (λ bytes. ¬ IsSmall bytes)) changes
+HasLarge fixes = Any (λ (change : Change). MatchOption change.now ⊥ (λ bytes. ¬ IsSmall bytes)) fixes
 
 -- or its contents collide with those that are kept by then
-pub record FixCollides (changes : List Change) (kept : Kept) : Type 0 where
+pub record FixCollides (fixes : List Change) (contents : List (List ℕ)) : Type 0 where
   pub at : ℕ
   pub change : Change
-  pub is : slice_get changes at ≡ Some change
-  pub collides : MatchOption change.now ⊥ (λ bytes. Collides bytes (with_changes (staged_changes (take at changes) kept.repo.staged) kept.contents))
+  pub is : slice_get fixes at ≡ Some change
+  pub collides : MatchOption change.now ⊥ (λ bytes. Collides bytes (with_changes (take at fixes) contents))
 
 -- ---- how it is told apart
 

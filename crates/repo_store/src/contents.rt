@@ -65,6 +65,7 @@ impl Contents {
         ensures absent { IfNone result (has_digest digest.now self.now ≡ false) }
         ensures found { IfSome result (λ content. Any (λ bytes. bytes ≡ content.now) self.now) }
         ensures under { IfSome result (λ content. sha256 content.now ≡ digest.now) }
+        ensures alone { IfSome result (λ content. ¬ Collides content.now self.now) }
     {
         match self.places.get(digest) {
             Some(place) => Some(&self.items[*place]),
@@ -95,6 +96,7 @@ impl Contents {
         ensures same { OnErr result (self.new ≡ self.old) }
         ensures why { IfErr result (IsRefusal (¬ IsSmall bytes.now) ⊥ (Collides bytes.now self.old)) }
         ensures small { OnOk result (IsSmall bytes.now) }
+        ensures apart { OnOk result (¬ Collides bytes.now self.old) }
     {
         if bytes.len() > CONTENT_LIMIT {
             return Err(StoreFault::TooLarge);

@@ -100,6 +100,7 @@ impl Lists {
         ensures same { OnErr result (self.new ≡ self.old) }
         ensures why { IfErr result (IsRefusal (¬ IsSmall bytes.now) ⊥ (Collides bytes.now self.old.kept.contents)) }
         ensures small { OnOk result (IsSmall bytes.now) }
+        ensures apart { OnOk result (¬ Collides bytes.now self.old.kept.contents) }
     {
         self.contents.keep(bytes)
     }
@@ -124,6 +125,7 @@ impl Lists {
         ensures within { OnOk result (IsSmall bytes.now × Fits (put_file path.now (record { mode = mode; bytes = bytes.now }) self.old.kept.repo.staged)) }
         ensures same { OnErr result (self.new.kept ≡ self.old.kept) }
         ensures why { IfErr result (IsRefusal (¬ IsSmall bytes.now) (¬ Fits (put_file path.now (record { mode = mode; bytes = bytes.now }) self.old.kept.repo.staged)) (Collides bytes.now self.old.kept.contents)) }
+        ensures apart { OnOk result (¬ Collides bytes.now self.old.kept.contents) }
         ensures rising { IsRising self.old.kept.repo.staged }
     {
         if !may_put(self.staged.as_slice(), path) {
@@ -201,6 +203,8 @@ impl Lists {
         ensures fix { IfOk result (λ fix. fix_of fix ≡ change.entry.now) }
         ensures kept { OnOk result (self.new.kept ≡ record self.old.kept { contents = with_new change.entry.now.now self.old.kept.contents }) }
         ensures same { OnErr result (self.new.kept ≡ self.old.kept) }
+        ensures within { OnOk result (¬ MatchOption change.entry.now.now ⊥ (λ bytes. ¬ IsSmall bytes)) }
+        ensures apart { OnOk result (¬ MatchOption change.entry.now.now ⊥ (λ bytes. Collides bytes self.old.kept.contents)) }
         ensures why { IfErr result (IsRefusal (MatchOption change.entry.now.now ⊥ (λ bytes. ¬ IsSmall bytes)) ⊥ (MatchOption change.entry.now.now ⊥ (λ bytes. Collides bytes self.old.kept.contents))) }
     {
         let Ok(path) = change.path.clone() else {
@@ -232,7 +236,9 @@ impl Lists {
         ensures sound { IsSound self.old.kept.repo }
         ensures repo { self.new.kept.repo ≡ self.old.kept.repo }
         ensures front { take (length self.old.kept.contents) self.new.kept.contents ≡ self.old.kept.contents }
-        ensures why { IfErr result (IsRefusal (HasLarge changes.now) ⊥ (FixCollides changes.now self.old.kept)) }
+        ensures within { OnOk result (¬ HasLarge (staged_changes changes.now self.old.kept.repo.staged)) }
+        ensures apart { OnOk result (¬ FixCollides (staged_changes changes.now self.old.kept.repo.staged) self.old.kept.contents) }
+        ensures why { IfErr result (IsRefusal (HasLarge (staged_changes changes.now self.old.kept.repo.staged)) ⊥ (FixCollides (staged_changes changes.now self.old.kept.repo.staged) self.old.kept.contents)) }
     {
         let mut fixes = Vec::new(*self.staged.allocator());
         'changes: for change in changes {
@@ -258,7 +264,9 @@ impl Lists {
         ensures few { IfOk result (λ fixes. length (map fix_of fixes.items) ≤ 100000) }
         ensures kept { OnOk result (self.new.kept ≡ record self.old.kept { contents = with_changes (staged_changes changes.now self.old.kept.repo.staged) self.old.kept.contents }) }
         ensures same { OnErr result (self.new.kept ≡ self.old.kept) }
-        ensures why { IfErr result (IsRefusal (HasLarge changes.now) ⊥ (FixCollides changes.now self.old.kept)) }
+        ensures within { OnOk result (¬ HasLarge (staged_changes changes.now self.old.kept.repo.staged)) }
+        ensures apart { OnOk result (¬ FixCollides (staged_changes changes.now self.old.kept.repo.staged) self.old.kept.contents) }
+        ensures why { IfErr result (IsRefusal (HasLarge (staged_changes changes.now self.old.kept.repo.staged)) ⊥ (FixCollides (staged_changes changes.now self.old.kept.repo.staged) self.old.kept.contents)) }
     {
         let before = self.count();
         match self.hold_fixes(changes) {

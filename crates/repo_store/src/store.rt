@@ -12,7 +12,7 @@ ghost use Rattle.repo_store.specs.Faults.{IsRefusal};
 ghost use Rattle.repo_store.specs.Kept.{FixCollides, HasLarge, accepting, committing, keeping, setting, staging, unstaging};
 ghost use Rattle.repo_store.specs.Limits.{Fits, IsSmall};
 ghost use Rattle.repo_store.specs.Log.{log_from};
-ghost use Rattle.repo_store.specs.Repository.{Commit, commit_at, empty, last_tree};
+ghost use Rattle.repo_store.specs.Repository.{Commit, commit_at, empty, last_tree, staged_changes};
 ghost use Rattle.repo_store.specs.Shown.{Changes, Leaves, Stands};
 
 use crate::accept::accept_rows;
@@ -89,6 +89,7 @@ impl<S: Alter> Store<S> {
         requires { path.now ≢ message_path }
         ensures change { Changes S.Store self.old self.new result (staging path.now (record { mode = mode; bytes = bytes.now }) self.old.kept) }
         ensures within { OnOk result (IsSmall bytes.now × Fits (put_file path.now (record { mode = mode; bytes = bytes.now }) self.old.kept.repo.staged)) }
+        ensures apart { OnOk result (¬ Collides bytes.now self.old.kept.contents) }
         ensures why { IfErr result (IsRefusal (¬ IsSmall bytes.now) (¬ Fits (put_file path.now (record { mode = mode; bytes = bytes.now }) self.old.kept.repo.staged)) (Collides bytes.now self.old.kept.contents)) }
     {
         let before = self.lists.count();
@@ -116,12 +117,15 @@ impl<S: Alter> Store<S> {
         Ok(())
     }
 
-    /// Sets the fixes to those of the changes that are of staged files. Refused are contents of more than 16 MiB
-    /// (`TooLarge`), and those whose digest is that of others (`Collision`); a refusal leaves the store as it was.
+    /// Sets the fixes to those of the changes that are of staged files; the others are dropped unread. Refused are fixes
+    /// with contents of more than 16 MiB (`TooLarge`), and those whose digest is that of others (`Collision`); a refusal
+    /// leaves the store as it was.
     pub fn set_fixes(&mut self, changes: &[Change]) -> Result<(), StoreFault>
         requires { IsRisingChanges changes.now }
         ensures change { Changes S.Store self.old self.new result (setting changes.now self.old.kept) }
-        ensures why { IfErr result (IsRefusal (HasLarge changes.now) ⊥ (FixCollides changes.now self.old.kept)) }
+        ensures within { OnOk result (¬ HasLarge (staged_changes changes.now self.old.kept.repo.staged)) }
+        ensures apart { OnOk result (¬ FixCollides (staged_changes changes.now self.old.kept.repo.staged) self.old.kept.contents) }
+        ensures why { IfErr result (IsRefusal (HasLarge (staged_changes changes.now self.old.kept.repo.staged)) ⊥ (FixCollides (staged_changes changes.now self.old.kept.repo.staged) self.old.kept.contents)) }
     {
         let before = self.lists.count();
         let fixes = match self.lists.prepare_fixes(changes) {
@@ -182,6 +186,7 @@ impl<S: Alter> Store<S> {
         ensures change { Changes S.Store self.old self.new result (keeping bytes.now self.old.kept) }
         ensures digest { IfOk result (λ digest. digest.bytes ≡ sha256 bytes.now) }
         ensures within { OnOk result (IsSmall bytes.now) }
+        ensures apart { OnOk result (¬ Collides bytes.now self.old.kept.contents) }
         ensures why { IfErr result (IsRefusal (¬ IsSmall bytes.now) ⊥ (Collides bytes.now self.old.kept.contents)) }
     {
         let before = self.lists.count();

@@ -1,6 +1,7 @@
 use Rattle.std.proofs.Common.{◌≡◌, ℕ, List, Ok, Err, length, map, drop, ap, ap₂, subst, ◌∙◌, arith}
 use Rattle.hook_base.specs.declared.change.Change.{Change}
-use Rattle.repo_store.specs.Kept.{Kept, Mirror, setting}
+use Rattle.repo_store.specs.Faults.{IsRefusal}
+use Rattle.repo_store.specs.Kept.{FixCollides, HasLarge, Kept, Mirror, setting}
 use Rattle.repo_store.specs.Lists.{fix_of}
 use Rattle.repo_store.specs.Repository.{staged_changes}
 use Rattle.repo_store.specs.Shown.{Shown, Changes}
@@ -16,6 +17,10 @@ since-requires g c =
     let there = ap (λ (k : Kept). length k.contents) (c.in-Ok.ensures).kept in
     let count = c.count-before.ensures in
     omega arith
+
+pub returns-in-Err-clause-why : goal.returns-in-Err-clause-why
+returns-in-Err-clause-why g c =
+    subst (λ (s : Shown g.row.S.Denot). let fixes = staged_changes c.args.changes.now s.kept.repo.staged in IsRefusal (HasLarge fixes) ⊥ (FixCollides fixes s.kept.contents) c.in-Err.fault) c.self.view_is (c.in-Err.ensures).why
 
 pub invariant_of-self-in-Err-set_rows : goal.invariant_of-self-in-Err-set_rows
 invariant_of-self-in-Err-set_rows g c =
