@@ -35,8 +35,8 @@ module _ {S A : Type 0} (g : Ghosts S) (old new : Held S) (kept after : Kept) (t
   rests : (e : Error) → Calls {A = A} g old new kept t (Err e) → Stands g new kept
   rests e call = record {
     outside = call.outside;
-    now = λ h. let r = call.kept (clean_of (state g new) dirty h) in subst (λ (db : Database). Holds db (tables_in kept)) (sym (r.now h)) (stands.committed (r.was_open h));
-    committed = λ h. let r = call.kept (clean_of (state g new) dirty h) in subst (λ (db : Database). Holds db (tables_in kept)) (sym (r.committed h)) (stands.committed (r.was_open h));
+    now = λ h. subst (λ (db : Database). Holds db (tables_in kept)) (sym (call.kept.now h)) (stands.committed (call.kept.was_open h));
+    committed = λ h. subst (λ (db : Database). Holds db (tables_in kept)) (sym (call.kept.committed h)) (stands.committed (call.kept.was_open h));
   }
 
   stands_on : (x : A) → Calls {A = A} g old new kept t (Ok x) → Stands g new after

@@ -24,5 +24,5 @@ pub record Rests (old new : State) : Type 0 where
 pub record IsCall {S A : Type 0} (g : Ghosts S) (old new : Held S) (result : Result A Error) (Before After : Database → Type 0) : Type 0 where
   pub outside : new.in_transaction ≡ false
   pub done : HasCleanDisk (state g new) → (IsTrue (state g old).is_open → Before (state g old).now) → OnOk result (Commits (state g new) After)
-  pub kept : HasCleanDisk (state g new) → OnErr result (Rests (state g old) (state g new))
+  pub kept : OnErr result (Rests (state g old) (state g new))
   pub survives : (IsTrue (state g old).is_open → Before (state g old).now) → Survives (state g old) (state g new) (λ trees. After (with_schema trees))

@@ -30,8 +30,8 @@ use sqlite::{Alter, Connection, Error, ErrorCode};
 use std::alloc::Global;
 use std::marker::Model;
 
-/// A repository in a database: its commits, the staged files and the fixes. Each call is one transaction: it is done
-/// whole or not at all, whatever stops it.
+/// A repository in a database: its commits, the staged files and the fixes. Each call that changes it is one transaction:
+/// it is done whole or not at all, whatever stops it. The calls that read are answered from memory.
 #[derive(Drop)]
 pub struct Store<S: Alter> {
     conn: Connection<S>,
@@ -51,8 +51,8 @@ impl<S: Alter> Model for Store<S> {
 }
 
 impl<S: Alter> Store<S> {
-    /// Makes an empty store in a database that has no tables. A refusal gives the connection back, with the tables as
-    /// before; a database that has tables is refused as `Sql`.
+    /// Makes an empty store in a database that has no tables. A database that has tables, indexes or views is refused as
+    /// `Sql`. A refusal gives the connection back, with the tables as before where it is still open.
     pub fn create(
         alloc: Global,
         conn: Connection<S>,
@@ -62,7 +62,7 @@ impl<S: Alter> Store<S> {
         ensures stands { IfOk result (λ store. Stands S.Store store.conn store.kept) }
         ensures was_bare { IfOk result (λ _. IsTrue (state S.Store conn).is_open → (state S.Store conn).now.schema ≡ no_schema) }
         ensures why { IfErr result (λ e. IsRefusal ⊥ ⊥ ⊥ e.0) }
-        ensures refused { IfErr result (λ e. HasCleanDisk (state S.Store e.1) → Rests (state S.Store conn) (state S.Store e.1)) }
+        ensures refused { IfErr result (λ e. Rests (state S.Store conn) (state S.Store e.1)) }
         ensures outside { IfErr result (λ e. e.1.in_transaction ≡ false) }
         ensures crash_made { IfOk result (λ store. Survives (state S.Store conn) (state S.Store store.conn) (Leaves (record { repo = empty; contents = [] }))) }
         ensures crash_refused { IfErr result (λ e. Survives (state S.Store conn) (state S.Store e.1) (Leaves (record { repo = empty; contents = [] }))) }
@@ -210,7 +210,7 @@ impl<S: Alter> Store<S> {
         self.lists.staged()
     }
 
-    /// The files of the last commit, or none where there is no commit. It fails for want of memory alone.
+    /// The files of the last commit, and an empty tree where there is no commit. It fails for want of memory alone.
     pub fn head(&self) -> Result<Tree, OutOfMemory>
         ensures { IfOk result (λ tree. tree ≡ last_tree self.now.kept.repo.history) }
     {
