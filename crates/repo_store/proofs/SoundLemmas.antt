@@ -9,7 +9,7 @@ use Rattle.hook_base.specs.declared.change.Change.{Change}
 use Rattle.hook_base.specs.Rising.{IsBelowAll}
 use Rattle.hook_base.specs.RisingLaws.{path_cases, below_all_later, IsRisingBy-filter}
 use Rattle.repo_store.specs.Limits.{Fits}
-use Rattle.repo_store.specs.Repository.{Commit, Repository, empty, with_staged, without_staged, committed, staged_changes, accepted}
+use Rattle.repo_store.specs.Repository.{Commit, Repository, empty, with_staged, without_staged, with_new_commit, staged_changes, accepted}
 use Rattle.repo_store.specs.Sound.{IsSound}
 use Rattle.repo_store.proofs.PlaceLemmas.{fits_removed, fits_applied}
 
@@ -40,7 +40,7 @@ all_pushed : (history : List Commit) (commit : Commit) → AllByRecursion (λ (c
 all_pushed [] commit all one = (one, tt)
 all_pushed (first ∷ history) commit all one = (all.0, all_pushed history commit all.1 one)
 
-pub sound_committed : (message : List ℕ) (repo : Repository) → IsSound repo → length repo.history < 100000 → IsSound (committed message repo)
+pub sound_committed : (message : List ℕ) (repo : Repository) → IsSound repo → length repo.history < 100000 → IsSound (with_new_commit message repo)
 sound_committed message repo sound room =
     let commit : Commit = record { message = message; tree = repo.staged } in
     record {

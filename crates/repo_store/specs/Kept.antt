@@ -9,11 +9,11 @@ use Rattle.hook_base.specs.contracts.change.Change as change
 use Rattle.hook_base.specs.declared.file.FileEntry.{FileEntry}
 use Rattle.repo_store.specs.Contents.{with_content, with_changes, Collides}
 use Rattle.repo_store.specs.Limits.{IsSmall}
-use Rattle.repo_store.specs.Repository.{Commit, Repository, with_staged, without_staged, committed, accepted, with_fixes, staged_changes}
+use Rattle.repo_store.specs.Repository.{Commit, Repository, with_staged, without_staged, with_new_commit, accepted, with_fixes, staged_changes}
 
 pub record Kept : Type 0 where
   pub repo : Repository
-  -- their order says nothing
+  -- as they came, the oldest first; the tables don't tell this order
   pub contents : List (List ℕ)
 
 -- ---- what the calls make of it
@@ -32,7 +32,7 @@ keeping bytes kept = record kept { contents = with_content bytes kept.contents }
 
 -- one commit more, of the staged files
 abbrev pub committing : List ℕ → Kept → Kept
-committing message kept = record kept { repo = committed message kept.repo }
+committing message kept = record kept { repo = with_new_commit message kept.repo }
 
 -- the fixes are set, and their contents are kept
 abbrev pub setting : List Change → Kept → Kept

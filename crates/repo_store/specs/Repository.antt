@@ -40,10 +40,10 @@ abbrev pub accepted : Repository → Repository
 accepted repo = record repo { staged = apply_changes repo.fixes repo.staged; fixes = [] }
 
 -- one commit more, of the staged files, and the fixes are forgotten
-abbrev pub committed : List ℕ → Repository → Repository
-committed message repo = record repo { history = repo.history ++ record { message = message; tree = repo.staged } ∷ []; fixes = [] }
+abbrev pub with_new_commit : List ℕ → Repository → Repository
+with_new_commit message repo = record repo { history = repo.history ++ record { message = message; tree = repo.staged } ∷ []; fixes = [] }
 
--- the files of the last commit, or none
+-- the files of the last commit, and no files where there is no commit
 abbrev pub last_tree : List Commit → List File
 last_tree [] = []
 last_tree (commit ∷ []) = commit.tree

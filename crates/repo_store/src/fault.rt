@@ -1,7 +1,8 @@
 use sqlite::ErrorCode;
 use thiserror::Error;
 
-/// Why a call on a store is refused. The store, or the connection that is given back, is as it was before the call.
+/// Why a call on a store is refused. What the store shows, and the tables, are as before the call; a fault of the disk may
+/// have shut the connection.
 #[derive(Debug, Drop, Error)]
 pub enum StoreFault {
     /// The database has no store in it, or one of another version.
@@ -22,8 +23,8 @@ pub enum StoreFault {
     /// Contents or a message of more than 16 MiB.
     #[error("contents or a message of more than 16 MiB")]
     TooLarge,
-    /// More commits or staged files than a store takes.
-    #[error("more commits or staged files than a store takes")]
+    /// More than 100,000 commits, or a staged tree of more than 100,000 files or 8 MiB of paths.
+    #[error("more commits, staged files or paths than a store takes")]
     TooMany,
 }
 

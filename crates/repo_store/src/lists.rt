@@ -294,7 +294,7 @@ impl Lists {
         tree_of(*self.staged.allocator(), self.staged.as_slice())
     }
 
-    /// The files of the last commit, or none, in memory of their own.
+    /// The files of the last commit, and none where there is no commit, in memory of their own.
     pub fn head(&self) -> Result<Tree, OutOfMemory>
         ensures { IfOk result (λ tree. tree ≡ last_tree self.now.kept.repo.history) }
     {
