@@ -1,4 +1,5 @@
--- The seven tables of a store, as SQLite's schema of them.
+-- The seven tables of a store, as SQLite's schema of them. STRICT makes each column of a PRIMARY KEY NOT NULL, also where
+-- the statement doesn't say so, but for the one that is the rowid.
 use Rattle.std.specs.Prelude.{true, false, Bool, List, [], ◌∷◌, ◌++◌, ◌+◌, ℕ, map, Option, Some, None, codes}
 use Rattle.sqlite_value.specs.declared.value.Value.TheVariants.{Null}
 use Rattle.sqlite_value.specs.declared.keys.Collation.TheVariants.{Binary}
