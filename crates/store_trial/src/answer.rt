@@ -8,7 +8,7 @@ use repo_store::{LogEntry, StoreFault};
 use std::alloc::Global;
 use std::fmt::Display;
 
-#[derive(Debug, Drop)]
+#[derive(Drop)]
 pub(crate) struct Answer {
     line: Vec<u8>,
 }

@@ -3,7 +3,7 @@
 use hook_base::Mode;
 
 /// What a line asks for.
-#[derive(Clone, Copy, Debug)]
+#[derive(Drop)]
 pub(crate) enum Command<'a> {
     /// Makes an empty store in the file, and holds it open.
     Create,
@@ -20,7 +20,7 @@ pub(crate) enum Command<'a> {
 }
 
 /// A call on a store. Contents and messages are texts as `read_text` reads them.
-#[derive(Clone, Copy, Debug)]
+#[derive(Drop)]
 pub(crate) enum Call<'a> {
     Stage {
         mode: Mode,

@@ -4,7 +4,7 @@ use hook_base::{OutOfMemory, PathFault};
 use std::alloc::{AllocError, AllocFailed};
 use std::io;
 
-#[derive(Debug, Drop)]
+#[derive(Drop)]
 pub(crate) enum Stop {
     /// The words of the program name no file.
     Usage,

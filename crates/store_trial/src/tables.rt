@@ -9,7 +9,7 @@ use store_tables::{
 };
 
 /// How many rows the tables have.
-#[derive(Clone, Copy, Debug)]
+#[derive(Drop)]
 pub(crate) struct Counts {
     pub(crate) rows: usize,
     pub(crate) contents: usize,
