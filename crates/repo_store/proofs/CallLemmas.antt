@@ -1,0 +1,77 @@
+-- From the steps of a transaction and its end to a whole call.
+use Rattle.std.proofs.Common.{◌≡◌, Bool, true, false, Result, Ok, Err, OnOk, OnErr, IsTrue, refl, sym, subst, ◌∙◌, arith}
+use Rattle.std.proofs.lemmas.Bool.{both_ways}
+use Rattle.std.proofs.lemmas.Result.{on_ok_weaker}
+use Rattle.sqlite_trees.specs.declared.store.Store.{Ghosts}
+use Rattle.sqlite_trees.specs.Tree.{Trees}
+use Rattle.sqlite_trees.specs.View.{doubt}
+use Rattle.sqlite_trees.proofs.Doubt.{no_doubt}
+use Rattle.sqlite.specs.declared.error.Error.{Error}
+use Rattle.sqlite.specs.Effect.{Database}
+use Rattle.sqlite.specs.Held.{Held, state}
+use Rattle.sqlite.specs.State.{State, HasCleanDisk, Survives}
+use Rattle.sqlite.proofs.InsideLemmas.{keeps_then}
+use Rattle.sqlite.proofs.StateLemmas.{survives_then}
+use Rattle.store_tables.specs.Steps.{IsMade, IsStep, IsDone}
+use Rattle.store_tables.specs.Tables.{Tables, Holds, with_schema}
+use Rattle.repo_store.specs.Calls.{Commits, IsCall, Rests}
+
+-- a statement on the tables, as a step from one content to the next
+pub step_as_made : {S A : Type 0} (g : Ghosts S) (old new : Held S) (r : Result A Error) (t : Tables) (makes : Tables → Tables) → IsStep g old new r makes → IsMade g old new r (λ db. Holds db t) (λ db. Holds db (makes t))
+step_as_made g old new r t makes h = record {
+  done = λ clean inside. on_ok_weaker r (λ (d : IsDone (state g old) (state g new) makes). (d.shown, d.holds t)) (h.done clean inside);
+  kept = h.kept;
+  survives = h.survives;
+}
+
+-- a store that is open is on a clean disk
+pub clean_if_open : (clean opened : Bool) → (clean ≡ false → opened ≡ false) → IsTrue opened → doubt clean ≡ 0
+clean_if_open true opened law h = no_doubt true refl
+clean_if_open false opened law h = absurd (both_ways _ (law refl) h)
+
+-- ---- a call, from what it does on a clean disk
+
+pub record IsCleanCall {S A : Type 0} (g : Ghosts S) (old new : Held S) (result : Result A Error) (Before After : Database → Type 0) : Type 0 where
+  pub outside : new.in_transaction ≡ false
+  pub done : HasCleanDisk (state g new) → (IsTrue (state g old).is_open → Before (state g old).now) → OnOk result (Commits (state g new) After)
+  pub kept : HasCleanDisk (state g new) → OnErr result (Rests (state g old) (state g new))
+  pub survives : (IsTrue (state g old).is_open → Before (state g old).now) → Survives (state g old) (state g new) (λ trees. After (with_schema trees))
+
+rests_always : {A : Type 0} (r : Result A Error) (old new : State) → (new.is_clean ≡ false → new.is_open ≡ false) → (HasCleanDisk new → OnErr r (Rests old new)) → OnErr r (Rests old new)
+rests_always (Ok x) old new dirty clean = tt
+rests_always (Err e) old new dirty clean = record {
+  was_open = λ h. (clean (clean_if_open new.is_clean new.is_open dirty h)).was_open h;
+  now = λ h. (clean (clean_if_open new.is_clean new.is_open dirty h)).now h;
+  committed = λ h. (clean (clean_if_open new.is_clean new.is_open dirty h)).committed h;
+}
+
+pub whole_call : {S A : Type 0} (g : Ghosts S) (old new : Held S) (r : Result A Error) (Before After : Database → Type 0) → ((state g new).is_clean ≡ false → (state g new).is_open ≡ false) → IsCleanCall g old new r Before After → IsCall g old new r Before After
+whole_call g old new r Before After dirty call = record {
+  outside = call.outside;
+  done = call.done;
+  kept = rests_always r (state g old) (state g new) dirty call.kept;
+  survives = call.survives;
+}
+
+-- the trees of a store, under its schema
+pub holds_as : (db : Database) (t : Tables) → Holds db t → Holds (with_schema db.trees) t
+holds_as db t h = subst (λ s. Holds (record { schema = s; trees = db.trees }) t) h.schema h
+
+pub leaves_commit : (db : Database) (trees : Trees) (t : Tables) → Holds db t → trees ≡ db.trees → Holds (with_schema trees) t
+leaves_commit db trees t h is = subst (λ (l : Trees). Holds (with_schema l) t) (sym is) (holds_as db t h)
+
+module _ {S A : Type 0} (g : Ghosts S) (a b c : Held S) (r : Result A Error) (first second : Tables → Tables) (one : IsStep {A = Unit {0}} g a b (Ok tt) first) (two : IsStep g b c r second) where
+  both_done : (r : Result A Error) → IsDone (state g a) (state g b) first → OnOk r (IsDone (state g b) (state g c) second) → OnOk r (IsDone (state g a) (state g c) (λ t. second (first t)))
+  both_done (Err e) p q = tt
+  both_done (Ok x) p q = record {
+    shown = record { was_open = p.shown.was_open; is_open = q.shown.is_open; now_is = refl; committed_is = q.shown.committed_is ∙ p.shown.committed_is; mode = q.shown.mode };
+    holds = λ t h. q.holds (first t) (p.holds t h);
+  }
+
+  -- two statements in turn
+  pub step_then : IsStep g a c r (λ t. second (first t))
+  step_then = record {
+    done = λ clean inside. let p = one.done (omega (arith, two.survives.clean)) inside in both_done r p (two.done clean p.shown.mode);
+    kept = λ clean. keeps_then (state g a) (state g b) (state g c) (one.kept (omega (arith, two.survives.clean))) (two.kept clean);
+    survives = survives_then (state g a) (state g b) (state g c) _ _ (λ _. ⊥) (λ _ db none. none) (λ _ db none. none) one.survives two.survives;
+  }

@@ -1,0 +1,182 @@
+-- Contents found by their digests.
+use Rattle.std.proofs.Common.{◌≡◌, ℕ, ◌<◌, true, false, cond, List, [], ◌∷◌, ◌++◌, length, get_or, Option, None, Some, Result, Ok, Err, is_err, OnOk, OnErr, refl, sym, ap, subst, ◌∙◌, inl, inr, arith, length-append}
+use Rattle.std.specs.List.{Any}
+use Rattle.std.specs.Str.{bytes_eq}
+use Rattle.std.specs.HashMap.{HashMap, get}
+use Rattle.std.specs.Map.{lookup}
+use Rattle.std.specs.Cmp.Lexicographic.{bytes_decides}
+use Rattle.std.proofs.lemmas.Bool.{false_from_ne_true, cases_lt}
+use Rattle.std.proofs.lemmas.List.{get_or_default}
+use Rattle.std.proofs.lemmas.List.Folds.{list_any_at, Any-from_list_any, list_any-from_Any}
+use lib.Seq.{get_or-append_seam}
+use lib.ListN.{get_or-append}
+use Rattle.sha2.specs.Sha256.{sha256}
+use Rattle.hook_base.specs.RisingLaws.{bytes_same, bytes_differ}
+use Rattle.repo_store.specs.Contents.{Collides, has_digest, has_content, with_content, IsIndexed}
+
+never : {X : Type 0} {x : X} → ◌≡◌ {A = Option X} None (Some x) → ⊥
+never e = cc
+
+pub ok_part : {T E P : Type 0} (r : Result T E) → is_err r ≡ false → OnOk r P → P
+ok_part (Ok x) e p = p
+ok_part (Err y) e p = absurd (let never : true ≡ false = e in cc)
+
+pub err_part : {T E P : Type 0} (r : Result T E) → is_err r ≡ true → OnErr r P → P
+err_part (Ok x) e p = absurd (let never : false ≡ true = e in cc)
+err_part (Err y) e p = p
+
+same_some : {X : Type 0} {x y : X} → Some x ≡ Some y → x ≡ y
+same_some e = cc
+
+module _ {S : Type 0} (m : HashMap (List ℕ) ℕ S) (contents : List (List ℕ)) (index : IsIndexed m contents) where
+  abbrev at : ℕ → List ℕ
+  at k = get_or contents k []
+
+  -- no place is known for a digest that no contents have
+  pub unplaced : (digest : List ℕ) → has_digest digest contents ≡ false → get bytes_eq m digest ≡ None
+  unplaced digest none =
+      elim (get bytes_eq m digest) as (λ o. get bytes_eq m digest ≡ o → o ≡ None) [
+        | None ↦ λ e. refl
+        | Some k ↦ λ e.
+            let here = index.found digest k e in
+            let there = list_any_at (λ bytes. bytes_eq digest (sha256 bytes)) contents k [] here.0 (bytes_same digest (sha256 (at k)) (sym here.1)) in
+            absurd (cc)
+      ] refl
+
+  -- and the converse
+  pub unheard : (digest : List ℕ) → get bytes_eq m digest ≡ None → has_digest digest contents ≡ false
+  unheard digest none =
+      false_from_ne_true (has_digest digest contents) (λ some.
+      let any : Any (λ bytes. bytes_eq digest (sha256 bytes) ≡ true) contents = Any-from_list_any (λ bytes. bytes_eq digest (sha256 bytes)) contents some in
+      let same : digest ≡ sha256 any.1 = (bytes_decides digest (sha256 any.1)).0 any.4 in
+      let read : at any.0 ≡ any.1 = get_or_default contents any.0 [] any.1 any.2 ∙ any.3 in
+      let listed : get bytes_eq m (sha256 (at any.0)) ≡ Some any.0 = index.listed any.0 any.2 in
+      let placed : get bytes_eq m digest ≡ Some any.0 = ap (get bytes_eq m) (same ∙ ap sha256 (sym read)) ∙ listed in
+      cc)
+
+  -- the contents at the place of a digest are the only ones under it
+  pub one_alone : (content : List ℕ) (k : ℕ) → get bytes_eq m (sha256 content) ≡ Some k → at k ≡ content → ¬ Collides content contents
+  one_alone content k placed here other =
+      let listed : get bytes_eq m (sha256 (at other.at)) ≡ Some other.at = index.listed other.at other.within in
+      let same : k ≡ other.at = same_some (sym placed ∙ ap (get bytes_eq m) (sym other.same_digest) ∙ listed) in
+      other.differs (ap at (sym same) ∙ here)
+
+-- one more, whose digest no contents have
+pub index_pushed : {S : Type 0} (m n : HashMap (List ℕ) ℕ S) (contents : List (List ℕ)) (bytes : List ℕ) → IsIndexed m contents → has_digest (sha256 bytes) contents ≡ false
+    → ((q : List ℕ) → get bytes_eq n q ≡ cond (bytes_eq (sha256 bytes) q) (Some (length contents)) (get bytes_eq m q)) → IsIndexed n (contents ++ bytes ∷ [])
+index_pushed m n contents bytes index new puts = record {
+  listed = λ k within. listed k within;
+  found = λ digest k at. found digest k at;
+}
+  where
+    none : get bytes_eq m (sha256 bytes) ≡ None
+    none = unplaced m contents index (sha256 bytes) new
+
+    before : (k : ℕ) → k < length contents → get_or (contents ++ bytes ∷ []) k [] ≡ get_or contents k []
+    before k within = get_or-append contents (bytes ∷ []) [] k within
+
+    earlier : (k : ℕ) → k < length contents → get bytes_eq n (sha256 (get_or (contents ++ bytes ∷ []) k [])) ≡ Some k
+    earlier k within =
+        let placed = index.listed k within in
+        let differs : sha256 bytes ≡ sha256 (get_or contents k []) → ⊥ = λ e. let other : get bytes_eq m (sha256 bytes) ≡ Some k = ap (get bytes_eq m) e ∙ placed in never (sym none ∙ other) in
+        ap (λ b. get bytes_eq n (sha256 b)) (before k within) ∙ puts (sha256 (get_or contents k [])) ∙ rw (bytes_differ (sha256 bytes) (sha256 (get_or contents k [])) differs) placed
+
+    last : get bytes_eq n (sha256 (get_or (contents ++ bytes ∷ []) (length contents) [])) ≡ Some (length contents)
+    last = ap (λ b. get bytes_eq n (sha256 b)) (get_or-append_seam contents bytes [] []) ∙ puts (sha256 bytes) ∙ rw (bytes_same (sha256 bytes) (sha256 bytes) refl) refl
+
+    listed : (k : ℕ) → k < length (contents ++ bytes ∷ []) → get bytes_eq n (sha256 (get_or (contents ++ bytes ∷ []) k [])) ≡ Some k
+    listed k within =
+        elim (cases_lt k (length contents)) [
+          | inl lt ↦ earlier k lt
+          | inr ge ↦ let same : length contents ≡ k = omega (arith, length-append contents (bytes ∷ [])) in subst (λ (j : ℕ). get bytes_eq n (sha256 (get_or (contents ++ bytes ∷ []) j [])) ≡ Some j) same last
+        ]
+
+    found : (digest : List ℕ) (k : ℕ) → get bytes_eq n digest ≡ Some k → (k < length (contents ++ bytes ∷ [])) × (sha256 (get_or (contents ++ bytes ∷ []) k []) ≡ digest)
+    found digest k is =
+        elim (bytes_eq (sha256 bytes) digest) as (λ b. bytes_eq (sha256 bytes) digest ≡ b → (k < length (contents ++ bytes ∷ [])) × (sha256 (get_or (contents ++ bytes ∷ []) k []) ≡ digest)) [
+          | true ↦ λ e.
+              let same : length contents ≡ k = same_some (sym (puts digest ∙ ap (λ b. cond b (Some (length contents)) (get bytes_eq m digest)) e) ∙ is) in
+              (omega (arith, length-append contents (bytes ∷ [])), ap (λ (j : ℕ). sha256 (get_or (contents ++ bytes ∷ []) j [])) (sym same) ∙ ap sha256 (get_or-append_seam contents bytes [] []) ∙ (bytes_decides (sha256 bytes) digest).0 e)
+          | false ↦ λ e.
+              let it = index.found digest k (sym (puts digest ∙ ap (λ b. cond b (Some (length contents)) (get bytes_eq m digest)) e) ∙ is) in
+              let within : k < length contents = it.0 in
+              (omega (arith, length-append contents (bytes ∷ [])), ap sha256 (before k within) ∙ it.1)
+        ] refl
+
+-- the last taken out
+pub index_popped : {S : Type 0} (m n : HashMap (List ℕ) ℕ S) (contents : List (List ℕ)) (bytes : List ℕ) → IsIndexed m (contents ++ bytes ∷ [])
+    → ((q : List ℕ) → get bytes_eq n q ≡ cond (bytes_eq (sha256 bytes) q) None (get bytes_eq m q)) → IsIndexed n contents
+index_popped m n contents bytes index puts = record {
+  listed = λ k within. listed k within;
+  found = λ digest k at. found digest k at;
+}
+  where
+    before : (k : ℕ) → k < length contents → get_or (contents ++ bytes ∷ []) k [] ≡ get_or contents k []
+    before k within = get_or-append contents (bytes ∷ []) [] k within
+
+    last : get bytes_eq m (sha256 bytes) ≡ Some (length contents)
+    last = ap (λ b. get bytes_eq m (sha256 b)) (sym (get_or-append_seam contents bytes [] [])) ∙ index.listed (length contents) (omega (arith, length-append contents (bytes ∷ [])))
+
+    listed : (k : ℕ) → k < length contents → get bytes_eq n (sha256 (get_or contents k [])) ≡ Some k
+    listed k within =
+        let placed : get bytes_eq m (sha256 (get_or contents k [])) ≡ Some k =
+        ap (λ b. get bytes_eq m (sha256 b)) (sym (before k within)) ∙ index.listed k (omega (arith, length-append contents (bytes ∷ []))) in
+        let differs : sha256 bytes ≡ sha256 (get_or contents k []) → ⊥ = λ e. let same : k ≡ length contents = same_some (sym placed ∙ ap (get bytes_eq m) (sym e) ∙ last) in omega arith in
+        puts (sha256 (get_or contents k [])) ∙ rw (bytes_differ (sha256 bytes) (sha256 (get_or contents k [])) differs) placed
+
+    found : (digest : List ℕ) (k : ℕ) → get bytes_eq n digest ≡ Some k → (k < length contents) × (sha256 (get_or contents k []) ≡ digest)
+    found digest k is =
+        elim (bytes_eq (sha256 bytes) digest) as (λ b. bytes_eq (sha256 bytes) digest ≡ b → (k < length contents) × (sha256 (get_or contents k []) ≡ digest)) [
+          | true ↦ λ e. absurd (never (sym (puts digest ∙ ap (λ b. cond b None (get bytes_eq m digest)) e) ∙ is))
+          | false ↦ λ e.
+              let it = index.found digest k (sym (puts digest ∙ ap (λ b. cond b None (get bytes_eq m digest)) e) ∙ is) in
+              let whole : k < length (contents ++ bytes ∷ []) = it.0 in
+              elim (cases_lt k (length contents)) [
+                | inl lt ↦ (lt, ap sha256 (sym (before k lt)) ∙ it.1)
+                | inr ge ↦
+                    let same : length contents ≡ k = omega (arith, length-append contents (bytes ∷ [])) in
+                    let here : sha256 bytes ≡ digest = ap sha256 (sym (get_or-append_seam contents bytes [] [])) ∙ ap (λ (j : ℕ). sha256 (get_or (contents ++ bytes ∷ []) j [])) same ∙ it.1 in
+                    let there : bytes_eq (sha256 bytes) digest ≡ true = bytes_same (sha256 bytes) digest here in
+                    absurd (cc)
+              ]
+        ] refl
+
+-- the same entries
+pub index_same : {S : Type 0} (m n : HashMap (List ℕ) ℕ S) (contents : List (List ℕ)) → n.entries ≡ m.entries → IsIndexed m contents → IsIndexed n contents
+index_same m n contents same index = record {
+  listed = λ k within. ap (λ es. lookup (bytes_eq (sha256 (get_or contents k []))) es) same ∙ index.listed k within;
+  found = λ digest k is. index.found digest k (ap (λ es. lookup (bytes_eq digest) es) (sym same) ∙ is);
+}
+
+-- contents whose digest none has collide with none
+pub none_under : (bytes : List ℕ) (contents : List (List ℕ)) → has_digest (sha256 bytes) contents ≡ false → ¬ Collides bytes contents
+none_under bytes contents none other =
+    let there : has_digest (sha256 bytes) contents ≡ true =
+    list_any_at (λ (b : List ℕ). bytes_eq (sha256 bytes) (sha256 b)) contents other.at [] other.within (bytes_same (sha256 bytes) (sha256 (get_or contents other.at [])) (sym other.same_digest)) in
+    absurd (let never : true ≡ false = sym there ∙ none in cc)
+
+-- contents under the digest of these, which differ, collide with them
+pub other_under : (bytes content : List ℕ) (contents : List (List ℕ)) → Any (λ other. other ≡ content) contents → sha256 content ≡ sha256 bytes → (content ≡ bytes → ⊥) → Collides bytes contents
+other_under bytes content contents any under differs =
+    let read : get_or contents any.0 [] ≡ content = get_or_default contents any.0 [] any.1 any.2 ∙ any.3 ∙ any.4 in
+    record { at = any.0; within = any.2; same_digest = ap sha256 read ∙ under; differs = λ e. differs (sym read ∙ e) }
+
+-- contents whose digest none has are not among them
+pub unknown : (bytes : List ℕ) (contents : List (List ℕ)) → has_digest (sha256 bytes) contents ≡ false → has_content bytes contents ≡ false
+unknown bytes contents none =
+    false_from_ne_true (has_content bytes contents) (λ some.
+    let any : Any (λ other. bytes_eq bytes other ≡ true) contents = Any-from_list_any (bytes_eq bytes) contents some in
+    let same : bytes ≡ any.1 = (bytes_decides bytes any.1).0 any.4 in
+    let there : has_digest (sha256 bytes) contents ≡ true =
+    list_any_at (λ other. bytes_eq (sha256 bytes) (sha256 other)) contents any.0 any.1 any.2 (bytes_same (sha256 bytes) (sha256 (get_or contents any.0 any.1)) (ap sha256 (same ∙ sym any.3))) in
+    let never : true ≡ false = sym there ∙ none in
+    cc)
+
+pub known : (bytes content : List ℕ) (contents : List (List ℕ)) → Any (λ other. other ≡ content) contents → content ≡ bytes → has_content bytes contents ≡ true
+known bytes content contents any same = list_any-from_Any (bytes_eq bytes) contents (any.0, any.1, any.2, any.3, bytes_same bytes any.1 (sym (any.4 ∙ same)))
+
+pub kept_known : (bytes : List ℕ) (contents : List (List ℕ)) → has_content bytes contents ≡ true → contents ≡ with_content bytes contents
+kept_known bytes contents there = rw there refl
+
+pub kept_unknown : (bytes : List ℕ) (contents : List (List ℕ)) → has_content bytes contents ≡ false → contents ++ bytes ∷ [] ≡ with_content bytes contents
+kept_unknown bytes contents absent = rw absent refl

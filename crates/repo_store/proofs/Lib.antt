@@ -1,0 +1,12 @@
+pub mod CallLemmas
+pub mod ChangeLemmas
+pub mod FixLemmas
+pub mod IndexLemmas
+pub mod KeptLemmas
+pub mod ListLemmas
+pub mod PlaceLemmas
+pub mod SameLemmas
+pub mod SoundLemmas
+pub mod StandLemmas
+pub mod StepLemmas
+pub mod TreeLemmas

@@ -1,0 +1,90 @@
+-- What a call leaves of a store, from what it makes of the tables.
+use Rattle.std.proofs.Common.{◌≡◌, inl, false, [], Result, Ok, Err, IsTrue, refl, sym, subst, arith}
+use Rattle.sqlite_trees.specs.declared.store.Store.{Ghosts}
+use Rattle.sqlite_trees.specs.Tree.{Trees}
+use Rattle.sqlite.specs.declared.error.Error.{Error}
+use Rattle.sqlite.specs.Effect.{Database}
+use Rattle.sqlite.specs.Held.{Held, state}
+use Rattle.sqlite.specs.State.{State, HasCleanDisk, Survives}
+use Rattle.sqlite.proofs.StateLemmas.{survives_weaker}
+use Rattle.store_tables.specs.Schema.{no_schema}
+use Rattle.store_tables.specs.Tables.{Tables, Holds, IsBare, with_schema}
+use Rattle.repo_store.specs.Calls.{IsCall}
+use Rattle.repo_store.specs.Kept.{Kept}
+use Rattle.repo_store.specs.Repository.{empty}
+use Rattle.repo_store.specs.Rows.{tables_of}
+use Rattle.repo_store.specs.Shown.{Stands, Leaves, Changes}
+use Rattle.repo_store.proofs.CallLemmas.{clean_if_open, leaves_commit}
+use Rattle.repo_store.proofs.SameLemmas.{IsSame, holds_same}
+
+abbrev pub tables_in : Kept → Tables
+tables_in kept = tables_of kept.repo kept.contents
+
+-- a call from what is kept to these tables
+abbrev pub Calls : {S A : Type 0} → Ghosts S → Held S → Held S → Kept → Tables → Result A Error → Type 0
+Calls g old new kept t r = IsCall g old new r (λ db. Holds db (tables_in kept)) (λ db. Holds db t)
+
+-- a store that is not open on a disk that is not clean
+abbrev pub ShutIfDirty : State → Type 0
+ShutIfDirty s = s.is_clean ≡ false → s.is_open ≡ false
+
+clean_of : (s : State) → ShutIfDirty s → IsTrue s.is_open → HasCleanDisk s
+clean_of s dirty h = clean_if_open s.is_clean s.is_open dirty h
+
+module _ {S A : Type 0} (g : Ghosts S) (old new : Held S) (kept after : Kept) (t : Tables) (stands : Stands g old kept) (is : IsSame t (tables_in after)) (dirty : ShutIfDirty (state g new)) where
+  rests : (e : Error) → Calls {A = A} g old new kept t (Err e) → Stands g new kept
+  rests e call = record {
+    outside = call.outside;
+    now = λ h. subst (λ (db : Database). Holds db (tables_in kept)) (sym (call.kept.now h)) (stands.committed (call.kept.was_open h));
+    committed = λ h. subst (λ (db : Database). Holds db (tables_in kept)) (sym (call.kept.committed h)) (stands.committed (call.kept.was_open h));
+  }
+
+  stands_on : (x : A) → Calls {A = A} g old new kept t (Ok x) → Stands g new after
+  stands_on x call = record {
+    outside = call.outside;
+    now = λ h. holds_same (state g new).now t (tables_in after) is (call.done (clean_of (state g new) dirty h) stands.now).now;
+    committed = λ h. holds_same (state g new).committed t (tables_in after) is (call.done (clean_of (state g new) dirty h) stands.now).committed;
+  }
+
+  crash_leaves : (r : Result A Error) → Calls {A = A} g old new kept t r → Survives (state g old) (state g new) (Leaves after)
+  crash_leaves r call =
+      survives_weaker (state g old) (state g new) (λ trees. Holds (with_schema trees) t) (Leaves after) (λ _ trees h. holds_same (with_schema trees) t (tables_in after) is h) (call.survives stands.now)
+
+  pub refused_stands : (now : Kept) → now ≡ kept → (e : Error) → Calls {A = A} g old new kept t (Err e) → Stands g new now
+  refused_stands now same e call = subst (Stands g new) (sym same) (rests e call)
+
+  pub done_stands : (now : Kept) → now ≡ after → (x : A) → Calls {A = A} g old new kept t (Ok x) → Stands g new now
+  done_stands now same x call = subst (Stands g new) (sym same) (stands_on x call)
+
+  pub refused_changes : {B E : Type 0} (now : Kept) → now ≡ kept → (e : Error) → Calls {A = A} g old new kept t (Err e) → (fault : E) → Changes {A = B} g (record { conn = old; kept = kept }) (record { conn = new; kept = now }) (Err fault) after
+  refused_changes now same e call fault = record { done = tt; same = same; stands = refused_stands now same e call; crash = crash_leaves (Err e) call; durable = λ _. tt }
+
+  pub done_changes : {B E : Type 0} → ((trees : Trees) → IsTrue (state g new).is_open → (state g new).may_leave trees → trees ≡ (state g new).committed.trees) → (now : Kept) → now ≡ after → (x : A) → Calls {A = A} g old new kept t (Ok x) → (y : B)
+      → Changes {E = E} g (record { conn = old; kept = kept }) (record { conn = new; kept = now }) (Ok y) after
+  done_changes settled now same x call y = record {
+    done = same;
+    same = tt;
+    stands = done_stands now same x call;
+    crash = crash_leaves (Ok x) call;
+    durable = λ clean trees left. let it = call.done clean stands.now in leaves_commit (state g new).committed trees (tables_in after) ((stands_on x call).committed it.is_open) (settled trees it.is_open left);
+  }
+
+-- an empty store in a database that had no tables
+pub made_stands : {S A : Type 0} (g : Ghosts S) (old new : Held S) (now : Kept) (x : A) → IsCall {A = A} g old new (Ok x) (IsBare no_schema) (λ db. Holds db (tables_of empty [])) → (IsTrue (state g old).is_open → IsBare no_schema (state g old).now)
+    → ShutIfDirty (state g new) → now ≡ record { repo = empty; contents = [] } → Stands g new now
+made_stands g old new now x call bare dirty is =
+    subst (Stands g new) (sym is) (record {
+      outside = call.outside;
+      now = λ h. (call.done (clean_of (state g new) dirty h) bare).now;
+      committed = λ h. (call.done (clean_of (state g new) dirty h) bare).committed;
+    })
+
+-- nothing is done to the connection
+pub survives_itself : (s : State) (Commits : Trees → Type 0) → Survives s s Commits
+survives_itself s Commits = record { clean = omega arith; shield = λ h. h; counts = omega arith; limit = refl; closes = λ _ h. inl h; crash = λ _ trees h. inl h }
+
+pub idle_changes : {S B E : Type 0} (g : Ghosts S) (conn : Held S) (kept after now : Kept) → Stands g conn kept → now ≡ kept → (fault : E) → Changes {A = B} g (record { conn = conn; kept = kept }) (record { conn = conn; kept = now }) (Err fault) after
+idle_changes g conn kept after now stands same fault = record { done = tt; same = same; stands = subst (Stands g conn) (sym same) stands; crash = survives_itself (state g conn) (Leaves after); durable = λ _. tt }
+
+pub idle_stands : {S : Type 0} (g : Ghosts S) (conn : Held S) (kept now : Kept) → now ≡ kept → Stands g conn kept → Stands g conn now
+idle_stands g conn kept now same stands = subst (Stands g conn) (sym same) stands

@@ -1,0 +1,10 @@
+use Rattle.std.proofs.Common.{refl, ◌∙◌}
+use Rattle.repo_store.proofs.StepLemmas.{staged_more}
+use Rattle.repo_store.proofs.accept.put_files.Goals as goal
+
+pub loop-file-preserved : goal.loop-file-preserved
+loop-file-preserved g c = record {
+  same_reference = c.put_staged.ensures.same_reference ∙ c.loop-file.invariant.same_reference;
+  step = staged_more g.S.Store c.args.tx.now.conn.now c.loop-file.tx.conn.now c.put_staged.new.tx.conn.now c.args.files.now c.loop-file.file-index c.file-item.result _ c.loop-file-test.true c.file-item.is
+      (rw (c.as_str.ensures.same, c.number_of.ensures, c.digest.ensures) refl) c.loop-file.invariant.step c.in_ok-put_staged.ensures.step;
+}

@@ -1,0 +1,77 @@
+use Rattle.std.proofs.Common.{◌≡◌, ℕ, List, Ok, Err, length, map, drop, ap, ap₂, subst, ◌∙◌, arith}
+use Rattle.hook_base.specs.declared.change.Change.{Change}
+use Rattle.repo_store.specs.Faults.{IsRefusal}
+use Rattle.repo_store.specs.Kept.{FixCollides, HasLarge, Kept, Mirror, setting}
+use Rattle.repo_store.specs.Lists.{fix_of}
+use Rattle.repo_store.specs.Repository.{staged_changes}
+use Rattle.repo_store.specs.Shown.{Shown, Changes}
+use Rattle.repo_store.proofs.FixLemmas.{changes_grow}
+use Rattle.repo_store.proofs.KeptLemmas.{setting_handed, forgotten_changes}
+use Rattle.repo_store.proofs.StandLemmas.{tables_in, refused_stands, done_stands, refused_changes, done_changes}
+use Rattle.repo_store.proofs.store.Store.set_fixes.Goals as goal
+
+pub since-requires : goal.since-requires
+since-requires g c =
+    let kept = c.self.inside.lists.kept in
+    let grown = changes_grow (staged_changes c.args.changes.now kept.repo.staged) kept.contents in
+    let there = ap (λ (k : Kept). length k.contents) (c.in-Ok.ensures).kept in
+    let count = c.count-before.ensures in
+    omega arith
+
+pub returns-in-Err-clause-why : goal.returns-in-Err-clause-why
+returns-in-Err-clause-why g c =
+    subst (λ (s : Shown g.row.S.Denot). let fixes = staged_changes c.args.changes.now s.kept.repo.staged in IsRefusal (HasLarge fixes) ⊥ (FixCollides fixes s.kept.contents) c.in-Err.fault) c.self.view_is (c.in-Err.ensures).why
+
+pub invariant_of-self-in-Err-set_rows : goal.invariant_of-self-in-Err-set_rows
+invariant_of-self-in-Err-set_rows g c =
+    let new = c.set_rows.new.conn in
+    let kept = c.self.inside.lists.kept in
+    let taken = staged_changes c.args.changes.now kept.repo.staged in
+    let prepared = c.in-Ok.ensures in
+    let news = c.since.ensures ∙ ap₂ (λ (n : ℕ) (k : Kept). drop n k.contents) c.count-before.ensures prepared.kept in
+    let fixes : map fix_of c.as_slice.result.now ≡ taken = ap (map fix_of) c.as_slice.ensures.value ∙ prepared.fixes in
+    let same = setting_handed c.args.changes.now (map fix_of c.as_slice.result.now) c.since.result.now kept fixes news in
+    let now = forgotten_changes taken kept c.prepare_fixes.new.self.kept c.forget_since.new.self.kept c.count-before.result c.count-before.ensures prepared.kept (ap (λ (m : Mirror). m.kept) c.forget_since.ensures) in
+    refused_stands g.S.Store c.self.inside.conn new kept (setting c.args.changes.now kept) _ c.self.invariant same (g.met.S.Store.shut_if_dirty new.store)
+    c.forget_since.new.self.kept now c.in-Err-set_rows.error (c.in-Err-set_rows.ensures (tables_in kept))
+
+pub returns-in-Err-set_rows-clause-change : goal.returns-in-Err-set_rows-clause-change
+returns-in-Err-set_rows-clause-change g c =
+    let new = c.set_rows.new.conn in
+    let kept = c.self.inside.lists.kept in
+    let taken = staged_changes c.args.changes.now kept.repo.staged in
+    let prepared = c.in-Ok.ensures in
+    let news = c.since.ensures ∙ ap₂ (λ (n : ℕ) (k : Kept). drop n k.contents) c.count-before.ensures prepared.kept in
+    let fixes : map fix_of c.as_slice.result.now ≡ taken = ap (map fix_of) c.as_slice.ensures.value ∙ prepared.fixes in
+    let same = setting_handed c.args.changes.now (map fix_of c.as_slice.result.now) c.since.result.now kept fixes news in
+    let now = forgotten_changes taken kept c.prepare_fixes.new.self.kept c.forget_since.new.self.kept c.count-before.result c.count-before.ensures prepared.kept (ap (λ (m : Mirror). m.kept) c.forget_since.ensures) in
+    subst (λ (s : Shown g.row.S.Denot). Changes g.S.Store s (record { conn = new; kept = c.forget_since.new.self.kept }) (Err c.fault_of.result) (setting c.args.changes.now s.kept)) c.self.view_is
+    (refused_changes g.S.Store c.self.inside.conn new kept (setting c.args.changes.now kept) _ c.self.invariant same (g.met.S.Store.shut_if_dirty new.store)
+    c.forget_since.new.self.kept now c.in-Err-set_rows.error (c.in-Err-set_rows.ensures (tables_in kept)) c.fault_of.result)
+
+pub invariant_of-self-2 : goal.invariant_of-self-2
+invariant_of-self-2 g c =
+    let new = c.set_rows.new.conn in
+    let kept = c.self.inside.lists.kept in
+    let taken = staged_changes c.args.changes.now kept.repo.staged in
+    let prepared = c.in-Ok.ensures in
+    let news = c.since.ensures ∙ ap₂ (λ (n : ℕ) (k : Kept). drop n k.contents) c.count-before.ensures prepared.kept in
+    let fixes : map fix_of c.as_slice.result.now ≡ taken = ap (map fix_of) c.as_slice.ensures.value ∙ prepared.fixes in
+    let same = setting_handed c.args.changes.now (map fix_of c.as_slice.result.now) c.since.result.now kept fixes news in
+    let now = c.set_fixes.ensures ∙ ap₂ (λ (k : Kept) (l : List Change). record k { repo = record k.repo { fixes = l } }) prepared.kept prepared.fixes in
+    done_stands g.S.Store c.self.inside.conn new kept (setting c.args.changes.now kept) _ c.self.invariant same (g.met.S.Store.shut_if_dirty new.store)
+    c.set_fixes.new.self.kept now c.in_default.field-0 (c.in_default.ensures (tables_in kept))
+
+pub returns-clause-change : goal.returns-clause-change
+returns-clause-change g c =
+    let new = c.set_rows.new.conn in
+    let kept = c.self.inside.lists.kept in
+    let taken = staged_changes c.args.changes.now kept.repo.staged in
+    let prepared = c.in-Ok.ensures in
+    let news = c.since.ensures ∙ ap₂ (λ (n : ℕ) (k : Kept). drop n k.contents) c.count-before.ensures prepared.kept in
+    let fixes : map fix_of c.as_slice.result.now ≡ taken = ap (map fix_of) c.as_slice.ensures.value ∙ prepared.fixes in
+    let same = setting_handed c.args.changes.now (map fix_of c.as_slice.result.now) c.since.result.now kept fixes news in
+    let now = c.set_fixes.ensures ∙ ap₂ (λ (k : Kept) (l : List Change). record k { repo = record k.repo { fixes = l } }) prepared.kept prepared.fixes in
+    subst (λ (s : Shown g.row.S.Denot). Changes g.S.Store s (record { conn = new; kept = c.set_fixes.new.self.kept }) (Ok tt) (setting c.args.changes.now s.kept)) c.self.view_is
+    (done_changes g.S.Store c.self.inside.conn new kept (setting c.args.changes.now kept) _ c.self.invariant same (g.met.S.Store.shut_if_dirty new.store)
+    (g.met.S.Store.settled new.store) c.set_fixes.new.self.kept now c.in_default.field-0 (c.in_default.ensures (tables_in kept)) tt)

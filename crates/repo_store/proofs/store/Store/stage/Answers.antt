@@ -1,0 +1,64 @@
+use Rattle.std.proofs.Common.{ℕ, Ok, Err, drop, ap, ap₂, subst, ◌∙◌}
+use Rattle.hook_base.specs.declared.file.File.{File}
+use Rattle.hook_base.specs.declared.file.FileEntry.{FileEntry}
+use Rattle.repo_store.specs.Kept.{Kept, Mirror, staging}
+use Rattle.repo_store.specs.Lists.{file_of}
+use Rattle.repo_store.specs.Repository.{with_staged}
+use Rattle.repo_store.specs.Shown.{Shown, Changes}
+use Rattle.repo_store.proofs.KeptLemmas.{staging_handed, forgotten}
+use Rattle.repo_store.proofs.StandLemmas.{tables_in, refused_stands, done_stands, refused_changes, done_changes}
+use Rattle.repo_store.proofs.store.Store.stage.Goals as goal
+
+pub invariant_of-self-in-Err-stage_rows : goal.invariant_of-self-in-Err-stage_rows
+invariant_of-self-in-Err-stage_rows g c =
+    let new = c.stage_rows.new.conn in
+    let kept = c.self.inside.lists.kept in
+    let entry : FileEntry = record { mode = c.args.mode; bytes = c.args.bytes.now } in
+    let file : File = record { path = c.args.path.now; entry = entry } in
+    let prepared = c.in-Ok.ensures in
+    let news = c.since.ensures ∙ ap₂ (λ (n : ℕ) (k : Kept). drop n k.contents) c.count-before.ensures prepared.kept in
+    let same = staging_handed file (file_of c.in-Ok.file) c.in-Ok.file.path c.since.result.now kept prepared.rising prepared.file (ap (λ (f : File). f.path) prepared.file) news in
+    let now = forgotten c.args.bytes.now kept c.prepare.new.self.kept c.forget_since.new.self.kept c.count-before.result c.count-before.ensures prepared.kept (ap (λ (m : Mirror). m.kept) c.forget_since.ensures) in
+    refused_stands g.S.Store c.self.inside.conn new kept (staging c.args.path.now entry kept) _ c.self.invariant same (g.met.S.Store.shut_if_dirty new.store)
+    c.forget_since.new.self.kept now c.in-Err-stage_rows.error (c.in-Err-stage_rows.ensures (tables_in kept))
+
+pub returns-in-Err-stage_rows-clause-change : goal.returns-in-Err-stage_rows-clause-change
+returns-in-Err-stage_rows-clause-change g c =
+    let new = c.stage_rows.new.conn in
+    let kept = c.self.inside.lists.kept in
+    let entry : FileEntry = record { mode = c.args.mode; bytes = c.args.bytes.now } in
+    let file : File = record { path = c.args.path.now; entry = entry } in
+    let prepared = c.in-Ok.ensures in
+    let news = c.since.ensures ∙ ap₂ (λ (n : ℕ) (k : Kept). drop n k.contents) c.count-before.ensures prepared.kept in
+    let same = staging_handed file (file_of c.in-Ok.file) c.in-Ok.file.path c.since.result.now kept prepared.rising prepared.file (ap (λ (f : File). f.path) prepared.file) news in
+    let now = forgotten c.args.bytes.now kept c.prepare.new.self.kept c.forget_since.new.self.kept c.count-before.result c.count-before.ensures prepared.kept (ap (λ (m : Mirror). m.kept) c.forget_since.ensures) in
+    subst (λ (s : Shown g.row.S.Denot). Changes g.S.Store s (record { conn = new; kept = c.forget_since.new.self.kept }) (Err c.fault_of.result) (staging c.args.path.now entry s.kept)) c.self.view_is
+    (refused_changes g.S.Store c.self.inside.conn new kept (staging c.args.path.now entry kept) _ c.self.invariant same (g.met.S.Store.shut_if_dirty new.store)
+    c.forget_since.new.self.kept now c.in-Err-stage_rows.error (c.in-Err-stage_rows.ensures (tables_in kept)) c.fault_of.result)
+
+pub invariant_of-self-2 : goal.invariant_of-self-2
+invariant_of-self-2 g c =
+    let new = c.stage_rows.new.conn in
+    let kept = c.self.inside.lists.kept in
+    let entry : FileEntry = record { mode = c.args.mode; bytes = c.args.bytes.now } in
+    let file : File = record { path = c.args.path.now; entry = entry } in
+    let prepared = c.in-Ok.ensures in
+    let news = c.since.ensures ∙ ap₂ (λ (n : ℕ) (k : Kept). drop n k.contents) c.count-before.ensures prepared.kept in
+    let same = staging_handed file (file_of c.in-Ok.file) c.in-Ok.file.path c.since.result.now kept prepared.rising prepared.file (ap (λ (f : File). f.path) prepared.file) news in
+    let now = c.stage.ensures ∙ ap₂ (λ (f : File) (k : Kept). record { repo = with_staged f.path f.entry k.repo; contents = k.contents }) prepared.file prepared.kept in
+    done_stands g.S.Store c.self.inside.conn new kept (staging c.args.path.now entry kept) _ c.self.invariant same (g.met.S.Store.shut_if_dirty new.store)
+    c.stage.new.self.kept now c.in_default.field-0 (c.in_default.ensures (tables_in kept))
+
+pub returns-clause-change : goal.returns-clause-change
+returns-clause-change g c =
+    let new = c.stage_rows.new.conn in
+    let kept = c.self.inside.lists.kept in
+    let entry : FileEntry = record { mode = c.args.mode; bytes = c.args.bytes.now } in
+    let file : File = record { path = c.args.path.now; entry = entry } in
+    let prepared = c.in-Ok.ensures in
+    let news = c.since.ensures ∙ ap₂ (λ (n : ℕ) (k : Kept). drop n k.contents) c.count-before.ensures prepared.kept in
+    let same = staging_handed file (file_of c.in-Ok.file) c.in-Ok.file.path c.since.result.now kept prepared.rising prepared.file (ap (λ (f : File). f.path) prepared.file) news in
+    let now = c.stage.ensures ∙ ap₂ (λ (f : File) (k : Kept). record { repo = with_staged f.path f.entry k.repo; contents = k.contents }) prepared.file prepared.kept in
+    subst (λ (s : Shown g.row.S.Denot). Changes g.S.Store s (record { conn = new; kept = c.stage.new.self.kept }) (Ok tt) (staging c.args.path.now entry s.kept)) c.self.view_is
+    (done_changes g.S.Store c.self.inside.conn new kept (staging c.args.path.now entry kept) _ c.self.invariant same (g.met.S.Store.shut_if_dirty new.store)
+    (g.met.S.Store.settled new.store) c.stage.new.self.kept now c.in_default.field-0 (c.in_default.ensures (tables_in kept)) tt)

@@ -1,0 +1,41 @@
+use Rattle.std.proofs.Common.{◌≡◌, List, ℕ, Ok, Err, refl, sym, subst}
+use Rattle.store_tables.specs.Tables.{without_staged, without_fixes}
+use Rattle.repo_store.specs.Kept.{Kept, unstaging}
+use Rattle.repo_store.specs.Shown.{Shown, Changes}
+use Rattle.repo_store.proofs.KeptLemmas.{unstaging_tables}
+use Rattle.repo_store.proofs.SameLemmas.{IsSame}
+use Rattle.repo_store.proofs.StandLemmas.{tables_in, refused_stands, done_stands, refused_changes, done_changes}
+use Rattle.repo_store.proofs.store.Store.unstage.Goals as goal
+
+unstaged : (path text : List ℕ) (kept : Kept) → text ≡ path → IsSame (without_fixes (without_staged text (tables_in kept))) (tables_in (unstaging path kept))
+unstaged path text kept same = subst (λ (p : List ℕ). IsSame (without_fixes (without_staged p (tables_in kept))) (tables_in (unstaging path kept))) (sym same) (unstaging_tables path kept)
+
+pub invariant_of-self : goal.invariant_of-self
+invariant_of-self g c =
+    let new = c.unstage_rows.new.conn in
+    let kept = c.self.inside.lists.kept in
+    refused_stands g.S.Store c.self.inside.conn new kept (unstaging c.args.path.now kept) _ c.self.invariant (unstaged c.args.path.now c.as_str.result.now kept c.as_str.ensures.same) (g.met.S.Store.shut_if_dirty new.store)
+    kept refl c.in-Err.error (c.in-Err.ensures (tables_in kept))
+
+pub invariant_of-self-2 : goal.invariant_of-self-2
+invariant_of-self-2 g c =
+    let new = c.unstage_rows.new.conn in
+    let kept = c.self.inside.lists.kept in
+    done_stands g.S.Store c.self.inside.conn new kept (unstaging c.args.path.now kept) _ c.self.invariant (unstaged c.args.path.now c.as_str.result.now kept c.as_str.ensures.same) (g.met.S.Store.shut_if_dirty new.store)
+    c.unstage.new.self.kept c.unstage.ensures c.in_default.field-0 (c.in_default.ensures (tables_in kept))
+
+pub returns-in-Err-clause-change : goal.returns-in-Err-clause-change
+returns-in-Err-clause-change g c =
+    let new = c.unstage_rows.new.conn in
+    let kept = c.self.inside.lists.kept in
+    subst (λ (s : Shown g.row.S.Denot). Changes g.S.Store s (record { conn = new; kept = kept }) (Err c.fault_of.result) (unstaging c.args.path.now s.kept)) c.self.view_is
+    (refused_changes g.S.Store c.self.inside.conn new kept (unstaging c.args.path.now kept) _ c.self.invariant (unstaged c.args.path.now c.as_str.result.now kept c.as_str.ensures.same) (g.met.S.Store.shut_if_dirty new.store)
+    kept refl c.in-Err.error (c.in-Err.ensures (tables_in kept)) c.fault_of.result)
+
+pub returns-clause-change : goal.returns-clause-change
+returns-clause-change g c =
+    let new = c.unstage_rows.new.conn in
+    let kept = c.self.inside.lists.kept in
+    subst (λ (s : Shown g.row.S.Denot). Changes g.S.Store s (record { conn = new; kept = c.unstage.new.self.kept }) (Ok tt) (unstaging c.args.path.now s.kept)) c.self.view_is
+    (done_changes g.S.Store c.self.inside.conn new kept (unstaging c.args.path.now kept) _ c.self.invariant (unstaged c.args.path.now c.as_str.result.now kept c.as_str.ensures.same) (g.met.S.Store.shut_if_dirty new.store)
+    (g.met.S.Store.settled new.store) c.unstage.new.self.kept c.unstage.ensures c.in_default.field-0 (c.in_default.ensures (tables_in kept)) tt)

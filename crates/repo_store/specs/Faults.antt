@@ -1,0 +1,24 @@
+-- The numbers of the refusals.
+use Rattle.std.specs.Prelude.{ℕ}
+use Rattle.repo_store.specs.declared.fault.StoreFault.{StoreFault}
+use Rattle.repo_store.specs.declared.fault.StoreFault.TheVariants.{NotAStore, Damaged, Sql, OutOfMemory, Collision, TooLarge, TooMany}
+
+abbrev pub number_of : StoreFault → ℕ
+number_of NotAStore = 1
+number_of Damaged = 2
+number_of (Sql error) = 3
+number_of OutOfMemory = 4
+number_of Collision = 5
+number_of TooLarge = 6
+number_of TooMany = 7
+
+-- A refusal that comes only where contents are too large, something is too many or contents collide, or where memory or
+-- the database refuses.
+abbrev pub IsRefusal : Type 0 → Type 0 → Type 0 → StoreFault → Type 0
+IsRefusal large many collides NotAStore = ⊥
+IsRefusal large many collides Damaged = ⊥
+IsRefusal large many collides (Sql error) = Unit {0}
+IsRefusal large many collides OutOfMemory = Unit {0}
+IsRefusal large many collides Collision = collides
+IsRefusal large many collides TooLarge = large
+IsRefusal large many collides TooMany = many

@@ -1,0 +1,76 @@
+-- A repository and the contents that are kept for it.
+use Rattle.std.specs.Prelude.{◌≡◌, ℕ, Bool, List, Some, MatchOption, slice_get, take, refl}
+use Rattle.std.specs.List.{Any}
+use Rattle.std.specs.Coded.{Coded, code_by, coded×, coded_ℕ, coded_bool, coded_list}
+use Rattle.hook_base.specs.declared.file.File.{File}
+use Rattle.hook_base.specs.declared.change.Change.{Change}
+use Rattle.hook_base.specs.contracts.file.File as file
+use Rattle.hook_base.specs.contracts.change.Change as change
+use Rattle.hook_base.specs.declared.file.FileEntry.{FileEntry}
+use Rattle.repo_store.specs.Contents.{with_content, with_changes, Collides}
+use Rattle.repo_store.specs.Limits.{IsSmall}
+use Rattle.repo_store.specs.Repository.{Commit, Repository, with_staged, without_staged, with_new_commit, accepted, with_fixes, staged_changes}
+
+pub record Kept : Type 0 where
+  pub repo : Repository
+  -- as they came, the oldest first; the tables don't tell this order
+  pub contents : List (List ℕ)
+
+-- ---- what the calls make of it
+
+-- a file is staged
+abbrev pub staging : List ℕ → FileEntry → Kept → Kept
+staging path entry kept = record { repo = with_staged path entry kept.repo; contents = with_content entry.bytes kept.contents }
+
+-- a path is staged no more
+abbrev pub unstaging : List ℕ → Kept → Kept
+unstaging path kept = record kept { repo = without_staged path kept.repo }
+
+-- contents are kept
+abbrev pub keeping : List ℕ → Kept → Kept
+keeping bytes kept = record kept { contents = with_content bytes kept.contents }
+
+-- one commit more, of the staged files
+abbrev pub committing : List ℕ → Kept → Kept
+committing message kept = record kept { repo = with_new_commit message kept.repo }
+
+-- the fixes are set, and their contents are kept
+abbrev pub setting : List Change → Kept → Kept
+setting changes kept = record { repo = with_fixes changes kept.repo; contents = with_changes (staged_changes changes kept.repo.staged) kept.contents }
+
+-- the fixes are accepted
+abbrev pub accepting : Kept → Kept
+accepting kept = record kept { repo = accepted kept.repo }
+
+-- why fixes can't be set: one of them is too large
+abbrev pub HasLarge : List Change → Type 0
+HasLarge fixes = Any (λ (change : Change). MatchOption change.now ⊥ (λ bytes. ¬ IsSmall bytes)) fixes
+
+-- or its contents collide with those that are kept by then
+pub record FixCollides (fixes : List Change) (contents : List (List ℕ)) : Type 0 where
+  pub at : ℕ
+  pub change : Change
+  pub is : slice_get fixes at ≡ Some change
+  pub collides : MatchOption change.now ⊥ (λ bytes. Collides bytes (with_changes (take at fixes) contents))
+
+-- ---- how it is told apart
+
+abbrev pub commit_code : Coded Commit
+commit_code = code_by (List ℕ × List File) (coded× (coded_list coded_ℕ) (coded_list file.the_row.coded)) (λ c. (c.message, c.tree)) (λ p. record { message = p.0; tree = p.1 }) (λ _. refl)
+
+abbrev pub repository_code : Coded Repository
+repository_code =
+    code_by (List Commit × (List File × List Change)) (coded× (coded_list commit_code) (coded× (coded_list file.the_row.coded) (coded_list change.the_row.coded)))
+    (λ r. (r.history, (r.staged, r.fixes))) (λ p. record { history = p.0; staged = p.1.0; fixes = p.1.1 }) (λ _. refl)
+
+abbrev pub kept_code : Coded Kept
+kept_code =
+    code_by (Repository × List (List ℕ)) (coded× repository_code (coded_list (coded_list coded_ℕ))) (λ k. (k.repo, k.contents)) (λ p. record { repo = p.0; contents = p.1 }) (λ _. refl)
+
+-- What is kept, and whether the lists in memory have room for one more staged file and one more commit.
+pub record Mirror : Type 0 where
+  pub kept : Kept
+  pub has_room : Bool
+
+abbrev pub mirror_code : Coded Mirror
+mirror_code = code_by (Kept × Bool) (coded× kept_code coded_bool) (λ m. (m.kept, m.has_room)) (λ p. record { kept = p.0; has_room = p.1 }) (λ _. refl)

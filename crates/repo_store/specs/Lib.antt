@@ -1,0 +1,11 @@
+pub mod Calls
+pub mod Contents
+pub mod Faults
+pub mod Kept
+pub mod Limits
+pub mod Lists
+pub mod Log
+pub mod Repository
+pub mod Rows
+pub mod Shown
+pub mod Sound

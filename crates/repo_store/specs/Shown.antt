@@ -1,0 +1,38 @@
+-- What contracts see of a store.
+use Rattle.std.specs.Prelude.{◌≡◌, false, IsTrue, Result, OnOk, OnErr, refl}
+use Rattle.std.specs.Coded.{Coded, code_by, coded×}
+use Rattle.sqlite_trees.specs.declared.store.Store.{Ghosts}
+use Rattle.sqlite_trees.specs.Tree.{Trees}
+use Rattle.sqlite.specs.Held.{Held, held_code, state}
+use Rattle.sqlite.specs.State.{HasCleanDisk, Survives}
+use Rattle.store_tables.specs.Tables.{Holds, with_schema}
+use Rattle.repo_store.specs.Kept.{Kept, kept_code}
+use Rattle.repo_store.specs.Rows.{tables_of}
+
+-- the connection, and what it keeps
+pub record Shown (S : Type 0) : Type 0 where
+  pub conn : Held S
+  pub kept : Kept
+
+abbrev pub shown_code : {S : Type 0} → Coded S → Coded (Shown S)
+shown_code {S} store = code_by (Held S × Kept) (coded× (held_code store) kept_code) (λ s. (s.conn, s.kept)) (λ p. record { conn = p.0; kept = p.1 }) (λ _. refl)
+
+-- While the connection is open, the repository stands in its tables, and is committed.
+pub record Stands {S : Type 0} (g : Ghosts S) (conn : Held S) (kept : Kept) : Type 0 where
+  pub outside : conn.in_transaction ≡ false
+  pub now : IsTrue (state g conn).is_open → Holds (state g conn).now (tables_of kept.repo kept.contents)
+  pub committed : IsTrue (state g conn).is_open → Holds (state g conn).committed (tables_of kept.repo kept.contents)
+
+-- opened again, the trees are a store that keeps this
+abbrev pub Leaves : Kept → Trees → Type 0
+Leaves kept trees = Holds (with_schema trees) (tables_of kept.repo kept.contents)
+
+-- One call that makes of a store what is kept after it, in one transaction: all of it at `Ok`, and nothing otherwise. What
+-- the store shows then is what its tables hold. A crash leaves what it could leave before, or all of it; once the call has
+-- answered `Ok`, all of it.
+pub record Changes {S A E : Type 0} (g : Ghosts S) (old new : Shown S) (result : Result A E) (after : Kept) : Type 0 where
+  pub done : OnOk result (new.kept ≡ after)
+  pub same : OnErr result (new.kept ≡ old.kept)
+  pub stands : Stands g new.conn new.kept
+  pub crash : Survives (state g old.conn) (state g new.conn) (Leaves after)
+  pub durable : HasCleanDisk (state g new.conn) → OnOk result ((trees : Trees) → (state g new.conn).may_leave trees → Leaves after trees)

@@ -1,0 +1,64 @@
+ghost use Rattle.std.specs.Prelude.{◌≡◌, length, IfOk};
+ghost use Rattle.sha2.specs.Sha256.{sha256};
+
+use hook_base::{Bytes, OutOfMemory};
+use sha2::{Digest as _, Sha256};
+use std::alloc::{AllocError, Global};
+use std::marker::Model;
+use std::rc::Rc;
+
+/// Contents that each file which has them shares, with the SHA-256 of them. Contracts see the bytes.
+#[derive(Debug, Drop)]
+pub struct Content {
+    digest: [u8; 32],
+    bytes: Rc<Bytes>,
+}
+
+impl Model for Content {
+    ghost use Rattle.std.specs.Prelude.{◌≡◌, List, ℕ};
+    ghost use Rattle.sha2.specs.Sha256.{sha256};
+
+    ghost Value = { List ℕ };
+
+    ghost view = { λ content. content.bytes.value };
+
+    ghost invariant = { λ content. content.digest ≡ sha256 content.bytes.value };
+}
+
+impl Content {
+    /// A copy of the bytes, whose digest is known.
+    pub fn copy_of(alloc: Global, digest: [u8; 32], bytes: &[u8]) -> Result<Content, OutOfMemory>
+        requires { digest ≡ sha256 bytes.now }
+        ensures { IfOk result (λ content. content ≡ bytes.now) }
+    {
+        let bytes = Rc::new(alloc, Bytes::copy_of(alloc, bytes)?)?;
+        Ok(Content { digest, bytes })
+    }
+
+    /// The SHA-256 of the bytes.
+    pub fn digest(&self) -> &[u8; 32]
+        ensures { result.now ≡ sha256 self.now }
+    {
+        &self.digest
+    }
+
+    /// The bytes.
+    pub fn as_slice(&self) -> &[u8]
+        ensures { result.now ≡ self.now }
+    {
+        self.bytes.as_ref().as_slice()
+    }
+}
+
+impl Clone for Content {
+    ghost use Rattle.std.specs.Prelude.{◌≡◌};
+
+    ghost is_clone = { λ source made. made ≡ source };
+
+    fn clone(&self) -> Result<Self, AllocError> {
+        Ok(Content {
+            digest: self.digest,
+            bytes: self.bytes.clone()?,
+        })
+    }
+}

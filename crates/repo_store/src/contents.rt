@@ -1,0 +1,157 @@
+ghost use Rattle.std.specs.Prelude.{◌≡◌, ◌≢◌, ◌+◌, ◌-◌, ◌<◌, ◌≤◌, [], ◌∷◌, ◌++◌, false, length, take, drop, IfOk, IfErr, IfNone, IfSome, OnOk, OnErr};
+ghost use Rattle.std.specs.List.{Any};
+ghost use Rattle.sha2.specs.Sha256.{sha256};
+ghost use Rattle.repo_store.specs.Contents.{Collides, has_digest, with_content};
+ghost use Rattle.repo_store.specs.Faults.{IsRefusal};
+ghost use Rattle.repo_store.specs.Limits.{IsSmall};
+
+use crate::StoreFault;
+use crate::content::Content;
+use hook_base::OutOfMemory;
+use sha2::{Digest as _, Sha256};
+use std::alloc::Global;
+use std::collections::HashMap;
+use std::marker::Model;
+
+/// The most bytes that contents may have.
+const CONTENT_LIMIT: usize = 16_777_216;
+
+/// Contents, each kept once and found by its digest. Contracts see the list of them, the oldest first.
+#[derive(Debug, Drop)]
+pub struct Contents {
+    items: Vec<Content>,
+    places: HashMap<[u8; 32], usize>,
+}
+
+impl Model for Contents {
+    ghost use Rattle.std.specs.Prelude.{List, ℕ};
+    ghost use Rattle.repo_store.specs.Contents.{IsIndexed};
+
+    ghost Value = { List (List ℕ) };
+
+    ghost view = { λ contents. contents.items.items };
+
+    ghost invariant = { λ contents. IsIndexed contents.places contents.items.items };
+}
+
+impl Contents {
+    /// No contents.
+    pub fn new(alloc: Global) -> Contents
+        ensures { result ≡ [] }
+    {
+        Contents {
+            items: Vec::new(alloc),
+            places: HashMap::new(alloc),
+        }
+    }
+
+    /// How many there are.
+    pub fn len(&self) -> usize
+        ensures { result ≡ length self.now }
+    {
+        self.items.len()
+    }
+
+    /// Those from a place on.
+    pub fn since(&self, place: usize) -> &[Content]
+        requires { place ≤ length self.now }
+        ensures { result.now ≡ drop place self.now }
+    {
+        &self.items[place..]
+    }
+
+    /// Those that stand under a digest.
+    pub fn find(&self, digest: &[u8; 32]) -> Option<&Content>
+        ensures absent { IfNone result (has_digest digest.now self.now ≡ false) }
+        ensures found { IfSome result (λ content. Any (λ bytes. bytes ≡ content.now) self.now) }
+        ensures under { IfSome result (λ content. sha256 content.now ≡ digest.now) }
+        ensures alone { IfSome result (λ content. ¬ Collides content.now self.now) }
+    {
+        match self.places.get(digest) {
+            Some(place) => Some(&self.items[*place]),
+            None => None,
+        }
+    }
+
+    /// Keeps contents whose digest is that of none. A refusal leaves them as they were.
+    pub fn push(&mut self, content: Content) -> Result<(), OutOfMemory>
+        requires { has_digest (sha256 content) self.old ≡ false }
+        ensures kept { OnOk result (self.new ≡ self.old ++ content ∷ []) }
+        ensures refused { OnErr result (self.new ≡ self.old) }
+    {
+        let digest = *content.digest();
+        let place = self.items.len();
+        self.items.push(content)?;
+        if self.places.insert(digest, place).is_err() {
+            self.items.pop();
+            return Err(OutOfMemory);
+        }
+        Ok(())
+    }
+
+    /// The bytes as contents, kept anew where they aren't there yet. A refusal leaves all as it was.
+    pub fn keep(&mut self, bytes: &[u8]) -> Result<Content, StoreFault>
+        ensures content { IfOk result (λ content. content ≡ bytes.now) }
+        ensures kept { OnOk result (self.new ≡ with_content bytes.now self.old) }
+        ensures same { OnErr result (self.new ≡ self.old) }
+        ensures why { IfErr result (IsRefusal (¬ IsSmall bytes.now) ⊥ (Collides bytes.now self.old)) }
+        ensures small { OnOk result (IsSmall bytes.now) }
+        ensures apart { OnOk result (¬ Collides bytes.now self.old) }
+    {
+        if bytes.len() > CONTENT_LIMIT {
+            return Err(StoreFault::TooLarge);
+        }
+        let digest = Sha256::digest(bytes);
+        if let Some(content) = self.find(&digest) {
+            return shared(content, bytes);
+        }
+        match self.add(digest, bytes) {
+            Ok(content) => Ok(content),
+            Err(OutOfMemory) => Err(StoreFault::OutOfMemory),
+        }
+    }
+
+    fn add(&mut self, digest: [u8; 32], bytes: &[u8]) -> Result<Content, OutOfMemory>
+        requires digest { digest ≡ sha256 bytes.now }
+        requires new { has_digest (sha256 bytes.now) self.old ≡ false }
+        ensures content { IfOk result (λ content. content ≡ bytes.now) }
+        ensures kept { OnOk result (self.new ≡ self.old ++ bytes.now ∷ []) }
+        ensures same { OnErr result (self.new ≡ self.old) }
+    {
+        let content = Content::copy_of(*self.items.allocator(), digest, bytes)?;
+        self.push(content.clone()?)?;
+        Ok(content)
+    }
+
+    /// Takes the last out.
+    pub fn pop(&mut self)
+        ensures { self.new ≡ take (length self.old - 1) self.old }
+    {
+        if let Some(content) = self.items.pop() {
+            self.places.remove(content.digest());
+        }
+    }
+
+    /// Takes those from a place on out.
+    pub fn truncate(&mut self, place: usize)
+        ensures { self.new ≡ take place self.old }
+    {
+        'later: while self.len() > place {
+            self.pop();
+        }
+    }
+}
+
+/// The contents again, if they are these bytes.
+fn shared(content: &Content, bytes: &[u8]) -> Result<Content, StoreFault>
+    ensures same { IfOk result (λ made. (made ≡ bytes.now) × (content.now ≡ bytes.now)) }
+    ensures differs { IfErr result (IsRefusal ⊥ ⊥ (content.now ≢ bytes.now)) }
+{
+    if content.as_slice() != bytes {
+        return Err(StoreFault::Collision);
+    }
+    match content.clone() {
+        Ok(made) => Ok(made),
+        Err(_) => Err(StoreFault::OutOfMemory),
+    }
+}

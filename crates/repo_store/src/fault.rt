@@ -1,0 +1,61 @@
+use sqlite::ErrorCode;
+use thiserror::Error;
+
+/// Why a call on a store is refused. What the store shows, and the tables, are as before the call; a fault of the disk may
+/// have shut the connection.
+#[derive(Debug, Drop, Error)]
+pub enum StoreFault {
+    /// The database has no store in it, or one of another version.
+    #[error("the database holds no store of this version")]
+    NotAStore,
+    /// The tables hold what no store holds.
+    #[error("the store is damaged")]
+    Damaged,
+    /// The database refused. Nothing is said of when this comes.
+    #[error("{0}")]
+    Sql(sqlite::Error),
+    /// Memory was refused.
+    #[error("out of memory")]
+    OutOfMemory,
+    /// Other bytes are kept under the same digest.
+    #[error("other contents have the same digest")]
+    Collision,
+    /// Contents or a message of more than 16 MiB.
+    #[error("contents or a message of more than 16 MiB")]
+    TooLarge,
+    /// More than 100,000 commits, or a staged tree of more than 100,000 files or 8 MiB of paths.
+    #[error("more commits, staged files or paths than a store takes")]
+    TooMany,
+}
+
+impl StoreFault {
+    ghost use Rattle.std.specs.Prelude.{◌≡◌};
+    ghost use Rattle.repo_store.specs.Faults.{number_of};
+
+    /// The number of the refusal, from 1 to 7.
+    pub fn number(&self) -> u8
+        ensures { result ≡ number_of self.now }
+    {
+        match self {
+            StoreFault::NotAStore => 1,
+            StoreFault::Damaged => 2,
+            StoreFault::Sql(_) => 3,
+            StoreFault::OutOfMemory => 4,
+            StoreFault::Collision => 5,
+            StoreFault::TooLarge => 6,
+            StoreFault::TooMany => 7,
+        }
+    }
+}
+
+ghost use Rattle.repo_store.specs.Faults.{IsRefusal};
+
+/// The fault that an error of the database is.
+pub(crate) fn fault_of(error: sqlite::Error) -> StoreFault
+    ensures { IsRefusal ⊥ ⊥ ⊥ result }
+{
+    match error {
+        sqlite::Error::SqliteFailure(ErrorCode::OutOfMemory) => StoreFault::OutOfMemory,
+        other => StoreFault::Sql(other),
+    }
+}

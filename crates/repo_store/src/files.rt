@@ -1,0 +1,117 @@
+ghost use Rattle.std.specs.Prelude.{◌≡◌, ◌↔◌, ◌<◌, ◌^◌, map, length, filter, not, sum_by, is_some, IfOk, OnOk, MatchResult, IsTrue, vec_len, vec_capacity};
+ghost use Rattle.std.specs.Str.{bytes_eq};
+ghost use Rattle.hook_base.specs.Places.{IsAt, IsGap};
+ghost use Rattle.hook_base.specs.declared.file.FileEntry.{FileEntry};
+ghost use Rattle.hook_base.specs.Trees.{IsRising, apply_change, apply_changes, entry_of, put_file, put_row};
+ghost use Rattle.repo_store.specs.Limits.{Fits, path_bytes};
+ghost use Rattle.repo_store.specs.Lists.{file_of, fix_of};
+
+use crate::held::{HeldCommit, HeldFile, HeldFix};
+use hook_base::{Bytes, OutOfMemory, RepoPath};
+
+/// The most files, and bytes of their paths, that a staged tree may have.
+const FILE_LIMIT: usize = 100_000;
+
+const PATH_LIMIT: usize = 8_388_608;
+
+/// Where a path stands in files that rise: at the file of an index, or before it.
+fn place_of(files: &[HeldFile], path: &RepoPath) -> Result<usize, usize>
+    requires { IsRising (map file_of files.now) }
+    ensures { MatchResult result (IsAt path.now (map file_of files.now)) (IsGap path.now (map file_of files.now)) }
+{
+    files.binary_search_by(|file| file.path.cmp(path))
+}
+
+/// Whether a path has a file.
+pub fn has_path(files: &[HeldFile], path: &RepoPath) -> bool
+    requires { IsRising (map file_of files.now) }
+    ensures { result ≡ is_some (entry_of path.now (map file_of files.now)) }
+{
+    place_of(files, path).is_ok()
+}
+
+/// The bytes of the paths together.
+fn count_path_bytes(files: &[HeldFile]) -> usize
+    requires { path_bytes (map file_of files.now) < 2 ^ 64 }
+    ensures { result ≡ path_bytes (map file_of files.now) }
+{
+    files.iter().map(|file| file.path.as_str().len()).sum()
+}
+
+/// Whether the files still fit when a file stands at the path too.
+pub fn may_put(files: &[HeldFile], path: &RepoPath) -> bool
+    requires rising { IsRising (map file_of files.now) }
+    requires fits { Fits (map file_of files.now) }
+    ensures { (entry : FileEntry) → IsTrue result ↔ Fits (put_file path.now entry (map file_of files.now)) }
+{
+    match place_of(files, path) {
+        Ok(_) => true,
+        Err(_) => {
+            let bytes = count_path_bytes(files) + path.as_str().len();
+            files.len() < FILE_LIMIT && bytes <= PATH_LIMIT
+        }
+    }
+}
+
+/// Puts a file, for which there is room, in place of the one at its path, or adds it.
+pub fn put_file(files: &mut Vec<HeldFile>, file: HeldFile)
+    requires rising { IsRising (map file_of files.old.items) }
+    requires room { vec_len files.old < vec_capacity files.old }
+    ensures { map file_of files.new.items ≡ put_row (file_of file) (map file_of files.old.items) }
+{
+    match place_of(files.as_slice(), &file.path) {
+        Ok(index) => files[index] = file,
+        Err(index) => {
+            let _done = files.insert(index, file);
+        }
+    }
+}
+
+/// Takes the file of a path out.
+pub fn keep_others(files: &mut Vec<HeldFile>, path: &RepoPath)
+    ensures { files.new.items ≡ filter (λ file. not (bytes_eq file.path path.now)) files.old.items }
+{
+    files.retain(|file| file.path != *path);
+}
+
+/// A commit of these files.
+pub fn commit_with(message: &[u8], files: &Vec<HeldFile>) -> Result<HeldCommit, OutOfMemory>
+    ensures { IfOk result (λ commit. (commit.message ≡ message.now) × (map file_of commit.files.items ≡ map file_of files.now.items)) }
+{
+    let message = Bytes::copy_of(*files.allocator(), message)?;
+    let files = files.clone()?;
+    Ok(HeldCommit { message, files })
+}
+
+/// Applies a fix, where its path has a file.
+fn apply_fix(files: &mut Vec<HeldFile>, fix: &HeldFix) -> Result<(), OutOfMemory>
+    requires { IsRising (map file_of files.old.items) }
+    ensures { OnOk result (map file_of files.new.items ≡ apply_change (fix_of fix.entry.now) (map file_of files.old.items)) }
+{
+    match place_of(files.as_slice(), &fix.path) {
+        Ok(index) => match &fix.now {
+            Some(content) => {
+                let content = content.clone()?;
+                let file = &mut files[index];
+                file.content = content;
+            }
+            None => {
+                files.remove(index);
+            }
+        },
+        Err(_) => {}
+    }
+    Ok(())
+}
+
+/// The files with the fixes applied.
+pub fn with_fixes(files: &Vec<HeldFile>, fixes: &[HeldFix]) -> Result<Vec<HeldFile>, OutOfMemory>
+    requires { IsRising (map file_of files.now.items) }
+    ensures { IfOk result (λ made. map file_of made.items ≡ apply_changes (map fix_of fixes.now) (map file_of files.now.items)) }
+{
+    let mut made = files.clone()?;
+    for fix in fixes {
+        apply_fix(&mut made, fix)?;
+    }
+    Ok(made)
+}

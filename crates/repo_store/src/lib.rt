@@ -1,0 +1,33 @@
+//! A repository that is kept in SQL: its commits, the staged files and the fixes, each change one transaction. The public
+//! types are `Store`, `StoreFault`, `Digest` (of contents) and `LogEntry` (a commit in the log). Contracts cite
+//! `specs/Repository` and `specs/Log` (the repository as plain lists), `specs/Kept` and `specs/Contents` (what each call
+//! makes of it and of the contents, and which collide), `specs/Limits`, `specs/Faults` (when each refusal may come),
+//! `specs/Rows` (the tables of a repository), `specs/Calls` and `specs/Shown` (what is seen of a store, and what a refusal
+//! or a crash leaves).
+#![tactic(auto)]
+
+mod accept;
+mod blobs;
+mod commit;
+mod content;
+mod contents;
+mod create;
+mod digest;
+mod fault;
+mod files;
+mod fixes;
+mod held;
+mod lists;
+mod log_entry;
+mod mode;
+mod stage;
+mod store;
+#[cfg(test)]
+mod tests;
+mod trees;
+mod unstage;
+
+pub use digest::Digest;
+pub use fault::StoreFault;
+pub use log_entry::LogEntry;
+pub use store::Store;

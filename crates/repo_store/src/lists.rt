@@ -1,0 +1,367 @@
+ghost use Rattle.std.specs.Prelude.{◌≡◌, ◌<◌, ◌≤◌, [], true, map, length, take, drop, is_some, option_map, MatchOption, IfOk, IfErr, OnOk, OnErr};
+ghost use Rattle.hook_base.specs.Trees.{IsRising, IsRisingChanges, apply_changes, entry_of, put_file};
+ghost use Rattle.repo_store.specs.Kept.{FixCollides, HasLarge, accepting, committing, keeping, unstaging};
+ghost use Rattle.repo_store.specs.Lists.{commit_of, file_of, fix_of};
+ghost use Rattle.repo_store.specs.Contents.{Collides, with_changes, with_new};
+ghost use Rattle.repo_store.specs.Faults.{IsRefusal};
+ghost use Rattle.repo_store.specs.Limits.{Fits, IsSmall};
+ghost use Rattle.repo_store.specs.Log.{log_from};
+ghost use Rattle.repo_store.specs.Repository.{Commit, commit_at, empty, last_tree, staged_changes, with_staged};
+ghost use Rattle.repo_store.specs.Sound.{IsSound};
+
+use crate::content::Content;
+use crate::contents::Contents;
+use crate::files::{commit_with, has_path, keep_others, may_put, put_file, with_fixes};
+use crate::held::{HeldCommit, HeldFile, HeldFix};
+use crate::trees::{changes_of, log_of, tree_of};
+use crate::{LogEntry, StoreFault};
+use hook_base::{Change, Mode, OutOfMemory, RepoPath, Tree};
+use std::alloc::Global;
+use std::marker::Model;
+
+/// The most bytes that the message of a commit may have.
+const MESSAGE_LIMIT: usize = 16_777_216;
+
+/// The most commits that a store may have.
+const COMMIT_LIMIT: usize = 100_000;
+
+/// A repository in memory, and the contents that are kept.
+#[derive(Debug, Drop)]
+pub struct Lists {
+    contents: Contents,
+    history: Vec<HeldCommit>,
+    staged: Vec<HeldFile>,
+    fixes: Vec<HeldFix>,
+}
+
+impl Model for Lists {
+    ghost use Rattle.std.specs.Prelude.{◌&&◌, nat_lt, vec_len, vec_capacity};
+    ghost use Rattle.repo_store.specs.Kept.{Mirror, mirror_code};
+    ghost use Rattle.repo_store.specs.Sound.{IsSound};
+
+    ghost Value = { Mirror };
+
+    ghost coded = { mirror_code };
+
+    ghost use Rattle.repo_store.specs.Lists.{repository_of};
+
+    ghost view = { λ lists. record {
+      kept = record {
+        repo = repository_of lists.history.items lists.staged.items lists.fixes.items;
+        contents = lists.contents;
+      };
+      has_room = nat_lt (vec_len lists.history) (vec_capacity lists.history) && nat_lt (vec_len lists.staged) (vec_capacity lists.staged);
+    } };
+
+    ghost invariant = { λ lists. IsSound (repository_of lists.history.items lists.staged.items lists.fixes.items) };
+}
+
+impl Lists {
+    pub fn new(alloc: Global) -> Lists
+        ensures { result.kept ≡ record { repo = empty; contents = [] } }
+    {
+        Lists {
+            contents: Contents::new(alloc),
+            history: Vec::new(alloc),
+            staged: Vec::new(alloc),
+            fixes: Vec::new(alloc),
+        }
+    }
+
+    /// Makes room for one more staged file and one more commit.
+    pub fn reserve(&mut self) -> Result<(), OutOfMemory>
+        ensures same { self.new.kept ≡ self.old.kept }
+        ensures room { OnOk result (self.new.has_room ≡ true) }
+    {
+        self.history.reserve(1)?;
+        self.staged.reserve(1)?;
+        Ok(())
+    }
+
+    /// How many contents are kept.
+    pub fn count(&self) -> usize
+        ensures { result ≡ length self.now.kept.contents }
+    {
+        self.contents.len()
+    }
+
+    /// The contents from a place on.
+    pub fn since(&self, place: usize) -> &[Content]
+        requires { place ≤ length self.now.kept.contents }
+        ensures { result.now ≡ drop place self.now.kept.contents }
+    {
+        self.contents.since(place)
+    }
+
+    /// The bytes as contents, kept anew where they aren't there yet. A refusal leaves all as it was.
+    pub fn keep(&mut self, bytes: &[u8]) -> Result<Content, StoreFault>
+        ensures content { IfOk result (λ content. content ≡ bytes.now) }
+        ensures kept { OnOk result (self.new ≡ record self.old { kept = keeping bytes.now self.old.kept }) }
+        ensures same { OnErr result (self.new ≡ self.old) }
+        ensures why { IfErr result (IsRefusal (¬ IsSmall bytes.now) ⊥ (Collides bytes.now self.old.kept.contents)) }
+        ensures small { OnOk result (IsSmall bytes.now) }
+        ensures apart { OnOk result (¬ Collides bytes.now self.old.kept.contents) }
+    {
+        self.contents.keep(bytes)
+    }
+
+    /// Forgets the contents from a place on.
+    pub fn forget_since(&mut self, place: usize)
+        ensures { self.new ≡ record self.old { kept = record self.old.kept { contents = take place self.old.kept.contents } } }
+    {
+        self.contents.truncate(place);
+    }
+
+    /// A file that may be staged, with room for it, whose contents are kept. A refusal leaves all as it was.
+    pub fn prepare(
+        &mut self,
+        path: &RepoPath,
+        mode: Mode,
+        bytes: &[u8],
+    ) -> Result<HeldFile, StoreFault>
+        ensures file { IfOk result (λ file. file_of file ≡ record { path = path.now; entry = record { mode = mode; bytes = bytes.now } }) }
+        ensures kept { OnOk result (self.new.kept ≡ keeping bytes.now self.old.kept) }
+        ensures room { OnOk result (self.new.has_room ≡ true) }
+        ensures within { OnOk result (IsSmall bytes.now × Fits (put_file path.now (record { mode = mode; bytes = bytes.now }) self.old.kept.repo.staged)) }
+        ensures same { OnErr result (self.new.kept ≡ self.old.kept) }
+        ensures why { IfErr result (IsRefusal (¬ IsSmall bytes.now) (¬ Fits (put_file path.now (record { mode = mode; bytes = bytes.now }) self.old.kept.repo.staged)) (Collides bytes.now self.old.kept.contents)) }
+        ensures apart { OnOk result (¬ Collides bytes.now self.old.kept.contents) }
+        ensures rising { IsRising self.old.kept.repo.staged }
+    {
+        if !may_put(self.staged.as_slice(), path) {
+            return Err(StoreFault::TooMany);
+        }
+        let Ok(path) = path.clone() else {
+            return Err(StoreFault::OutOfMemory);
+        };
+        if self.reserve().is_err() {
+            return Err(StoreFault::OutOfMemory);
+        }
+        match self.keep(bytes) {
+            Ok(content) => Ok(HeldFile {
+                path,
+                mode,
+                content,
+            }),
+            Err(fault) => Err(fault),
+        }
+    }
+
+    /// Stages a file, for which there is room, and forgets the fixes.
+    pub fn stage(&mut self, file: HeldFile)
+        requires room { self.old.has_room ≡ true }
+        requires fits { Fits (put_file file.path (record { mode = file.mode; bytes = file.content }) self.old.kept.repo.staged) }
+        ensures { self.new.kept ≡ record self.old.kept { repo = with_staged file.path (record { mode = file.mode; bytes = file.content }) self.old.kept.repo } }
+    {
+        put_file(&mut self.staged, file);
+        self.fixes.clear();
+    }
+
+    /// How many commits there are.
+    pub fn commits(&self) -> u32
+        ensures { result ≡ length self.now.kept.repo.history }
+    {
+        self.history.len() as u32
+    }
+
+    /// The next commit, of the staged files, with room for it. A refusal leaves all as it was.
+    pub fn prepare_commit(&mut self, message: &[u8]) -> Result<HeldCommit, StoreFault>
+        ensures commit { IfOk result (λ commit. commit_of commit ≡ record { message = message.now; tree = self.old.kept.repo.staged }) }
+        ensures room { OnOk result (self.new.has_room ≡ true) }
+        ensures within { OnOk result (IsSmall message.now × (length self.old.kept.repo.history < 100000)) }
+        ensures same { self.new.kept ≡ self.old.kept }
+        ensures why { IfErr result (IsRefusal (¬ IsSmall message.now) (100000 ≤ length self.old.kept.repo.history) ⊥) }
+    {
+        if message.len() > MESSAGE_LIMIT {
+            return Err(StoreFault::TooLarge);
+        }
+        if self.history.len() >= COMMIT_LIMIT {
+            return Err(StoreFault::TooMany);
+        }
+        if self.reserve().is_err() {
+            return Err(StoreFault::OutOfMemory);
+        }
+        match commit_with(message, &self.staged) {
+            Ok(commit) => Ok(commit),
+            Err(OutOfMemory) => Err(StoreFault::OutOfMemory),
+        }
+    }
+
+    /// Adds the next commit, for which there is room, and forgets the fixes.
+    pub fn commit(&mut self, commit: HeldCommit)
+        requires next { commit_of commit ≡ record { message = commit.message; tree = self.old.kept.repo.staged } }
+        requires room { self.old.has_room ≡ true }
+        requires few { length self.old.kept.repo.history < 100000 }
+        ensures { self.new.kept ≡ committing commit.message self.old.kept }
+    {
+        let _done = self.history.push(commit);
+        self.fixes.clear();
+    }
+
+    /// A fix, whose contents are kept. A refusal leaves all as it was.
+    fn hold(&mut self, change: &Change) -> Result<HeldFix, StoreFault>
+        ensures fix { IfOk result (λ fix. fix_of fix ≡ change.entry.now) }
+        ensures kept { OnOk result (self.new.kept ≡ record self.old.kept { contents = with_new change.entry.now.now self.old.kept.contents }) }
+        ensures same { OnErr result (self.new.kept ≡ self.old.kept) }
+        ensures within { OnOk result (¬ MatchOption change.entry.now.now ⊥ (λ bytes. ¬ IsSmall bytes)) }
+        ensures apart { OnOk result (¬ MatchOption change.entry.now.now ⊥ (λ bytes. Collides bytes self.old.kept.contents)) }
+        ensures why { IfErr result (IsRefusal (MatchOption change.entry.now.now ⊥ (λ bytes. ¬ IsSmall bytes)) ⊥ (MatchOption change.entry.now.now ⊥ (λ bytes. Collides bytes self.old.kept.contents))) }
+    {
+        let Ok(path) = change.path.clone() else {
+            return Err(StoreFault::OutOfMemory);
+        };
+        match &change.now {
+            None => Ok(HeldFix { path, now: None }),
+            Some(bytes) => match self.keep(bytes.as_slice()) {
+                Ok(content) => Ok(HeldFix {
+                    path,
+                    now: Some(content),
+                }),
+                Err(fault) => Err(fault),
+            },
+        }
+    }
+
+    /// Whether a path is staged.
+    fn is_staged(&self, path: &RepoPath) -> bool
+        ensures { result ≡ is_some (entry_of path.now self.now.kept.repo.staged) }
+    {
+        has_path(self.staged.as_slice(), path)
+    }
+
+    /// The changes of staged files, whose contents are kept; at a refusal those of some of them are.
+    fn hold_fixes(&mut self, changes: &[Change]) -> Result<Vec<HeldFix>, StoreFault>
+        ensures fixes { IfOk result (λ fixes. map fix_of fixes.items ≡ staged_changes changes.now self.old.kept.repo.staged) }
+        ensures kept { OnOk result (self.new.kept.contents ≡ with_changes (staged_changes changes.now self.old.kept.repo.staged) self.old.kept.contents) }
+        ensures sound { IsSound self.old.kept.repo }
+        ensures repo { self.new.kept.repo ≡ self.old.kept.repo }
+        ensures front { take (length self.old.kept.contents) self.new.kept.contents ≡ self.old.kept.contents }
+        ensures within { OnOk result (¬ HasLarge (staged_changes changes.now self.old.kept.repo.staged)) }
+        ensures apart { OnOk result (¬ FixCollides (staged_changes changes.now self.old.kept.repo.staged) self.old.kept.contents) }
+        ensures why { IfErr result (IsRefusal (HasLarge (staged_changes changes.now self.old.kept.repo.staged)) ⊥ (FixCollides (staged_changes changes.now self.old.kept.repo.staged) self.old.kept.contents)) }
+    {
+        let mut fixes = Vec::new(*self.staged.allocator());
+        'changes: for change in changes {
+            if self.is_staged(&change.path) {
+                match self.hold(change) {
+                    Ok(fix) => {
+                        if fixes.push(fix).is_err() {
+                            return Err(StoreFault::OutOfMemory);
+                        }
+                    }
+                    Err(fault) => return Err(fault),
+                }
+            }
+        }
+        Ok(fixes)
+    }
+
+    /// The changes of staged files, whose contents are kept. A refusal leaves all as it was.
+    pub fn prepare_fixes(&mut self, changes: &[Change]) -> Result<Vec<HeldFix>, StoreFault>
+        requires { IsRisingChanges changes.now }
+        ensures fixes { IfOk result (λ fixes. map fix_of fixes.items ≡ staged_changes changes.now self.old.kept.repo.staged) }
+        ensures rising { IfOk result (λ fixes. IsRisingChanges (map fix_of fixes.items)) }
+        ensures few { IfOk result (λ fixes. length (map fix_of fixes.items) ≤ 100000) }
+        ensures kept { OnOk result (self.new.kept ≡ record self.old.kept { contents = with_changes (staged_changes changes.now self.old.kept.repo.staged) self.old.kept.contents }) }
+        ensures same { OnErr result (self.new.kept ≡ self.old.kept) }
+        ensures within { OnOk result (¬ HasLarge (staged_changes changes.now self.old.kept.repo.staged)) }
+        ensures apart { OnOk result (¬ FixCollides (staged_changes changes.now self.old.kept.repo.staged) self.old.kept.contents) }
+        ensures why { IfErr result (IsRefusal (HasLarge (staged_changes changes.now self.old.kept.repo.staged)) ⊥ (FixCollides (staged_changes changes.now self.old.kept.repo.staged) self.old.kept.contents)) }
+    {
+        let before = self.count();
+        match self.hold_fixes(changes) {
+            Ok(fixes) => Ok(fixes),
+            Err(fault) => {
+                self.forget_since(before);
+                Err(fault)
+            }
+        }
+    }
+
+    /// Sets the fixes.
+    pub fn set_fixes(&mut self, fixes: Vec<HeldFix>)
+        requires rising { IsRisingChanges (map fix_of fixes.items) }
+        requires few { length (map fix_of fixes.items) ≤ 100000 }
+        ensures { self.new.kept ≡ record self.old.kept { repo = record self.old.kept.repo { fixes = map fix_of fixes.items } } }
+    {
+        self.fixes = fixes;
+    }
+
+    /// The staged files, in memory of their own.
+    pub fn staged(&self) -> Result<Tree, OutOfMemory>
+        ensures { IfOk result (λ tree. tree ≡ self.now.kept.repo.staged) }
+    {
+        tree_of(*self.staged.allocator(), self.staged.as_slice())
+    }
+
+    /// The files of the last commit, and none where there is no commit, in memory of their own.
+    pub fn head(&self) -> Result<Tree, OutOfMemory>
+        ensures { IfOk result (λ tree. tree ≡ last_tree self.now.kept.repo.history) }
+    {
+        match self.history.as_slice() {
+            [.., commit] => tree_of(*self.staged.allocator(), commit.files.as_slice()),
+            [] => Ok(Tree::new(*self.staged.allocator())),
+        }
+    }
+
+    /// The fixes, in memory of their own.
+    pub fn fixes(&self) -> Result<Vec<Change>, OutOfMemory>
+        ensures { IfOk result (λ fixes. fixes.items ≡ self.now.kept.repo.fixes) }
+    {
+        changes_of(*self.staged.allocator(), self.fixes.as_slice())
+    }
+
+    /// The commits with their numbers, the oldest first.
+    pub fn log(&self) -> Result<Vec<LogEntry>, OutOfMemory>
+        ensures { IfOk result (λ log. log.items ≡ log_from 1 self.now.kept.repo.history) }
+    {
+        log_of(*self.staged.allocator(), self.history.as_slice())
+    }
+
+    /// The files of a commit, or none where there is no commit of this number.
+    pub fn tree_of(&self, number: u32) -> Result<Option<Tree>, OutOfMemory>
+        ensures { IfOk result (λ tree. tree ≡ option_map (λ (commit : Commit). commit.tree) (commit_at number self.now.kept.repo.history)) }
+    {
+        if number == 0 {
+            return Ok(None);
+        }
+        match self.history.get(number as usize - 1) {
+            Some(commit) => {
+                let tree = tree_of(*self.staged.allocator(), commit.files.as_slice())?;
+                Ok(Some(tree))
+            }
+            None => Ok(None),
+        }
+    }
+
+    /// How many fixes there are.
+    pub fn count_fixes(&self) -> u32
+        ensures { result ≡ length self.now.kept.repo.fixes }
+    {
+        self.fixes.len() as u32
+    }
+
+    /// The staged files with the fixes applied.
+    pub fn prepare_accept(&self) -> Result<Vec<HeldFile>, OutOfMemory>
+        ensures { IfOk result (λ files. map file_of files.items ≡ apply_changes self.now.kept.repo.fixes self.now.kept.repo.staged) }
+    {
+        with_fixes(&self.staged, self.fixes.as_slice())
+    }
+
+    /// Stages the files with the fixes applied, and forgets the fixes.
+    pub fn accept(&mut self, files: Vec<HeldFile>)
+        requires { map file_of files.items ≡ apply_changes self.old.kept.repo.fixes self.old.kept.repo.staged }
+        ensures { self.new.kept ≡ accepting self.old.kept }
+    {
+        self.staged = files;
+        self.fixes.clear();
+    }
+
+    /// Takes a path out of the staged files, and forgets the fixes.
+    pub fn unstage(&mut self, path: &RepoPath)
+        ensures { self.new.kept ≡ unstaging path.now self.old.kept }
+    {
+        keep_others(&mut self.staged, path);
+        self.fixes.clear();
+    }
+}

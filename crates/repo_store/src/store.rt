@@ -1,0 +1,250 @@
+ghost use Rattle.std.specs.Prelude.{◌≡◌, ◌≢◌, ◌+◌, ◌<◌, ◌≤◌, [], false, length, option_map, IfOk, IfErr, OnOk, IsTrue};
+ghost use Rattle.sha2.specs.Sha256.{sha256};
+ghost use Rattle.hook_base.specs.Paths.{message_path};
+ghost use Rattle.hook_base.specs.Trees.{IsRisingChanges, put_file};
+ghost use Rattle.store_tables.specs.Schema.{no_schema};
+ghost use Rattle.sqlite_trees.specs.Tree.{Trees};
+ghost use Rattle.sqlite.specs.Held.{state};
+ghost use Rattle.sqlite.specs.State.{HasCleanDisk, Survives};
+ghost use Rattle.repo_store.specs.Calls.{Rests};
+ghost use Rattle.repo_store.specs.Contents.{Collides};
+ghost use Rattle.repo_store.specs.Faults.{IsRefusal};
+ghost use Rattle.repo_store.specs.Kept.{FixCollides, HasLarge, accepting, committing, keeping, setting, staging, unstaging};
+ghost use Rattle.repo_store.specs.Limits.{Fits, IsSmall};
+ghost use Rattle.repo_store.specs.Log.{log_from};
+ghost use Rattle.repo_store.specs.Repository.{Commit, commit_at, empty, last_tree, staged_changes};
+ghost use Rattle.repo_store.specs.Shown.{Changes, Leaves, Stands};
+
+use crate::accept::accept_rows;
+use crate::blobs::keep_rows;
+use crate::commit::commit_rows;
+use crate::create::{has_no_tables, make};
+use crate::fault::fault_of;
+use crate::fixes::set_rows;
+use crate::lists::Lists;
+use crate::stage::stage_rows;
+use crate::unstage::unstage_rows;
+use crate::{Digest, LogEntry, StoreFault};
+use hook_base::{Change, Mode, OutOfMemory, RepoPath, Tree};
+use sqlite::{Alter, Connection, Error, ErrorCode};
+use std::alloc::Global;
+use std::marker::Model;
+
+/// A repository in a database: its commits, the staged files and the fixes. Each call that changes it is one transaction:
+/// it is done whole or not at all, whatever stops it. The calls that read are answered from memory.
+#[derive(Drop)]
+pub struct Store<S: Alter> {
+    conn: Connection<S>,
+    lists: Lists,
+}
+
+impl<S: Alter> Model for Store<S> {
+    ghost use Rattle.repo_store.specs.Shown.{Shown, shown_code, Stands};
+
+    ghost Value = { Shown S };
+
+    ghost coded = { shown_code S.code };
+
+    ghost view = { λ store. record { conn = store.conn; kept = store.lists.kept } };
+
+    ghost invariant = { λ store. Stands S.Store store.conn store.lists.kept };
+}
+
+impl<S: Alter> Store<S> {
+    /// Makes an empty store in a database that has no tables. A database that has tables, indexes or views is refused as
+    /// `Sql`. A refusal gives the connection back, with the tables as before where it is still open.
+    pub fn create(
+        alloc: Global,
+        conn: Connection<S>,
+    ) -> Result<Store<S>, (StoreFault, Connection<S>)>
+        requires { conn.in_transaction ≡ false }
+        ensures made { IfOk result (λ store. store.kept ≡ record { repo = empty; contents = [] }) }
+        ensures stands { IfOk result (λ store. Stands S.Store store.conn store.kept) }
+        ensures was_bare { IfOk result (λ _. IsTrue (state S.Store conn).is_open → (state S.Store conn).now.schema ≡ no_schema) }
+        ensures why { IfErr result (λ e. IsRefusal ⊥ ⊥ ⊥ e.0) }
+        ensures refused { IfErr result (λ e. Rests (state S.Store conn) (state S.Store e.1)) }
+        ensures outside { IfErr result (λ e. e.1.in_transaction ≡ false) }
+        ensures crash_made { IfOk result (λ store. Survives (state S.Store conn) (state S.Store store.conn) (Leaves (record { repo = empty; contents = [] }))) }
+        ensures crash_refused { IfErr result (λ e. Survives (state S.Store conn) (state S.Store e.1) (Leaves (record { repo = empty; contents = [] }))) }
+        ensures durable { IfOk result (λ store. HasCleanDisk (state S.Store store.conn) → (trees : Trees) → (state S.Store store.conn).may_leave trees → Leaves (record { repo = empty; contents = [] }) trees) }
+    {
+        let mut conn = conn;
+        if !has_no_tables(&conn) {
+            let taken = Error::SqliteFailure(ErrorCode::NameTaken);
+            return Err((StoreFault::Sql(taken), conn));
+        }
+        match make(&mut conn) {
+            Ok(()) => Ok(Store {
+                conn,
+                lists: Lists::new(alloc),
+            }),
+            Err(error) => Err((fault_of(error), conn)),
+        }
+    }
+
+    /// Stages a file, in place of the one at its path, and forgets the fixes. Refused are contents of more than 16 MiB
+    /// (`TooLarge`), a staged tree of more than 100,000 files or 8 MiB of paths (`TooMany`), and contents whose digest
+    /// is that of others (`Collision`); a refusal leaves the store as it was.
+    pub fn stage(&mut self, path: &RepoPath, mode: Mode, bytes: &[u8]) -> Result<(), StoreFault>
+        requires { path.now ≢ message_path }
+        ensures change { Changes S.Store self.old self.new result (staging path.now (record { mode = mode; bytes = bytes.now }) self.old.kept) }
+        ensures within { OnOk result (IsSmall bytes.now × Fits (put_file path.now (record { mode = mode; bytes = bytes.now }) self.old.kept.repo.staged)) }
+        ensures apart { OnOk result (¬ Collides bytes.now self.old.kept.contents) }
+        ensures why { IfErr result (IsRefusal (¬ IsSmall bytes.now) (¬ Fits (put_file path.now (record { mode = mode; bytes = bytes.now }) self.old.kept.repo.staged)) (Collides bytes.now self.old.kept.contents)) }
+    {
+        let before = self.lists.count();
+        let file = match self.lists.prepare(path, mode, bytes) {
+            Ok(file) => file,
+            Err(fault) => return Err(fault),
+        };
+        if let Err(error) = stage_rows(&mut self.conn, self.lists.since(before), &file) {
+            self.lists.forget_since(before);
+            return Err(fault_of(error));
+        }
+        self.lists.stage(file);
+        Ok(())
+    }
+
+    /// Takes a path out of the staged files, if it is there, and forgets the fixes. A refusal leaves the store as it was.
+    pub fn unstage(&mut self, path: &RepoPath) -> Result<(), StoreFault>
+        ensures change { Changes S.Store self.old self.new result (unstaging path.now self.old.kept) }
+        ensures why { IfErr result (IsRefusal ⊥ ⊥ ⊥) }
+    {
+        if let Err(error) = unstage_rows(&mut self.conn, path.as_str()) {
+            return Err(fault_of(error));
+        }
+        self.lists.unstage(path);
+        Ok(())
+    }
+
+    /// Sets the fixes to those of the changes that are of staged files; the others are dropped unread. Refused are fixes
+    /// with contents of more than 16 MiB (`TooLarge`), and those whose digest is that of others (`Collision`); a refusal
+    /// leaves the store as it was.
+    pub fn set_fixes(&mut self, changes: &[Change]) -> Result<(), StoreFault>
+        requires { IsRisingChanges changes.now }
+        ensures change { Changes S.Store self.old self.new result (setting changes.now self.old.kept) }
+        ensures within { OnOk result (¬ HasLarge (staged_changes changes.now self.old.kept.repo.staged)) }
+        ensures apart { OnOk result (¬ FixCollides (staged_changes changes.now self.old.kept.repo.staged) self.old.kept.contents) }
+        ensures why { IfErr result (IsRefusal (HasLarge (staged_changes changes.now self.old.kept.repo.staged)) ⊥ (FixCollides (staged_changes changes.now self.old.kept.repo.staged) self.old.kept.contents)) }
+    {
+        let before = self.lists.count();
+        let fixes = match self.lists.prepare_fixes(changes) {
+            Ok(fixes) => fixes,
+            Err(fault) => return Err(fault),
+        };
+        if let Err(error) = set_rows(&mut self.conn, self.lists.since(before), fixes.as_slice()) {
+            self.lists.forget_since(before);
+            return Err(fault_of(error));
+        }
+        self.lists.set_fixes(fixes);
+        Ok(())
+    }
+
+    /// Applies the fixes to the staged files, forgets them, and answers how many there were. A refusal leaves the store as
+    /// it was.
+    pub fn accept(&mut self) -> Result<u32, StoreFault>
+        ensures change { Changes S.Store self.old self.new result (accepting self.old.kept) }
+        ensures number { IfOk result (λ n. n ≡ length self.old.kept.repo.fixes) }
+        ensures why { IfErr result (IsRefusal ⊥ ⊥ ⊥) }
+    {
+        let number = self.lists.count_fixes();
+        let files = match self.lists.prepare_accept() {
+            Ok(files) => files,
+            Err(OutOfMemory) => return Err(StoreFault::OutOfMemory),
+        };
+        if let Err(error) = accept_rows(&mut self.conn, files.as_slice()) {
+            return Err(fault_of(error));
+        }
+        self.lists.accept(files);
+        Ok(number)
+    }
+
+    /// Adds a commit of the staged files, forgets the fixes, and answers the commit's number, from 1 on. Refused are a
+    /// message of more than 16 MiB (`TooLarge`) and more than 100,000 commits (`TooMany`); a refusal leaves the store as
+    /// it was.
+    pub fn commit(&mut self, message: &[u8]) -> Result<u32, StoreFault>
+        ensures change { Changes S.Store self.old self.new result (committing message.now self.old.kept) }
+        ensures number { IfOk result (λ n. n ≡ length self.old.kept.repo.history + 1) }
+        ensures within { OnOk result (IsSmall message.now × (length self.old.kept.repo.history < 100000)) }
+        ensures why { IfErr result (IsRefusal (¬ IsSmall message.now) (100000 ≤ length self.old.kept.repo.history) ⊥) }
+    {
+        let commit = match self.lists.prepare_commit(message) {
+            Ok(commit) => commit,
+            Err(fault) => return Err(fault),
+        };
+        let number = self.lists.commits() + 1;
+        if let Err(error) = commit_rows(&mut self.conn, number, &commit) {
+            return Err(fault_of(error));
+        }
+        self.lists.commit(commit);
+        Ok(number)
+    }
+
+    /// Keeps contents, and answers their digest. Refused are contents of more than 16 MiB (`TooLarge`), and those whose
+    /// digest is that of others (`Collision`); a refusal leaves the store as it was.
+    pub fn blob_put(&mut self, bytes: &[u8]) -> Result<Digest, StoreFault>
+        ensures change { Changes S.Store self.old self.new result (keeping bytes.now self.old.kept) }
+        ensures digest { IfOk result (λ digest. digest.bytes ≡ sha256 bytes.now) }
+        ensures within { OnOk result (IsSmall bytes.now) }
+        ensures apart { OnOk result (¬ Collides bytes.now self.old.kept.contents) }
+        ensures why { IfErr result (IsRefusal (¬ IsSmall bytes.now) ⊥ (Collides bytes.now self.old.kept.contents)) }
+    {
+        let before = self.lists.count();
+        let content = match self.lists.keep(bytes) {
+            Ok(content) => content,
+            Err(fault) => return Err(fault),
+        };
+        if let Err(error) = keep_rows(&mut self.conn, self.lists.since(before)) {
+            self.lists.forget_since(before);
+            return Err(fault_of(error));
+        }
+        Ok(Digest {
+            bytes: *content.digest(),
+        })
+    }
+
+    /// The staged files. It fails for want of memory alone.
+    pub fn staged(&self) -> Result<Tree, OutOfMemory>
+        ensures { IfOk result (λ tree. tree ≡ self.now.kept.repo.staged) }
+    {
+        self.lists.staged()
+    }
+
+    /// The files of the last commit, and an empty tree where there is no commit. It fails for want of memory alone.
+    pub fn head(&self) -> Result<Tree, OutOfMemory>
+        ensures { IfOk result (λ tree. tree ≡ last_tree self.now.kept.repo.history) }
+    {
+        self.lists.head()
+    }
+
+    /// The fixes, in the order of their paths. It fails for want of memory alone.
+    pub fn fixes(&self) -> Result<Vec<Change>, OutOfMemory>
+        ensures { IfOk result (λ fixes. fixes.items ≡ self.now.kept.repo.fixes) }
+    {
+        self.lists.fixes()
+    }
+
+    /// The commits with their numbers, the oldest first. It fails for want of memory alone.
+    pub fn log(&self) -> Result<Vec<LogEntry>, OutOfMemory>
+        ensures { IfOk result (λ log. log.items ≡ log_from 1 self.now.kept.repo.history) }
+    {
+        self.lists.log()
+    }
+
+    /// The files of a commit, or none where no commit has the number. It fails for want of memory alone.
+    pub fn tree_of(&self, number: u32) -> Result<Option<Tree>, OutOfMemory>
+        ensures { IfOk result (λ tree. tree ≡ option_map (λ (commit : Commit). commit.tree) (commit_at number self.now.kept.repo.history)) }
+    {
+        self.lists.tree_of(number)
+    }
+
+    /// The connection, outside a transaction, with the store as it stands.
+    pub fn into_connection(self) -> Connection<S>
+        ensures same { result ≡ self.conn }
+        ensures stands { Stands S.Store result self.kept }
+        ensures outside { result.in_transaction ≡ false }
+    {
+        let Store { conn, lists: _ } = self;
+        conn
+    }
+}

@@ -1,0 +1,9 @@
+mod contents;
+mod fixes;
+mod kept;
+mod limits;
+mod planted;
+mod plants;
+mod steps;
+mod stops;
+mod story;

@@ -1,0 +1,12 @@
+pub mod ColumnLemmas
+pub mod Compiles
+pub mod MakeLemmas
+pub mod QueryLemmas
+pub mod ReadLemmas
+pub mod RisingLemmas
+pub mod RowLemmas
+pub mod StagedLemmas
+pub mod StepLemmas
+pub mod TableLemmas
+pub mod TouchLemmas
+pub mod WriteLemmas

@@ -1,0 +1,15 @@
+use Rattle.sqlite.specs.Held.{state}
+use Rattle.std.proofs.Common.{pos}
+use Rattle.store_tables.specs.declared.rows.CommitRow.{CommitRow}
+use Rattle.store_tables.specs.Tables.{with_commit}
+use Rattle.store_tables.proofs.StepLemmas.{finishes}
+use Rattle.store_tables.proofs.TableLemmas.{put_commit}
+use Rattle.store_tables.proofs.writes.put_commit.Goals as goal
+
+pub returns-clause-step : goal.returns-clause-step
+returns-clause-step g c =
+    let old = c.args.tx.now.conn.now in
+    let new = c.execute.new.self.conn.now in
+    let row : CommitRow = record { n = pos c.args.n; message = c.args.message.now } in
+    finishes g.S.Store old new _ _ c.execute.result c.execute.ensures.ended (rw (c.params-to_sql.ensures, c.params-to_sql-2.ensures) at c.execute.ensures.runs) c.execute.ensures.survives (with_commit row)
+    c.in_ok-execute.field-0 c.in_ok-execute.was (λ t h ran. put_commit (state g.S.Store old) (state g.S.Store new) t row _ h ran)

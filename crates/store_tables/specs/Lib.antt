@@ -1,0 +1,5 @@
+pub mod Rowids
+pub mod Schema
+pub mod Shape
+pub mod Steps
+pub mod Tables

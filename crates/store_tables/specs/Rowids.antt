@@ -1,0 +1,17 @@
+-- Numbers of which none comes twice.
+use Rattle.std.specs.Prelude.{◌≡◌, ◌≢◌, ℤ, List, Option, None, Some}
+use Rattle.std.specs.Ordering.{int_cmp}
+use Rattle.std.specs.declared.cmp.Ordering.TheVariants.{Less}
+use Rattle.sqlite_trees.specs.Tree.{IsAscending}
+
+-- each number is below each later one
+abbrev pub IsRising : List ℤ → Type 0
+IsRising = IsAscending (λ a b. int_cmp a b ≡ Less)
+
+abbrev pub AreDistinct : List ℤ → Type 0
+AreDistinct = IsAscending (λ a b. a ≢ b)
+
+-- the last number, if there is one, is below the next
+abbrev pub IsBelow : Option ℤ → ℤ → Type 0
+IsBelow None next = Unit {0}
+IsBelow (Some last) next = int_cmp last next ≡ Less

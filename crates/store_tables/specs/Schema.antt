@@ -1,0 +1,89 @@
+-- The seven tables of a store, as SQLite's schema of them. STRICT makes each column of a PRIMARY KEY NOT NULL, also where
+-- the statement doesn't say so, but for the one that is the rowid.
+use Rattle.std.specs.Prelude.{true, false, Bool, List, [], ◌∷◌, ◌++◌, ◌+◌, ℕ, map, Option, Some, None, codes}
+use Rattle.sqlite_value.specs.declared.value.Value.TheVariants.{Null}
+use Rattle.sqlite_value.specs.declared.keys.Collation.TheVariants.{Binary}
+use Rattle.sqlite_value.specs.Keys.{plain}
+use Rattle.sqlite_schema.specs.declared.schema.Kind.{Kind}
+use Rattle.sqlite_schema.specs.declared.schema.Kind.TheVariants.{Integer, Text, Blob}
+use Rattle.sqlite_schema.specs.declared.schema.Action.TheVariants.{NoAction}
+use Rattle.sqlite_schema.specs.declared.schema.Column.{Column}
+use Rattle.sqlite_schema.specs.declared.schema.Reference.{Reference}
+use Rattle.sqlite_schema.specs.declared.schema.Table.{Table}
+use Rattle.sqlite_schema.specs.declared.schema.Index.{Index}
+use Rattle.sqlite_schema.specs.declared.schema.Schema.{Schema}
+
+-- a column of a STRICT table
+abbrev pub column_of : List ℕ → Kind → Bool → Column
+column_of name kind not_null =
+    record { name = name; kind = kind; is_strict = true; not_null = not_null; default = Null; collation = Binary }
+
+-- a reference to the primary key of another table, which refuses to be broken
+abbrev pub refers_to : ℕ → List ℕ → Reference
+refers_to place parent =
+    record { columns = place ∷ []; parent = parent; parent_columns = []; on_delete = NoAction; on_update = NoAction; is_deferred = false }
+
+-- A table by its name, its tree, its columns, the places of its PRIMARY KEY, the keys that have an index, and its references.
+abbrev pub table_of : List ℕ → ℕ → List Column → Option ℕ → List ℕ → List (List ℕ) → List Reference → Table
+table_of name tree columns key primary uniques references = record {
+  name = name;
+  tree = tree;
+  columns = columns;
+  key = key;
+  primary = primary;
+  uniques = uniques;
+  orders = map (λ _. plain) uniques;
+  checks = [];
+  references = references;
+  computed = [];
+  stamps = record { places = []; terms = []; formats = [] };
+  is_counted = false;
+}
+
+abbrev pub meta : Table
+meta = table_of (codes "meta") 0 (column_of (codes "name") Text true ∷ column_of (codes "value") Integer true ∷ []) None (1 ∷ []) ((1 ∷ []) ∷ []) []
+
+abbrev pub blobs : Table
+blobs = table_of (codes "blobs") 2 (column_of (codes "digest") Blob true ∷ column_of (codes "bytes") Blob true ∷ []) None (1 ∷ []) ((1 ∷ []) ∷ []) []
+
+abbrev pub staged : Table
+staged =
+    table_of (codes "staged") 4 (column_of (codes "path") Text true ∷ column_of (codes "mode") Integer true ∷ column_of (codes "digest") Blob true ∷ []) None (1 ∷ [])
+    ((1 ∷ []) ∷ []) (refers_to 3 (codes "blobs") ∷ [])
+
+abbrev pub fixes : Table
+fixes =
+    table_of (codes "fixes") 6 (column_of (codes "path") Text true ∷ column_of (codes "gone") Integer true ∷ column_of (codes "digest") Blob false ∷ []) None (1 ∷ [])
+    ((1 ∷ []) ∷ []) (refers_to 3 (codes "blobs") ∷ [])
+
+abbrev pub commits : Table
+commits = table_of (codes "commits") 8 (column_of (codes "n") Integer false ∷ column_of (codes "message") Blob true ∷ []) (Some 0) (0 ∷ []) [] []
+
+abbrev pub entries : Table
+entries =
+    table_of (codes "entries") 9
+    (column_of (codes "n") Integer true ∷ column_of (codes "path") Text true ∷ column_of (codes "mode") Integer true ∷ column_of (codes "digest") Blob true ∷ []) None (1 ∷ 2 ∷ [])
+    ((1 ∷ 2 ∷ []) ∷ []) (refers_to 1 (codes "commits") ∷ refers_to 4 (codes "blobs") ∷ [])
+
+abbrev pub answers : Table
+answers =
+    table_of (codes "answers") 11
+    (column_of (codes "words") Blob true ∷ column_of (codes "seen") Blob true ∷ column_of (codes "output") Blob true ∷ column_of (codes "changes") Blob true
+    ∷ column_of (codes "status") Integer true ∷ []) None (1 ∷ 2 ∷ [])
+    ((1 ∷ 2 ∷ []) ∷ []) (refers_to 1 (codes "blobs") ∷ refers_to 2 (codes "blobs") ∷ refers_to 3 (codes "blobs") ∷ refers_to 4 (codes "blobs") ∷ [])
+
+-- the index that SQLite makes for a PRIMARY KEY that is not the rowid
+abbrev pub key_index : List ℕ → ℕ → List ℕ → Index
+key_index name table columns =
+    record { name = codes "sqlite_autoindex_" ++ (name ++ codes "_1"); tree = table + 1; table = table; columns = columns; order = plain; is_unique = true }
+
+abbrev pub no_schema : Schema
+no_schema = record { tables = []; indexes = []; views = [] }
+
+abbrev pub store_schema : Schema
+store_schema = record {
+  tables = meta ∷ blobs ∷ staged ∷ fixes ∷ commits ∷ entries ∷ answers ∷ [];
+  indexes = key_index (codes "meta") 0 (1 ∷ []) ∷ key_index (codes "blobs") 2 (1 ∷ []) ∷ key_index (codes "staged") 4 (1 ∷ []) ∷ key_index (codes "fixes") 6 (1 ∷ [])
+      ∷ key_index (codes "entries") 9 (1 ∷ 2 ∷ []) ∷ key_index (codes "answers") 11 (1 ∷ 2 ∷ []) ∷ [];
+  views = [];
+}

@@ -1,0 +1,37 @@
+-- What the steps of a transaction leave.
+use Rattle.std.specs.Prelude.{◌≡◌, true, Result, OnOk, IfOk, IsTrue}
+use Rattle.sqlite_trees.specs.declared.store.Store.{Ghosts}
+use Rattle.sqlite_trees.specs.Tree.{Trees}
+use Rattle.sqlite.specs.declared.error.Error.{Error}
+use Rattle.sqlite.specs.Effect.{Database}
+use Rattle.sqlite.specs.Held.{Held, state}
+use Rattle.sqlite.specs.State.{State, HasCleanDisk, IsUnchanged, KeepsCommit, Shows, Survives}
+use Rattle.store_tables.specs.Schema.{store_schema}
+use Rattle.store_tables.specs.Tables.{Tables, Holds}
+
+-- A statement inside a transaction is done: nothing is committed, and it makes this of the tables.
+pub record IsDone (old new : State) (makes : Tables → Tables) : Type 0 where
+  pub shown : Shows old new new.now old.committed true
+  pub holds : (t : Tables) → Holds old.now t → Holds new.now (makes t)
+
+-- A statement inside a transaction: at `Ok` it is done, and otherwise it was not done or the transaction is rolled
+-- back. A crash leaves no more than before.
+pub record IsStep {S A : Type 0} (g : Ghosts S) (old new : Held S) (result : Result A Error) (makes : Tables → Tables) : Type 0 where
+  pub done : HasCleanDisk (state g new) → IsTrue (state g old).in_transaction → OnOk result (IsDone (state g old) (state g new) makes)
+  pub kept : HasCleanDisk (state g new) → KeepsCommit (state g old) (state g new)
+  pub survives : Survives (state g old) (state g new) (λ _. ⊥)
+
+-- The same for a statement that makes tables: from a database with Before it makes one with After.
+pub record IsMade {S A : Type 0} (g : Ghosts S) (old new : Held S) (result : Result A Error) (Before After : Database → Type 0) : Type 0 where
+  pub done : HasCleanDisk (state g new) → IsTrue (state g old).in_transaction
+      → OnOk result (Shows (state g old) (state g new) (state g new).now (state g old).committed true × (Before (state g old).now → After (state g new).now))
+  pub kept : HasCleanDisk (state g new) → KeepsCommit (state g old) (state g new)
+  pub survives : Survives (state g old) (state g new) (λ _. ⊥)
+
+-- A query inside a transaction: where the database has the tables of a store, at `Ok` the answer has Rows of its trees,
+-- and nothing has changed.
+pub record IsRead {S A : Type 0} (g : Ghosts S) (old new : Held S) (result : Result A Error) (Rows : A → Trees → Type 0) : Type 0 where
+  pub rows : HasCleanDisk (state g new) → (state g old).now.schema ≡ store_schema
+      → IfOk result (λ answer. IsUnchanged (state g old) (state g new) × Rows answer (state g old).now.trees)
+  pub kept : HasCleanDisk (state g new) → IsTrue (state g old).in_transaction → KeepsCommit (state g old) (state g new)
+  pub survives : Survives (state g old) (state g new) (λ _. ⊥)

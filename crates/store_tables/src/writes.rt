@@ -1,0 +1,146 @@
+ghost use Rattle.std.specs.Prelude.{◌≡◌, pos};
+ghost use Rattle.store_tables.specs.Steps.{IsStep};
+ghost use Rattle.store_tables.specs.Tables.{with_meta, with_blob, with_staged, without_staged, with_fix, fix_row, without_fixes, with_commit, with_entry, with_answer, without_answers};
+
+use sqlite::{Alter, Error, Transaction, params};
+
+/// Keeps a number under a name that has none yet.
+pub fn put_meta<S: Alter>(tx: &mut Transaction<'_, S>, name: &str, value: u32) -> Result<(), Error>
+    ensures same_reference { tx.new.conn.ghost_name ≡ tx.old.conn.ghost_name }
+    ensures step { IsStep S.Store tx.old.conn.now tx.new.conn.now result (with_meta (record { name = name.now; value = pos value })) }
+{
+    tx.execute(
+        "INSERT INTO meta (name, value) VALUES (?1, ?2)",
+        params![name, value],
+    )?;
+    Ok(())
+}
+
+/// Keeps contents under their digest, where none are yet.
+pub fn put_blob<S: Alter>(
+    tx: &mut Transaction<'_, S>,
+    digest: &[u8],
+    bytes: &[u8],
+) -> Result<(), Error>
+    ensures same_reference { tx.new.conn.ghost_name ≡ tx.old.conn.ghost_name }
+    ensures step { IsStep S.Store tx.old.conn.now tx.new.conn.now result (with_blob (record { digest = digest.now; bytes = bytes.now })) }
+{
+    tx.execute(
+        "INSERT INTO blobs (digest, bytes) VALUES (?1, ?2)",
+        params![digest, bytes],
+    )?;
+    Ok(())
+}
+
+/// Stages a file at a path that isn't staged.
+pub fn put_staged<S: Alter>(
+    tx: &mut Transaction<'_, S>,
+    path: &str,
+    mode: u32,
+    digest: &[u8],
+) -> Result<(), Error>
+    ensures same_reference { tx.new.conn.ghost_name ≡ tx.old.conn.ghost_name }
+    ensures step { IsStep S.Store tx.old.conn.now tx.new.conn.now result (with_staged (record { path = path.now; mode = pos mode; digest = digest.now })) }
+{
+    tx.execute(
+        "INSERT INTO staged (path, mode, digest) VALUES (?1, ?2, ?3)",
+        params![path, mode, digest],
+    )?;
+    Ok(())
+}
+
+/// Adds a commit with this number, which none has yet.
+pub fn put_commit<S: Alter>(
+    tx: &mut Transaction<'_, S>,
+    n: u32,
+    message: &[u8],
+) -> Result<(), Error>
+    ensures same_reference { tx.new.conn.ghost_name ≡ tx.old.conn.ghost_name }
+    ensures step { IsStep S.Store tx.old.conn.now tx.new.conn.now result (with_commit (record { n = pos n; message = message.now })) }
+{
+    tx.execute(
+        "INSERT INTO commits (n, message) VALUES (?1, ?2)",
+        params![n, message],
+    )?;
+    Ok(())
+}
+
+/// Adds a file to a commit that lacks the path.
+pub fn put_entry<S: Alter>(
+    tx: &mut Transaction<'_, S>,
+    n: u32,
+    path: &str,
+    mode: u32,
+    digest: &[u8],
+) -> Result<(), Error>
+    ensures same_reference { tx.new.conn.ghost_name ≡ tx.old.conn.ghost_name }
+    ensures step { IsStep S.Store tx.old.conn.now tx.new.conn.now result (with_entry (record { n = pos n; path = path.now; mode = pos mode; digest = digest.now })) }
+{
+    tx.execute(
+        "INSERT INTO entries (n, path, mode, digest) VALUES (?1, ?2, ?3, ?4)",
+        params![n, path, mode, digest],
+    )?;
+    Ok(())
+}
+
+/// Remembers an answer under a key that has none.
+pub fn put_answer<S: Alter>(
+    tx: &mut Transaction<'_, S>,
+    words: &[u8],
+    seen: &[u8],
+    output: &[u8],
+    changes: &[u8],
+    status: u32,
+) -> Result<(), Error>
+    ensures same_reference { tx.new.conn.ghost_name ≡ tx.old.conn.ghost_name }
+    ensures step { IsStep S.Store tx.old.conn.now tx.new.conn.now result (with_answer (record { words = words.now; seen = seen.now; output = output.now; changes = changes.now; status = pos status })) }
+{
+    tx.execute(
+        "INSERT INTO answers (words, seen, output, changes, status) VALUES (?1, ?2, ?3, ?4, ?5)",
+        params![words, seen, output, changes, status],
+    )?;
+    Ok(())
+}
+
+/// Adds a fix of a path that has none: the digest of its new contents, or none where the file is gone.
+pub fn put_fix<S: Alter>(
+    tx: &mut Transaction<'_, S>,
+    path: &str,
+    now: Option<&[u8]>,
+) -> Result<(), Error>
+    ensures same_reference { tx.new.conn.ghost_name ≡ tx.old.conn.ghost_name }
+    ensures step { IsStep S.Store tx.old.conn.now tx.new.conn.now result (with_fix (fix_row path.now now.entry)) }
+{
+    tx.execute(
+        "INSERT INTO fixes (path, gone, digest) VALUES (?1, ?2, ?3)",
+        params![path, now.is_none(), now],
+    )?;
+    Ok(())
+}
+
+/// Takes a path out of the staged files, where it is there.
+pub fn take_staged<S: Alter>(tx: &mut Transaction<'_, S>, path: &str) -> Result<(), Error>
+    ensures same_reference { tx.new.conn.ghost_name ≡ tx.old.conn.ghost_name }
+    ensures step { IsStep S.Store tx.old.conn.now tx.new.conn.now result (without_staged path.now) }
+{
+    tx.execute("DELETE FROM staged WHERE path = ?1", params![path])?;
+    Ok(())
+}
+
+/// Takes out all fixes.
+pub fn clear_fixes<S: Alter>(tx: &mut Transaction<'_, S>) -> Result<(), Error>
+    ensures same_reference { tx.new.conn.ghost_name ≡ tx.old.conn.ghost_name }
+    ensures step { IsStep S.Store tx.old.conn.now tx.new.conn.now result (without_fixes) }
+{
+    tx.execute("DELETE FROM fixes", &[])?;
+    Ok(())
+}
+
+/// Takes out all remembered answers.
+pub fn clear_answers<S: Alter>(tx: &mut Transaction<'_, S>) -> Result<(), Error>
+    ensures same_reference { tx.new.conn.ghost_name ≡ tx.old.conn.ghost_name }
+    ensures step { IsStep S.Store tx.old.conn.now tx.new.conn.now result (without_answers) }
+{
+    tx.execute("DELETE FROM answers", &[])?;
+    Ok(())
+}
