@@ -1,5 +1,11 @@
--- The exit status with which the program ends for each reason to stop.
-use Rattle.std.specs.Prelude.{◌≡◌, ◌⊎◌, ℕ}
+-- The exit status with which the program ends for each reason to stop, and what an error of a library stops it for.
+use Rattle.std.specs.Prelude.{◌≡◌, ◌≢◌, ℕ, None}
+use Rattle.std.specs.IoError.{error_kind, raw_os_error}
+use Rattle.std.specs.declared.io.Error.{Error}
+use Rattle.std.specs.declared.io.ErrorKind.TheVariants.{OutOfMemory as MemoryKind}
+use Rattle.clap.specs.Values.{kind_of}
+use Rattle.clap.specs.declared.error.Error.{Error as WordsError}
+use Rattle.clap.specs.declared.error.kind.ErrorKind.TheVariants.{OutOfMemory as WordsMemory}
 use Rattle.hook_cli.specs.declared.try_fault.TryFault.{TryFault}
 use Rattle.hook_cli.specs.declared.try_fault.TryFault.TheVariants.{Read, Config, Write, OutOfMemory, Spent}
 use Rattle.hook_config.specs.declared.config_fault.ConfigKind.TheVariants.{OutOfMemory as NoMemory}
@@ -14,9 +20,20 @@ status_of (CannotUse word) = 3
 status_of (Refused fault) = 3
 status_of (NoConfiguration fault) = 3
 
--- the program was refused memory, or this is the reason
-abbrev pub IsMemoryOr : Stop → Stop → Type 0
-IsMemoryOr reason stop = (stop ≡ reason) ⊎ (stop ≡ Refused OutOfMemory)
+-- the program itself was refused memory: the system's own want of memory has a number
+pub record IsNoMemory (error : Error) : Type 0 where
+  pub kind : error_kind error ≡ MemoryKind
+  pub numbered : raw_os_error error ≡ None
+
+-- the program stops for want of memory where an error is that, and else for this reason
+pub record StopsFor (reason : Stop) (error : Error) (stop : Stop) : Type 0 where
+  pub memory : IsNoMemory error → stop ≡ Refused OutOfMemory
+  pub other : ¬ IsNoMemory error → stop ≡ reason
+
+-- the same for an error of the words
+pub record IsUsageOf (error : WordsError) (stop : Stop) : Type 0 where
+  pub memory : kind_of error ≡ WordsMemory → stop ≡ Refused OutOfMemory
+  pub other : kind_of error ≢ WordsMemory → stop ≡ Usage error
 
 -- a run's refusal where a configuration is read alone: want of memory is the configuration's
 abbrev pub of_check_fault : TryFault → Stop

@@ -1,7 +1,7 @@
 //! Why the program ends without having done what its words ask for, and how it says so.
 
-ghost use Rattle.std.specs.Prelude.{◌≡◌};
-ghost use Rattle.hookhost.specs.Stops.{IsMemoryOr, of_check, status_of};
+ghost use Rattle.std.specs.Prelude.{◌≡◌, ◌↔◌, IsTrue};
+ghost use Rattle.hookhost.specs.Stops.{IsNoMemory, StopsFor, of_check, status_of};
 
 use hook_base::{OutOfMemory, Text};
 use hook_cli::TryFault;
@@ -33,7 +33,7 @@ pub(crate) enum Stop {
 impl Stop {
     /// What an error of reading the process's words means.
     pub(crate) fn of_words(error: io::Error) -> Stop
-        ensures { IsMemoryOr Stop.NotText result }
+        ensures { StopsFor Stop.NotText error result }
     {
         if is_memory(&error) {
             Stop::Refused(TryFault::OutOfMemory)
@@ -44,7 +44,7 @@ impl Stop {
 
     /// What an error of reading the word's file means.
     pub(crate) fn of_file(error: &io::Error, word: Text) -> Stop
-        ensures { IsMemoryOr (Stop.CannotUse word) result }
+        ensures { StopsFor (Stop.CannotUse word) error.now result }
     {
         if is_memory(error) {
             Stop::Refused(TryFault::OutOfMemory)
@@ -69,15 +69,16 @@ impl Stop {
 }
 
 /// Whether the program itself was refused memory: the system's own want of memory has a number.
-fn is_memory(error: &io::Error) -> bool {
+fn is_memory(error: &io::Error) -> bool
+    ensures { IsTrue result ↔ IsNoMemory error.now }
+{
     error.kind() == io::ErrorKind::OutOfMemory && error.raw_os_error().is_none()
 }
 
 impl From<clap::Error> for Stop {
-    ghost use Rattle.hookhost.specs.Stops.{IsMemoryOr};
-    ghost use Rattle.hookhost.specs.declared.stop.Stop.TheVariants.{Usage};
+    ghost use Rattle.hookhost.specs.Stops.{IsUsageOf};
 
-    ghost from_gives = { λ error. IsMemoryOr (Usage error) };
+    ghost from_gives = { IsUsageOf };
 
     fn from(error: clap::Error) -> Stop {
         if error.kind() == clap::error::ErrorKind::OutOfMemory {
