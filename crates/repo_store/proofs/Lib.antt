@@ -1,12 +1,17 @@
 pub mod CallLemmas
+pub mod CellLemmas
 pub mod ChangeLemmas
 pub mod FixLemmas
 pub mod IndexLemmas
 pub mod KeptLemmas
 pub mod ListLemmas
+pub mod ListedLemmas
+pub mod LoadLemmas
 pub mod PlaceLemmas
+pub mod ReadingLemmas
 pub mod SameLemmas
 pub mod SoundLemmas
 pub mod StandLemmas
 pub mod StepLemmas
 pub mod TreeLemmas
+pub mod WholeLemmas

@@ -13,15 +13,7 @@ use Rattle.store_tables.specs.declared.rows.FixRow.{FixRow}
 use Rattle.store_tables.specs.declared.rows.EntryRow.{EntryRow}
 use Rattle.store_tables.specs.Steps.{IsStep, IsDone}
 use Rattle.store_tables.specs.Tables.{Tables, Holds, Stored, meta_cells, blob_cells, staged_cells, fix_cells, commit_cells, entry_cells, answer_cells}
-
-pub record IsSame (t u : Tables) : Type 0 where
-  pub meta : IsPermutation t.meta u.meta
-  pub blobs : IsPermutation t.blobs u.blobs
-  pub staged : IsPermutation t.staged u.staged
-  pub fixes : IsPermutation t.fixes u.fixes
-  pub commits : IsPermutation t.commits u.commits
-  pub entries : IsPermutation t.entries u.entries
-  pub answers : IsPermutation t.answers u.answers
+pub use Rattle.repo_store.specs.Loaded.{IsSame}
 
 pub same_itself : (t : Tables) → IsSame t t
 same_itself t = record {

@@ -61,7 +61,7 @@ all_kept : {X : Type 0} (p : X → Bool) (xs : List X) → AllByRecursion (λ x.
 all_kept p [] = tt
 all_kept {X} p (x ∷ xs) = elim (p x) as (λ b. p x ≡ b → AllByRecursion (λ (y : X). p y ≡ true) (if b then x ∷ filter p xs else filter p xs)) [ true ↦ λ e. (e, all_kept p xs) | false ↦ λ e. all_kept p xs ] refl
 
-abbrev AreStaged : List Change → List File → Type 0
+abbrev pub AreStaged : List Change → List File → Type 0
 AreStaged changes rows = AllByRecursion (λ (change : Change). is_some (entry_of change.path rows) ≡ true) changes
 
 staged_later : (row : File) (rows : List File) (changes : List Change) → IsBelowAll change_path row.path changes → AreStaged changes (row ∷ rows) → AreStaged changes rows
@@ -69,7 +69,7 @@ staged_later row rows [] below all = tt
 staged_later row rows (change ∷ changes) below all = (ap is_some (sym (entry_of-rest change.path row rows below.0)) ∙ all.0, staged_later row rows changes below.1 all.1)
 
 -- changes of staged files that rise are no more than the files
-few : (changes : List Change) (rows : List File) → IsRisingChanges changes → IsRising rows → AreStaged changes rows → length changes ≤ length rows
+pub few : (changes : List Change) (rows : List File) → IsRisingChanges changes → IsRising rows → AreStaged changes rows → length changes ≤ length rows
 few [] rows up rising all = omega arith
 few (change ∷ changes) [] up rising all = absurd (let never : false ≡ true = all.0 in cc)
 few (change ∷ changes) (row ∷ rows) up rising all =

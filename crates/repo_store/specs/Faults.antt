@@ -22,3 +22,13 @@ IsRefusal large many collides OutOfMemory = Unit {0}
 IsRefusal large many collides Collision = collides
 IsRefusal large many collides TooLarge = large
 IsRefusal large many collides TooMany = many
+
+-- A refusal of stored rows that comes only where they break a rule, or where memory or the database refuses.
+abbrev pub IsDamage : Type 0 → StoreFault → Type 0
+IsDamage broken NotAStore = ⊥
+IsDamage broken Damaged = broken
+IsDamage broken (Sql error) = Unit {0}
+IsDamage broken OutOfMemory = Unit {0}
+IsDamage broken Collision = ⊥
+IsDamage broken TooLarge = ⊥
+IsDamage broken TooMany = ⊥

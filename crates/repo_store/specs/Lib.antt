@@ -4,8 +4,11 @@ pub mod Faults
 pub mod Kept
 pub mod Limits
 pub mod Lists
+pub mod Loaded
 pub mod Log
+pub mod Opens
 pub mod Repository
 pub mod Rows
 pub mod Shown
 pub mod Sound
+pub mod Whole

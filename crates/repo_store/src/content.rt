@@ -26,13 +26,21 @@ impl Model for Content {
 }
 
 impl Content {
+    /// The bytes themselves, whose digest is known.
+    pub fn of(alloc: Global, digest: [u8; 32], bytes: Bytes) -> Result<Content, OutOfMemory>
+        requires { digest ≡ sha256 bytes }
+        ensures { IfOk result (λ content. content ≡ bytes) }
+    {
+        let bytes = Rc::new(alloc, bytes)?;
+        Ok(Content { digest, bytes })
+    }
+
     /// A copy of the bytes, whose digest is known.
     pub fn copy_of(alloc: Global, digest: [u8; 32], bytes: &[u8]) -> Result<Content, OutOfMemory>
         requires { digest ≡ sha256 bytes.now }
         ensures { IfOk result (λ content. content ≡ bytes.now) }
     {
-        let bytes = Rc::new(alloc, Bytes::copy_of(alloc, bytes)?)?;
-        Ok(Content { digest, bytes })
+        Content::of(alloc, digest, Bytes::copy_of(alloc, bytes)?)
     }
 
     /// The SHA-256 of the bytes.

@@ -2,16 +2,19 @@ ghost use Rattle.std.specs.Prelude.{◌≡◌, ◌≢◌, ◌+◌, ◌-◌, ◌<
 ghost use Rattle.std.specs.List.{Any};
 ghost use Rattle.sha2.specs.Sha256.{sha256};
 ghost use Rattle.repo_store.specs.Contents.{Collides, has_digest, with_content};
-ghost use Rattle.repo_store.specs.Faults.{IsRefusal};
+ghost use Rattle.repo_store.specs.Faults.{IsDamage, IsRefusal};
 ghost use Rattle.repo_store.specs.Limits.{IsSmall};
+ghost use Rattle.repo_store.specs.Whole.{IsBlobRow};
 
 use crate::StoreFault;
 use crate::content::Content;
 use hook_base::OutOfMemory;
 use sha2::{Digest as _, Sha256};
+use sqlite::Error;
 use std::alloc::Global;
 use std::collections::HashMap;
 use std::marker::Model;
+use store_tables::BlobRow;
 
 /// The most bytes that contents may have.
 const CONTENT_LIMIT: usize = 16_777_216;
@@ -107,6 +110,32 @@ impl Contents {
         }
         match self.add(digest, bytes) {
             Ok(content) => Ok(content),
+            Err(OutOfMemory) => Err(StoreFault::OutOfMemory),
+        }
+    }
+
+    /// Takes in contents that stand under their own digest, without a copy of the bytes.
+    pub fn admit(&mut self, row: BlobRow) -> Result<(), StoreFault>
+        ensures kept { OnOk result (self.new ≡ self.old ++ row.bytes ∷ []) }
+        ensures whole { OnOk result (IsBlobRow row) }
+        ensures broken { IfErr result (IsDamage (¬ IsBlobRow row)) }
+    {
+        if row.bytes.len() > CONTENT_LIMIT {
+            return Err(StoreFault::Damaged);
+        }
+        let BlobRow { digest, bytes } = row;
+        let found = Sha256::digest(bytes.as_slice());
+        if digest.as_slice() != found.as_slice() {
+            return Err(StoreFault::Damaged);
+        }
+        if self.find(&found).is_some() {
+            return Err(StoreFault::Sql(Error::InvalidQuery));
+        }
+        match Content::of(*self.items.allocator(), found, bytes) {
+            Ok(content) => match self.push(content) {
+                Ok(()) => Ok(()),
+                Err(OutOfMemory) => Err(StoreFault::OutOfMemory),
+            },
             Err(OutOfMemory) => Err(StoreFault::OutOfMemory),
         }
     }

@@ -38,6 +38,24 @@ fn count_path_bytes(files: &[HeldFile]) -> usize
     files.iter().map(|file| file.path.as_str().len()).sum()
 }
 
+/// Whether the files are within the limits of a staged tree.
+pub fn fit(files: &[HeldFile]) -> bool
+    ensures { IsTrue result ↔ Fits (map file_of files.now) }
+{
+    if files.len() > FILE_LIMIT {
+        return false;
+    }
+    let mut left = PATH_LIMIT;
+    'files: for file in files {
+        let len = file.path.as_str().len();
+        if len > left {
+            return false;
+        }
+        left -= len;
+    }
+    true
+}
+
 /// Whether the files still fit when a file stands at the path too.
 pub fn may_put(files: &[HeldFile], path: &RepoPath) -> bool
     requires rising { IsRising (map file_of files.now) }

@@ -8,6 +8,7 @@
 
 mod accept;
 mod blobs;
+mod cells;
 mod commit;
 mod content;
 mod contents;
@@ -18,10 +19,13 @@ mod files;
 mod fixes;
 mod held;
 mod lists;
+mod load;
+mod loaded;
 mod log_entry;
 mod mode;
 mod stage;
 mod store;
+mod table_rows;
 #[cfg(test)]
 mod tests;
 mod trees;

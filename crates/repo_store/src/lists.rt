@@ -1,7 +1,7 @@
 ghost use Rattle.std.specs.Prelude.{◌≡◌, ◌<◌, ◌≤◌, [], true, map, length, take, drop, is_some, option_map, MatchOption, IfOk, IfErr, OnOk, OnErr};
 ghost use Rattle.hook_base.specs.Trees.{IsRising, IsRisingChanges, apply_changes, entry_of, put_file};
 ghost use Rattle.repo_store.specs.Kept.{FixCollides, HasLarge, accepting, committing, keeping, unstaging};
-ghost use Rattle.repo_store.specs.Lists.{commit_of, file_of, fix_of};
+ghost use Rattle.repo_store.specs.Lists.{commit_of, file_of, fix_of, repository_of};
 ghost use Rattle.repo_store.specs.Contents.{Collides, with_changes, with_new};
 ghost use Rattle.repo_store.specs.Faults.{IsRefusal};
 ghost use Rattle.repo_store.specs.Limits.{Fits, IsSmall};
@@ -20,10 +20,10 @@ use std::alloc::Global;
 use std::marker::Model;
 
 /// The most bytes that the message of a commit may have.
-const MESSAGE_LIMIT: usize = 16_777_216;
+pub const MESSAGE_LIMIT: usize = 16_777_216;
 
 /// The most commits that a store may have.
-const COMMIT_LIMIT: usize = 100_000;
+pub const COMMIT_LIMIT: usize = 100_000;
 
 /// A repository in memory, and the contents that are kept.
 #[derive(Debug, Drop)]
@@ -65,6 +65,24 @@ impl Lists {
             history: Vec::new(alloc),
             staged: Vec::new(alloc),
             fixes: Vec::new(alloc),
+        }
+    }
+
+    /// A repository of these lists.
+    pub fn of(
+        contents: Contents,
+        history: Vec<HeldCommit>,
+        staged: Vec<HeldFile>,
+        fixes: Vec<HeldFix>,
+    ) -> Lists
+        requires { IsSound (repository_of history.items staged.items fixes.items) }
+        ensures { result.kept ≡ record { repo = repository_of history.items staged.items fixes.items; contents = contents } }
+    {
+        Lists {
+            contents,
+            history,
+            staged,
+            fixes,
         }
     }
 

@@ -6,14 +6,18 @@ ghost use Rattle.store_tables.specs.Schema.{no_schema};
 ghost use Rattle.sqlite_trees.specs.Tree.{Trees};
 ghost use Rattle.sqlite.specs.Held.{state};
 ghost use Rattle.sqlite.specs.State.{HasCleanDisk, Survives};
+ghost use Rattle.store_tables.specs.Tables.{Holds};
 ghost use Rattle.repo_store.specs.Calls.{Rests};
 ghost use Rattle.repo_store.specs.Contents.{Collides};
 ghost use Rattle.repo_store.specs.Faults.{IsRefusal};
 ghost use Rattle.repo_store.specs.Kept.{FixCollides, HasLarge, accepting, committing, keeping, setting, staging, unstaging};
 ghost use Rattle.repo_store.specs.Limits.{Fits, IsSmall};
 ghost use Rattle.repo_store.specs.Log.{log_from};
+ghost use Rattle.repo_store.specs.Opens.{IsUnfit};
 ghost use Rattle.repo_store.specs.Repository.{Commit, commit_at, empty, last_tree, staged_changes};
+ghost use Rattle.repo_store.specs.Rows.{tables_of};
 ghost use Rattle.repo_store.specs.Shown.{Changes, Leaves, Stands};
+ghost use Rattle.repo_store.specs.Whole.{IsWhole};
 
 use crate::accept::accept_rows;
 use crate::blobs::keep_rows;
@@ -22,6 +26,7 @@ use crate::create::{has_no_tables, make};
 use crate::fault::fault_of;
 use crate::fixes::set_rows;
 use crate::lists::Lists;
+use crate::load::{has_tables, load};
 use crate::stage::stage_rows;
 use crate::unstage::unstage_rows;
 use crate::{Digest, LogEntry, StoreFault};
@@ -79,6 +84,32 @@ impl<S: Alter> Store<S> {
                 lists: Lists::new(alloc),
             }),
             Err(error) => Err((fault_of(error), conn)),
+        }
+    }
+
+    /// Opens the store that a database holds, and changes nothing. Refused are a database that hasn't exactly the tables
+    /// of a store, or whose `meta` holds anything but the one row of version 1 (`NotAStore`), and tables whose rows break
+    /// a rule of a store (`Damaged`). A refusal gives the connection back, with the tables as before where it is still
+    /// open.
+    pub fn open(alloc: Global, conn: Connection<S>) -> Result<Store<S>, (StoreFault, Connection<S>)>
+        requires { conn.in_transaction ≡ false }
+        ensures stands { IfOk result (λ store. Stands S.Store store.conn store.kept) }
+        ensures holds { IfOk result (λ store. IsTrue (state S.Store store.conn).is_open → Holds (state S.Store conn).committed (tables_of store.kept.repo store.kept.contents)) }
+        ensures whole { IfOk result (λ store. IsWhole (tables_of store.kept.repo store.kept.contents)) }
+        ensures same { IfOk result (λ store. Rests (state S.Store conn) (state S.Store store.conn)) }
+        ensures refused { IfErr result (λ e. Rests (state S.Store conn) (state S.Store e.1)) }
+        ensures outside { IfErr result (λ e. e.1.in_transaction ≡ false) }
+        ensures why { IfErr result (λ e. HasCleanDisk (state S.Store e.1) → IsUnfit (state S.Store conn).now e.0) }
+        ensures crash_opened { IfOk result (λ store. Survives (state S.Store conn) (state S.Store store.conn) (λ _. ⊥)) }
+        ensures crash_refused { IfErr result (λ e. Survives (state S.Store conn) (state S.Store e.1) (λ _. ⊥)) }
+    {
+        let mut conn = conn;
+        if !has_tables(&conn) {
+            return Err((StoreFault::NotAStore, conn));
+        }
+        match load(alloc, &mut conn) {
+            Ok(lists) => Ok(Store { conn, lists }),
+            Err(fault) => Err((fault, conn)),
         }
     }
 

@@ -1,0 +1,174 @@
+-- From the rows that were read to the lists, or to the refusal.
+use Rattle.std.proofs.Common.{◌≡◌, ℕ, List, [], ◌∷◌, length, Result, Ok, Err, IfOk, IfErr, OnOk, MatchResult, IsTrue, false, true, IsPermutation, refl, sym, ap, subst, ◌∙◌, arith}
+use Rattle.std.specs.List.{AllByRecursion}
+use Rattle.std.proofs.lemmas.List.Elements.{recursion_from_All, All-from_recursion}
+use Rattle.std.proofs.lemmas.List.Sorted.{length_permutation, All-permutation}
+use Rattle.sqlite_trees.specs.declared.store.Store.{Ghosts}
+use Rattle.sqlite_trees.specs.Tree.{Trees}
+use Rattle.sqlite.specs.declared.error.Error.{Error}
+use Rattle.sqlite.specs.Effect.{Database, IsDatabase}
+use Rattle.sqlite.specs.Held.{Held, state}
+use Rattle.sqlite.specs.State.{State, HasCleanDisk, IsUnchanged, IsRolledBack, KeepsCommit, Survives}
+use Rattle.sqlite.proofs.InsideLemmas.{keeps_then}
+use Rattle.sqlite.proofs.StateLemmas.{survives_then}
+use Rattle.store_tables.specs.declared.rows.MetaRow.{MetaRow}
+use Rattle.store_tables.specs.Schema.{store_schema}
+use Rattle.store_tables.specs.Steps.{IsRead}
+use Rattle.store_tables.specs.Tables.{Tables, Holds, Stored, meta_cells}
+use Rattle.repo_store.specs.declared.fault.StoreFault.{StoreFault}
+use Rattle.repo_store.specs.declared.fault.StoreFault.TheVariants.{NotAStore, Damaged, Sql, OutOfMemory, Collision, TooLarge, TooMany}
+use Rattle.repo_store.specs.declared.table_rows.StoreRows.{StoreRows}
+use Rattle.repo_store.specs.Calls.{Rests}
+use Rattle.repo_store.specs.Faults.{IsDamage, IsRefusal}
+use Rattle.repo_store.specs.Kept.{Mirror}
+use Rattle.repo_store.specs.Loaded.{AreShown, IsSame, rows_in}
+use Rattle.repo_store.specs.Opens.{AreListed, AreLoaded, AreRead, IsFoundIn, IsUnfit}
+use Rattle.repo_store.specs.Rows.{tables_of, version_row}
+use Rattle.repo_store.specs.Whole.{IsVersioned, IsWhole}
+use Rattle.repo_store.proofs.ReadingLemmas.{unchanged_kept}
+use Rattle.repo_store.specs.Shown.{Stands}
+use Rattle.repo_store.proofs.CallLemmas.{clean_if_open}
+use Rattle.repo_store.proofs.StandLemmas.{ShutIfDirty}
+use Rattle.repo_store.proofs.SameLemmas.{holds_same}
+use Rattle.repo_store.proofs.WholeLemmas.{same_meta, holds_one, whole_same}
+
+refused_unfit : (db : Database) (fault : StoreFault) → IsRefusal ⊥ ⊥ ⊥ fault → IsUnfit db fault
+refused_unfit db NotAStore h = absurd h
+refused_unfit db Damaged h = absurd h
+refused_unfit db (Sql error) h = tt
+refused_unfit db OutOfMemory h = tt
+refused_unfit db Collision h = h
+refused_unfit db TooLarge h = h
+refused_unfit db TooMany h = h
+
+damage_unfit : (db : Database) (broken : Type 0) (fault : StoreFault) → (broken → (t : Tables) → Holds db t → ¬ IsWhole t) → IsDamage broken fault → IsUnfit db fault
+damage_unfit db broken NotAStore f h = absurd h
+damage_unfit db broken Damaged f h = f h
+damage_unfit db broken (Sql error) f h = tt
+damage_unfit db broken OutOfMemory f h = tt
+damage_unfit db broken Collision f h = h
+damage_unfit db broken TooLarge f h = h
+damage_unfit db broken TooMany f h = h
+
+-- a list with one element, in another order
+only_one : (xs ys : List MetaRow) (x : MetaRow) → IsPermutation xs ys → xs ≡ x ∷ [] → ys ≡ x ∷ []
+only_one xs [] x same is = let count = length_permutation xs [] same in let one = ap length is in absurd (omega arith)
+only_one xs (y ∷ []) x same is =
+    let all : AllByRecursion (λ (z : MetaRow). z ≡ x) xs = subst (AllByRecursion (λ (z : MetaRow). z ≡ x)) (sym is) (refl, tt) in
+    ap (λ (z : MetaRow). z ∷ []) (recursion_from_All (λ (z : MetaRow). z ≡ x) (y ∷ []) (All-permutation (λ (z : MetaRow). z ≡ x) xs (y ∷ []) same (All-from_recursion (λ (z : MetaRow). z ≡ x) xs all))).0
+only_one xs (y ∷ z ∷ ys) x same is = let count = length_permutation xs (y ∷ z ∷ ys) same in let one = ap length is in absurd (omega arith)
+
+abbrev pub MetaShown : {X : Type 0} → (X → List MetaRow) → X → Trees → Type 0
+MetaShown listed rows trees = Stored meta_cells (1 ∷ 2 ∷ []) (listed rows) (trees 0)
+
+pub meta_fails : {S X : Type 0} (g : Ghosts S) (a b : Held S) (e : Error) (Rows : X → Trees → Type 0) (fault : StoreFault) → IsRead {A = X} g a b (Err e) Rows → IsRefusal ⊥ ⊥ ⊥ fault → AreListed g a b (Err fault)
+meta_fails g a b e Rows fault one why = record { found = λ clean ours live. refused_unfit (state g a).now fault why; kept = λ clean ours inside. one.kept clean inside; survives = one.survives }
+
+module _ {S X : Type 0} (g : Ghosts S) (a b : Held S) (meta : X) (listed : X → List MetaRow) (one : IsRead g a b (Ok meta) (MetaShown listed)) where
+  pub unversioned : (listed meta ≡ version_row ∷ [] → ⊥) → AreListed g a b (Err NotAStore)
+  unversioned other = record {
+    found = λ clean ours live t holds versioned. other (only_one t.meta (listed meta) version_row (same_meta t.meta (listed meta) ((state g a).now.trees 0) holds.meta (one.rows clean ours).1) versioned);
+    kept = λ clean ours inside. one.kept clean inside;
+    survives = one.survives;
+  }
+
+  module _ (c : Held S) (more : Survives (state g b) (state g c) (λ _. ⊥)) where
+    clean_before : HasCleanDisk (state g c) → HasCleanDisk (state g b)
+    clean_before clean = omega (arith, more.clean)
+
+    still_ours : IsUnchanged (state g a) (state g b) → (state g a).now.schema ≡ store_schema → (state g b).now.schema ≡ store_schema
+    still_ours same ours = ap (λ (db : Database). db.schema) same.0.now_is ∙ ours
+
+    all_kept : (HasCleanDisk (state g c) → (state g b).now.schema ≡ store_schema → IsTrue (state g b).in_transaction → KeepsCommit (state g b) (state g c))
+        → HasCleanDisk (state g c) → (state g a).now.schema ≡ store_schema → IsTrue (state g a).in_transaction → KeepsCommit (state g a) (state g c)
+    all_kept kept clean ours inside =
+        let first = one.rows (clean_before clean) ours in
+        keeps_then (state g a) (state g b) (state g c) (unchanged_kept (state g a) (state g b) first.0) (kept clean (still_ours first.0 ours) (first.0.0.mode ∙ inside))
+
+    along : Survives (state g a) (state g c) (λ _. ⊥)
+    along = survives_then (state g a) (state g b) (state g c) _ _ (λ _. ⊥) (λ _ db none. none) (λ _ db none. none) one.survives more
+
+  pub rows_fail : {A : Type 0} (c : Held S) (e : Error) (Rows : A → Trees → Type 0) (fault : StoreFault) → AreRead {A = A} g b c (Err e) Rows → IsRefusal ⊥ ⊥ ⊥ fault → AreListed g a c (Err fault)
+  rows_fail c e Rows fault two why = record { found = λ clean ours live. refused_unfit (state g a).now fault why; kept = all_kept c two.survives two.kept; survives = along c two.survives }
+
+  pub listed_all : (c : Held S) (rows : StoreRows) (r : Result Mirror StoreFault) → listed meta ≡ version_row ∷ [] → AreRead g b c (Ok rows) AreShown
+      → IfOk r (λ lists. IsSame (rows_in rows) (tables_of lists.kept.repo lists.kept.contents)) → IfErr r (IsDamage (¬ IsWhole (rows_in rows))) → AreListed g a c r
+  listed_all c rows r versioned two same broken = record { found = λ clean ours live. decide r (holds clean ours live) same broken; kept = all_kept c two.survives two.kept; survives = along c two.survives }
+    where
+      holds : HasCleanDisk (state g c) → (state g a).now.schema ≡ store_schema → (IsTrue (state g a).is_open → IsDatabase (state g a).now) → Holds (state g a).now (rows_in rows)
+      holds clean ours live =
+          let first = one.rows (clean_before c two.survives clean) ours in
+          let second = two.rows clean (still_ours c two.survives first.0 ours) in
+          let shown = subst (λ (db : Database). AreShown rows db.trees) first.0.0.now_is second.1 in
+          record {
+            schema = ours;
+            sound = live first.0.0.was_open;
+            meta = subst (λ (l : List MetaRow). Stored meta_cells (1 ∷ 2 ∷ []) l ((state g a).now.trees 0)) versioned first.1;
+            blobs = shown.blobs;
+            staged = shown.staged;
+            staged_keyed = shown.staged_keyed;
+            fixes = shown.fixes;
+            fixes_numbered = shown.fixes_numbered;
+            commits = shown.commits;
+            entries = shown.entries;
+            answers = shown.answers;
+            answers_numbered = shown.answers_numbered;
+          }
+
+      decide : (r : Result Mirror StoreFault) → Holds (state g a).now (rows_in rows) → IfOk r (λ lists. IsSame (rows_in rows) (tables_of lists.kept.repo lists.kept.contents)) → IfErr r (IsDamage (¬ IsWhole (rows_in rows)))
+          → MatchResult r (IsFoundIn (state g a).now) (IsUnfit (state g a).now)
+      decide (Ok lists) hold same broken = holds_same (state g a).now (rows_in rows) (tables_of lists.kept.repo lists.kept.contents) same hold
+      decide (Err fault) hold same broken =
+          damage_unfit (state g a).now (¬ IsWhole (rows_in rows)) fault (λ breaks t other whole. breaks (whole_same t (rows_in rows) (holds_one (state g a).now t (rows_in rows) other hold) whole)) broken
+
+-- and those rows are whole
+pub listed_whole : (rows : StoreRows) (r : Result Mirror StoreFault) → IfOk r (λ lists. IsSame (rows_in rows) (tables_of lists.kept.repo lists.kept.contents)) → OnOk r (IsWhole (rows_in rows)) → IfOk r (λ lists. IsWhole (tables_of lists.kept.repo lists.kept.contents))
+listed_whole rows (Ok lists) same whole = whole_same (rows_in rows) (tables_of lists.kept.repo lists.kept.contents) same whole
+listed_whole rows (Err fault) same whole = same
+
+-- in a transaction of its own, which is rolled back
+pub loaded : {S : Type 0} (g : Ghosts S) (old mid end new : Held S) (r : Result Mirror StoreFault) → mid ≡ record old { in_transaction = true } → AreListed g mid end r → new.in_transaction ≡ false
+    → (HasCleanDisk (state g new) → IsRolledBack (state g end) (state g new)) → Survives (state g end) (state g new) (λ _. ⊥) → AreLoaded g old new r
+loaded {S} g old mid end new r begun listed outside undone survives = record {
+  outside = outside;
+  found = λ clean ours live. it.found (clean_end clean) ours live;
+  rests = λ clean ours.
+      let back = undone clean in
+      let kept = it.kept (clean_end clean) ours refl in
+      record {
+        was_open = λ h. kept.was_open (back.was_open h);
+        now = λ h. (back.undone h).0 ∙ kept.committed (back.was_open h);
+        committed = λ h. (back.undone h).1 ∙ kept.committed (back.was_open h);
+      };
+  survives = let all = survives_then (state g (record old { in_transaction = true })) (state g end) (state g new) _ _ (λ _. ⊥) (λ _ db none. none) (λ _ db none. none) it.survives survives in record { clean = all.clean; shield = all.shield; counts = all.counts; limit = all.limit; closes = all.closes; crash = all.crash };
+}
+  where
+    it : AreListed g (record old { in_transaction = true }) end r
+    it = subst (λ (h : Held S). AreListed g h end r) begun listed
+
+    clean_end : HasCleanDisk (state g new) → HasCleanDisk (state g end)
+    clean_end clean = omega (arith, survives.clean)
+
+-- what stands in a store that was opened
+module _ {S : Type 0} (g : Ghosts S) (old new : Held S) (lists : Mirror) (ours : (state g old).now.schema ≡ store_schema) (live : IsTrue (state g old).is_open → IsDatabase (state g old).now)
+    (settled : IsTrue (state g old).is_open → (state g old).now ≡ (state g old).committed) (load : AreLoaded g old new (Ok lists)) (dirty : ShutIfDirty (state g new)) where
+  clean_new : IsTrue (state g new).is_open → HasCleanDisk (state g new)
+  clean_new h = clean_if_open (state g new).is_clean (state g new).is_open dirty h
+
+  pub opened_holds : IsTrue (state g new).is_open → Holds (state g old).committed (tables_of lists.kept.repo lists.kept.contents)
+  opened_holds h =
+      let rest = load.rests (clean_new h) ours in
+      subst (λ (db : Database). Holds db (tables_of lists.kept.repo lists.kept.contents)) (settled (rest.was_open h)) (load.found (clean_new h) ours live)
+
+  pub opened_stands : Stands g new lists.kept
+  opened_stands = record {
+    outside = load.outside;
+    now = λ h. let rest = load.rests (clean_new h) ours in subst (λ (db : Database). Holds db (tables_of lists.kept.repo lists.kept.contents)) (sym (rest.now h)) (opened_holds h);
+    committed = λ h. let rest = load.rests (clean_new h) ours in subst (λ (db : Database). Holds db (tables_of lists.kept.repo lists.kept.contents)) (sym (rest.committed h)) (opened_holds h);
+  }
+
+-- a read that left the connection open left the last commit
+pub rests_if_open : {S : Type 0} (g : Ghosts S) (old new : Held S) (r : Result Mirror StoreFault) → (state g old).now.schema ≡ store_schema → AreLoaded g old new r → ShutIfDirty (state g new) → Rests (state g old) (state g new)
+rests_if_open g old new r ours load dirty =
+    let clean = λ (h : IsTrue (state g new).is_open). clean_if_open (state g new).is_clean (state g new).is_open dirty h in
+    record { was_open = λ h. (load.rests (clean h) ours).was_open h; now = λ h. (load.rests (clean h) ours).now h; committed = λ h. (load.rests (clean h) ours).committed h }

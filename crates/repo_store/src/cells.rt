@@ -1,0 +1,98 @@
+ghost use Rattle.std.specs.Prelude.{◌≡◌, ◌⊎◌, pos, true, false, map, IfOk, IfErr, IfSome, IfNone, OnOk};
+ghost use Rattle.sha2.specs.Sha256.{sha256};
+ghost use Rattle.repo_store.specs.Faults.{IsDamage};
+ghost use Rattle.repo_store.specs.Lists.{file_of};
+ghost use Rattle.repo_store.specs.Rows.{blob_row, mode_number, staged_row};
+ghost use Rattle.repo_store.specs.Whole.{IsFileRow, IsPathText, is_kept};
+
+use crate::StoreFault;
+use crate::content::Content;
+use crate::contents::Contents;
+use crate::held::HeldFile;
+use hook_base::{Mode, PathFault, RepoPath};
+use std::alloc::Global;
+use std::str;
+
+/// The contents under a digest, if the bytes are one.
+fn find<'a>(contents: &'a Contents, digest: &[u8]) -> Option<&'a Content>
+    ensures under { IfSome result (λ content. sha256 content.now ≡ digest.now) }
+    ensures kept { IfSome result (λ _. is_kept (map blob_row contents.now) digest.now ≡ true) }
+    ensures absent { IfNone result (is_kept (map blob_row contents.now) digest.now ≡ false) }
+{
+    match <&[u8; 32]>::try_from(digest) {
+        Ok(digest) => contents.find(digest),
+        Err(_) => None,
+    }
+}
+
+/// The contents under a digest that a row names, shared.
+pub fn content_at(contents: &Contents, digest: &[u8]) -> Result<Content, StoreFault>
+    ensures found { IfOk result (λ content. sha256 content ≡ digest.now) }
+    ensures kept { OnOk result (is_kept (map blob_row contents.now) digest.now ≡ true) }
+    ensures missing { IfErr result (IsDamage (is_kept (map blob_row contents.now) digest.now ≡ false)) }
+{
+    match find(contents, digest) {
+        Some(content) => match content.clone() {
+            Ok(content) => Ok(content),
+            Err(_) => Err(StoreFault::OutOfMemory),
+        },
+        None => Err(StoreFault::Damaged),
+    }
+}
+
+/// The path that a row names.
+pub fn path_at(alloc: Global, bytes: &[u8]) -> Result<RepoPath, StoreFault>
+    ensures path { IfOk result (λ path. path ≡ bytes.now) }
+    ensures legal { OnOk result (IsPathText bytes.now) }
+    ensures illegal { IfErr result (IsDamage (¬ IsPathText bytes.now)) }
+{
+    match str::from_utf8(bytes) {
+        Ok(text) => match RepoPath::read(alloc, text) {
+            Ok(path) => Ok(path),
+            Err(PathFault::OutOfMemory) => Err(StoreFault::OutOfMemory),
+            Err(_) => Err(StoreFault::Damaged),
+        },
+        Err(_) => Err(StoreFault::Damaged),
+    }
+}
+
+/// The mode of a number.
+fn mode_at(number: i64) -> Option<Mode>
+    ensures known { IfSome result (λ mode. pos (mode_number mode) ≡ number) }
+    ensures unknown { IfNone result (¬ ((number ≡ pos 0) ⊎ (number ≡ pos 1))) }
+{
+    match number {
+        0 => Some(Mode::Plain),
+        1 => Some(Mode::Executable),
+        _ => None,
+    }
+}
+
+/// The file that a row shows.
+pub fn file_at(
+    alloc: Global,
+    contents: &Contents,
+    path: &[u8],
+    mode: i64,
+    digest: &[u8],
+) -> Result<HeldFile, StoreFault>
+    ensures file { IfOk result (λ file. staged_row (file_of file) ≡ record { path = path.now; mode = mode; digest = digest.now }) }
+    ensures whole { OnOk result (IsFileRow (map blob_row contents.now) path.now mode digest.now) }
+    ensures broken { IfErr result (IsDamage (¬ IsFileRow (map blob_row contents.now) path.now mode digest.now)) }
+{
+    let Some(mode) = mode_at(mode) else {
+        return Err(StoreFault::Damaged);
+    };
+    let path = match path_at(alloc, path) {
+        Ok(path) => path,
+        Err(fault) => return Err(fault),
+    };
+    match content_at(contents, digest) {
+        Ok(content) => Ok(HeldFile {
+            path,
+            mode,
+            content,
+        }),
+        Err(fault) => Err(fault),
+    }
+}

@@ -1,0 +1,45 @@
+ghost use Rattle.std.specs.Prelude.{◌≡◌};
+ghost use Rattle.repo_store.specs.Loaded.{AreShown};
+ghost use Rattle.repo_store.specs.Opens.{AreRead};
+
+use sqlite::{Alter, Error, Transaction};
+use std::alloc::Global;
+use store_tables::{
+    AnswerRow, BlobRow, CommitRow, EntryRow, FixRow, StagedRow, read_answers, read_blobs,
+    read_commits, read_entries, read_fixes, read_staged,
+};
+
+/// The rows of all tables but `meta`.
+#[derive(Debug, Drop)]
+pub(crate) struct StoreRows {
+    pub blobs: Vec<BlobRow>,
+    pub staged: Vec<StagedRow>,
+    pub fixes: Vec<FixRow>,
+    pub commits: Vec<CommitRow>,
+    pub entries: Vec<EntryRow>,
+    pub answers: Vec<AnswerRow>,
+}
+
+/// Reads all tables but `meta`.
+pub(crate) fn read_rows<S: Alter>(
+    alloc: Global,
+    tx: &mut Transaction<'_, S>,
+) -> Result<StoreRows, Error>
+    ensures same_reference { tx.new.conn.ghost_name ≡ tx.old.conn.ghost_name }
+    ensures read { AreRead S.Store tx.old.conn.now tx.new.conn.now result AreShown }
+{
+    let answers = read_answers(alloc, tx)?;
+    let blobs = read_blobs(alloc, tx)?;
+    let staged = read_staged(alloc, tx)?;
+    let fixes = read_fixes(alloc, tx)?;
+    let commits = read_commits(alloc, tx)?;
+    let entries = read_entries(alloc, tx)?;
+    Ok(StoreRows {
+        blobs,
+        staged,
+        fixes,
+        commits,
+        entries,
+        answers,
+    })
+}
