@@ -1,9 +1,8 @@
 -- What the cells of a row name.
-use Rattle.std.proofs.Common.{◌≡◌, ℕ, ◌||◌, true, false, List, [], ◌∷◌, map, length, get_or, Option, None, Some, IfSome, refl, sym, ap, subst, ◌∙◌, Bor}
+use Rattle.std.proofs.Common.{◌≡◌, ℕ, ◌||◌, true, false, List, [], ◌∷◌, map, length, get_or, Option, None, Some, IfSome, refl, sym, ap, ◌∙◌, Bor}
 use Rattle.std.specs.Prelude.{IfNone}
-use Rattle.std.specs.List.{Any, list_any}
+use Rattle.std.specs.List.{Any}
 use Rattle.std.specs.Str.{bytes_eq}
-use Rattle.std.specs.Cmp.Lexicographic.{bytes_decides}
 use Rattle.std.proofs.lemmas.List.Folds.{list_any_at}
 use Rattle.sha2.specs.Sha256.{sha256}
 use Rattle.sha2.proofs.Facts256.{length-sha256}

@@ -1,5 +1,5 @@
 -- From the rows that were read to the lists, or to the refusal.
-use Rattle.std.proofs.Common.{◌≡◌, ℕ, List, [], ◌∷◌, length, Result, Ok, Err, IfOk, IfErr, OnOk, MatchResult, IsTrue, false, true, IsPermutation, refl, sym, ap, subst, ◌∙◌, arith}
+use Rattle.std.proofs.Common.{◌≡◌, List, [], ◌∷◌, length, Result, Ok, Err, IfOk, IfErr, OnOk, MatchResult, IsTrue, false, true, IsPermutation, refl, sym, ap, subst, ◌∙◌, arith}
 use Rattle.std.specs.List.{AllByRecursion}
 use Rattle.std.proofs.lemmas.List.Elements.{recursion_from_All, All-from_recursion}
 use Rattle.std.proofs.lemmas.List.Sorted.{length_permutation, All-permutation}
@@ -8,7 +8,7 @@ use Rattle.sqlite_trees.specs.Tree.{Trees}
 use Rattle.sqlite.specs.declared.error.Error.{Error}
 use Rattle.sqlite.specs.Effect.{Database, IsDatabase}
 use Rattle.sqlite.specs.Held.{Held, state}
-use Rattle.sqlite.specs.State.{State, HasCleanDisk, IsUnchanged, IsRolledBack, KeepsCommit, Survives}
+use Rattle.sqlite.specs.State.{HasCleanDisk, IsUnchanged, IsRolledBack, KeepsCommit, Survives}
 use Rattle.sqlite.proofs.InsideLemmas.{keeps_then}
 use Rattle.sqlite.proofs.StateLemmas.{survives_then}
 use Rattle.store_tables.specs.declared.rows.MetaRow.{MetaRow}
@@ -24,7 +24,7 @@ use Rattle.repo_store.specs.Kept.{Mirror}
 use Rattle.repo_store.specs.Loaded.{AreShown, IsSame, rows_in}
 use Rattle.repo_store.specs.Opens.{AreListed, AreLoaded, AreRead, IsFoundIn, IsUnfit}
 use Rattle.repo_store.specs.Rows.{tables_of, version_row}
-use Rattle.repo_store.specs.Whole.{IsVersioned, IsWhole}
+use Rattle.repo_store.specs.Whole.{IsWhole}
 use Rattle.repo_store.proofs.ReadingLemmas.{unchanged_kept}
 use Rattle.repo_store.specs.Shown.{Stands}
 use Rattle.repo_store.proofs.CallLemmas.{clean_if_open}

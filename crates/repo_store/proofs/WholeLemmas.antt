@@ -1,6 +1,6 @@
 -- The rules of a store speak of its rows alone, and not of their order.
-use Rattle.std.proofs.Common.{◌≡◌, ℕ, ◌+◌, suc, ℤ, pos, true, List, [], ◌∷◌, map, length, Option, None, Some, IsPermutation, refl, sym, ap, ap₂, subst, ◌∙◌, arith}
-use Rattle.std.specs.List.{AllByRecursion, list_any}
+use Rattle.std.proofs.Common.{◌≡◌, ℕ, ◌+◌, ℤ, pos, true, List, [], ◌∷◌, map, length, Option, None, Some, IsPermutation, refl, sym, ap, ap₂, subst, ◌∙◌, arith}
+use Rattle.std.specs.List.{AllByRecursion}
 use Rattle.std.specs.Str.{bytes_eq}
 use Rattle.std.proofs.lemmas.List.Elements.{recursion_from_All, All-from_recursion}
 use Rattle.std.proofs.lemmas.List.Sorted.{length_permutation, All-permutation, IsPermutation-sym, IsPermutation-trans, IsPermutation-map, list_any-IsPermutation, sum_by-IsPermutation}
@@ -14,10 +14,9 @@ use Rattle.store_tables.specs.declared.rows.StagedRow.{StagedRow}
 use Rattle.store_tables.specs.declared.rows.FixRow.{FixRow}
 use Rattle.store_tables.specs.declared.rows.CommitRow.{CommitRow}
 use Rattle.store_tables.specs.declared.rows.EntryRow.{EntryRow}
-use Rattle.store_tables.specs.declared.rows.AnswerRow.{AnswerRow}
 use Rattle.store_tables.specs.Tables.{Tables, Holds, Stored, meta_cells, blob_cells, staged_cells, fix_cells, commit_cells, entry_cells, answer_cells}
 use Rattle.repo_store.specs.Loaded.{IsSame}
-use Rattle.repo_store.specs.Whole.{AreCommitRows, AreStagedRows, IsBlobRow, IsEntryRow, IsFileRow, IsFixRow, IsMarked, IsNumbered, IsStagedRow, IsWhole, is_kept, is_staged, number_in, numbers_from, path_bytes}
+use Rattle.repo_store.specs.Whole.{AreCommitRows, AreStagedRows, IsBlobRow, IsEntryRow, IsFileRow, IsFixRow, IsMarked, IsNumbered, IsStagedRow, IsWhole, is_kept, number_in, numbers_from}
 
 -- ---- rows from what SQL shows of them
 

@@ -1,4 +1,3 @@
-use Rattle.std.proofs.Common.{sym}
 use Rattle.repo_store.proofs.CellLemmas.{found_kept, not_found, no_digest}
 use Rattle.repo_store.proofs.cells.find.Goals as goal
 

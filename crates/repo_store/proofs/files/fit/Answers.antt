@@ -1,11 +1,11 @@
-use Rattle.std.proofs.Common.{◌≡◌, true, false, ℕ, ◌+◌, ◌<◌, ◌≤◌, List, map, length, get_or, take, drop, sym, ap, ◌∙◌, arith}
+use Rattle.std.proofs.Common.{◌≡◌, true, false, ℕ, ◌+◌, ◌<◌, ◌≤◌, List, map, length, get_or, take, sym, ap, ◌∙◌, arith}
 use Rattle.std.proofs.lemmas.List.{take-map}
 use Rattle.std.proofs.lemmas.List.{length-map}
 use Rattle.std.proofs.lemmas.List.Sums.{sum_by_more_le}
 use lib.ListN.{get_or-map}
 use Rattle.hook_base.specs.declared.file.File.{File}
 use Rattle.repo_store.specs.declared.held.HeldFile.{HeldFile}
-use Rattle.repo_store.specs.Limits.{Fits, path_bytes}
+use Rattle.repo_store.specs.Limits.{path_bytes}
 use Rattle.repo_store.specs.Lists.{file_of}
 use Rattle.repo_store.proofs.files.fit.Goals as goal
 

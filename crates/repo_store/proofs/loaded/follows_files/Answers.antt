@@ -1,4 +1,3 @@
-use Rattle.std.proofs.Common.{List, ℕ}
 use Rattle.hook_base.specs.Trees.{path_of}
 use Rattle.repo_store.specs.Lists.{file_of}
 use Rattle.repo_store.proofs.LoadLemmas.{follows_mapped}

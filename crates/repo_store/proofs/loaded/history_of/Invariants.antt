@@ -1,13 +1,8 @@
-use Rattle.std.proofs.Common.{◌≡◌, ◌++◌, ℕ, List, map, take, length, IsPermutation}
-use Rattle.std.specs.List.{AllByRecursion}
+use Rattle.std.proofs.Common.{◌≡◌, ◌++◌, map, length}
 use Rattle.std.specs.Vec.Iter.{into_iter_items}
-use Rattle.hook_base.specs.Trees.{IsRising, IsRisingChanges}
-use Rattle.repo_store.specs.Limits.{IsSmall}
-use Rattle.repo_store.specs.Lists.{commit_of, file_of, fix_of}
-use Rattle.repo_store.specs.Loaded.{AreBare, AreEntered}
-use Rattle.repo_store.specs.Repository.{Commit}
-use Rattle.repo_store.specs.Rows.{blob_row, commit_rows, entry_rows, fix_row, staged_row}
-use Rattle.repo_store.specs.Whole.{IsBlobRow, IsEntryRow, IsFixRow, IsStagedRow}
+use Rattle.repo_store.specs.Lists.{commit_of}
+use Rattle.repo_store.specs.Loaded.{AreBare}
+use Rattle.repo_store.specs.Rows.{commit_rows}
 use Rattle.repo_store.proofs.LoadLemmas.{AreNumbered}
 use Rattle.repo_store.proofs.loaded.history_of.Given as goal
 

@@ -1,4 +1,4 @@
-use Rattle.std.proofs.Common.{List, [], map, length, IsPermutation, vec_len, sym, subst, ◌∙◌, arith}
+use Rattle.std.proofs.Common.{List, map, length, IsPermutation, vec_len, sym, subst, ◌∙◌, arith}
 use Rattle.std.specs.List.{AllByRecursion}
 use Rattle.std.proofs.lemmas.Bool.{eqb-true}
 use Rattle.repo_store.specs.declared.held.HeldFile.{HeldFile}

@@ -1,4 +1,3 @@
-use Rattle.std.proofs.Common.{[], ◌∷◌}
 use Rattle.std.proofs.lemmas.Result.{err_from_is_err_and}
 use Rattle.repo_store.specs.Loaded.{AreShown}
 use Rattle.repo_store.proofs.ReadingLemmas.{first_read, next_read, read_stops, first_stops, read_ends}
