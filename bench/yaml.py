@@ -4,7 +4,9 @@
 Usage: bench/yaml.py [PROGRAM]   (default: crates/hookhost/out/hookhost)
 
 Each configuration is a small one with 1 MiB of one kind of text under a key whose value is ignored, so that the reading of
-YAML is what is timed. Each figure is the least of several runs, in milliseconds of wall time.
+YAML is what is timed. Each figure is the least of several runs, in milliseconds of wall time. It is taken twice: with the
+commands taking turns, so that a busy moment hits them alike, and with each command by itself, which finds `cat` at its
+fastest since nothing stands between its runs.
 """
 import os
 import shutil
@@ -12,7 +14,7 @@ import sys
 import tempfile
 
 sys.path.insert(0, os.path.dirname(os.path.abspath(__file__)))
-from timing import least_in_turn, program, show
+from timing import least, least_in_turn, program, show
 
 NAME = ".pre-commit-config.yaml"
 HEAD = "repos: []\n"
@@ -92,7 +94,8 @@ def main():
             check, cat = [tool, "check"], ["cat", NAME]
             ours, twice, beside = least_in_turn([(half, check), (whole, check), (whole, cat)])
             show(f"{os.path.getsize(os.path.join(whole, NAME))} bytes of {what}", twice, beside, "cat ")
-            print(f"{'twice the bytes of ' + what:44} {twice / ours:.2f} times the time")
+            show("  each by itself", least(check, 40), least(cat, 40), "cat ")
+            print(f"{'  twice the bytes':44} {twice / ours:.2f} times the time")
     finally:
         os.chdir("/")
         shutil.rmtree(top)
