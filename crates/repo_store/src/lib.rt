@@ -26,8 +26,6 @@ mod mode;
 mod stage;
 mod store;
 mod table_rows;
-#[cfg(test)]
-mod tests;
 mod trees;
 mod unstage;
 

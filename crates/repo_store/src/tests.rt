@@ -1,9 +1,0 @@
-mod contents;
-mod fixes;
-mod kept;
-mod limits;
-mod planted;
-mod plants;
-mod steps;
-mod stops;
-mod story;
