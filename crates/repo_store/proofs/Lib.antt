@@ -1,5 +1,6 @@
 pub mod CallLemmas
 pub mod ChangeLemmas
+pub mod CompleteLemmas
 pub mod FixLemmas
 pub mod IndexLemmas
 pub mod KeptLemmas
