@@ -35,6 +35,10 @@ pub struct Hook {
     pub pass_filenames: bool,
     /// Whether a run stops where this hook failed.
     pub fail_fast: bool,
+    /// The file that a hook's output would be written to. It is empty, since none is served.
+    pub log_file: ConfigText,
+    /// What would be installed for the hook. There are none, since none are served.
+    pub additional_dependencies: Items<ConfigText>,
 }
 
 /// How a hook's entry is run.

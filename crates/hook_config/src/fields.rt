@@ -132,22 +132,30 @@ pub(crate) fn stages_or(
     }
 }
 
-/// Refuses the text at the key where it isn't empty, as `Unsupported`.
-pub(crate) fn refuse_text(rows: &[(String, Node)], key: &str) -> Result<(), ConfigKind>
-    ensures { GivesSurely (λ _. []) result (or_default empty_text_of [] key.now (rows_of rows.now)) }
+/// The empty text at the key, also where the key isn't there. Another text is `Unsupported`.
+pub(crate) fn empty_text_at(
+    alloc: Global,
+    rows: &[(String, Node)],
+    key: &str,
+) -> Result<ConfigText, ConfigKind>
+    ensures { GivesSurely (λ owned. owned) result (or_default empty_text_of [] key.now (rows_of rows.now)) }
 {
     match value_at(rows, key) {
-        Some(value) => empty_text_of(value),
-        None => Ok(()),
+        Some(value) => empty_text_of(alloc, value),
+        None => Ok(ConfigText::empty(alloc)),
     }
 }
 
-/// Refuses the texts at the key where there are any, as `Unsupported`.
-pub(crate) fn refuse_texts(rows: &[(String, Node)], key: &str) -> Result<(), ConfigKind>
-    ensures { GivesSurely (λ _. []) result (or_default empty_texts_of [] key.now (rows_of rows.now)) }
+/// The empty list at the key, also where the key isn't there. Another list of texts is `Unsupported`.
+pub(crate) fn empty_texts_at(
+    alloc: Global,
+    rows: &[(String, Node)],
+    key: &str,
+) -> Result<Items<ConfigText>, ConfigKind>
+    ensures { GivesSurely (λ texts. texts) result (or_default empty_texts_of [] key.now (rows_of rows.now)) }
 {
     match value_at(rows, key) {
-        Some(value) => empty_texts_of(value),
-        None => Ok(()),
+        Some(value) => empty_texts_of(alloc, value),
+        None => Ok(Items::new(alloc)),
     }
 }

@@ -1,6 +1,6 @@
 //! Lists of texts, and values that are served where they are empty alone.
 
-ghost use Rattle.std.specs.Prelude.{◌≡◌, []};
+ghost use Rattle.std.specs.Prelude.{◌≡◌};
 ghost use Rattle.yaml_lines.specs.View.{view};
 ghost use Rattle.hook_config.specs.Gives.{GivesBy, GivesSurely};
 ghost use Rattle.hook_config.specs.Kinds.{each, text_of, texts_of, empty_text_of, empty_texts_of};
@@ -32,11 +32,11 @@ fn texts_of_items(alloc: Global, items: &[Node]) -> Result<Vec<ConfigText>, Conf
 }
 
 /// Takes the empty text. Another text is `Unsupported`.
-pub(crate) fn empty_text_of(node: &Node) -> Result<(), ConfigKind>
-    ensures { GivesSurely (λ _. []) result (empty_text_of (view node.now)) }
+pub(crate) fn empty_text_of(alloc: Global, node: &Node) -> Result<ConfigText, ConfigKind>
+    ensures { GivesSurely (λ owned. owned) result (empty_text_of (view node.now)) }
 {
     if text_in(node)?.is_empty() {
-        Ok(())
+        Ok(ConfigText::empty(alloc))
     } else {
         Err(ConfigKind::Unsupported)
     }
@@ -44,12 +44,15 @@ pub(crate) fn empty_text_of(node: &Node) -> Result<(), ConfigKind>
 
 /// Takes the empty list. A list of texts is `Unsupported`.
 #[tactic(auto, using(crate::proofs::TextLists::refused_texts))]
-pub(crate) fn empty_texts_of(node: &Node) -> Result<(), ConfigKind>
-    ensures { GivesSurely (λ _. []) result (empty_texts_of (view node.now)) }
+pub(crate) fn empty_texts_of(
+    alloc: Global,
+    node: &Node,
+) -> Result<Items<ConfigText>, ConfigKind>
+    ensures { GivesSurely (λ texts. texts) result (empty_texts_of (view node.now)) }
 {
     let items = list_of(node)?;
     if items.is_empty() {
-        Ok(())
+        Ok(Items::new(alloc))
     } else {
         Err(kind_of_items(items))
     }

@@ -133,6 +133,8 @@ fn what_is_not_served_is_taken_where_it_is_empty(rt: HostRuntime) -> Result<(), 
     expect_taken(&rt, alloc, "additional_dependencies", empty_list(alloc))?;
     let hook = hook_with(alloc, "args", empty_list(alloc))??;
     assert!(rt; hook.args.is_empty());
+    assert!(rt; hook.log_file.as_str().is_empty());
+    assert!(rt; hook.additional_dependencies.is_empty());
     Ok(())
 }
 
