@@ -26,6 +26,8 @@ mod mode;
 mod stage;
 mod store;
 mod table_rows;
+#[cfg(test)]
+mod tests;
 mod trees;
 mod unstage;
 

@@ -1,0 +1,7 @@
+mod contents;
+mod fixes;
+mod kept;
+mod planted;
+mod plants;
+mod steps;
+mod story;

@@ -1,0 +1,19 @@
+//! The digests of contents.
+
+use super::kept::new_store;
+use std::test::Fail;
+
+/// The SHA-256 of `abc`, as FIPS 180-4 prints it.
+const ABC: [u8; 32] = [
+    0xba, 0x78, 0x16, 0xbf, 0x8f, 0x01, 0xcf, 0xea, 0x41, 0x41, 0x40, 0xde, 0x5d, 0xae, 0x22, 0x23,
+    0xb0, 0x03, 0x61, 0xa3, 0x96, 0x17, 0x7a, 0x9c, 0xb4, 0x10, 0xff, 0x61, 0xf2, 0x00, 0x15, 0xad,
+];
+
+#[test]
+fn a_digest_is_that_of_the_standard(rt: HostRuntime) -> Result<(), Fail> {
+    let mut store = new_store(rt.alloc())?;
+    let first = store.blob_put(b"abc")?;
+    assert_eq!(rt; first.bytes, ABC);
+    assert_eq!(rt; store.blob_put(b"abc")?, first);
+    Ok(())
+}

@@ -1,0 +1,618 @@
+#!/usr/bin/env python3
+"""Plays calls on stores in real files with the built program, and reads the files with sqlite3.
+
+Usage: tests/store.py [PROGRAM]   (default: crates/store_trial/out/store_trial)
+
+A store is played by lines, each answered by a line of fields that tabs part. Beside it runs a model of a store, as a few
+dictionaries. The files are read, and damaged, by the program sqlite3, or, where there is none, by the same library in
+Python. A play is killed at random moments, each allocation of a play is refused in turn (tests/refuse_allocation.c), and
+a disk in memory stops at each of its operations in turn.
+"""
+import copy
+import hashlib
+import os
+import random
+import shutil
+import signal
+import sqlite3
+import subprocess
+import sys
+import tempfile
+from concurrent.futures import ThreadPoolExecutor
+
+HERE = os.path.dirname(os.path.abspath(__file__))
+PROGRAM = os.path.abspath(sys.argv[1] if len(sys.argv) > 1 else os.path.join(HERE, "..", "crates/store_trial/out/store_trial"))
+SQLITE = shutil.which("sqlite3")
+SHOWN = ["staged", "head", "log", "fixes"]
+SCHEMA = [
+    "CREATE TABLE answers (words BLOB NOT NULL REFERENCES blobs, seen BLOB NOT NULL REFERENCES blobs, output BLOB NOT NULL REFERENCES blobs, changes BLOB NOT NULL REFERENCES blobs, status INTEGER NOT NULL, PRIMARY KEY (words, seen)) STRICT",
+    "CREATE TABLE blobs (digest BLOB PRIMARY KEY, bytes BLOB NOT NULL) STRICT",
+    "CREATE TABLE commits (n INTEGER PRIMARY KEY, message BLOB NOT NULL) STRICT",
+    "CREATE TABLE entries (n INTEGER NOT NULL REFERENCES commits, path TEXT NOT NULL, mode INTEGER NOT NULL, digest BLOB NOT NULL REFERENCES blobs, PRIMARY KEY (n, path)) STRICT",
+    "CREATE TABLE fixes (path TEXT PRIMARY KEY, gone INTEGER NOT NULL, digest BLOB REFERENCES blobs) STRICT",
+    "CREATE TABLE meta (name TEXT PRIMARY KEY, value INTEGER NOT NULL) STRICT",
+    "CREATE TABLE staged (path TEXT PRIMARY KEY, mode INTEGER NOT NULL, digest BLOB NOT NULL REFERENCES blobs) STRICT",
+]
+STORY = [
+    ("create", "ok"),
+    ("stage plain a.txt 1", "ok"),
+    ("fix a.txt 2", "ok"),
+    ("fix missing.txt 3", "ok"),
+    ("set", "ok"),
+    ("fixes", "ok\ta.txt\tnow\t2"),
+    ("accept", "ok\t1"),
+    ("fixes", "ok"),
+    ("commit m\\n", "ok\t1"),
+    ("log", "ok\t1\tm\\n"),
+    ("unstage a.txt", "ok"),
+    ("tree 1", "ok\tplain\ta.txt\t2"),
+    ("head", "ok\tplain\ta.txt\t2"),
+    ("staged", "ok"),
+    ("commit n\\n", "ok\t2"),
+    ("tree 2", "ok"),
+    ("head", "ok"),
+    ("tree 3", "ok\tnone"),
+    ("blob abc", "ok\tba7816bf8f01cfea414140de5dae2223b00361a396177a9cb410ff61f20015ad"),
+    ("blob abc", "ok\tba7816bf8f01cfea414140de5dae2223b00361a396177a9cb410ff61f20015ad"),
+    ("stage executable tools/run #!/bin/sh\\n\\techo \\\\ done\\n", "ok"),
+    ("stage plain b.txt 2", "ok"),
+    ("fix-gone b.txt", "ok"),
+    ("set", "ok"),
+]
+# Lines that end the program with status 2, on an open store.
+BAD_LINES = ["", "stag", "stage plain a.txt", "stage odd a.txt 1", "stage plain ../a.txt 1", "stage plain .git/COMMIT_EDITMSG 1",
+             "stage plain a.txt \\x", "stage plain a.txt \\", "unstage /a", "tree x", "create", "open", "stage-many 1 1"]
+
+
+class Wrong(Exception):
+    """What is wrong, in words."""
+
+
+def check(holds, text):
+    if not holds:
+        raise Wrong(text)
+
+
+# ---- the program
+
+def run(path, lines, env=None):
+    """The answers to the lines over a file, the exit status and what stands on standard error."""
+    return run_words([path], lines, env)
+
+
+def run_words(words, lines, env=None):
+    text = "".join(line + "\n" for line in lines)
+    done = subprocess.run([PROGRAM, *words], input=text.encode(), capture_output=True, env=env, timeout=120)
+    return done.stdout.decode("utf-8", "surrogateescape").splitlines(), done.returncode, done.stderr.decode()
+
+
+def answers(path, lines):
+    """The answers to lines, each of which has to have one."""
+    given, status, said = run(path, lines)
+    check(status == 0 and len(given) == len(lines), f"status {status} after {len(given)} of {len(lines)} answers: {said!r} {given[-1:]!r}")
+    return given
+
+
+def shown(path):
+    """All that the store in a file shows, when it is opened and closed."""
+    given = answers(path, ["open", *SHOWN, "close"])
+    check(given[0] == given[-1] == "ok", f"it isn't opened: {given[0]!r} .. {given[-1]!r}")
+    return given[1:-1]
+
+
+# ---- the model
+
+def unescaped(text):
+    return text.replace("\\\\", "\0").replace("\\n", "\n").replace("\\t", "\t").replace("\0", "\\").encode()
+
+
+def digest_of(text):
+    return hashlib.sha256(unescaped(text)).hexdigest()
+
+
+class Model:
+    """What a store holds, and what it answers to a line. Contents and messages stay as the lines write them."""
+
+    def __init__(self):
+        self.store, self.is_open, self.waiting = None, False, {}
+
+    def play(self, line):
+        word, _, rest = line.partition(" ")
+        if word in ("create", "open", "close"):
+            return getattr(self, word)()
+        if not self.is_open:
+            return "no store"
+        return getattr(self, word.replace("-", "_"))(*rest.split(" ", {"stage": 2, "fix": 1}.get(word, 0))) if rest else getattr(self, word)()
+
+    def create(self):
+        if self.store is not None:
+            return "refused\t3\tSql\tthere is already an object of this name"
+        self.store, self.is_open = {"staged": {}, "fixes": {}, "history": [], "blobs": set()}, True
+        return "ok"
+
+    def open(self):
+        if self.store is None:
+            return "refused\t1\tNotAStore\tthe database holds no store of this version"
+        self.is_open = True
+        return "ok"
+
+    def close(self):
+        was_open, self.is_open = self.is_open, False
+        return "ok" if was_open else "no store"
+
+    def stage(self, mode, path, content):
+        self.store["staged"][path] = (mode, content)
+        self.store["fixes"] = {}
+        self.store["blobs"].add(content)
+        return "ok"
+
+    def unstage(self, path):
+        self.store["staged"].pop(path, None)
+        self.store["fixes"] = {}
+        return "ok"
+
+    def fix(self, path, content):
+        self.waiting[path] = content
+        return "ok"
+
+    def fix_gone(self, path):
+        self.waiting[path] = None
+        return "ok"
+
+    def set(self):
+        self.store["fixes"] = {path: now for path, now in self.waiting.items() if path in self.store["staged"]}
+        self.store["blobs"].update(now for now in self.store["fixes"].values() if now is not None)
+        self.waiting = {}
+        return "ok"
+
+    def accept(self):
+        fixes, self.store["fixes"] = self.store["fixes"], {}
+        for path, now in fixes.items():
+            if now is None:
+                del self.store["staged"][path]
+            else:
+                self.store["staged"][path] = (self.store["staged"][path][0], now)
+        return f"ok\t{len(fixes)}"
+
+    def commit(self, message):
+        self.store["history"].append((message, dict(self.store["staged"])))
+        self.store["fixes"] = {}
+        return f"ok\t{len(self.store['history'])}"
+
+    def blob(self, content):
+        self.store["blobs"].add(content)
+        return "ok\t" + digest_of(content)
+
+    def staged(self):
+        return self.tree_line(self.store["staged"])
+
+    def head(self):
+        return self.tree_line(self.store["history"][-1][1] if self.store["history"] else {})
+
+    def tree(self, number):
+        at = int(number)
+        return self.tree_line(self.store["history"][at - 1][1]) if 0 < at <= len(self.store["history"]) else "ok\tnone"
+
+    def log(self):
+        return "".join(["ok"] + [f"\t{at + 1}\t{message}" for at, (message, _) in enumerate(self.store["history"])])
+
+    def fixes(self):
+        rows = sorted(self.store["fixes"].items())
+        return "".join(["ok"] + [f"\t{path}\tgone" if now is None else f"\t{path}\tnow\t{now}" for path, now in rows])
+
+    @staticmethod
+    def tree_line(tree):
+        return "".join(["ok"] + [f"\t{mode}\t{path}\t{content}" for path, (mode, content) in sorted(tree.items())])
+
+    def shown(self):
+        """All that an open store shows, or none where there is no store."""
+        return None if self.store is None else [getattr(self, word)() for word in SHOWN]
+
+
+def random_play(seed, length):
+    """A play of every call, over few paths and contents so that they meet."""
+    chance = random.Random(seed)
+    paths, contents = ["a", "b.txt", "dir/c", "dir/d", "e"], [str(n) for n in range(8)] + ["\\n", "x" * 300, ""]
+    lines = ["create"]
+    while len(lines) < length:
+        path, content = chance.choice(paths), chance.choice(contents)
+        kind = chance.randrange(10)
+        if kind < 4:
+            lines.append(f"stage {chance.choice(['plain', 'executable'])} {path} {content}")
+        elif kind == 4:
+            lines.append(f"unstage {path}")
+        elif kind == 5:
+            lines.append(f"blob {content}" if content else "log")
+        elif kind < 8:
+            chosen = chance.sample(paths, chance.randrange(1, 4))
+            lines += [chance.choice([f"fix-gone {each}", f"fix {each} {content}"]) for each in chosen] + ["set"]
+        else:
+            lines.append(chance.choice(["accept", "accept", f"commit {content or 'm'}"]))
+    return lines
+
+
+# ---- sqlite3
+
+def ask(path, text):
+    """What sqlite3 answers to SQL on a file: lines, whose columns bars part."""
+    if SQLITE:
+        done = subprocess.run([SQLITE, "-batch", path, text], capture_output=True, timeout=60)
+        check(done.returncode == 0, f"sqlite3 refuses {text!r}: {done.stderr!r}")
+        return done.stdout.decode().splitlines()
+    held = sqlite3.connect(path, isolation_level=None)
+    try:
+        rows = []
+        for statement in text.split(";"):
+            rows += held.execute(statement).fetchall()
+        return ["|".join("" if value is None else str(value) for value in row) for row in rows]
+    finally:
+        held.close()
+
+
+def rows_of(path):
+    """The rows of each table, as lines."""
+    return {
+        "meta": ask(path, "SELECT name, value FROM meta ORDER BY name"),
+        "blobs": ask(path, "SELECT lower(hex(digest)), hex(bytes) FROM blobs ORDER BY digest"),
+        "staged": ask(path, "SELECT path, mode, lower(hex(digest)) FROM staged ORDER BY path"),
+        "fixes": ask(path, "SELECT path, gone, lower(hex(digest)) FROM fixes ORDER BY path"),
+        "commits": ask(path, "SELECT n, hex(message) FROM commits ORDER BY n"),
+        "entries": ask(path, "SELECT n, path, mode, lower(hex(digest)) FROM entries ORDER BY n, path"),
+        "answers": ask(path, "SELECT count(*) FROM answers"),
+    }
+
+
+def hex_of(text):
+    return unescaped(text).hex().upper()
+
+
+def mode_of(mode):
+    return {"plain": 0, "executable": 1}[mode]
+
+
+def rows_of_model(store):
+    """The rows that the tables of a store must have."""
+    return {
+        "meta": ["version|1"],
+        "blobs": sorted(f"{digest_of(content)}|{hex_of(content)}" for content in store["blobs"]),
+        "staged": [f"{path}|{mode_of(mode)}|{digest_of(content)}" for path, (mode, content) in sorted(store["staged"].items())],
+        "fixes": [f"{path}|1|" if now is None else f"{path}|0|{digest_of(now)}" for path, now in sorted(store["fixes"].items())],
+        "commits": [f"{at + 1}|{hex_of(message)}" for at, (message, _) in enumerate(store["history"])],
+        "entries": [f"{at + 1}|{path}|{mode_of(mode)}|{digest_of(content)}" for at, (_, tree) in enumerate(store["history"])
+                    for path, (mode, content) in sorted(tree.items())],
+        "answers": ["0"],
+    }
+
+
+def check_file(path, store):
+    """The file is a sound database of the documented tables, and has the rows of the store."""
+    schema = ask(path, "SELECT sql FROM sqlite_schema WHERE type = 'table' ORDER BY name")
+    check(schema == SCHEMA, f"the schema is {schema!r}")
+    check(ask(path, "PRAGMA integrity_check") == ["ok"], "integrity_check finds faults")
+    check(ask(path, "PRAGMA foreign_key_check") == [], "foreign_key_check finds faults")
+    found, wanted = rows_of(path), rows_of_model(store)
+    for table in wanted:
+        check(found[table] == wanted[table], f"the rows of {table} are {found[table]!r}, wanted {wanted[table]!r}")
+
+
+def model_of(lines):
+    model = Model()
+    for line in lines:
+        model.play(line)
+    return model
+
+
+# ---- the cases
+
+def plays_the_story(folder):
+    path = os.path.join(folder, "store.db")
+    lines = [line for line, _ in STORY]
+    given = answers(path, [*lines, "close"])
+    for (line, wanted), answer in zip(STORY, given):
+        check(answer == wanted, f"{line!r} is answered {answer!r}, wanted {wanted!r}")
+    model = model_of(lines)
+    check(shown(path) == model.shown(), f"opened again it shows {shown(path)!r}, wanted {model.shown()!r}")
+    check_file(path, model.store)
+
+
+def keeps_each_content_once(folder):
+    path = os.path.join(folder, "store.db")
+    answers(path, ["create", "stage plain a.txt 1", "stage plain b.txt 1", "commit m\\n", "close"])
+    counts = ask(path, "SELECT (SELECT count(*) FROM blobs), (SELECT count(*) FROM commits), (SELECT count(*) FROM entries)")
+    check(counts == ["1|1|2"], f"blobs, commits and entries number {counts!r}")
+
+
+def plays_as_the_model(folder):
+    for seed in range(20):
+        path = os.path.join(folder, f"{seed}.db")
+        model, lines, wanted = Model(), [], []
+        for line in random_play(seed, 60):
+            lines += [line, *SHOWN]
+            wanted += [model.play(line), *model.shown()]
+        given = answers(path, lines)
+        for line, answer, right in zip(lines, given, wanted):
+            check(answer == right, f"play {seed}: {line!r} is answered {answer!r}, wanted {right!r}")
+        check(shown(path) == model.shown(), f"play {seed} isn't the same when it is opened again")
+        check_file(path, model.store)
+
+
+def refuses_bad_lines(folder):
+    for at, line in enumerate(BAD_LINES):
+        path = os.path.join(folder, f"{at}.db")
+        given, status, said = run(path, ["create", "stage plain a.txt 1", line])
+        check((given, status, said) == (["ok", "ok"], 2, "store_trial: this line can't be played\n"), f"{line!r}: {given!r} {status} {said!r}")
+        check(shown(path) == ["ok\tplain\ta.txt\t1", "ok", "ok", "ok"], f"{line!r} leaves {shown(path)!r}")
+    for words in ([], ["log", "x"], ["disk", "1"], ["log", "1", "2"]):
+        check(subprocess.run([PROGRAM, *words], capture_output=True, stdin=subprocess.DEVNULL).returncode == 2, f"the words {words!r} aren't refused")
+
+
+def refuses_a_second_store(folder):
+    path = os.path.join(folder, "store.db")
+    lines = [line for line, _ in STORY]
+    answers(path, [*lines, "close"])
+    given = answers(path, ["create", "staged"])
+    check(given[0].startswith("refused\t3\tSql\t") and given[1] == "no store", f"a second store is answered {given!r}")
+    check_file(path, model_of(lines).store)
+
+
+FILLING = ["create", "stage plain a.txt 1", "stage plain b.txt 2", "commit m\\n", "commit n\\n", "fix a.txt 2", "set", "close"]
+ONE, TWO = digest_of("1"), digest_of("2")
+NOT_A_STORE, DAMAGED, SQL = "refused\t1\tNotAStore\t", "refused\t2\tDamaged\t", "refused\t3\tSql\t"
+# What is done to the file of FILLING, how it is refused then, and what takes it back (none: nothing does).
+PLANTS = [
+    ("no version", "DELETE FROM meta", NOT_A_STORE, "INSERT INTO meta VALUES ('version', 1)"),
+    ("another version", "UPDATE meta SET value = 2", NOT_A_STORE, "UPDATE meta SET value = 1"),
+    ("a second number", "INSERT INTO meta VALUES ('edition', 1)", NOT_A_STORE, "DELETE FROM meta WHERE name = 'edition'"),
+    ("a version under another name", "UPDATE meta SET name = 'edition'", NOT_A_STORE, "UPDATE meta SET name = 'version'"),
+    ("a blob under another digest", "INSERT INTO blobs VALUES (x'00', x'33')", DAMAGED, "DELETE FROM blobs WHERE digest = x'00'"),
+    ("other bytes under a digest", f"UPDATE blobs SET bytes = x'33' WHERE digest = x'{ONE}'", DAMAGED, f"UPDATE blobs SET bytes = x'31' WHERE digest = x'{ONE}'"),
+    ("an illegal staged path", f"INSERT INTO staged VALUES ('../x', 0, x'{ONE}')", DAMAGED, "DELETE FROM staged WHERE path = '../x'"),
+    ("an illegal committed path", f"INSERT INTO entries VALUES (1, '../x', 0, x'{ONE}')", DAMAGED, "DELETE FROM entries WHERE path = '../x'"),
+    ("an illegal path of a fix", "INSERT INTO fixes VALUES ('../x', 1, NULL)", DAMAGED, "DELETE FROM fixes WHERE path = '../x'"),
+    ("a staged mode of 2", "UPDATE staged SET mode = 2 WHERE path = 'a.txt'", DAMAGED, "UPDATE staged SET mode = 0 WHERE path = 'a.txt'"),
+    ("a committed mode of 2", "UPDATE entries SET mode = 2 WHERE n = 1 AND path = 'a.txt'", DAMAGED, "UPDATE entries SET mode = 0 WHERE n = 1 AND path = 'a.txt'"),
+    ("a fix with a gone of 2", "INSERT INTO fixes VALUES ('b.txt', 2, NULL)", DAMAGED, "DELETE FROM fixes WHERE path = 'b.txt'"),
+    ("a gone fix with contents", "UPDATE fixes SET gone = 1", DAMAGED, "UPDATE fixes SET gone = 0"),
+    ("a fix with no contents", "INSERT INTO fixes VALUES ('b.txt', 0, NULL)", DAMAGED, "DELETE FROM fixes WHERE path = 'b.txt'"),
+    ("a fix of a file that isn't staged", "INSERT INTO fixes VALUES ('c.txt', 1, NULL)", DAMAGED, "DELETE FROM fixes WHERE path = 'c.txt'"),
+    ("commits 1, 2 and 4", "INSERT INTO commits VALUES (4, x'6d')", DAMAGED, "DELETE FROM commits WHERE n = 4"),
+    ("a commit 0", "INSERT INTO commits VALUES (0, x'6d')", DAMAGED, "DELETE FROM commits WHERE n = 0"),
+    ("a remembered answer", f"INSERT INTO answers VALUES (x'{ONE}', x'{ONE}', x'{TWO}', x'{TWO}', 0)", DAMAGED, "DELETE FROM answers"),
+    ("8 MiB of staged paths and more", "WITH RECURSIVE c(n) AS (SELECT 1 UNION ALL SELECT n + 1 FROM c WHERE n < 2049) "
+     f"INSERT INTO staged SELECT printf('%04096d', n), 0, x'{ONE}' FROM c", DAMAGED, "DELETE FROM staged WHERE length(path) = 4096"),
+    ("100,001 staged files", "WITH RECURSIVE c(n) AS (SELECT 1 UNION ALL SELECT n + 1 FROM c WHERE n < 99999) "
+     f"INSERT INTO staged SELECT 'd/' || n, 0, x'{ONE}' FROM c", DAMAGED, "DELETE FROM staged WHERE path = 'd/1'"),
+    ("a message of more than 16 MiB", "UPDATE commits SET message = zeroblob(16777217) WHERE n = 2", DAMAGED, "UPDATE commits SET message = x'6e0a' WHERE n = 2"),
+    # Here the tables' own rules are broken, which the kit's database refuses when it opens a file.
+    ("an entry without its commit", f"INSERT INTO entries VALUES (3, 'a.txt', 0, x'{ONE}')", SQL, "DELETE FROM entries WHERE n = 3"),
+    ("a staged digest that isn't there", "INSERT INTO staged VALUES ('c.txt', 0, x'00')", SQL, "DELETE FROM staged WHERE path = 'c.txt'"),
+    ("a committed digest that isn't there", "INSERT INTO entries VALUES (1, 'c.txt', 0, x'00')", SQL, "DELETE FROM entries WHERE path = 'c.txt'"),
+    ("a digest of a fix that isn't there", "INSERT INTO fixes VALUES ('b.txt', 0, x'00')", SQL, "DELETE FROM fixes WHERE path = 'b.txt'"),
+]
+
+
+def refuses_planted_files(folder):
+    whole = os.path.join(folder, "whole.db")
+    answers(whole, FILLING)
+    before = shown(whole)
+    for at, (name, text, refusal, repair) in enumerate(PLANTS):
+        path = os.path.join(folder, f"{at}.db")
+        shutil.copyfile(whole, path)
+        ask(path, "PRAGMA foreign_keys = OFF; " + text)
+        rows = rows_of(path)
+        given = answers(path, ["open", "staged"])
+        check(given[0].startswith(refusal) and given[1] == "no store", f"{name}: answered {given[0]!r}")
+        check(rows_of(path) == rows, f"{name}: the refusal changed the rows")
+        ask(path, "PRAGMA foreign_keys = OFF; " + repair)
+        if name == "100,001 staged files":
+            check(answers(path, ["open", "weigh"])[1] == "ok\t100000\t100000", f"{name}: one fewer is refused")
+        else:
+            check(shown(path) == before, f"{name}: repaired it shows {shown(path)!r}")
+        os.remove(path)
+
+
+def refuses_files_that_hold_no_store(folder):
+    path = os.path.join(folder, "empty.db")
+    check(answers(path, ["open", "staged"]) == [NOT_A_STORE + "the database holds no store of this version", "no store"], "an empty file is a store")
+    check(answers(path, ["create", "close"]) == ["ok", "ok"], "no store is made in an empty database")
+    other = os.path.join(folder, "other.db")
+    ask(other, "CREATE TABLE notes (text TEXT) STRICT; INSERT INTO notes VALUES ('mine')")
+    for word in ("open", "create"):
+        check(answers(other, [word])[0].startswith("refused\t"), f"{word} takes another program's database")
+    check(ask(other, "SELECT text FROM notes") == ["mine"] and len(ask(other, "SELECT name FROM sqlite_schema")) == 1, "another program's rows were changed")
+    text = os.path.join(folder, "text.db")
+    with open(text, "wb") as file:
+        file.write(b"no database\n" * 1000)
+    check(answers(text, ["open"])[0].startswith(SQL), "a text is opened")
+    with open(text, "rb") as file:
+        check(file.read() == b"no database\n" * 1000, "a text was changed")
+
+
+def refuses_what_is_too_large(folder):
+    path = os.path.join(folder, "store.db")
+    too_large = "refused\t6\tTooLarge\tcontents or a message of more than 16 MiB"
+    given = answers(path, ["create", "stage plain a.txt 1", "blob-of 16777217", "stage-many 1 16777217 0", "commit " + "m" * 16777217,
+                           "fix a.txt " + "1" * 16777217, "set", *SHOWN])
+    check(given[2:5] == [too_large] * 3 and given[6:7] == [too_large], f"answered {[line[:80] for line in given]!r}")
+    check(given[7:] == ["ok\tplain\ta.txt\t1", "ok", "ok", "ok"], "a refusal changed the store")
+    given = answers(path, ["open", "stage-many 1 16777216 0", "weigh", "commit " + "m" * 16777216, "close"])
+    check(given == ["ok", "ok", "ok\t2\t16777217", "ok\t1", "ok"], f"16 MiB: answered {[line[:80] for line in given]!r}")
+    check(answers(path, ["open", "weigh"]) == ["ok", "ok\t2\t16777217"], "16 MiB aren't there when it is opened again")
+
+
+def refuses_more_files_than_a_tree_may_have(folder):
+    """At each limit of a staged tree one more file is refused, and another content of a file is not."""
+    too_many = "refused\t7\tTooMany\t"
+    limits = [("2048", "printf('%04096d', n)", f"{2:04096d}", "a"), ("100000", "'d/' || n", "d/2", "d/x")]
+    for at, (count, path_of, there, new) in enumerate(limits):
+        path = os.path.join(folder, f"{at}.db")
+        answers(path, ["create", "blob 1", "close"])
+        ask(path, f"WITH RECURSIVE c(n) AS (SELECT 1 UNION ALL SELECT n + 1 FROM c WHERE n < {count}) "
+            f"INSERT INTO staged SELECT {path_of}, 0, x'{ONE}' FROM c")
+        given = answers(path, ["open", f"stage plain {there} 2", f"stage plain {new} 2", "weigh", f"unstage {there}", f"stage plain {new} 2", "close"])
+        check(given[2].startswith(too_many), f"{count} files: answered {given[2]!r}")
+        check(given[:2] + given[3:] == ["ok", "ok", f"ok\t{count}\t{count}", "ok", "ok", "ok"], f"{count} files: answered {given!r}")
+
+
+def is_left_whole_by_a_kill(folder):
+    """Killed at random moments, the store is the one after some calls, at least those that were answered."""
+    chance = random.Random(1)
+    lines = random_play(7, 600)
+    models, model = [None], Model()
+    for line in lines:
+        model.play(line)
+        models.append(model.shown())
+    for number in range(40):
+        path = os.path.join(folder, f"{number}.db")
+        child = subprocess.Popen([PROGRAM, path], stdin=subprocess.PIPE, stdout=subprocess.PIPE)
+        try:
+            child.communicate("".join(line + "\n" for line in lines).encode(), timeout=chance.uniform(0.002, 0.5))
+        except subprocess.TimeoutExpired:
+            child.send_signal(signal.SIGKILL)
+        answered = len(child.communicate()[0].splitlines())
+        opened = answers(path, ["open", *SHOWN])
+        found = opened[1:] if opened[0] == "ok" else None
+        check(found is not None or opened[0].startswith(NOT_A_STORE), f"kill {number}: {opened[0]!r}")
+        check(found in models[answered:answered + 2], f"kill {number} after {answered} answers: it shows {found!r}")
+
+
+# ---- memory that is refused
+
+REFUSED_PLAY = ["create", "stage plain a.txt 1", "fix a.txt 2", "set", "accept", "commit m\\n", "blob abc", "unstage a.txt", "close", "open",
+                *SHOWN, "tree 1"]
+
+
+def refusing_library(folder):
+    library = os.path.join(folder, "refuse.so")
+    subprocess.run(["cc", "-shared", "-fPIC", "-O1", "-o", library, os.path.join(HERE, "refuse_allocation.c"), "-ldl"], check=True)
+    return library
+
+
+def is_want(answer):
+    """The call was refused for want of memory, or because the database was."""
+    return answer.startswith(("refused\t4\tOutOfMemory\t", SQL))
+
+
+def states_after(given, status):
+    """What the store may show after a play in which one allocation was refused and these answers were given: a refused call
+    has changed nothing, and where the program itself gave up, the call may be done or not."""
+    model, is_refused = Model(), False
+    for line, answer in zip(REFUSED_PLAY, given):
+        after = copy.deepcopy(model)
+        right = after.play(line)
+        if answer != right:
+            check(not is_refused and is_want(answer), f"{line!r} is answered {answer!r}, wanted {right!r}")
+            is_refused = True
+            # A store that can't be closed is closed all the same, and fixes that can't be set wait no more.
+            model.is_open = after.is_open if line == "close" else model.is_open
+            model.waiting = after.waiting
+        else:
+            model = after
+    if len(given) == len(REFUSED_PLAY):
+        check(status == 0, f"status {status}")
+        return [model.shown()], is_refused
+    check(status == 3 and not is_refused, f"status {status} after {len(given)} answers")
+    after = copy.deepcopy(model)
+    after.play(REFUSED_PLAY[len(given)])
+    return [model.shown(), after.shown()], True
+
+
+def play_refused(folder, library, number):
+    """Plays with the allocation of this number refused. Answers whether one was, and whether that was noticed."""
+    path, mark = os.path.join(folder, f"{number}.db"), os.path.join(folder, f"{number}.mark")
+    env = dict(os.environ, LD_PRELOAD=library, REFUSE_ALLOCATION=str(number), REFUSED_FILE=mark)
+    given, status, said = run(path, REFUSED_PLAY, env)
+    states, is_noticed = states_after(given, status)
+    check(said == ("store_trial: out of memory\n" if status == 3 else ""), f"allocation {number}: it says {said!r}")
+    opened = answers(path, ["open", *SHOWN])
+    check(opened[0] == "ok" or opened[0].startswith(NOT_A_STORE), f"allocation {number}: {opened[0]!r}")
+    found = opened[1:] if opened[0] == "ok" else None
+    check(found in states, f"allocation {number}: it shows {found!r}, wanted one of {states!r}")
+    for left in (path, path + "-wal", mark):
+        is_refused = left == mark and os.path.exists(mark)
+        if os.path.exists(left):
+            os.remove(left)
+    return is_refused, is_noticed
+
+
+def refuses_for_want_of_memory(folder):
+    """Each allocation of a play of every call is refused in turn."""
+    library, noticed = refusing_library(folder), 0
+    with ThreadPoolExecutor(max_workers=len(os.sched_getaffinity(0))) as pool:
+        for start in range(1, 1000000, 64):
+            played = list(pool.map(lambda number: play_refused(folder, library, number), range(start, start + 64)))
+            noticed += sum(is_noticed for _, is_noticed in played)
+            if not played[-1][0]:
+                break
+    count = start - 1 + sum(is_refused for is_refused, _ in played)
+    check(count > 100 and noticed > 50, f"{count} allocations were refused, and {noticed} noticed")
+    print(f"memory: {count} allocations refused in turn, {noticed} times a call or the program gave up")
+
+
+# ---- a disk that stops
+
+STOPPED_PLAY = ["create", "stage plain a.txt 1", "stage executable tools/run 2", "blob 3", "fix a.txt 4", "set", "accept", "commit m\\n",
+                "unstage a.txt", "fix-gone tools/run", "set", "stage plain tools/run 5", "commit n\\n"]
+
+
+def play_stopped(which, number):
+    """Plays up to the call at which the disk stops, crashes, and opens the store again. Answers whether a call was stopped."""
+    given, status, _ = run_words([which, str(number)], STOPPED_PLAY)
+    check(status == 0 and len(given) == len(STOPPED_PLAY), f"{which} {number}: status {status} after {len(given)} answers")
+    model, count = Model(), 0
+    for line, answer in zip(STOPPED_PLAY, given):
+        after = copy.deepcopy(model)
+        if answer != after.play(line):
+            check(answer.startswith(SQL), f"{which} {number}: {line!r} is answered {answer!r}")
+            break
+        model, count = after, count + 1
+    before = model.shown()
+    model.play(STOPPED_PLAY[min(count, len(STOPPED_PLAY) - 1)])
+    played = STOPPED_PLAY[:count + 1]
+    given, status, _ = run_words([which, str(number)], [*played, *(SHOWN if before else []), "crash", "open", *SHOWN])
+    check(status == 0, f"{which} {number}: status {status}")
+    shown, opened, found = given[len(played):-6], given[-5], given[-4:]
+    check(before is None or shown == before, f"{which} {number}: a refused call left {shown!r} in place of {before!r}")
+    check(opened == "ok" or opened.startswith(NOT_A_STORE), f"{which} {number}: opened again: {opened!r}")
+    found = found if opened == "ok" else None
+    check(found == before or (count < len(STOPPED_PLAY) and found == model.shown()), f"{which} {number}: {found!r} is neither {before!r} nor {model.shown()!r}")
+    return count < len(STOPPED_PLAY)
+
+
+def is_left_before_or_after_a_call_by_a_stop(_folder):
+    """The disk stops at each operation on the log, and at each on the database file, and loses what wasn't synchronized."""
+    counts = {}
+    with ThreadPoolExecutor(max_workers=len(os.sched_getaffinity(0))) as pool:
+        for which in ("log", "database"):
+            stopped = []
+            while not stopped or stopped[-1]:
+                stopped += pool.map(lambda number: play_stopped(which, number), range(len(stopped), len(stopped) + 64))
+            counts[which] = sum(stopped)
+            check(stopped == sorted(stopped, reverse=True), f"a play that was stopped at more operations on the {which} ended")
+    check(counts["log"] > 40 and counts["database"] > 10, f"too few stops: {counts!r}")
+    print(f"stops: at {counts['log']} operations on the log and {counts['database']} on the database file")
+
+
+CASES = [plays_the_story, keeps_each_content_once, plays_as_the_model, refuses_bad_lines, refuses_a_second_store, refuses_planted_files,
+         refuses_files_that_hold_no_store, refuses_what_is_too_large,
+         refuses_more_files_than_a_tree_may_have, is_left_whole_by_a_kill, is_left_before_or_after_a_call_by_a_stop,
+         refuses_for_want_of_memory]
+
+
+def main():
+    passed, failed = 0, 0
+    for case in CASES:
+        with tempfile.TemporaryDirectory() as folder:
+            try:
+                case(folder)
+                wrong = None
+            except (Wrong, subprocess.TimeoutExpired) as error:
+                wrong = error
+        passed, failed = (passed, failed + 1) if wrong else (passed + 1, failed)
+        if wrong:
+            print(f"FAILED {case.__name__.replace('_', ' ')}: {str(wrong)[:2000]}")
+    print(f"store: {passed} passed, {failed} failed")
+    sys.exit(1 if failed or not passed else 0)
+
+
+main()
