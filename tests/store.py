@@ -435,8 +435,9 @@ def refuses_what_is_too_large(folder):
                            "fix a.txt " + "1" * 16777217, "set", *SHOWN])
     check(given[2:5] == [too_large] * 3 and given[6:7] == [too_large], f"answered {[line[:80] for line in given]!r}")
     check(given[7:] == ["ok\tplain\ta.txt\t1", "ok", "ok", "ok"], "a refusal changed the store")
-    given = answers(path, ["open", "stage-many 1 16777216 0", "weigh", "commit " + "m" * 16777216, "close"])
-    check(given == ["ok", "ok", "ok\t2\t16777217", "ok\t1", "ok"], f"16 MiB: answered {[line[:80] for line in given]!r}")
+    given = answers(path, ["open", "blob-of 16777216", "stage-many 1 16777216 0", "weigh", "commit " + "m" * 16777216, "close"])
+    digest = hashlib.sha256(b"0 0 ".ljust(16777216, b".")).hexdigest()
+    check(given == ["ok", f"ok\t{digest}", "ok", "ok\t2\t16777217", "ok\t1", "ok"], f"16 MiB: answered {[line[:80] for line in given]!r}")
     check(answers(path, ["open", "weigh"]) == ["ok", "ok\t2\t16777217"], "16 MiB aren't there when it is opened again")
 
 
