@@ -286,8 +286,11 @@ def rows_of_model(store):
 
 def check_file(path, store):
     """The file is a sound database of the documented tables, and has the rows of the store."""
-    schema = ask(path, "SELECT sql FROM sqlite_schema WHERE type = 'table' ORDER BY name")
+    schema = ask(path, "SELECT sql FROM sqlite_schema WHERE sql IS NOT NULL ORDER BY name")
     check(schema == SCHEMA, f"the schema is {schema!r}")
+    if SQLITE:
+        printed = sorted(ask(path, ".schema"))
+        check(printed == [line + ";" for line in SCHEMA], f"sqlite3 prints the schema {printed!r}")
     check(ask(path, "PRAGMA integrity_check") == ["ok"], "integrity_check finds faults")
     check(ask(path, "PRAGMA foreign_key_check") == [], "foreign_key_check finds faults")
     found, wanted = rows_of(path), rows_of_model(store)
@@ -375,6 +378,8 @@ PLANTS = [
     ("a gone fix with contents", "UPDATE fixes SET gone = 1", DAMAGED, "UPDATE fixes SET gone = 0"),
     ("a fix with no contents", "INSERT INTO fixes VALUES ('b.txt', 0, NULL)", DAMAGED, "DELETE FROM fixes WHERE path = 'b.txt'"),
     ("a fix of a file that isn't staged", "INSERT INTO fixes VALUES ('c.txt', 1, NULL)", DAMAGED, "DELETE FROM fixes WHERE path = 'c.txt'"),
+    ("commits 1 and 3", "UPDATE commits SET n = 3 WHERE n = 2; UPDATE entries SET n = 3 WHERE n = 2", DAMAGED,
+     "UPDATE commits SET n = 2 WHERE n = 3; UPDATE entries SET n = 2 WHERE n = 3"),
     ("commits 1, 2 and 4", "INSERT INTO commits VALUES (4, x'6d')", DAMAGED, "DELETE FROM commits WHERE n = 4"),
     ("a commit 0", "INSERT INTO commits VALUES (0, x'6d')", DAMAGED, "DELETE FROM commits WHERE n = 0"),
     ("a remembered answer", f"INSERT INTO answers VALUES (x'{ONE}', x'{ONE}', x'{TWO}', x'{TWO}', 0)", DAMAGED, "DELETE FROM answers"),
@@ -411,14 +416,38 @@ def refuses_planted_files(folder):
         os.remove(path)
 
 
+# What is done to the tables of the file of FILLING, so that it holds no store.
+OTHER_TABLES = [
+    ("no version that can be read", "DROP TABLE meta"),
+    ("a table more", "CREATE TABLE notes (text TEXT) STRICT"),
+    ("an index more", "CREATE INDEX modes ON staged (mode)"),
+    ("a table less", "DROP TABLE answers"),
+    ("another table of that name", "DROP TABLE answers; CREATE TABLE answers (words BLOB NOT NULL) STRICT"),
+]
+ALL_OF_IT = "SELECT type, name, sql FROM sqlite_schema ORDER BY name; SELECT path, mode, hex(digest) FROM staged; SELECT n, path, hex(digest) FROM entries"
+
+
+def refuses_files_with_other_tables(folder):
+    whole = os.path.join(folder, "whole.db")
+    answers(whole, FILLING)
+    for at, (name, text) in enumerate(OTHER_TABLES):
+        path = os.path.join(folder, f"{at}.db")
+        shutil.copyfile(whole, path)
+        ask(path, "PRAGMA foreign_keys = OFF; " + text)
+        before = ask(path, ALL_OF_IT)
+        for word, refusal in (("open", NOT_A_STORE), ("create", SQL)):
+            check(answers(path, [word])[0].startswith(refusal), f"{name}: {word} is answered {answers(path, [word])!r}")
+        check(ask(path, ALL_OF_IT) == before, f"{name}: the refusal changed the file")
+
+
 def refuses_files_that_hold_no_store(folder):
     path = os.path.join(folder, "empty.db")
     check(answers(path, ["open", "staged"]) == [NOT_A_STORE + "the database holds no store of this version", "no store"], "an empty file is a store")
     check(answers(path, ["create", "close"]) == ["ok", "ok"], "no store is made in an empty database")
     other = os.path.join(folder, "other.db")
     ask(other, "CREATE TABLE notes (text TEXT) STRICT; INSERT INTO notes VALUES ('mine')")
-    for word in ("open", "create"):
-        check(answers(other, [word])[0].startswith("refused\t"), f"{word} takes another program's database")
+    for word, refusal in (("open", NOT_A_STORE), ("create", SQL)):
+        check(answers(other, [word])[0].startswith(refusal), f"{word} takes another program's database")
     check(ask(other, "SELECT text FROM notes") == ["mine"] and len(ask(other, "SELECT name FROM sqlite_schema")) == 1, "another program's rows were changed")
     text = os.path.join(folder, "text.db")
     with open(text, "wb") as file:
@@ -558,10 +587,10 @@ STOPPED_PLAY = ["create", "stage plain a.txt 1", "stage executable tools/run 2",
 
 def play_stopped(which, number):
     """Plays up to the call at which the disk stops, crashes, and opens the store again. Answers whether a call was stopped."""
-    given, status, _ = run_words([which, str(number)], STOPPED_PLAY)
-    check(status == 0 and len(given) == len(STOPPED_PLAY), f"{which} {number}: status {status} after {len(given)} answers")
+    first, status, _ = run_words([which, str(number)], STOPPED_PLAY)
+    check(status == 0 and len(first) == len(STOPPED_PLAY), f"{which} {number}: status {status} after {len(first)} answers")
     model, count = Model(), 0
-    for line, answer in zip(STOPPED_PLAY, given):
+    for line, answer in zip(STOPPED_PLAY, first):
         after = copy.deepcopy(model)
         if answer != after.play(line):
             check(answer.startswith(SQL), f"{which} {number}: {line!r} is answered {answer!r}")
@@ -571,8 +600,9 @@ def play_stopped(which, number):
     model.play(STOPPED_PLAY[min(count, len(STOPPED_PLAY) - 1)])
     played = STOPPED_PLAY[:count + 1]
     given, status, _ = run_words([which, str(number)], [*played, *(SHOWN if before else []), "crash", "open", *SHOWN])
-    check(status == 0, f"{which} {number}: status {status}")
-    shown, opened, found = given[len(played):-6], given[-5], given[-4:]
+    check(status == 0 and given[:len(played)] == first[:len(played)], f"{which} {number}: played again it answers {given!r}, status {status}")
+    shown, crashed, opened, found = given[len(played):-6], given[-6], given[-5], given[-4:]
+    check(crashed == "ok", f"{which} {number}: the crash is answered {crashed!r}")
     check(before is None or shown == before, f"{which} {number}: a refused call left {shown!r} in place of {before!r}")
     check(opened == "ok" or opened.startswith(NOT_A_STORE), f"{which} {number}: opened again: {opened!r}")
     found = found if opened == "ok" else None
@@ -595,7 +625,7 @@ def is_left_before_or_after_a_call_by_a_stop(_folder):
 
 
 CASES = [plays_the_story, keeps_each_content_once, plays_as_the_model, refuses_bad_lines, refuses_a_second_store, refuses_planted_files,
-         refuses_files_that_hold_no_store, refuses_what_is_too_large,
+         refuses_files_that_hold_no_store, refuses_files_with_other_tables, refuses_what_is_too_large,
          refuses_more_files_than_a_tree_may_have, is_left_whole_by_a_kill, is_left_before_or_after_a_call_by_a_stop,
          refuses_for_want_of_memory]
 

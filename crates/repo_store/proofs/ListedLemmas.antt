@@ -1,5 +1,5 @@
 -- From the rows that were read to the lists, or to the refusal.
-use Rattle.std.proofs.Common.{◌≡◌, List, [], ◌∷◌, length, Result, Ok, Err, IfOk, IfErr, OnOk, MatchResult, IsTrue, false, true, IsPermutation, refl, sym, ap, subst, ◌∙◌, arith}
+use Rattle.std.proofs.Common.{◌≡◌, List, [], ◌∷◌, length, Result, Ok, Err, IfOk, IfErr, OnOk, MatchResult, IsTrue, false, true, IsPermutation, refl, sym, ap, subst, ◌∙◌, inl, inr, arith}
 use Rattle.std.specs.List.{AllByRecursion}
 use Rattle.std.proofs.lemmas.List.Elements.{recursion_from_All, All-from_recursion}
 use Rattle.std.proofs.lemmas.List.Sorted.{length_permutation, All-permutation}
@@ -26,8 +26,8 @@ use Rattle.repo_store.specs.Opens.{AreListed, AreLoaded, AreRead, IsFoundIn, IsU
 use Rattle.repo_store.specs.Rows.{tables_of, version_row}
 use Rattle.repo_store.specs.Whole.{IsWhole}
 use Rattle.repo_store.proofs.ReadingLemmas.{unchanged_kept}
-use Rattle.repo_store.specs.Shown.{Stands}
-use Rattle.repo_store.proofs.CallLemmas.{clean_if_open}
+use Rattle.repo_store.specs.Shown.{Stands, Leaves}
+use Rattle.repo_store.proofs.CallLemmas.{clean_if_open, leaves_commit}
 use Rattle.repo_store.proofs.StandLemmas.{ShutIfDirty}
 use Rattle.repo_store.proofs.SameLemmas.{holds_same}
 use Rattle.repo_store.proofs.WholeLemmas.{same_meta, holds_one, whole_same}
@@ -62,12 +62,13 @@ abbrev pub MetaShown : {X : Type 0} → (X → List MetaRow) → X → Trees →
 MetaShown listed rows trees = Stored meta_cells (1 ∷ 2 ∷ []) (listed rows) (trees 0)
 
 pub meta_fails : {S X : Type 0} (g : Ghosts S) (a b : Held S) (e : Error) (Rows : X → Trees → Type 0) (fault : StoreFault) → IsRead {A = X} g a b (Err e) Rows → IsRefusal ⊥ ⊥ ⊥ fault → AreListed g a b (Err fault)
-meta_fails g a b e Rows fault one why = record { found = λ clean ours live. refused_unfit (state g a).now fault why; kept = λ clean ours inside. one.kept clean inside; survives = one.survives }
+meta_fails g a b e Rows fault one why = record { found = λ clean ours live. refused_unfit (state g a).now fault why; was_open = λ clean ours. tt; kept = λ clean ours inside. one.kept clean inside; survives = one.survives }
 
 module _ {S X : Type 0} (g : Ghosts S) (a b : Held S) (meta : X) (listed : X → List MetaRow) (one : IsRead g a b (Ok meta) (MetaShown listed)) where
   pub unversioned : (listed meta ≡ version_row ∷ [] → ⊥) → AreListed g a b (Err NotAStore)
   unversioned other = record {
     found = λ clean ours live t holds versioned. other (only_one t.meta (listed meta) version_row (same_meta t.meta (listed meta) ((state g a).now.trees 0) holds.meta (one.rows clean ours).1) versioned);
+    was_open = λ clean ours. tt;
     kept = λ clean ours inside. one.kept clean inside;
     survives = one.survives;
   }
@@ -89,11 +90,11 @@ module _ {S X : Type 0} (g : Ghosts S) (a b : Held S) (meta : X) (listed : X →
     along = survives_then (state g a) (state g b) (state g c) _ _ (λ _. ⊥) (λ _ db none. none) (λ _ db none. none) one.survives more
 
   pub rows_fail : {A : Type 0} (c : Held S) (e : Error) (Rows : A → Trees → Type 0) (fault : StoreFault) → AreRead {A = A} g b c (Err e) Rows → IsRefusal ⊥ ⊥ ⊥ fault → AreListed g a c (Err fault)
-  rows_fail c e Rows fault two why = record { found = λ clean ours live. refused_unfit (state g a).now fault why; kept = all_kept c two.survives two.kept; survives = along c two.survives }
+  rows_fail c e Rows fault two why = record { found = λ clean ours live. refused_unfit (state g a).now fault why; was_open = λ clean ours. tt; kept = all_kept c two.survives two.kept; survives = along c two.survives }
 
   pub listed_all : (c : Held S) (rows : StoreRows) (r : Result Mirror StoreFault) → listed meta ≡ version_row ∷ [] → AreRead g b c (Ok rows) AreShown
       → IfOk r (λ lists. IsSame (rows_in rows) (tables_of lists.kept.repo lists.kept.contents)) → IfErr r (IsDamage (¬ IsWhole (rows_in rows))) → AreListed g a c r
-  listed_all c rows r versioned two same broken = record { found = λ clean ours live. decide r (holds clean ours live) same broken; kept = all_kept c two.survives two.kept; survives = along c two.survives }
+  listed_all c rows r versioned two same broken = record { found = λ clean ours live. decide r (holds clean ours live) same broken; was_open = λ clean ours. open_at r (one.rows (clean_before c two.survives clean) ours).0.0.was_open; kept = all_kept c two.survives two.kept; survives = along c two.survives }
     where
       holds : HasCleanDisk (state g c) → (state g a).now.schema ≡ store_schema → (IsTrue (state g a).is_open → IsDatabase (state g a).now) → Holds (state g a).now (rows_in rows)
       holds clean ours live =
@@ -115,6 +116,10 @@ module _ {S X : Type 0} (g : Ghosts S) (a b : Held S) (meta : X) (listed : X →
             answers_numbered = shown.answers_numbered;
           }
 
+      open_at : (r : Result Mirror StoreFault) → IsTrue (state g a).is_open → OnOk r (IsTrue (state g a).is_open)
+      open_at (Ok lists) was = was
+      open_at (Err fault) was = tt
+
       decide : (r : Result Mirror StoreFault) → Holds (state g a).now (rows_in rows) → IfOk r (λ lists. IsSame (rows_in rows) (tables_of lists.kept.repo lists.kept.contents)) → IfErr r (IsDamage (¬ IsWhole (rows_in rows)))
           → MatchResult r (IsFoundIn (state g a).now) (IsUnfit (state g a).now)
       decide (Ok lists) hold same broken = holds_same (state g a).now (rows_in rows) (tables_of lists.kept.repo lists.kept.contents) same hold
@@ -132,6 +137,7 @@ pub loaded : {S : Type 0} (g : Ghosts S) (old mid end new : Held S) (r : Result 
 loaded {S} g old mid end new r begun listed outside undone survives = record {
   outside = outside;
   found = λ clean ours live. it.found (clean_end clean) ours live;
+  was_open = λ clean ours. it.was_open (clean_end clean) ours;
   rests = λ clean ours.
       let back = undone clean in
       let kept = it.kept (clean_end clean) ours refl in
@@ -166,6 +172,15 @@ module _ {S : Type 0} (g : Ghosts S) (old new : Held S) (lists : Mirror) (ours :
     now = λ h. let rest = load.rests (clean_new h) ours in subst (λ (db : Database). Holds db (tables_of lists.kept.repo lists.kept.contents)) (sym (rest.now h)) (opened_holds h);
     committed = λ h. let rest = load.rests (clean_new h) ours in subst (λ (db : Database). Holds db (tables_of lists.kept.repo lists.kept.contents)) (sym (rest.committed h)) (opened_holds h);
   }
+
+  -- what a crash may leave was there before, and is what was committed
+  pub opened_durable : ((trees : Trees) → IsTrue (state g old).is_open → (state g old).may_leave trees → trees ≡ (state g old).committed.trees)
+      → HasCleanDisk (state g new) → (trees : Trees) → (state g new).may_leave trees → Leaves lists.kept trees
+  opened_durable law clean trees left =
+      let was : IsTrue (state g old).is_open = load.was_open clean ours in
+      let holds : Holds (state g old).committed (tables_of lists.kept.repo lists.kept.contents) = subst (λ (db : Database). Holds db (tables_of lists.kept.repo lists.kept.contents)) (settled was) (load.found clean ours live) in
+      leaves_commit (state g old).committed trees (tables_of lists.kept.repo lists.kept.contents) holds
+      (law trees was (elim (load.survives.crash clean trees left) [ inl before ↦ before | inr none ↦ absurd none ]))
 
 -- a read that left the connection open left the last commit
 pub rests_if_open : {S : Type 0} (g : Ghosts S) (old new : Held S) (r : Result Mirror StoreFault) → (state g old).now.schema ≡ store_schema → AreLoaded g old new r → ShutIfDirty (state g new) → Rests (state g old) (state g new)

@@ -1,5 +1,5 @@
 -- What opening a store finds in a database, and why it refuses.
-use Rattle.std.specs.Prelude.{◌≡◌, false, Result, MatchResult, IfOk, IsTrue}
+use Rattle.std.specs.Prelude.{◌≡◌, false, Result, MatchResult, IfOk, OnOk, IsTrue}
 use Rattle.sqlite_trees.specs.declared.store.Store.{Ghosts}
 use Rattle.sqlite_trees.specs.Tree.{Trees}
 use Rattle.sqlite.specs.declared.error.Error.{Error}
@@ -41,6 +41,7 @@ pub record AreRead {S A : Type 0} (g : Ghosts S) (old new : Held S) (result : Re
 pub record AreListed {S : Type 0} (g : Ghosts S) (old new : Held S) (result : Result Mirror StoreFault) : Type 0 where
   pub found : HasCleanDisk (state g new) → (state g old).now.schema ≡ store_schema → (IsTrue (state g old).is_open → IsDatabase (state g old).now)
       → MatchResult result (IsFoundIn (state g old).now) (IsUnfit (state g old).now)
+  pub was_open : HasCleanDisk (state g new) → (state g old).now.schema ≡ store_schema → OnOk result (IsTrue (state g old).is_open)
   pub kept : HasCleanDisk (state g new) → (state g old).now.schema ≡ store_schema → IsTrue (state g old).in_transaction → KeepsCommit (state g old) (state g new)
   pub survives : Survives (state g old) (state g new) (λ _. ⊥)
 
@@ -49,5 +50,6 @@ pub record AreLoaded {S : Type 0} (g : Ghosts S) (old new : Held S) (result : Re
   pub outside : new.in_transaction ≡ false
   pub found : HasCleanDisk (state g new) → (state g old).now.schema ≡ store_schema → (IsTrue (state g old).is_open → IsDatabase (state g old).now)
       → MatchResult result (IsFoundIn (state g old).now) (IsUnfit (state g old).now)
+  pub was_open : HasCleanDisk (state g new) → (state g old).now.schema ≡ store_schema → OnOk result (IsTrue (state g old).is_open)
   pub rests : HasCleanDisk (state g new) → (state g old).now.schema ≡ store_schema → Rests (state g old) (state g new)
   pub survives : Survives (state g old) (state g new) (λ _. ⊥)

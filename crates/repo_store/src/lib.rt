@@ -2,8 +2,8 @@
 //! types are `Store`, `StoreFault`, `Digest` (of contents) and `LogEntry` (a commit in the log). Contracts cite
 //! `specs/Repository` and `specs/Log` (the repository as plain lists), `specs/Kept` and `specs/Contents` (what each call
 //! makes of it and of the contents, and which collide), `specs/Limits`, `specs/Faults` (when each refusal may come),
-//! `specs/Rows` (the tables of a repository), `specs/Calls` and `specs/Shown` (what is seen of a store, and what a refusal
-//! or a crash leaves).
+//! `specs/Rows` (the tables of a repository), `specs/Whole` (the rules of their rows), `specs/Calls` and `specs/Shown` (what
+//! is seen of a store, and what a refusal or a crash leaves), and `specs/Opens` (why a database isn't opened).
 #![tactic(auto)]
 
 mod accept;

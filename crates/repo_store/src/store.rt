@@ -102,6 +102,7 @@ impl<S: Alter> Store<S> {
         ensures why { IfErr result (λ e. HasCleanDisk (state S.Store e.1) → IsUnfit (state S.Store conn).now e.0) }
         ensures crash_opened { IfOk result (λ store. Survives (state S.Store conn) (state S.Store store.conn) (λ _. ⊥)) }
         ensures crash_refused { IfErr result (λ e. Survives (state S.Store conn) (state S.Store e.1) (λ _. ⊥)) }
+        ensures durable { IfOk result (λ store. HasCleanDisk (state S.Store store.conn) → (trees : Trees) → (state S.Store store.conn).may_leave trees → Leaves store.kept trees) }
     {
         let mut conn = conn;
         if !has_tables(&conn) {

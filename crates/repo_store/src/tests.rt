@@ -3,5 +3,6 @@ mod fixes;
 mod kept;
 mod planted;
 mod plants;
+mod rows;
 mod steps;
 mod story;

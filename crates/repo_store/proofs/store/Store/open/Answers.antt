@@ -1,5 +1,5 @@
 use Rattle.std.proofs.Common.{refl}
-use Rattle.repo_store.proofs.ListedLemmas.{opened_holds, opened_stands, rests_if_open}
+use Rattle.repo_store.proofs.ListedLemmas.{opened_durable, opened_holds, opened_stands, rests_if_open}
 use Rattle.repo_store.proofs.store.Store.open.Goals as goal
 
 pub invariant_of-result : goal.invariant_of-result
@@ -16,3 +16,6 @@ returns-in-Ok-clause-same g c = rests_if_open g.S.Store c.args.conn c.load.new.c
 
 pub returns-in-Err-clause-refused : goal.returns-in-Err-clause-refused
 returns-in-Err-clause-refused g c = rests_if_open g.S.Store c.args.conn c.load.new.conn _ (c.if-not-has_tables.ensures.ours.0 refl) c.in-Err.ensures.loaded (g.met.S.Store.shut_if_dirty c.load.new.conn.store)
+
+pub returns-in-Ok-clause-durable : goal.returns-in-Ok-clause-durable
+returns-in-Ok-clause-durable g c = opened_durable g.S.Store c.args.conn c.load.new.conn c.in-Ok.lists (c.if-not-has_tables.ensures.ours.0 refl) c.if-not-has_tables.ensures.live c.if-not-has_tables.ensures.settled c.in-Ok.ensures.loaded (g.met.S.Store.shut_if_dirty c.load.new.conn.store) (g.met.S.Store.settled c.args.conn.store)
