@@ -96,7 +96,9 @@ def staging_rows(count, seed):
 
 
 def copy(path, to):
-    """A copy of a closed store."""
+    """A copy of a closed store, without what an earlier one of that name left in its log."""
+    if os.path.exists(to + "-wal"):
+        os.remove(to + "-wal")
     shutil.copyfile(path, to)
     return to
 
