@@ -1,11 +1,10 @@
-#!/usr/bin/env python3
 """Compares the table of YAML texts with PyYAML, a reader of YAML 1.1 that shares nothing with this one.
 
 Usage: tests/compare_yaml.py
 
 The rows are those of cases.rt and refused_cases.rt in crates/yaml_profile/src/text, which the tests of that crate hold
 the reader to. Where PyYAML takes a text, the values must agree. Each text that only one of the two takes is printed
-with its reason; one without a known reason is a failure.
+with its reason. A reason has a test of the text: a text for which no test holds is a failure.
 """
 import ast
 import re
@@ -13,22 +12,84 @@ import sys
 
 from yaml_texts import literal, read_rows, refused_rows
 
+try:
+    import yaml
+except ImportError:
+    print("yaml: PyYAML isn't installed (Debian's python3-yaml), so nothing was compared")
+    sys.exit(0)
+
+
+def holds(pattern):
+    """The test whether a text has a part of this pattern."""
+    return lambda text: re.search(pattern, text)
+
+
+def has_doubled_key(text):
+    """Whether a table of the text has a key twice, as PyYAML's nodes show it."""
+    nodes = [yaml.compose(text, Loader=yaml.BaseLoader)]
+    for node in nodes:
+        if isinstance(node, yaml.MappingNode):
+            keys = [key.value for key, _ in node.value]
+            if len(set(keys)) < len(keys):
+                return True
+            nodes += [value for _, value in node.value]
+        elif isinstance(node, yaml.SequenceNode):
+            nodes += node.value
+    return False
+
+
+def has_shallow_flow(text):
+    """Whether a line of a flow stands too far left for the line that the flow begins on, taken behind its dashes. A line
+    that begins with a closing bracket may stand one column further left, and a flow that is the whole text anywhere."""
+    found = re.search(r"(?ms)^([ -]*)[^\n\[{]*([\[{].*[\]}])", text)
+    if not found or not text[:found.start(2)].strip():
+        return False
+    lines = [line for line in found[2].split("\n")[1:] if line.strip()]
+    return any(len(re.match(r" *[\]}]?", line)[0]) <= len(found[1]) for line in lines)
+
+
 # Why PyYAML refuses a text that is read here.
-TABS = "a tab separates tokens in YAML 1.2.2, 6.2; PyYAML takes spaces only"
 REFUSED_THERE = [
-    (lambda text: "\x7f" in text, "byte 127 is an ordinary character here, as in YAML 1.2.2, 5.1, nb-json"),
-    (lambda text: re.search(r"[{,]\s*[^\s:]+\s*\n\s*:", text), "a flow key's colon may stand on the next line in YAML 1.2.2, 7.4.2"),
-    (lambda text: re.search(r", :\w", text), "a plain text in a flow may begin with `:` before a letter in YAML 1.2.2, 7.3.3"),
-    (lambda text: "\t" in text, TABS),
+    (holds(r"\x7f"), "byte 127 is an ordinary character here, as in YAML 1.2.2, 5.1, nb-json"),
+    (holds(r"[{,]\s*[^\s:]+\s*\n\s*:"), "a flow key's colon may stand on the next line in YAML 1.2.2, 7.4.2"),
+    (holds(r", :\w"), "a plain text in a flow may begin with `:` before a letter in YAML 1.2.2, 7.3.3"),
+    (holds(r"\t"), "a tab separates tokens in YAML 1.2.2, 6.2; PyYAML takes spaces only"),
 ]
 
-# Why PyYAML takes a text that is refused here.
+# Why PyYAML takes a text that is refused here, for each kind of refusal.
 REFUSED_HERE = {
-    "DoubledKey": "a key stands in its table once (YAML 1.2.2, 3.2.1.3); PyYAML keeps the last",
-    "Quote": "a quoted text ends on its line, and a surrogate is no character",
-    "Unsupported": "directives, anchors, tags, complex keys, single pairs, digits of block texts and further escapes are left out",
-    "Layout": "texts over lines, empty places of flows, and lines of a flow that are indented too little are left out",
+    "DoubledKey": [
+        (has_doubled_key, "a key stands in its table once (YAML 1.2.2, 3.2.1.3); PyYAML keeps the last"),
+    ],
+    "Quote": [
+        (holds(r"(['\"])[^'\"\n]*\n[^'\"\n]*\1"), "a quoted text ends on its line"),
+        (holds(r"(?i)\\ud[89a-f]"), "a surrogate is no character"),
+    ],
+    "Unsupported": [
+        (holds(r"\r(?!\n)"), "a carriage return without a line feed is left out"),
+        (holds(r"(?m)^(%|\.\.\.$|--- \w)"), "directives, end marks and a text behind `---` are left out"),
+        (holds(r"(?m)(^|[ \[])[&!]"), "anchors and tags are left out"),
+        (holds(r"(?m)(^|[ \[])\? "), "complex keys are left out"),
+        (holds(r"\\[^\\\"/ntr0xu]"), "further escapes are left out"),
+        (holds(r"\[[^{}\]]*:"), "pairs within a flow list are left out"),
+        (holds(r"\{[^:}]+[,}]"), "keys without a value in a flow are left out"),
+        (holds(r"[|>]-?\d"), "digits of a block text's mark are left out"),
+        (holds(r"^[|>]"), "a block text as the whole text is left out"),
+    ],
+    "Layout": [
+        (holds(r"^\?\n"), "a `?` alone is the key of nothing; PyYAML takes it for an empty key"),
+        (holds(r"[\"'\]},]#"), "a comment begins after a blank (YAML 1.2.2, 6.6)"),
+        (holds(r"(?m)^ +[|>]$"), "a block text begins behind its key or its dash"),
+        (holds(r"\w\n *\w"), "a plain text stands on one line"),
+        (holds(r": *[,}]"), "an empty place in a flow is left out"),
+        (has_shallow_flow, "a line of a flow stands deeper than the line that the flow belongs to"),
+    ],
 }
+
+
+def reason_of(text, reasons):
+    """The first reason whose test holds for the text, or None."""
+    return next((reason for test, reason in reasons if test(text)), None)
 
 
 def value_of(node):
@@ -41,11 +102,6 @@ def value_of(node):
 
 
 def main():
-    try:
-        import yaml
-    except ImportError:
-        print("yaml: PyYAML isn't installed (Debian's python3-yaml), so nothing was compared")
-        return
     read, refused = read_rows(), refused_rows()
     wrong, agreed, only_here, only_there = [], 0, 0, 0
     for text, shown in read:
@@ -53,7 +109,7 @@ def main():
         try:
             theirs = yaml.load(text, Loader=yaml.BaseLoader)
         except yaml.YAMLError:
-            reason = next((reason for test, reason in REFUSED_THERE if test(text)), None)
+            reason = reason_of(text, REFUSED_THERE)
             print(f"only here:  {text!r}: {reason}")
             only_here += 1
             if reason is None:
@@ -70,8 +126,11 @@ def main():
         except (yaml.YAMLError, ValueError):
             agreed += 1
             continue
-        print(f"only there: {text!r}: {kind} here: {REFUSED_HERE[kind]}")
+        reason = reason_of(text, REFUSED_HERE[kind])
+        print(f"only there: {text!r}: {kind} here: {reason}")
         only_there += 1
+        if reason is None:
+            wrong.append(text)
     print(f"yaml: {agreed} of {len(read) + len(refused)} texts agree, {only_here} are read only here, {only_there} only by PyYAML, {len(wrong)} differ without a reason")
     sys.exit(1 if wrong or not agreed else 0)
 

@@ -6,22 +6,28 @@ Usage: tests/sessions.py [PROGRAM]   (default: crates/hookhost/out/hookhost)
 A session file holds cases. `== NAME` begins a case, in an empty folder. Within it:
   -- file PATH      the lines that follow are the file's content
   -- bytes PATH     the same, with Python's escapes, for bytes that no text file keeps; line ends are as written
+  -- fill PATH N    `#` after `#` is put at the file's end, until it has N bytes
   -- folder PATH    an empty folder
+  -- demo           the files of demo/
   -- stdin          the lines that follow are the next command's standard input
+  -- stdin PATH     the file's content is
   -- run WORD ..    runs `hookhost WORD ..`, the words cut as a shell cuts them
   -- stdout, -- stderr   what that command printed there, to the byte (nothing where left out)
+  -- shown in PATH  what it printed on standard output stands in that file of the repository, to the byte
   -- stderr contains TEXT   a part of what it printed there
   -- status N       its exit status (0 where left out)
   -- output FILE    its standard output goes to this file, as /dev/full, and isn't compared
 """
 import os
 import shlex
+import shutil
 import subprocess
 import sys
 import tempfile
 
 HERE = os.path.dirname(os.path.abspath(__file__))
-PROGRAM = os.path.abspath(sys.argv[1] if len(sys.argv) > 1 else os.path.join(HERE, "..", "crates/hookhost/out/hookhost"))
+TOP = os.path.dirname(HERE)
+PROGRAM = os.path.abspath(sys.argv[1] if len(sys.argv) > 1 else os.path.join(TOP, "crates/hookhost/out/hookhost"))
 
 
 def cases_of(path):
@@ -46,13 +52,13 @@ def commands_of(steps):
     stdin, command = b"", None
     for head, body in steps:
         word, _, rest = head.partition(" ")
-        if word in ("file", "bytes", "folder"):
+        if word in ("file", "bytes", "fill", "folder", "demo"):
             yield word, rest, body
         elif word == "stdin":
-            stdin = body.encode()
+            stdin = rest or body.encode()
         elif word == "run":
             command = {"words": shlex.split(rest), "stdin": stdin, "stdout": b"", "stderr": b"", "part": None, "status": 0,
-                       "output": None}
+                       "output": None, "shown": None}
             stdin = b""
             yield "run", command, None
         elif word == "stdout":
@@ -63,38 +69,58 @@ def commands_of(steps):
             command["stderr"] = body.encode()
         elif word == "output":
             command["output"] = rest
+        elif word == "shown":
+            command["shown"] = rest[len("in "):]
         elif word == "status":
             command["status"] = int(rest)
         else:
             sys.exit(f"unknown step: {head}")
 
 
+def content(path):
+    with open(path, "rb") as file:
+        return file.read()
+
+
 def run(command):
     """What is wrong with the command's answer, or None."""
+    stdin = command["stdin"] if isinstance(command["stdin"], bytes) else content(command["stdin"])
     stdout = open(command["output"], "wb") if command["output"] else subprocess.PIPE
-    done = subprocess.run([PROGRAM, *command["words"]], input=command["stdin"], stdout=stdout, stderr=subprocess.PIPE, timeout=60)
+    done = subprocess.run([PROGRAM, *command["words"]], input=stdin, stdout=stdout, stderr=subprocess.PIPE, timeout=60)
     if done.returncode != command["status"]:
         return f"status {done.returncode}, wanted {command['status']}; printed {(done.stdout or b'')[:300]!r} {done.stderr[:300]!r}"
     if done.stdout is not None and done.stdout != command["stdout"]:
         return f"printed {done.stdout[:600]!r}, wanted {command['stdout'][:600]!r}"
+    if command["shown"] and done.stdout not in content(os.path.join(TOP, command["shown"])):
+        return f"what it printed isn't in {command['shown']}"
     if command["part"] is not None:
         return None if command["part"] in done.stderr else f"{command['part']!r} isn't in {done.stderr[:600]!r}"
     return None if done.stderr == command["stderr"] else f"standard error {done.stderr[:600]!r}, wanted {command['stderr'][:600]!r}"
 
 
+def lay(kind, what, body):
+    """Lays the files of a step."""
+    if kind == "folder":
+        os.makedirs(what)
+    elif kind == "demo":
+        shutil.copytree(os.path.join(TOP, "demo"), ".", dirs_exist_ok=True)
+    elif kind == "fill":
+        path, size = what.rsplit(" ", 1)
+        with open(path, "ab") as file:
+            file.write(b"#" * (int(size) - file.tell()))
+    else:
+        if os.path.dirname(what):
+            os.makedirs(os.path.dirname(what), exist_ok=True)
+        with open(what, "wb") as file:
+            file.write(body.encode() if kind == "file" else body.replace("\n", "").encode().decode("unicode_escape").encode("latin-1"))
+
+
 def play(steps):
     for kind, what, body in list(commands_of(steps)):
-        if kind == "run":
-            wrong = run(what)
-            if wrong:
-                return f"hookhost {' '.join(what['words'])}: {wrong}"
-        elif kind == "folder":
-            os.makedirs(what)
-        else:
-            if os.path.dirname(what):
-                os.makedirs(os.path.dirname(what), exist_ok=True)
-            with open(what, "wb") as file:
-                file.write(body.encode() if kind == "file" else body.replace("\n", "").encode().decode("unicode_escape").encode("latin-1"))
+        if kind != "run":
+            lay(kind, what, body)
+        elif wrong := run(what):
+            return f"hookhost {' '.join(what['words'])}: {wrong}"
     return None
 
 

@@ -16,12 +16,15 @@ pub struct Config {
 /// One hook of a configuration.
 #[derive(Debug, Drop)]
 pub struct Hook {
+    /// The name by which the hook is asked for.
     pub id: ConfigText,
     /// What a report calls the hook.
     pub name: ConfigText,
     /// A second name to ask for the hook by. The empty text names nothing.
     pub alias: ConfigText,
+    /// How the hook's entry is run.
     pub language: Language,
+    /// What the hook says where it fails.
     pub entry: ConfigText,
     /// The words that follow those of the entry.
     pub args: Items<ConfigText>,

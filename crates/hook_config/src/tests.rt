@@ -239,6 +239,10 @@ const TEXTS: &[(&str, &str)] = &[
         "6 RemoteRepo at 0",
     ),
     (
+        "repos:\n- repo: meta\n  hooks:\n  - id: names\n    name: Check names\n    language: fail\n    entry: no such names\n",
+        "6 RemoteRepo at 0",
+    ),
+    (
         "repos:\n- repo: https://example.com/a\n  rev: v1\n  hooks:\n  - id: a\n",
         "6 RemoteRepo at 0",
     ),

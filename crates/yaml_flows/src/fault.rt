@@ -17,6 +17,7 @@ pub enum FaultPlace {
 #[derive(Clone, Copy, Debug, PartialEq, Eq, Error)]
 #[error("{kind}")]
 pub struct FlowFault {
+    /// Why it can't be read.
     pub kind: YamlKind,
     /// It says nothing where memory was refused.
     pub place: FaultPlace,

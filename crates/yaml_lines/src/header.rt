@@ -12,6 +12,8 @@ pub enum Chomping {
 /// The header of a block text: `|` or, where its lines are folded, `>`, and its mark.
 #[derive(Clone, Copy, Debug, PartialEq, Eq)]
 pub struct Header {
+    /// Whether the lines are folded.
     pub folded: bool,
+    /// What the mark says of the line feeds at the end.
     pub chomping: Chomping,
 }

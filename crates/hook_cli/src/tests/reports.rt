@@ -20,6 +20,13 @@ const FAILED: &str =
     "Check names..............................................................Failed\n- hook id: names\n- exit code: 1\n\nno such names\n\nbad.txt\n\n";
 
 const CASES: &[Case] = &[
+    // There is no hook.
+    Case {
+        configuration: "repos: []\n",
+        paths: &[],
+        passed: true,
+        report: "",
+    },
     // No file is selected.
     Case {
         configuration: NAMES,
