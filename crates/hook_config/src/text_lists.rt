@@ -44,10 +44,7 @@ pub(crate) fn empty_text_of(alloc: Global, node: &Node) -> Result<ConfigText, Co
 
 /// Takes the empty list. A list of texts is `Unsupported`.
 #[tactic(auto, using(crate::proofs::TextLists::refused_texts))]
-pub(crate) fn empty_texts_of(
-    alloc: Global,
-    node: &Node,
-) -> Result<Items<ConfigText>, ConfigKind>
+pub(crate) fn empty_texts_of(alloc: Global, node: &Node) -> Result<Items<ConfigText>, ConfigKind>
     ensures { GivesSurely (λ texts. texts) result (empty_texts_of (view node.now)) }
 {
     let items = list_of(node)?;

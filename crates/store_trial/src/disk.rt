@@ -25,18 +25,10 @@ impl Disk {
             "database" => Stopped::Database,
             _ => return None,
         };
-        Some(Disk::Stopping(StoppingPlace::new(
-            alloc,
-            which,
-            at.parse().ok()?,
-        )))
+        Some(Disk::Stopping(StoppingPlace::new(alloc, which, at.parse().ok()?)))
     }
 
-    pub(crate) fn play(
-        &mut self,
-        rt: &HostRuntime,
-        command: Command<'_>,
-    ) -> Result<Answer, Stop> {
+    pub(crate) fn play(&mut self, rt: &HostRuntime, command: Command<'_>) -> Result<Answer, Stop> {
         match self {
             Disk::File(name, place) => place.play(rt, name.as_str(), command),
             Disk::Stopping(place) => place.play(rt.alloc(), command),

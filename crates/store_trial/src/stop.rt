@@ -29,7 +29,8 @@ impl Stop {
     /// What is said on standard error.
     pub(crate) fn message(&self) -> &'static str {
         match self {
-            Stop::Usage => "usage: store_trial FILE, or store_trial log NUMBER, or store_trial database NUMBER",
+            Stop::Usage =>
+                "usage: store_trial FILE, or store_trial log NUMBER, or store_trial database NUMBER",
             Stop::BadLine => "store_trial: this line can't be played",
             Stop::OutOfMemory => "store_trial: out of memory",
             Stop::Io(_) => "store_trial: input or output failed",
