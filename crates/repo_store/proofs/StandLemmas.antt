@@ -14,7 +14,7 @@ use Rattle.repo_store.specs.Complete.{IsComplete}
 use Rattle.repo_store.specs.Kept.{Kept}
 use Rattle.repo_store.specs.Repository.{empty}
 use Rattle.repo_store.specs.Rows.{tables_of}
-use Rattle.repo_store.specs.Shown.{Stands, Leaves, Changes}
+use Rattle.repo_store.specs.Shown.{Stands, Leaves, IsOneTransaction}
 use Rattle.repo_store.proofs.CallLemmas.{clean_if_open, leaves_commit}
 use Rattle.repo_store.proofs.CompleteLemmas.{complete_empty}
 use Rattle.repo_store.proofs.SameLemmas.{IsSame, holds_same}
@@ -60,14 +60,12 @@ module _ {S A : Type 0} (g : Ghosts S) (old new : Held S) (kept after : Kept) (t
   pub done_stands : (now : Kept) → now ≡ after → (x : A) → Calls {A = A} g old new kept t (Ok x) → Stands g new now
   done_stands now same x call = subst (Stands g new) (sym same) (stands_on x call)
 
-  pub refused_changes : {B E : Type 0} (now : Kept) → now ≡ kept → (e : Error) → Calls {A = A} g old new kept t (Err e) → (fault : E) → Changes {A = B} g (record { conn = old; kept = kept }) (record { conn = new; kept = now }) (Err fault) after
-  refused_changes now same e call fault = record { done = tt; same = same; stands = refused_stands now same e call; crash = crash_leaves (Err e) call; durable = λ _. tt }
+  pub refused_transaction : {B E : Type 0} (now : Kept) → now ≡ kept → (e : Error) → Calls {A = A} g old new kept t (Err e) → (fault : E) → IsOneTransaction {A = B} g (record { conn = old; kept = kept }) (record { conn = new; kept = now }) (Err fault) after
+  refused_transaction now same e call fault = record { stands = refused_stands now same e call; crash = crash_leaves (Err e) call; durable = λ _. tt }
 
-  pub done_changes : {B E : Type 0} → ((trees : Trees) → IsTrue (state g new).is_open → (state g new).may_leave trees → trees ≡ (state g new).committed.trees) → (now : Kept) → now ≡ after → (x : A) → Calls {A = A} g old new kept t (Ok x) → (y : B)
-      → Changes {E = E} g (record { conn = old; kept = kept }) (record { conn = new; kept = now }) (Ok y) after
-  done_changes settled now same x call y = record {
-    done = same;
-    same = tt;
+  pub done_transaction : {B E : Type 0} → ((trees : Trees) → IsTrue (state g new).is_open → (state g new).may_leave trees → trees ≡ (state g new).committed.trees) → (now : Kept) → now ≡ after → (x : A) → Calls {A = A} g old new kept t (Ok x) → (y : B)
+      → IsOneTransaction {E = E} g (record { conn = old; kept = kept }) (record { conn = new; kept = now }) (Ok y) after
+  done_transaction settled now same x call y = record {
     stands = done_stands now same x call;
     crash = crash_leaves (Ok x) call;
     durable = λ clean trees left. let it = call.done clean stands.now in record { holds = leaves_commit (state g new).committed trees (tables_in after) ((stands_on x call).committed it.is_open) (settled trees it.is_open left); complete = complete };
@@ -92,8 +90,8 @@ made_survives old new survives =
 pub survives_itself : (s : State) (Commits : Trees → Type 0) → Survives s s Commits
 survives_itself s Commits = record { clean = omega arith; shield = λ h. h; counts = omega arith; limit = refl; closes = λ _ h. inl h; crash = λ _ trees h. inl h }
 
-pub idle_changes : {S B E : Type 0} (g : Ghosts S) (conn : Held S) (kept after now : Kept) → Stands g conn kept → now ≡ kept → (fault : E) → Changes {A = B} g (record { conn = conn; kept = kept }) (record { conn = conn; kept = now }) (Err fault) after
-idle_changes g conn kept after now stands same fault = record { done = tt; same = same; stands = subst (Stands g conn) (sym same) stands; crash = survives_itself (state g conn) (Leaves after); durable = λ _. tt }
+pub idle_transaction : {S B E : Type 0} (g : Ghosts S) (conn : Held S) (kept after now : Kept) → Stands g conn kept → now ≡ kept → (fault : E) → IsOneTransaction {A = B} g (record { conn = conn; kept = kept }) (record { conn = conn; kept = now }) (Err fault) after
+idle_transaction g conn kept after now stands same fault = record { stands = subst (Stands g conn) (sym same) stands; crash = survives_itself (state g conn) (Leaves after); durable = λ _. tt }
 
 pub idle_stands : {S : Type 0} (g : Ghosts S) (conn : Held S) (kept now : Kept) → now ≡ kept → Stands g conn kept → Stands g conn now
 idle_stands g conn kept now same stands = subst (Stands g conn) (sym same) stands

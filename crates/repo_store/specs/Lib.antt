@@ -1,4 +1,5 @@
 pub mod Calls
+pub mod Changes
 pub mod Complete
 pub mod Contents
 pub mod Faults

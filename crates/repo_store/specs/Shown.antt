@@ -1,5 +1,5 @@
 -- What contracts see of a store.
-use Rattle.std.specs.Prelude.{◌≡◌, false, IsTrue, Result, OnOk, OnErr, refl}
+use Rattle.std.specs.Prelude.{◌≡◌, false, IsTrue, Result, OnOk, refl}
 use Rattle.std.specs.Coded.{Coded, code_by, coded×}
 use Rattle.sqlite_trees.specs.declared.store.Store.{Ghosts}
 use Rattle.sqlite_trees.specs.Tree.{Trees}
@@ -30,12 +30,9 @@ pub record Leaves (kept : Kept) (trees : Trees) : Type 0 where
   pub holds : Holds (with_schema trees) (tables_of kept.repo kept.contents)
   pub complete : IsComplete kept
 
--- One call that makes of a store what is kept after it, in one transaction: all of it at `Ok`, and nothing otherwise. What
--- the store shows then is what its tables hold. A crash leaves what it could leave before, or all of it; once the call has
--- answered `Ok`, all of it.
-pub record Changes {S A E : Type 0} (g : Ghosts S) (old new : Shown S) (result : Result A E) (after : Kept) : Type 0 where
-  pub done : OnOk result (new.kept ≡ after)
-  pub same : OnErr result (new.kept ≡ old.kept)
+-- A call that makes of a store what is kept after it is one transaction: what the store shows then, at a refusal too, is
+-- what its tables hold. A crash leaves what it could leave before, or all of it; once the call has answered `Ok`, all of it.
+pub record IsOneTransaction {S A E : Type 0} (g : Ghosts S) (old new : Shown S) (result : Result A E) (after : Kept) : Type 0 where
   pub stands : Stands g new.conn new.kept
   pub crash : Survives (state g old.conn) (state g new.conn) (Leaves after)
   pub durable : HasCleanDisk (state g new.conn) → OnOk result ((trees : Trees) → (state g new.conn).may_leave trees → Leaves after trees)

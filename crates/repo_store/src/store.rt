@@ -8,6 +8,7 @@ ghost use Rattle.sqlite.specs.Held.{state};
 ghost use Rattle.sqlite.specs.State.{HasCleanDisk, Survives};
 ghost use Rattle.store_tables.specs.Tables.{Holds};
 ghost use Rattle.repo_store.specs.Calls.{Rests};
+ghost use Rattle.repo_store.specs.Changes.{Changes};
 ghost use Rattle.repo_store.specs.Contents.{Collides};
 ghost use Rattle.repo_store.specs.Faults.{IsRefusal};
 ghost use Rattle.repo_store.specs.Kept.{FixCollides, HasLarge, accepting, committing, keeping, setting, staging, unstaging};
@@ -16,7 +17,7 @@ ghost use Rattle.repo_store.specs.Log.{log_from};
 ghost use Rattle.repo_store.specs.Opens.{IsUnfit};
 ghost use Rattle.repo_store.specs.Repository.{Commit, commit_at, empty, last_tree, staged_changes};
 ghost use Rattle.repo_store.specs.Rows.{tables_of};
-ghost use Rattle.repo_store.specs.Shown.{Changes, Leaves, Stands};
+ghost use Rattle.repo_store.specs.Shown.{IsOneTransaction, Leaves, Stands};
 ghost use Rattle.repo_store.specs.Whole.{IsWhole};
 
 use crate::accept::accept_rows;
@@ -119,7 +120,8 @@ impl<S: Alter> Store<S> {
     /// is that of others (`Collision`); a refusal leaves the store as it was.
     pub fn stage(&mut self, path: &RepoPath, mode: Mode, bytes: &[u8]) -> Result<(), StoreFault>
         requires { path.now ≢ message_path }
-        ensures change { Changes S.Store self.old self.new result (staging path.now (record { mode = mode; bytes = bytes.now }) self.old.kept) }
+        ensures change { Changes self.old.kept self.new.kept result (staging path.now (record { mode = mode; bytes = bytes.now }) self.old.kept) }
+        ensures transaction { IsOneTransaction S.Store self.old self.new result (staging path.now (record { mode = mode; bytes = bytes.now }) self.old.kept) }
         ensures within { OnOk result (IsSmall bytes.now × Fits (put_file path.now (record { mode = mode; bytes = bytes.now }) self.old.kept.repo.staged)) }
         ensures apart { OnOk result (¬ Collides bytes.now self.old.kept.contents) }
         ensures why { IfErr result (IsRefusal (¬ IsSmall bytes.now) (¬ Fits (put_file path.now (record { mode = mode; bytes = bytes.now }) self.old.kept.repo.staged)) (Collides bytes.now self.old.kept.contents)) }
@@ -139,7 +141,8 @@ impl<S: Alter> Store<S> {
 
     /// Takes a path out of the staged files, if it is there, and forgets the fixes. A refusal leaves the store as it was.
     pub fn unstage(&mut self, path: &RepoPath) -> Result<(), StoreFault>
-        ensures change { Changes S.Store self.old self.new result (unstaging path.now self.old.kept) }
+        ensures change { Changes self.old.kept self.new.kept result (unstaging path.now self.old.kept) }
+        ensures transaction { IsOneTransaction S.Store self.old self.new result (unstaging path.now self.old.kept) }
         ensures why { IfErr result (IsRefusal ⊥ ⊥ ⊥) }
     {
         if let Err(error) = unstage_rows(&mut self.conn, path.as_str()) {
@@ -154,7 +157,8 @@ impl<S: Alter> Store<S> {
     /// leaves the store as it was.
     pub fn set_fixes(&mut self, changes: &[Change]) -> Result<(), StoreFault>
         requires { IsRisingChanges changes.now }
-        ensures change { Changes S.Store self.old self.new result (setting changes.now self.old.kept) }
+        ensures change { Changes self.old.kept self.new.kept result (setting changes.now self.old.kept) }
+        ensures transaction { IsOneTransaction S.Store self.old self.new result (setting changes.now self.old.kept) }
         ensures within { OnOk result (¬ HasLarge (staged_changes changes.now self.old.kept.repo.staged)) }
         ensures apart { OnOk result (¬ FixCollides (staged_changes changes.now self.old.kept.repo.staged) self.old.kept.contents) }
         ensures why { IfErr result (IsRefusal (HasLarge (staged_changes changes.now self.old.kept.repo.staged)) ⊥ (FixCollides (staged_changes changes.now self.old.kept.repo.staged) self.old.kept.contents)) }
@@ -175,7 +179,8 @@ impl<S: Alter> Store<S> {
     /// Applies the fixes to the staged files, forgets them, and answers how many there were. A refusal leaves the store as
     /// it was.
     pub fn accept(&mut self) -> Result<u32, StoreFault>
-        ensures change { Changes S.Store self.old self.new result (accepting self.old.kept) }
+        ensures change { Changes self.old.kept self.new.kept result (accepting self.old.kept) }
+        ensures transaction { IsOneTransaction S.Store self.old self.new result (accepting self.old.kept) }
         ensures number { IfOk result (λ n. n ≡ length self.old.kept.repo.fixes) }
         ensures why { IfErr result (IsRefusal ⊥ ⊥ ⊥) }
     {
@@ -195,7 +200,8 @@ impl<S: Alter> Store<S> {
     /// message of more than 16 MiB (`TooLarge`) and more than 100,000 commits (`TooMany`); a refusal leaves the store as
     /// it was.
     pub fn commit(&mut self, message: &[u8]) -> Result<u32, StoreFault>
-        ensures change { Changes S.Store self.old self.new result (committing message.now self.old.kept) }
+        ensures change { Changes self.old.kept self.new.kept result (committing message.now self.old.kept) }
+        ensures transaction { IsOneTransaction S.Store self.old self.new result (committing message.now self.old.kept) }
         ensures number { IfOk result (λ n. n ≡ length self.old.kept.repo.history + 1) }
         ensures within { OnOk result (IsSmall message.now × (length self.old.kept.repo.history < 100000)) }
         ensures why { IfErr result (IsRefusal (¬ IsSmall message.now) (100000 ≤ length self.old.kept.repo.history) ⊥) }
@@ -215,7 +221,8 @@ impl<S: Alter> Store<S> {
     /// Keeps contents, and answers their digest. Refused are contents of more than 16 MiB (`TooLarge`), and those whose
     /// digest is that of others (`Collision`); a refusal leaves the store as it was.
     pub fn blob_put(&mut self, bytes: &[u8]) -> Result<Digest, StoreFault>
-        ensures change { Changes S.Store self.old self.new result (keeping bytes.now self.old.kept) }
+        ensures change { Changes self.old.kept self.new.kept result (keeping bytes.now self.old.kept) }
+        ensures transaction { IsOneTransaction S.Store self.old self.new result (keeping bytes.now self.old.kept) }
         ensures digest { IfOk result (λ digest. digest.bytes ≡ sha256 bytes.now) }
         ensures within { OnOk result (IsSmall bytes.now) }
         ensures apart { OnOk result (¬ Collides bytes.now self.old.kept.contents) }

@@ -4,10 +4,11 @@ use Rattle.hook_base.specs.declared.file.FileEntry.{FileEntry}
 use Rattle.repo_store.specs.Kept.{Kept, Mirror, staging}
 use Rattle.repo_store.specs.Lists.{file_of}
 use Rattle.repo_store.specs.Repository.{with_staged}
-use Rattle.repo_store.specs.Shown.{Shown, Changes}
+use Rattle.repo_store.specs.Changes.{Changes}
+use Rattle.repo_store.specs.Shown.{Shown, IsOneTransaction}
 use Rattle.repo_store.proofs.KeptLemmas.{staging_handed, forgotten}
 use Rattle.repo_store.proofs.CompleteLemmas.{complete_staged}
-use Rattle.repo_store.proofs.StandLemmas.{tables_in, refused_stands, done_stands, refused_changes, done_changes}
+use Rattle.repo_store.proofs.StandLemmas.{tables_in, refused_stands, done_stands, refused_transaction, done_transaction}
 use Rattle.repo_store.proofs.store.Store.stage.Goals as goal
 
 pub invariant_of-self-in-Err-stage_rows : goal.invariant_of-self-in-Err-stage_rows
@@ -26,6 +27,14 @@ invariant_of-self-in-Err-stage_rows g c =
 
 pub returns-in-Err-stage_rows-clause-change : goal.returns-in-Err-stage_rows-clause-change
 returns-in-Err-stage_rows-clause-change g c =
+    let kept = c.self.inside.lists.kept in
+    let entry : FileEntry = record { mode = c.args.mode; bytes = c.args.bytes.now } in
+    let prepared = c.in-Ok.ensures in
+    let now = forgotten c.args.bytes.now kept c.prepare.new.self.kept c.forget_since.new.self.kept c.count-before.result c.count-before.ensures prepared.kept (ap (λ (m : Mirror). m.kept) c.forget_since.ensures) in
+    subst (λ (s : Shown g.row.S.Denot). Changes s.kept c.forget_since.new.self.kept (Err c.fault_of.result) (staging c.args.path.now entry s.kept)) c.self.view_is (record { done = tt; same = now })
+
+pub returns-in-Err-stage_rows-clause-transaction : goal.returns-in-Err-stage_rows-clause-transaction
+returns-in-Err-stage_rows-clause-transaction g c =
     let new = c.stage_rows.new.conn in
     let kept = c.self.inside.lists.kept in
     let entry : FileEntry = record { mode = c.args.mode; bytes = c.args.bytes.now } in
@@ -35,8 +44,8 @@ returns-in-Err-stage_rows-clause-change g c =
     let same = staging_handed file (file_of c.in-Ok.file) c.in-Ok.file.path c.since.result.now kept prepared.rising prepared.file (ap (λ (f : File). f.path) prepared.file) news in
     let now = forgotten c.args.bytes.now kept c.prepare.new.self.kept c.forget_since.new.self.kept c.count-before.result c.count-before.ensures prepared.kept (ap (λ (m : Mirror). m.kept) c.forget_since.ensures) in
     let complete = complete_staged c.args.path.now entry kept c.self.invariant.complete prepared.within.1 prepared.apart in
-    subst (λ (s : Shown g.row.S.Denot). Changes g.S.Store s (record { conn = new; kept = c.forget_since.new.self.kept }) (Err c.fault_of.result) (staging c.args.path.now entry s.kept)) c.self.view_is
-    (refused_changes g.S.Store c.self.inside.conn new kept (staging c.args.path.now entry kept) _ c.self.invariant same (g.met.S.Store.shut_if_dirty new.store) complete
+    subst (λ (s : Shown g.row.S.Denot). IsOneTransaction g.S.Store s (record { conn = new; kept = c.forget_since.new.self.kept }) (Err c.fault_of.result) (staging c.args.path.now entry s.kept)) c.self.view_is
+    (refused_transaction g.S.Store c.self.inside.conn new kept (staging c.args.path.now entry kept) _ c.self.invariant same (g.met.S.Store.shut_if_dirty new.store) complete
     c.forget_since.new.self.kept now c.in-Err-stage_rows.error (c.in-Err-stage_rows.ensures (tables_in kept)) c.fault_of.result)
 
 pub invariant_of-self-2 : goal.invariant_of-self-2
@@ -55,6 +64,13 @@ invariant_of-self-2 g c =
 
 pub returns-clause-change : goal.returns-clause-change
 returns-clause-change g c =
+    let entry : FileEntry = record { mode = c.args.mode; bytes = c.args.bytes.now } in
+    let prepared = c.in-Ok.ensures in
+    let now = c.stage.ensures ∙ ap₂ (λ (f : File) (k : Kept). record { repo = with_staged f.path f.entry k.repo; contents = k.contents }) prepared.file prepared.kept in
+    subst (λ (s : Shown g.row.S.Denot). Changes s.kept c.stage.new.self.kept (Ok tt) (staging c.args.path.now entry s.kept)) c.self.view_is (record { done = now; same = tt })
+
+pub returns-clause-transaction : goal.returns-clause-transaction
+returns-clause-transaction g c =
     let new = c.stage_rows.new.conn in
     let kept = c.self.inside.lists.kept in
     let entry : FileEntry = record { mode = c.args.mode; bytes = c.args.bytes.now } in
@@ -64,6 +80,6 @@ returns-clause-change g c =
     let same = staging_handed file (file_of c.in-Ok.file) c.in-Ok.file.path c.since.result.now kept prepared.rising prepared.file (ap (λ (f : File). f.path) prepared.file) news in
     let now = c.stage.ensures ∙ ap₂ (λ (f : File) (k : Kept). record { repo = with_staged f.path f.entry k.repo; contents = k.contents }) prepared.file prepared.kept in
     let complete = complete_staged c.args.path.now entry kept c.self.invariant.complete prepared.within.1 prepared.apart in
-    subst (λ (s : Shown g.row.S.Denot). Changes g.S.Store s (record { conn = new; kept = c.stage.new.self.kept }) (Ok tt) (staging c.args.path.now entry s.kept)) c.self.view_is
-    (done_changes g.S.Store c.self.inside.conn new kept (staging c.args.path.now entry kept) _ c.self.invariant same (g.met.S.Store.shut_if_dirty new.store) complete
+    subst (λ (s : Shown g.row.S.Denot). IsOneTransaction g.S.Store s (record { conn = new; kept = c.stage.new.self.kept }) (Ok tt) (staging c.args.path.now entry s.kept)) c.self.view_is
+    (done_transaction g.S.Store c.self.inside.conn new kept (staging c.args.path.now entry kept) _ c.self.invariant same (g.met.S.Store.shut_if_dirty new.store) complete
     (g.met.S.Store.settled new.store) c.stage.new.self.kept now c.in_default.field-0 (c.in_default.ensures (tables_in kept)) tt)
