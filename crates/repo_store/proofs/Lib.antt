@@ -1,6 +1,7 @@
 pub mod CallLemmas
 pub mod CellLemmas
 pub mod ChangeLemmas
+pub mod CompleteLemmas
 pub mod FixLemmas
 pub mod IndexLemmas
 pub mod KeptLemmas
