@@ -20,15 +20,9 @@ use Rattle.repo_store.specs.Kept.{FixCollides, Kept, accepting, committing, keep
 use Rattle.repo_store.specs.Limits.{Fits}
 use Rattle.repo_store.specs.Loaded.{AreBare, with_file}
 use Rattle.repo_store.specs.Repository.{Commit, Repository, empty, staged_changes}
+use Rattle.repo_store.proofs.LoadLemmas.{all_pushed}
 use Rattle.repo_store.proofs.SoundLemmas.{fixes_fit, fixes_rise, sound_accepted, sound_committed, sound_empty, sound_staged, sound_unstaged}
-
-all_weaker : {X : Type 0} (P Q : X → Type 0) (xs : List X) → ((x : X) → P x → Q x) → AllByRecursion P xs → AllByRecursion Q xs
-all_weaker P Q [] f all = tt
-all_weaker P Q (x ∷ xs) f all = (f x all.0, all_weaker P Q xs f all.1)
-
-pub all_pushed : {X : Type 0} (P : X → Type 0) (xs : List X) (x : X) → AllByRecursion P xs → P x → AllByRecursion P (xs ++ x ∷ [])
-all_pushed P [] x all here = (here, tt)
-all_pushed P (y ∷ xs) x all here = (all.0, all_pushed P xs x all.1 here)
+use Rattle.repo_store.proofs.WholeLemmas.{all_weaker}
 
 option_weaker : (P Q : List ℕ → Type 0) (now : Option (List ℕ)) → ((b : List ℕ) → P b → Q b) → MatchOption now (Unit {0}) P → MatchOption now (Unit {0}) Q
 option_weaker P Q None f it = tt

@@ -8,6 +8,7 @@ pub mod KeptLemmas
 pub mod ListLemmas
 pub mod ListedLemmas
 pub mod LoadLemmas
+pub mod OneLemmas
 pub mod PlaceLemmas
 pub mod ReadingLemmas
 pub mod SameLemmas

@@ -1,5 +1,5 @@
 -- What is kept is one whole repository.
-use Rattle.std.specs.Prelude.{◌≡◌, ℕ, ◌<◌, true, List, [], length, slice_index_or, MatchOption}
+use Rattle.std.specs.Prelude.{◌≡◌, ℕ, ◌<◌, true, List, [], length, slice_index_or, MatchOption, IsPermutation}
 use Rattle.std.specs.List.{AllByRecursion}
 use Rattle.sha2.specs.Sha256.{sha256}
 use Rattle.hook_base.specs.declared.file.File.{File}
@@ -31,3 +31,8 @@ pub record IsComplete (kept : Kept) : Type 0 where
   pub fixes : HaveNewContents kept.contents kept.repo.fixes
   pub trees : AllByRecursion (λ (commit : Commit). HaveContents kept.contents commit.tree) kept.repo.history
   pub apart : AreApart kept.contents
+
+-- the same repository, and the same contents in some order
+pub record AreAlike (a b : Kept) : Type 0 where
+  pub repo : a.repo ≡ b.repo
+  pub contents : IsPermutation a.contents b.contents

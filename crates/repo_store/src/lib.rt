@@ -1,9 +1,10 @@
 //! A repository that is kept in SQL: its commits, the staged files and the fixes, each change one transaction. The public
 //! types are `Store`, `StoreFault`, `Digest` (of contents) and `LogEntry` (a commit in the log). Contracts cite
-//! `specs/Repository` and `specs/Log` (the repository as plain lists), `specs/Kept` and `specs/Contents` (what each call
-//! makes of it and of the contents, and which collide), `specs/Limits`, `specs/Faults` (when each refusal may come),
-//! `specs/Rows` (the tables of a repository), `specs/Whole` (the rules of their rows), `specs/Calls` and `specs/Shown` (what
-//! is seen of a store, and what a refusal or a crash leaves), and `specs/Opens` (why a database isn't opened).
+//! `specs/Repository` and `specs/Log` (the repository as plain lists), `specs/Kept`, `specs/Changes` and `specs/Contents`
+//! (what each call makes of it and of the contents, and which collide), `specs/Limits`, `specs/Faults` (when each refusal may
+//! come), `specs/Rows` (the tables of a repository), `specs/Whole` (the rules of their rows), `specs/Complete` (a whole
+//! repository), `specs/Calls` and `specs/Shown` (what is seen of a store, and what a refusal or a crash leaves), and
+//! `specs/Opens` (why a database isn't opened). [`laws`] says that a database holds one whole repository at most.
 #![tactic(auto)]
 
 mod accept;
@@ -18,6 +19,7 @@ mod fault;
 mod files;
 mod fixes;
 mod held;
+pub mod laws;
 mod lists;
 mod load;
 mod loaded;

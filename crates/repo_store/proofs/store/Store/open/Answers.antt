@@ -1,5 +1,5 @@
 use Rattle.std.proofs.Common.{refl}
-use Rattle.repo_store.proofs.ListedLemmas.{opened_durable, opened_holds, opened_stands, rests_if_open}
+use Rattle.repo_store.proofs.ListedLemmas.{opened_again, opened_durable, opened_holds, opened_stands, rests_if_open}
 use Rattle.repo_store.proofs.store.Store.open.Goals as goal
 
 pub invariant_of-result : goal.invariant_of-result
@@ -10,6 +10,9 @@ returns-in-Ok-clause-stands g c = opened_stands g.S.Store c.args.conn c.load.new
 
 pub returns-in-Ok-clause-holds : goal.returns-in-Ok-clause-holds
 returns-in-Ok-clause-holds g c = opened_holds g.S.Store c.args.conn c.load.new.conn c.in-Ok.lists c.in-Ok.ensures.complete (c.if-not-has_tables.ensures.ours.0 refl) c.if-not-has_tables.ensures.live c.if-not-has_tables.ensures.settled c.in-Ok.ensures.loaded (g.met.S.Store.shut_if_dirty c.load.new.conn.store)
+
+pub returns-in-Ok-clause-again : goal.returns-in-Ok-clause-again
+returns-in-Ok-clause-again g c = opened_again g.S.Store c.args.conn c.load.new.conn c.in-Ok.lists c.in-Ok.ensures.complete (c.if-not-has_tables.ensures.ours.0 refl) c.if-not-has_tables.ensures.live c.if-not-has_tables.ensures.settled c.in-Ok.ensures.loaded (g.met.S.Store.shut_if_dirty c.load.new.conn.store)
 
 pub returns-in-Ok-clause-same : goal.returns-in-Ok-clause-same
 returns-in-Ok-clause-same g c = rests_if_open g.S.Store c.args.conn c.load.new.conn _ (c.if-not-has_tables.ensures.ours.0 refl) c.in-Ok.ensures.loaded (g.met.S.Store.shut_if_dirty c.load.new.conn.store)
