@@ -23,5 +23,5 @@ mod unknown_keys;
 pub use config_fault::{ConfigFault, ConfigKind};
 pub use config_text::{ConfigText, MAX_TEXT_BYTES};
 pub use configuration::{Config, Hook, Language};
-pub use reader::read_config;
+pub use reader::{ConfigWithNode, read_config, read_config_with_node};
 pub use stage::{Stage, Stages};

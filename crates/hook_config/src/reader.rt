@@ -1,7 +1,8 @@
-ghost use Rattle.std.specs.Prelude.{◌≡◌};
+ghost use Rattle.std.specs.Prelude.{◌≡◌, Some, IfOk};
 ghost use Rattle.yaml_lines.specs.View.{view};
+ghost use Rattle.yaml_profile.specs.Text.{meaning_of};
 ghost use Rattle.hook_config.specs.Configuration.{configuration_of, configuration_of_meaning, configuration_of_rows};
-ghost use Rattle.hook_config.specs.Gives.{Gives};
+ghost use Rattle.hook_config.specs.Gives.{Gives, GivesSeen};
 ghost use Rattle.hook_config.specs.Rows.{rows_of};
 
 use crate::config_fault::{ConfigFault, ConfigKind};
@@ -31,6 +32,25 @@ pub fn read_config(alloc: Global, bytes: &[u8]) -> Result<Config, ConfigFault>
         Ok(node) => config_of_node(alloc, &node),
         Err(fault) => Err(ConfigFault::from(fault)),
     }
+}
+
+/// A configuration with the node of the text that describes it.
+#[derive(Debug, Drop)]
+pub struct ConfigWithNode {
+    pub config: Config,
+    pub node: Node,
+}
+
+/// The configuration that [`read_config`] gives, refused for the same reasons, with the node that describes it. The node of
+/// a large text takes long to drop, so a program that ends next may keep it until then.
+#[tactic(auto, unfolding(crate::specs::Configuration::configuration_of))]
+pub fn read_config_with_node(alloc: Global, bytes: &[u8]) -> Result<ConfigWithNode, ConfigFault>
+    ensures config { GivesSeen (λ read. read.config) result (configuration_of bytes.now) }
+    ensures node { IfOk result (λ read. meaning_of bytes.now ≡ Some (view read.node)) }
+{
+    let node = read(alloc, bytes)?;
+    let config = config_of_node(alloc, &node)?;
+    Ok(ConfigWithNode { config, node })
 }
 
 /// The configuration that a text's node describes.

@@ -9,11 +9,11 @@ use child_port::TableChildren;
 use files::{read_configuration, read_tree};
 use hook_base::{Items, Text, Tree};
 use hook_cli::{Line, TryFault, check_text, line_of, try_over};
-use hook_config::read_config;
+use hook_config::read_config_with_node;
 use std::io::{Read, Write};
 use std::process::ExitCode;
 use std::rt::{Env, Files};
-use std::{env, io};
+use std::{env, io, mem};
 use stop::{Stop, tell};
 
 /// The file that `check` reads, in the working folder.
@@ -55,9 +55,12 @@ fn run<R: Env + Files + Input + Print + AllocGlobal>(rt: &R) -> Result<bool, Sto
 fn check<R: Files + Print + AllocGlobal>(rt: &R) -> Result<(), Stop> {
     let alloc = rt.alloc();
     let bytes = read_configuration(rt, Text::copy_of(alloc, CONFIGURATION)?)?;
-    let config = read_config(alloc, bytes.as_slice())?;
-    let text = check_text(alloc, &config)?;
-    print(rt, text.as_slice()).map_err(|_| Stop::Refused(TryFault::Write))
+    let read = read_config_with_node(alloc, bytes.as_slice())?;
+    let text = check_text(alloc, &read.config)?;
+    print(rt, text.as_slice()).map_err(|_| Stop::Refused(TryFault::Write))?;
+    // The process ends next and its memory with it, so the nodes aren't freed one by one before.
+    mem::forget(read);
+    Ok(())
 }
 
 fn print<R: Print>(rt: &R, text: &[u8]) -> io::Result<()> {

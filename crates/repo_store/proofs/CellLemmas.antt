@@ -7,9 +7,11 @@ use Rattle.std.proofs.lemmas.List.Folds.{list_any_at}
 use Rattle.sha2.specs.Sha256.{sha256}
 use Rattle.sha2.proofs.Facts256.{length-sha256}
 use Rattle.hook_base.specs.RisingLaws.{bytes_same, bytes_differ}
+use Rattle.repo_store.specs.Complete.{IsAmong}
 use Rattle.repo_store.specs.Contents.{has_digest}
 use Rattle.repo_store.specs.Rows.{blob_row}
 use Rattle.repo_store.specs.Whole.{is_kept}
+use Rattle.repo_store.proofs.IndexLemmas.{known}
 
 pub kept_as_digest : (digest : List ℕ) (contents : List (List ℕ)) → is_kept (map blob_row contents) digest ≡ has_digest digest contents
 kept_as_digest digest [] = refl
@@ -32,6 +34,10 @@ pub found_kept : (o : Option (Bor (List ℕ))) (digest key : List ℕ) (contents
     → IfSome o (λ _. is_kept (map blob_row contents) digest ≡ true)
 found_kept None digest key contents same found under = found
 found_kept (Some content) digest key contents same found under = kept_there digest content.now contents found (under ∙ same)
+
+pub found_among : (o : Option (Bor (List ℕ))) (contents : List (List ℕ)) → IfSome o (λ content. Any (λ bytes. bytes ≡ content.now) contents) → IfSome o (λ content. IsAmong contents content.now)
+found_among None contents found = found
+found_among (Some content) contents found = known content.now content.now contents found refl
 
 pub not_found : (o : Option (Bor (List ℕ))) (digest key : List ℕ) (contents : List (List ℕ)) → key ≡ digest → IfNone o (has_digest key contents ≡ false) → IfNone o (is_kept (map blob_row contents) digest ≡ false)
 not_found None digest key contents same absent = kept_as_digest digest contents ∙ ap (λ (d : List ℕ). has_digest d contents) (sym same) ∙ absent

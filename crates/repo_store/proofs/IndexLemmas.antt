@@ -12,6 +12,7 @@ use lib.Seq.{get_or-append_seam}
 use lib.ListN.{get_or-append}
 use Rattle.sha2.specs.Sha256.{sha256}
 use Rattle.hook_base.specs.RisingLaws.{bytes_same, bytes_differ}
+use Rattle.repo_store.specs.Complete.{AreApart}
 use Rattle.repo_store.specs.Contents.{Collides, has_digest, has_content, with_content, IsIndexed}
 
 never : {X : Type 0} {x : X} → ◌≡◌ {A = Option X} None (Some x) → ⊥
@@ -53,6 +54,10 @@ module _ {S : Type 0} (m : HashMap (List ℕ) ℕ S) (contents : List (List ℕ)
       let listed : get bytes_eq m (sha256 (at any.0)) ≡ Some any.0 = index.listed any.0 any.2 in
       let placed : get bytes_eq m digest ≡ Some any.0 = ap (get bytes_eq m) (same ∙ ap sha256 (sym read)) ∙ listed in
       cc)
+
+  -- no two of the contents stand under one digest
+  pub index_apart : AreApart contents
+  index_apart i j i_in j_in same = same_some (sym (index.listed i i_in) ∙ ap (get bytes_eq m) same ∙ index.listed j j_in)
 
   -- the contents at the place of a digest are the only ones under it
   pub one_alone : (content : List ℕ) (k : ℕ) → get bytes_eq m (sha256 content) ≡ Some k → at k ≡ content → ¬ Collides content contents

@@ -1,12 +1,14 @@
 pub mod CallLemmas
 pub mod CellLemmas
 pub mod ChangeLemmas
+pub mod CompleteLemmas
 pub mod FixLemmas
 pub mod IndexLemmas
 pub mod KeptLemmas
 pub mod ListLemmas
 pub mod ListedLemmas
 pub mod LoadLemmas
+pub mod OneLemmas
 pub mod PlaceLemmas
 pub mod ReadingLemmas
 pub mod SameLemmas

@@ -19,15 +19,17 @@ use Rattle.repo_store.specs.declared.fault.StoreFault.{StoreFault}
 use Rattle.repo_store.specs.declared.fault.StoreFault.TheVariants.{NotAStore, Damaged, Sql, OutOfMemory, Collision, TooLarge, TooMany}
 use Rattle.repo_store.specs.declared.table_rows.StoreRows.{StoreRows}
 use Rattle.repo_store.specs.Calls.{Rests}
+use Rattle.repo_store.specs.Complete.{AreAlike, IsComplete}
 use Rattle.repo_store.specs.Faults.{IsDamage, IsRefusal}
-use Rattle.repo_store.specs.Kept.{Mirror}
+use Rattle.repo_store.specs.Kept.{Kept, Mirror}
 use Rattle.repo_store.specs.Loaded.{AreShown, IsSame, rows_in}
 use Rattle.repo_store.specs.Opens.{AreListed, AreLoaded, AreRead, IsFoundIn, IsUnfit}
 use Rattle.repo_store.specs.Rows.{tables_of, version_row}
 use Rattle.repo_store.specs.Whole.{IsWhole}
 use Rattle.repo_store.proofs.ReadingLemmas.{unchanged_kept}
 use Rattle.repo_store.specs.Shown.{Stands, Leaves}
-use Rattle.repo_store.proofs.CallLemmas.{clean_if_open, leaves_commit}
+use Rattle.repo_store.proofs.CallLemmas.{clean_if_open, holds_as, leaves_commit}
+use Rattle.repo_store.proofs.OneLemmas.{left_alike}
 use Rattle.repo_store.proofs.StandLemmas.{ShutIfDirty}
 use Rattle.repo_store.proofs.SameLemmas.{holds_same}
 use Rattle.repo_store.proofs.WholeLemmas.{same_meta, holds_one, whole_same}
@@ -156,7 +158,7 @@ loaded {S} g old mid end new r begun listed outside undone survives = record {
     clean_end clean = omega (arith, survives.clean)
 
 -- what stands in a store that was opened
-module _ {S : Type 0} (g : Ghosts S) (old new : Held S) (lists : Mirror) (ours : (state g old).now.schema ≡ store_schema) (live : IsTrue (state g old).is_open → IsDatabase (state g old).now)
+module _ {S : Type 0} (g : Ghosts S) (old new : Held S) (lists : Mirror) (complete : IsComplete lists.kept) (ours : (state g old).now.schema ≡ store_schema) (live : IsTrue (state g old).is_open → IsDatabase (state g old).now)
     (settled : IsTrue (state g old).is_open → (state g old).now ≡ (state g old).committed) (load : AreLoaded g old new (Ok lists)) (dirty : ShutIfDirty (state g new)) where
   clean_new : IsTrue (state g new).is_open → HasCleanDisk (state g new)
   clean_new h = clean_if_open (state g new).is_clean (state g new).is_open dirty h
@@ -169,9 +171,15 @@ module _ {S : Type 0} (g : Ghosts S) (old new : Held S) (lists : Mirror) (ours :
   pub opened_stands : Stands g new lists.kept
   opened_stands = record {
     outside = load.outside;
+    complete = complete;
     now = λ h. let rest = load.rests (clean_new h) ours in subst (λ (db : Database). Holds db (tables_of lists.kept.repo lists.kept.contents)) (sym (rest.now h)) (opened_holds h);
     committed = λ h. let rest = load.rests (clean_new h) ours in subst (λ (db : Database). Holds db (tables_of lists.kept.repo lists.kept.contents)) (sym (rest.committed h)) (opened_holds h);
   }
+
+  -- the repository that was left is the one that is opened
+  pub opened_again : IsTrue (state g new).is_open → (kept : Kept) → Leaves kept (state g old).committed.trees → AreAlike lists.kept kept
+  opened_again h kept left =
+      left_alike (state g old).committed.trees lists.kept kept (record { holds = holds_as (state g old).committed (tables_of lists.kept.repo lists.kept.contents) (opened_holds h); complete = complete }) left
 
   -- what a crash may leave was there before, and is what was committed
   pub opened_durable : ((trees : Trees) → IsTrue (state g old).is_open → (state g old).may_leave trees → trees ≡ (state g old).committed.trees)
@@ -179,8 +187,10 @@ module _ {S : Type 0} (g : Ghosts S) (old new : Held S) (lists : Mirror) (ours :
   opened_durable law clean trees left =
       let was : IsTrue (state g old).is_open = load.was_open clean ours in
       let holds : Holds (state g old).committed (tables_of lists.kept.repo lists.kept.contents) = subst (λ (db : Database). Holds db (tables_of lists.kept.repo lists.kept.contents)) (settled was) (load.found clean ours live) in
-      leaves_commit (state g old).committed trees (tables_of lists.kept.repo lists.kept.contents) holds
-      (law trees was (elim (load.survives.crash clean trees left) [ inl before ↦ before | inr none ↦ absurd none ]))
+      record {
+        holds = leaves_commit (state g old).committed trees (tables_of lists.kept.repo lists.kept.contents) holds (law trees was (elim (load.survives.crash clean trees left) [ inl before ↦ before | inr none ↦ absurd none ]));
+        complete = complete;
+      }
 
 -- a read that left the connection open left the last commit
 pub rests_if_open : {S : Type 0} (g : Ghosts S) (old new : Held S) (r : Result Mirror StoreFault) → (state g old).now.schema ≡ store_schema → AreLoaded g old new r → ShutIfDirty (state g new) → Rests (state g old) (state g new)

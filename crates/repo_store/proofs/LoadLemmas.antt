@@ -206,7 +206,7 @@ pub damage_middle : {X : Type 0} (P : X → Type 0) (xs : List X) (x : X) (ys le
 damage_middle {X} P xs x ys left rows fault whole step =
     damage_of (¬ P x) (¬ AllByRecursion P rows) fault (λ breaks all. breaks (all_middle P xs x ys (subst (AllByRecursion P) (sym whole ∙ ap (λ (l : List X). xs ++ l) step) all)))
 
-pos_less : (a b : ℕ) → a < b → int_cmp (pos a) (pos b) ≡ Less
+pub pos_less : (a b : ℕ) → a < b → int_cmp (pos a) (pos b) ≡ Less
 pos_less a b below = rw (lt-ltb a b below) refl
 
 numbers_sorted : (n : ℕ) (rows : List CommitRow) → IsSorted int_cmp (numbers_from n rows)
@@ -278,7 +278,7 @@ history_length history rows same = sym (length-map history commit_of) ∙ sym (l
 
 -- ---- fixes of staged files
 
-fix_path : (path : List ℕ) (now : Option (List ℕ)) → (fix_at path now).path ≡ path
+pub fix_path : (path : List ℕ) (now : Option (List ℕ)) → (fix_at path now).path ≡ path
 fix_path path None = refl
 fix_path path (Some bytes) = refl
 

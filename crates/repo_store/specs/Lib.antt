@@ -1,4 +1,5 @@
 pub mod Calls
+pub mod Complete
 pub mod Contents
 pub mod Faults
 pub mod Kept

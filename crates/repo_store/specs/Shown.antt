@@ -6,6 +6,7 @@ use Rattle.sqlite_trees.specs.Tree.{Trees}
 use Rattle.sqlite.specs.Held.{Held, held_code, state}
 use Rattle.sqlite.specs.State.{HasCleanDisk, Survives}
 use Rattle.store_tables.specs.Tables.{Holds, with_schema}
+use Rattle.repo_store.specs.Complete.{IsComplete}
 use Rattle.repo_store.specs.Kept.{Kept, kept_code}
 use Rattle.repo_store.specs.Rows.{tables_of}
 
@@ -17,15 +18,17 @@ pub record Shown (S : Type 0) : Type 0 where
 abbrev pub shown_code : {S : Type 0} → Coded S → Coded (Shown S)
 shown_code {S} store = code_by (Held S × Kept) (coded× (held_code store) kept_code) (λ s. (s.conn, s.kept)) (λ p. record { conn = p.0; kept = p.1 }) (λ _. refl)
 
--- While the connection is open, the repository stands in its tables, and is committed.
+-- What is kept is one whole repository, and while the connection is open, it stands in its tables, and is committed.
 pub record Stands {S : Type 0} (g : Ghosts S) (conn : Held S) (kept : Kept) : Type 0 where
   pub outside : conn.in_transaction ≡ false
+  pub complete : IsComplete kept
   pub now : IsTrue (state g conn).is_open → Holds (state g conn).now (tables_of kept.repo kept.contents)
   pub committed : IsTrue (state g conn).is_open → Holds (state g conn).committed (tables_of kept.repo kept.contents)
 
--- opened again, the trees are a store that keeps this
-abbrev pub Leaves : Kept → Trees → Type 0
-Leaves kept trees = Holds (with_schema trees) (tables_of kept.repo kept.contents)
+-- opened again, the trees are a store that keeps this, one whole repository
+pub record Leaves (kept : Kept) (trees : Trees) : Type 0 where
+  pub holds : Holds (with_schema trees) (tables_of kept.repo kept.contents)
+  pub complete : IsComplete kept
 
 -- One call that makes of a store what is kept after it, in one transaction: all of it at `Ok`, and nothing otherwise. What
 -- the store shows then is what its tables hold. A crash leaves what it could leave before, or all of it; once the call has

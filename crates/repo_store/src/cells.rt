@@ -1,5 +1,6 @@
 ghost use Rattle.std.specs.Prelude.{◌≡◌, ◌⊎◌, pos, true, false, map, IfOk, IfErr, IfSome, IfNone, OnOk};
 ghost use Rattle.sha2.specs.Sha256.{sha256};
+ghost use Rattle.repo_store.specs.Complete.{IsAmong};
 ghost use Rattle.repo_store.specs.Faults.{IsDamage};
 ghost use Rattle.repo_store.specs.Lists.{file_of};
 ghost use Rattle.repo_store.specs.Rows.{blob_row, mode_number, staged_row};
@@ -17,6 +18,7 @@ use std::str;
 fn find<'a>(contents: &'a Contents, digest: &[u8]) -> Option<&'a Content>
     ensures under { IfSome result (λ content. sha256 content.now ≡ digest.now) }
     ensures kept { IfSome result (λ _. is_kept (map blob_row contents.now) digest.now ≡ true) }
+    ensures among { IfSome result (λ content. IsAmong contents.now content.now) }
     ensures absent { IfNone result (is_kept (map blob_row contents.now) digest.now ≡ false) }
 {
     match <&[u8; 32]>::try_from(digest) {
@@ -29,6 +31,7 @@ fn find<'a>(contents: &'a Contents, digest: &[u8]) -> Option<&'a Content>
 pub fn content_at(contents: &Contents, digest: &[u8]) -> Result<Content, StoreFault>
     ensures found { IfOk result (λ content. sha256 content ≡ digest.now) }
     ensures kept { OnOk result (is_kept (map blob_row contents.now) digest.now ≡ true) }
+    ensures among { IfOk result (IsAmong contents.now) }
     ensures missing { IfErr result (IsDamage (is_kept (map blob_row contents.now) digest.now ≡ false)) }
 {
     match find(contents, digest) {
@@ -77,6 +80,7 @@ pub fn file_at(
     digest: &[u8],
 ) -> Result<HeldFile, StoreFault>
     ensures file { IfOk result (λ file. staged_row (file_of file) ≡ record { path = path.now; mode = mode; digest = digest.now }) }
+    ensures among { IfOk result (λ file. IsAmong contents.now file.content) }
     ensures whole { OnOk result (IsFileRow (map blob_row contents.now) path.now mode digest.now) }
     ensures broken { IfErr result (IsDamage (¬ IsFileRow (map blob_row contents.now) path.now mode digest.now)) }
 {

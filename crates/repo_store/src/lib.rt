@@ -2,8 +2,9 @@
 //! types are `Store`, `StoreFault`, `Digest` (of contents) and `LogEntry` (a commit in the log). Contracts cite
 //! `specs/Repository` and `specs/Log` (the repository as plain lists), `specs/Kept` and `specs/Contents` (what each call
 //! makes of it and of the contents, and which collide), `specs/Limits`, `specs/Faults` (when each refusal may come),
-//! `specs/Rows` (the tables of a repository), `specs/Whole` (the rules of their rows), `specs/Calls` and `specs/Shown` (what
-//! is seen of a store, and what a refusal or a crash leaves), and `specs/Opens` (why a database isn't opened).
+//! `specs/Rows` (the tables of a repository), `specs/Whole` (the rules of their rows), `specs/Complete` (a whole repository),
+//! `specs/Calls` and `specs/Shown` (what is seen of a store, and what a refusal or a crash leaves), and `specs/Opens` (why a
+//! database isn't opened). [`laws`] says that a database holds one whole repository at most.
 #![tactic(auto)]
 
 mod accept;
@@ -18,6 +19,7 @@ mod fault;
 mod files;
 mod fixes;
 mod held;
+pub mod laws;
 mod lists;
 mod load;
 mod loaded;

@@ -2,6 +2,7 @@ ghost use Rattle.std.specs.Prelude.{◌≡◌, ◌↔◌, pos, ◌∷◌, [], fa
 ghost use Rattle.sqlite.specs.Effect.{IsDatabase};
 ghost use Rattle.sqlite.specs.Held.{state};
 ghost use Rattle.store_tables.specs.Schema.{store_schema};
+ghost use Rattle.repo_store.specs.Complete.{IsComplete};
 ghost use Rattle.repo_store.specs.Opens.{AreListed, AreLoaded};
 ghost use Rattle.repo_store.specs.Rows.{tables_of, version_row};
 ghost use Rattle.repo_store.specs.Whole.{IsWhole};
@@ -41,6 +42,7 @@ fn is_versioned(rows: &[MetaRow]) -> bool
 fn load_in<S: Alter>(alloc: Global, tx: &mut Transaction<'_, S>) -> Result<Lists, StoreFault>
     ensures same_reference { tx.new.conn.ghost_name ≡ tx.old.conn.ghost_name }
     ensures listed { AreListed S.Store tx.old.conn.now tx.new.conn.now result }
+    ensures complete { IfOk result (λ lists. IsComplete lists.kept) }
     ensures whole { IfOk result (λ lists. IsWhole (tables_of lists.kept.repo lists.kept.contents)) }
 {
     match read_meta(alloc, tx) {
@@ -72,6 +74,7 @@ pub(crate) fn has_tables<S: Alter>(conn: &Connection<S>) -> bool
 pub(crate) fn load<S: Alter>(alloc: Global, conn: &mut Connection<S>) -> Result<Lists, StoreFault>
     requires { conn.old.in_transaction ≡ false }
     ensures loaded { AreLoaded S.Store conn.old conn.new result }
+    ensures complete { IfOk result (λ lists. IsComplete lists.kept) }
     ensures whole { IfOk result (λ lists. IsWhole (tables_of lists.kept.repo lists.kept.contents)) }
 {
     let mut tx = conn.transaction();

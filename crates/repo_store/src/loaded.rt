@@ -1,10 +1,11 @@
-ghost use Rattle.std.specs.Prelude.{◌≡◌, ◌+◌, ◌<◌, ◌≤◌, ◌^◌, ◌∷◌, [], ◌++◌, map, pos, length, true, IsTrue, IsPermutation, IfOk, IfErr, IfSome, IfNone, OnOk, OnErr};
+ghost use Rattle.std.specs.Prelude.{◌≡◌, ◌+◌, ◌<◌, ◌≤◌, ◌^◌, ◌∷◌, [], ◌++◌, map, pos, length, true, IsTrue, IsPermutation, IfOk, IfErr, IfSome, IfNone, OnOk, OnErr, MatchOption};
 ghost use Rattle.std.specs.List.{AllByRecursion};
 ghost use Rattle.store_tables.specs.Rowids.{IsBelow, IsRising as IsRisingNumbers};
 ghost use Rattle.hook_base.specs.declared.change.Change.{Change};
 ghost use Rattle.hook_base.specs.declared.file.File.{File};
 ghost use Rattle.hook_base.specs.Rising.{IsBelow as IsBelowPath};
 ghost use Rattle.hook_base.specs.Trees.{IsRising, IsRisingChanges};
+ghost use Rattle.repo_store.specs.Complete.{HaveContents, HaveNewContents, IsAmong, IsComplete};
 ghost use Rattle.repo_store.specs.Faults.{IsDamage};
 ghost use Rattle.repo_store.specs.Limits.{Fits, IsSmall};
 ghost use Rattle.repo_store.specs.Lists.{commit_of, file_of, fix_of};
@@ -87,6 +88,7 @@ fn files_of(
 ) -> Result<Vec<HeldFile>, StoreFault>
     ensures files { IfOk result (λ files. map staged_row (map file_of files.items) ≡ rows.now) }
     ensures rising { IfOk result (λ files. IsRising (map file_of files.items)) }
+    ensures among { IfOk result (λ files. HaveContents contents.now (map file_of files.items)) }
     ensures whole { OnOk result (AllByRecursion (IsStagedRow (map blob_row contents.now)) rows.now) }
     ensures broken { IfErr result (IsDamage (¬ AllByRecursion (IsStagedRow (map blob_row contents.now)) rows.now)) }
 {
@@ -119,6 +121,7 @@ fn staged_of(
     ensures files { IfOk result (λ files. map staged_row (map file_of files.items) ≡ rows.now) }
     ensures rising { IfOk result (λ files. IsRising (map file_of files.items)) }
     ensures fits { IfOk result (λ files. Fits (map file_of files.items)) }
+    ensures among { IfOk result (λ files. HaveContents contents.now (map file_of files.items)) }
     ensures whole { OnOk result (AreStagedRows (map blob_row contents.now) rows.now) }
     ensures broken { IfErr result (IsDamage (¬ AreStagedRows (map blob_row contents.now) rows.now)) }
 {
@@ -136,6 +139,7 @@ fn staged_of(
 /// What a fix makes of its file: its contents, or none where it is gone.
 fn now_of(contents: &Contents, row: &FixRow) -> Result<Option<Content>, StoreFault>
     ensures now { IfOk result (λ now. fix_at row.now.path now ≡ row.now) }
+    ensures among { IfOk result (λ now. MatchOption now (Unit {0}) (IsAmong contents.now)) }
     ensures marked { OnOk result (IsMarked (map blob_row contents.now) row.now.gone row.now.digest) }
     ensures broken { IfErr result (IsDamage (¬ IsMarked (map blob_row contents.now) row.now.gone row.now.digest)) }
 {
@@ -167,6 +171,7 @@ fn held_fix(
 ) -> Result<HeldFix, StoreFault>
     requires { IsRising (map file_of staged.now) }
     ensures fix { IfOk result (λ fix. fix_row (fix_of fix) ≡ row.now) }
+    ensures among { IfOk result (λ fix. MatchOption fix.now (Unit {0}) (IsAmong contents.now)) }
     ensures whole { OnOk result (IsFixRow (map blob_row contents.now) (map staged_row (map file_of staged.now)) row.now) }
     ensures broken { IfErr result (IsDamage (¬ IsFixRow (map blob_row contents.now) (map staged_row (map file_of staged.now)) row.now)) }
 {
@@ -220,6 +225,7 @@ fn fixes_of(
     requires { IsRising (map file_of staged.now) }
     ensures fixes { IfOk result (λ fixes. map fix_row (map fix_of fixes.items) ≡ rows.now) }
     ensures rising { IfOk result (λ fixes. IsRisingChanges (map fix_of fixes.items)) }
+    ensures among { IfOk result (λ fixes. HaveNewContents contents.now (map fix_of fixes.items)) }
     ensures whole { OnOk result (AllByRecursion (IsFixRow (map blob_row contents.now) (map staged_row (map file_of staged.now))) rows.now) }
     ensures broken { IfErr result (IsDamage (¬ AllByRecursion (IsFixRow (map blob_row contents.now) (map staged_row (map file_of staged.now))) rows.now)) }
 {
@@ -343,6 +349,7 @@ fn add_entries(
 ) -> Result<(), StoreFault>
     requires { AreBare (map commit_of history.old.items) }
     ensures entered { OnOk result (AreEntered (map commit_of history.old.items) (map commit_of history.new.items) rows.now) }
+    ensures among { OnOk result (AllByRecursion (λ (commit : Commit). HaveContents contents.now commit.tree) (map commit_of history.new.items)) }
     ensures whole { OnOk result (AllByRecursion (IsEntryRow (map blob_row contents.now) (length history.old.items)) rows.now) }
     ensures broken { IfErr result (IsDamage (¬ AllByRecursion (IsEntryRow (map blob_row contents.now) (length history.old.items)) rows.now)) }
 {
@@ -378,6 +385,7 @@ fn commits_of(
     ensures commits { IfOk result (λ history. commit_rows 1 (map commit_of history.items) ≡ commits.items) }
     ensures entries { IfOk result (λ history. IsPermutation (entry_rows 1 (map commit_of history.items)) entries.now) }
     ensures rising { IfOk result (λ history. AllByRecursion (λ (commit : Commit). IsRising commit.tree) (map commit_of history.items)) }
+    ensures among { IfOk result (λ history. AllByRecursion (λ (commit : Commit). HaveContents contents.now commit.tree) (map commit_of history.items)) }
     ensures whole { OnOk result (AreCommitRows commits.items × AllByRecursion (IsEntryRow (map blob_row contents.now) (length commits.items)) entries.now) }
     ensures broken { IfErr result (IsDamage (¬ (AreCommitRows commits.items × AllByRecursion (IsEntryRow (map blob_row contents.now) (length commits.items)) entries.now))) }
 {
@@ -396,6 +404,7 @@ fn commits_of(
 /// The lists that these rows stand for.
 pub(crate) fn lists_of(alloc: Global, rows: StoreRows) -> Result<Lists, StoreFault>
     ensures same { IfOk result (λ lists. IsSame (rows_in rows) (tables_of lists.kept.repo lists.kept.contents)) }
+    ensures complete { IfOk result (λ lists. IsComplete lists.kept) }
     ensures whole { OnOk result (IsWhole (rows_in rows)) }
     ensures broken { IfErr result (IsDamage (¬ IsWhole (rows_in rows))) }
 {

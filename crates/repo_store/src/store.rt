@@ -8,9 +8,10 @@ ghost use Rattle.sqlite.specs.Held.{state};
 ghost use Rattle.sqlite.specs.State.{HasCleanDisk, Survives};
 ghost use Rattle.store_tables.specs.Tables.{Holds};
 ghost use Rattle.repo_store.specs.Calls.{Rests};
+ghost use Rattle.repo_store.specs.Complete.{AreAlike};
 ghost use Rattle.repo_store.specs.Contents.{Collides};
 ghost use Rattle.repo_store.specs.Faults.{IsRefusal};
-ghost use Rattle.repo_store.specs.Kept.{FixCollides, HasLarge, accepting, committing, keeping, setting, staging, unstaging};
+ghost use Rattle.repo_store.specs.Kept.{FixCollides, HasLarge, Kept, accepting, committing, keeping, setting, staging, unstaging};
 ghost use Rattle.repo_store.specs.Limits.{Fits, IsSmall};
 ghost use Rattle.repo_store.specs.Log.{log_from};
 ghost use Rattle.repo_store.specs.Opens.{IsUnfit};
@@ -87,14 +88,15 @@ impl<S: Alter> Store<S> {
         }
     }
 
-    /// Opens the store that a database holds, and changes nothing. Refused are a database that hasn't exactly the tables
-    /// of a store, or whose `meta` holds anything but the one row of version 1 (`NotAStore`), and tables whose rows break
-    /// a rule of a store (`Damaged`). A refusal gives the connection back, with the tables as before where it is still
-    /// open.
+    /// Opens the store that a database holds, and changes nothing. After a crash it is the repository that the crash
+    /// left. Refused are a database that hasn't exactly the tables of a store, or whose `meta` holds anything but the
+    /// one row of version 1 (`NotAStore`), and tables whose rows break a rule of a store (`Damaged`). A refusal gives
+    /// the connection back, with the tables as before where it is still open.
     pub fn open(alloc: Global, conn: Connection<S>) -> Result<Store<S>, (StoreFault, Connection<S>)>
         requires { conn.in_transaction ≡ false }
         ensures stands { IfOk result (λ store. Stands S.Store store.conn store.kept) }
         ensures holds { IfOk result (λ store. IsTrue (state S.Store store.conn).is_open → Holds (state S.Store conn).committed (tables_of store.kept.repo store.kept.contents)) }
+        ensures again { IfOk result (λ store. IsTrue (state S.Store store.conn).is_open → (kept : Kept) → Leaves kept (state S.Store conn).committed.trees → AreAlike store.kept kept) }
         ensures whole { IfOk result (λ store. IsWhole (tables_of store.kept.repo store.kept.contents)) }
         ensures same { IfOk result (λ store. Rests (state S.Store conn) (state S.Store store.conn)) }
         ensures refused { IfErr result (λ e. Rests (state S.Store conn) (state S.Store e.1)) }

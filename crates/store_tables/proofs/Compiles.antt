@@ -1,5 +1,5 @@
 -- What the texts of the statements compile to.
-use Rattle.std.proofs.Common.{◌≡◌, ℕ, List, [], ◌∷◌, codes, Ok, false, refl}
+use Rattle.std.proofs.Common.{◌≡◌, ℕ, List, [], ◌∷◌, ◌++◌, codes, Ok, false, refl}
 use Rattle.sqlite_value.specs.declared.value.Value.TheVariants.{Null}
 use Rattle.sqlite_value.specs.declared.keys.Key.{Key}
 use Rattle.sqlite_value.specs.declared.keys.Collation.TheVariants.{Binary}
@@ -16,6 +16,8 @@ use Rattle.sqlite_resolve.specs.Compile.{table_defined_by}
 use Rattle.sqlite_tied.specs.Compute.{everything}
 use Rattle.sqlite.specs.Listing.{understood, reads_listing}
 use Rattle.sqlite_schema.specs.declared.schema.Table.{Table}
+use Rattle.sqlite_schema.specs.declared.schema.Index.{Index}
+use Rattle.sqlite_schema.specs.declared.schema.Schema.{Schema}
 use Rattle.store_tables.specs.Schema.{meta, blobs, staged, fixes, commits, entries, answers, store_schema}
 
 -- a table before it is given its tree
@@ -113,36 +115,12 @@ five = lit Null ∷ col 0 0 ∷ col 0 1 ∷ col 0 2 ∷ col 0 3 ∷ col 0 4 ∷ 
 abbrev pub keyed_two : List Term
 keyed_two = col 0 0 ∷ lit Null ∷ col 0 1 ∷ []
 
-abbrev pub Compiles : List ℕ → Command → Type 0
-Compiles text command = (command_of (understood store_schema text) ≡ command) × IsPlain (understood store_schema text)
+abbrev pub Compiles : Schema → List ℕ → Command → Type 0
+Compiles schema text command = (command_of (understood schema text) ≡ command) × IsPlain (understood schema text)
 
-pub put_meta_is : Compiles put_meta (Insert 0 (Values two 3))
-unfolding understood everything
-put_meta_is = (refl, (refl, refl))
-
-pub put_blob_is : Compiles put_blob (Insert 1 (Values two 3))
-unfolding understood everything
-put_blob_is = (refl, (refl, refl))
-
-pub put_staged_is : Compiles put_staged (Insert 2 (Values three 4))
-unfolding understood everything
-put_staged_is = (refl, (refl, refl))
-
-pub put_fix_is : Compiles put_fix (Insert 3 (Values three 4))
-unfolding understood everything
-put_fix_is = (refl, (refl, refl))
-
-pub put_commit_is : Compiles put_commit (Insert 4 (Values keyed_two 3))
-unfolding understood everything
-put_commit_is = (refl, (refl, refl))
-
-pub put_entry_is : Compiles put_entry (Insert 5 (Values four 5))
-unfolding understood everything
-put_entry_is = (refl, (refl, refl))
-
-pub put_answer_is : Compiles put_answer (Insert 6 (Values five 6))
-unfolding understood everything
-put_answer_is = (refl, (refl, refl))
+-- a store with more tables after its own, as a later version of it has them
+abbrev pub store_with : List Table → List Index → Schema
+store_with tables indexes = record { tables = store_schema.tables ++ tables; indexes = store_schema.indexes ++ indexes; views = [] }
 
 abbrev pub take_staged : List ℕ
 take_staged = codes "DELETE FROM staged WHERE path = ?1"
@@ -155,18 +133,6 @@ clear_answers = codes "DELETE FROM answers"
 
 abbrev pub path_is_given : List Term
 path_is_given = op2 (Compare Eq Binary) (col 1 1) (col 0 0) ∷ []
-
-pub take_staged_is : Compiles take_staged (Delete 2 (record { lets = []; body = plain_query 4 path_is_given (col 1 0 ∷ []) [] }))
-unfolding understood everything
-take_staged_is = (refl, (refl, refl))
-
-pub clear_fixes_is : Compiles clear_fixes (Delete 3 (record { lets = []; body = plain_query 6 [] (col 1 0 ∷ []) [] }))
-unfolding understood everything
-clear_fixes_is = (refl, (refl, refl))
-
-pub clear_answers_is : Compiles clear_answers (Delete 6 (record { lets = []; body = plain_query 11 [] (col 1 0 ∷ []) [] }))
-unfolding understood everything
-clear_answers_is = (refl, (refl, refl))
 
 -- ---- queries
 
@@ -192,38 +158,84 @@ abbrev pub all_answers : List ℕ
 all_answers = codes "SELECT rowid, words, seen, output, changes, status FROM answers ORDER BY words, seen"
 
 -- the text is a query over one table, that shows these places in this order
-abbrev pub Selects : List ℕ → ℕ → List Term → List (Term × Key) → List (List ℕ) → Type 0
-Selects text tree project order names =
-    Compiles text (Select (record { lets = []; body = plain_query tree [] project order }) names) × (reads_listing store_schema text ≡ false)
+abbrev pub Selects : Schema → List ℕ → ℕ → List Term → List (Term × Key) → List (List ℕ) → Type 0
+Selects schema text tree project order names =
+    Compiles schema text (Select (record { lets = []; body = plain_query tree [] project order }) names) × (reads_listing schema text ≡ false)
 
 abbrev pub rising : ℕ → Term × Key
 rising place = (col 1 place, ascending Binary)
 
-pub all_meta_is : Selects all_meta 0 (col 1 1 ∷ col 1 2 ∷ []) (rising 1 ∷ []) (codes "name" ∷ codes "value" ∷ [])
-unfolding understood everything
-all_meta_is = ((refl, (refl, refl)), refl)
+-- ---- what they compile to, whatever tables stand after those of a store
 
-pub all_blobs_is : Selects all_blobs 2 (col 1 1 ∷ col 1 2 ∷ []) (rising 1 ∷ []) (codes "digest" ∷ codes "bytes" ∷ [])
-unfolding understood everything
-all_blobs_is = ((refl, (refl, refl)), refl)
+module _ (tables : List Table) (indexes : List Index) where
+  abbrev schema : Schema
+  schema = store_with tables indexes
 
-pub all_staged_is : Selects all_staged 4 (col 1 0 ∷ col 1 1 ∷ col 1 2 ∷ col 1 3 ∷ []) (rising 1 ∷ []) (codes "rowid" ∷ codes "path" ∷ codes "mode" ∷ codes "digest" ∷ [])
-unfolding understood everything
-all_staged_is = ((refl, (refl, refl)), refl)
+  pub put_meta_is : Compiles schema put_meta (Insert 0 (Values two 3))
+  unfolding understood everything
+  put_meta_is = (refl, (refl, refl))
 
-pub all_fixes_is : Selects all_fixes 6 (col 1 0 ∷ col 1 1 ∷ col 1 2 ∷ col 1 3 ∷ []) (rising 1 ∷ []) (codes "rowid" ∷ codes "path" ∷ codes "gone" ∷ codes "digest" ∷ [])
-unfolding understood everything
-all_fixes_is = ((refl, (refl, refl)), refl)
+  pub put_blob_is : Compiles schema put_blob (Insert 1 (Values two 3))
+  unfolding understood everything
+  put_blob_is = (refl, (refl, refl))
 
-pub all_commits_is : Selects all_commits 8 (col 1 0 ∷ col 1 2 ∷ []) (rising 0 ∷ []) (codes "n" ∷ codes "message" ∷ [])
-unfolding understood everything
-all_commits_is = ((refl, (refl, refl)), refl)
+  pub put_staged_is : Compiles schema put_staged (Insert 2 (Values three 4))
+  unfolding understood everything
+  put_staged_is = (refl, (refl, refl))
 
-pub all_entries_is : Selects all_entries 9 (col 1 1 ∷ col 1 2 ∷ col 1 3 ∷ col 1 4 ∷ []) (rising 1 ∷ rising 2 ∷ []) (codes "n" ∷ codes "path" ∷ codes "mode" ∷ codes "digest" ∷ [])
-unfolding understood everything
-all_entries_is = ((refl, (refl, refl)), refl)
+  pub put_fix_is : Compiles schema put_fix (Insert 3 (Values three 4))
+  unfolding understood everything
+  put_fix_is = (refl, (refl, refl))
 
-pub all_answers_is : Selects all_answers 11 (col 1 0 ∷ col 1 1 ∷ col 1 2 ∷ col 1 3 ∷ col 1 4 ∷ col 1 5 ∷ []) (rising 1 ∷ rising 2 ∷ [])
-    (codes "rowid" ∷ codes "words" ∷ codes "seen" ∷ codes "output" ∷ codes "changes" ∷ codes "status" ∷ [])
-unfolding understood everything
-all_answers_is = ((refl, (refl, refl)), refl)
+  pub put_commit_is : Compiles schema put_commit (Insert 4 (Values keyed_two 3))
+  unfolding understood everything
+  put_commit_is = (refl, (refl, refl))
+
+  pub put_entry_is : Compiles schema put_entry (Insert 5 (Values four 5))
+  unfolding understood everything
+  put_entry_is = (refl, (refl, refl))
+
+  pub put_answer_is : Compiles schema put_answer (Insert 6 (Values five 6))
+  unfolding understood everything
+  put_answer_is = (refl, (refl, refl))
+
+  pub take_staged_is : Compiles schema take_staged (Delete 2 (record { lets = []; body = plain_query 4 path_is_given (col 1 0 ∷ []) [] }))
+  unfolding understood everything
+  take_staged_is = (refl, (refl, refl))
+
+  pub clear_fixes_is : Compiles schema clear_fixes (Delete 3 (record { lets = []; body = plain_query 6 [] (col 1 0 ∷ []) [] }))
+  unfolding understood everything
+  clear_fixes_is = (refl, (refl, refl))
+
+  pub clear_answers_is : Compiles schema clear_answers (Delete 6 (record { lets = []; body = plain_query 11 [] (col 1 0 ∷ []) [] }))
+  unfolding understood everything
+  clear_answers_is = (refl, (refl, refl))
+
+  pub all_meta_is : Selects schema all_meta 0 (col 1 1 ∷ col 1 2 ∷ []) (rising 1 ∷ []) (codes "name" ∷ codes "value" ∷ [])
+  unfolding understood everything
+  all_meta_is = ((refl, (refl, refl)), refl)
+
+  pub all_blobs_is : Selects schema all_blobs 2 (col 1 1 ∷ col 1 2 ∷ []) (rising 1 ∷ []) (codes "digest" ∷ codes "bytes" ∷ [])
+  unfolding understood everything
+  all_blobs_is = ((refl, (refl, refl)), refl)
+
+  pub all_staged_is : Selects schema all_staged 4 (col 1 0 ∷ col 1 1 ∷ col 1 2 ∷ col 1 3 ∷ []) (rising 1 ∷ []) (codes "rowid" ∷ codes "path" ∷ codes "mode" ∷ codes "digest" ∷ [])
+  unfolding understood everything
+  all_staged_is = ((refl, (refl, refl)), refl)
+
+  pub all_fixes_is : Selects schema all_fixes 6 (col 1 0 ∷ col 1 1 ∷ col 1 2 ∷ col 1 3 ∷ []) (rising 1 ∷ []) (codes "rowid" ∷ codes "path" ∷ codes "gone" ∷ codes "digest" ∷ [])
+  unfolding understood everything
+  all_fixes_is = ((refl, (refl, refl)), refl)
+
+  pub all_commits_is : Selects schema all_commits 8 (col 1 0 ∷ col 1 2 ∷ []) (rising 0 ∷ []) (codes "n" ∷ codes "message" ∷ [])
+  unfolding understood everything
+  all_commits_is = ((refl, (refl, refl)), refl)
+
+  pub all_entries_is : Selects schema all_entries 9 (col 1 1 ∷ col 1 2 ∷ col 1 3 ∷ col 1 4 ∷ []) (rising 1 ∷ rising 2 ∷ []) (codes "n" ∷ codes "path" ∷ codes "mode" ∷ codes "digest" ∷ [])
+  unfolding understood everything
+  all_entries_is = ((refl, (refl, refl)), refl)
+
+  pub all_answers_is : Selects schema all_answers 11 (col 1 0 ∷ col 1 1 ∷ col 1 2 ∷ col 1 3 ∷ col 1 4 ∷ col 1 5 ∷ []) (rising 1 ∷ rising 2 ∷ [])
+      (codes "rowid" ∷ codes "words" ∷ codes "seen" ∷ codes "output" ∷ codes "changes" ∷ codes "status" ∷ [])
+  unfolding understood everything
+  all_answers_is = ((refl, (refl, refl)), refl)

@@ -3,48 +3,51 @@ use Rattle.std.proofs.Common.{◌≡◌, ℕ, List, [], ◌∷◌, true, codes, 
 use Rattle.std.proofs.lemmas.List.Sorted.{IsPermutation-refl}
 use Rattle.sqlite_value.specs.Order.{Row}
 use Rattle.sqlite_sql.specs.Term.{col}
+use Rattle.sqlite_schema.specs.declared.schema.Table.{Table}
+use Rattle.sqlite_schema.specs.declared.schema.Index.{Index}
+use Rattle.sqlite_schema.specs.declared.schema.Schema.{Schema}
 use Rattle.sqlite_schema.specs.declared.command.Command.TheVariants.{Delete}
 use Rattle.sqlite_rules.specs.Edit.{have_rowids}
 use Rattle.sqlite_tied.specs.Compute.{everything}
 use Rattle.sqlite.specs.Listing.{understood}
 use Rattle.sqlite.specs.State.{State, Executes}
 use Rattle.sqlite.proofs.Callers.{runs_as}
-use Rattle.store_tables.specs.Schema.{store_schema}
-use Rattle.store_tables.specs.Tables.{Tables, Holds, Stored, AreKeyed, meta_cells, blob_cells, staged_cells, fix_cells, commit_cells, entry_cells, answer_cells, without_all_staged}
-use Rattle.store_tables.proofs.Compiles.{Compiles}
+use Rattle.store_tables.specs.Tables.{Tables, HoldsIn, Stored, AreKeyed, meta_cells, blob_cells, staged_cells, fix_cells, commit_cells, entry_cells, answer_cells, without_all_staged}
+use Rattle.store_tables.proofs.Compiles.{Compiles, store_with}
 use Rattle.store_tables.proofs.QueryLemmas.{plain_query}
-use Rattle.store_tables.proofs.WriteLemmas.{NoneActs, empties}
+use Rattle.store_tables.proofs.WriteLemmas.{NoneActs, store_stays, empties}
 
 abbrev pub clear_text : List ℕ
 clear_text = codes "DELETE FROM staged"
 
-clear_is : Compiles clear_text (Delete 2 (record { lets = []; body = plain_query 4 [] (col 1 0 ∷ []) [] }))
-unfolding understood everything
-clear_is = (refl, (refl, refl))
-
 abbrev AreNumbered : List Row → Type 0
 AreNumbered rows = have_rowids rows ≡ true
 
-none_acts : NoneActs store_schema
-none_acts = (tt, ((tt, ((refl, tt), ((refl, tt), (tt, ((refl, (refl, tt)), ((refl, (refl, (refl, (refl, tt)))), tt))))))))
+module _ (tables : List Table) (indexes : List Index) where
+  abbrev schema : Schema
+  schema = store_with tables indexes
 
-pub clear_staged : (old new : State) (t : Tables) (count : ℕ) → Holds old.now t → Executes clear_text [] old new (Ok count) → Holds new.now (without_all_staged t)
-clear_staged old new t count h ran =
-    let w = runs_as clear_text [] old new store_schema h.schema _ clear_is.0 clear_is.1 count ran in
-    let p = empties store_schema 2 _ 4 _ _ _ _ _ refl old new h.schema _ [] count none_acts h.staged_keyed.numbered w in
-    let q = p.1 in
-    let o = q.others in
-    record {
-      schema = p.0;
-      sound = w.sound;
-      meta = subst (Stored meta_cells (1 ∷ 2 ∷ []) t.meta) (sym (o.0 (omega arith))) h.meta;
-      blobs = subst (Stored blob_cells (1 ∷ 2 ∷ []) t.blobs) (sym (o.1.0 (omega arith))) h.blobs;
-      staged = subst (Stored staged_cells (1 ∷ 2 ∷ 3 ∷ []) []) (sym q.rows_are) (IsPermutation-refl []);
-      staged_keyed = subst AreKeyed (sym q.rows_are) (record { numbered = refl; apart = tt });
-      fixes = subst (Stored fix_cells (1 ∷ 2 ∷ 3 ∷ []) t.fixes) (sym (o.1.1.1.0 (omega arith))) h.fixes;
-      fixes_numbered = subst AreNumbered (sym (o.1.1.1.0 (omega arith))) h.fixes_numbered;
-      commits = subst (Stored commit_cells (0 ∷ 2 ∷ []) t.commits) (sym (o.1.1.1.1.0 (omega arith))) h.commits;
-      entries = subst (Stored entry_cells (1 ∷ 2 ∷ 3 ∷ 4 ∷ []) t.entries) (sym (o.1.1.1.1.1.0 (omega arith))) h.entries;
-      answers = subst (Stored answer_cells (1 ∷ 2 ∷ 3 ∷ 4 ∷ 5 ∷ []) t.answers) (sym (o.1.1.1.1.1.1.0 (omega arith))) h.answers;
-      answers_numbered = subst AreNumbered (sym (o.1.1.1.1.1.1.0 (omega arith))) h.answers_numbered;
-    }
+  clear_is : Compiles schema clear_text (Delete 2 (record { lets = []; body = plain_query 4 [] (col 1 0 ∷ []) [] }))
+  unfolding understood everything
+  clear_is = (refl, (refl, refl))
+
+  pub clear_staged : NoneActs tables → (old new : State) (t : Tables) (count : ℕ) → HoldsIn schema old.now t → Executes clear_text [] old new (Ok count) → HoldsIn schema new.now (without_all_staged t)
+  clear_staged stay old new t count h ran =
+      let w = runs_as clear_text [] old new schema h.schema _ clear_is.0 clear_is.1 count ran in
+      let p = empties schema 2 _ 4 _ _ _ _ _ refl old new h.schema _ [] count (store_stays tables stay) h.staged_keyed.numbered w in
+      let q = p.1 in
+      let o = q.others in
+      record {
+        schema = p.0;
+        sound = w.sound;
+        meta = subst (Stored meta_cells (1 ∷ 2 ∷ []) t.meta) (sym (o.0 (omega arith))) h.meta;
+        blobs = subst (Stored blob_cells (1 ∷ 2 ∷ []) t.blobs) (sym (o.1.0 (omega arith))) h.blobs;
+        staged = subst (Stored staged_cells (1 ∷ 2 ∷ 3 ∷ []) []) (sym q.rows_are) (IsPermutation-refl []);
+        staged_keyed = subst AreKeyed (sym q.rows_are) (record { numbered = refl; apart = tt });
+        fixes = subst (Stored fix_cells (1 ∷ 2 ∷ 3 ∷ []) t.fixes) (sym (o.1.1.1.0 (omega arith))) h.fixes;
+        fixes_numbered = subst AreNumbered (sym (o.1.1.1.0 (omega arith))) h.fixes_numbered;
+        commits = subst (Stored commit_cells (0 ∷ 2 ∷ []) t.commits) (sym (o.1.1.1.1.0 (omega arith))) h.commits;
+        entries = subst (Stored entry_cells (1 ∷ 2 ∷ 3 ∷ 4 ∷ []) t.entries) (sym (o.1.1.1.1.1.0 (omega arith))) h.entries;
+        answers = subst (Stored answer_cells (1 ∷ 2 ∷ 3 ∷ 4 ∷ 5 ∷ []) t.answers) (sym (o.1.1.1.1.1.1.0 (omega arith))) h.answers;
+        answers_numbered = subst AreNumbered (sym (o.1.1.1.1.1.1.0 (omega arith))) h.answers_numbered;
+      }

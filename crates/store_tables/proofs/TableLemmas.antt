@@ -13,6 +13,9 @@ use Rattle.sqlite_trees.specs.Tree.{put_row}
 use Rattle.sqlite_sql.specs.Ops.{unary, binary, is_true, from_truth}
 use Rattle.sqlite_sql.specs.declared.ops.BinaryOp.TheVariants.{Compare}
 use Rattle.sqlite_sql.specs.declared.ops.CompareOp.TheVariants.{Eq}
+use Rattle.sqlite_schema.specs.declared.schema.Table.{Table}
+use Rattle.sqlite_schema.specs.declared.schema.Index.{Index}
+use Rattle.sqlite_schema.specs.declared.schema.Schema.{Schema}
 use Rattle.sqlite_schema.specs.declared.schema.Kind.TheVariants.{Integer}
 use Rattle.sqlite_schema.specs.declared.command.Source.TheVariants.{Values}
 use Rattle.sqlite_schema.specs.declared.command.Command.TheVariants.{Insert}
@@ -30,13 +33,12 @@ use Rattle.store_tables.specs.declared.rows.FixRow.{FixRow}
 use Rattle.store_tables.specs.declared.rows.CommitRow.{CommitRow}
 use Rattle.store_tables.specs.declared.rows.EntryRow.{EntryRow}
 use Rattle.store_tables.specs.declared.rows.AnswerRow.{AnswerRow}
-use Rattle.store_tables.specs.Schema.{store_schema}
-use Rattle.store_tables.specs.Tables.{Tables, Holds, Stored, AreKeyed, meta_cells, blob_cells, staged_cells, fix_cells, commit_cells, entry_cells, answer_cells, with_meta, with_blob, with_staged, without_staged, with_fix, fix_row, without_fixes, with_commit, with_entry, with_answer, without_answers}
+use Rattle.store_tables.specs.Tables.{Tables, HoldsIn, Stored, AreKeyed, meta_cells, blob_cells, staged_cells, fix_cells, commit_cells, entry_cells, answer_cells, with_meta, with_blob, with_staged, without_staged, with_fix, fix_row, without_fixes, with_commit, with_entry, with_answer, without_answers}
 use Rattle.store_tables.proofs.Compiles as text
-use Rattle.store_tables.proofs.Compiles.{two, three, four, five, keyed_two, path_is_given}
+use Rattle.store_tables.proofs.Compiles.{two, three, four, five, keyed_two, path_is_given, store_with}
 use Rattle.store_tables.proofs.QueryLemmas.{passes_all}
 use Rattle.store_tables.proofs.RowLemmas.{put_permutes, put_apart, put_keyed, filter_apart, filter_keyed}
-use Rattle.store_tables.proofs.WriteLemmas.{PutsRow, NoneActs, inserts, deletes, empties}
+use Rattle.store_tables.proofs.WriteLemmas.{PutsRow, NoneActs, store_stays, inserts, deletes, empties}
 
 abbrev AreNumbered : List Row → Type 0
 AreNumbered rows = have_rowids rows ≡ true
@@ -94,250 +96,253 @@ others_kept path xs = λ i. filter (λ (x : StagedRow). not ((and_true (is_true 
     and_true true = refl
     and_true false = refl
 
-none_acts : NoneActs store_schema
-none_acts = (tt, ((tt, ((refl, tt), ((refl, tt), (tt, ((refl, (refl, tt)), ((refl, (refl, (refl, (refl, tt)))), tt))))))))
-
--- ---- INSERT
-
-pub put_meta : (old new : State) (t : Tables) (row : MetaRow) (count : ℕ) → Holds old.now t → Executes text.put_meta (Text row.name ∷ Int row.value ∷ []) old new (Ok count) → Holds new.now (with_meta row t)
-put_meta old new t row count h ran =
-    let params = Text row.name ∷ Int row.value ∷ [] in
-    let rows = old.now.trees 0 in
-    let new_row = Int (next_rowid rows) ∷ Text row.name ∷ Int row.value ∷ [] in
-    let w = runs_as text.put_meta params old new store_schema h.schema (Insert 0 (Values two 3)) text.put_meta_is.0 text.put_meta_is.1 count ran in
-    let p = inserts store_schema 0 _ 0 _ _ _ _ _ refl old new h.schema _ params count two 3 (Null ∷ Text row.name ∷ Int row.value ∷ []) refl w in
-    let q : PutsRow store_schema 0 new_row old.now.trees new.now.trees = subst (λ x. PutsRow store_schema 0 x old.now.trees new.now.trees) (chosen_is rows (Text row.name ∷ cast Integer (Int row.value) ∷ []) ∙ ap (λ v. Int (next_rowid rows) ∷ Text row.name ∷ v ∷ []) (cast_int row.value)) p.1 in
-    let o = q.others in
-    record {
-      schema = p.0;
-      sound = w.sound;
-      meta = subst (Stored meta_cells (1 ∷ 2 ∷ []) (row ∷ t.meta)) (sym q.rows) (stored_more meta_cells (1 ∷ 2 ∷ []) row t.meta new_row rows refl q.free h.meta);
-      blobs = subst (Stored blob_cells (1 ∷ 2 ∷ []) t.blobs) (sym (o.1.0 (omega arith))) h.blobs;
-      staged = subst (Stored staged_cells (1 ∷ 2 ∷ 3 ∷ []) t.staged) (sym (o.1.1.0 (omega arith))) h.staged;
-      staged_keyed = subst AreKeyed (sym (o.1.1.0 (omega arith))) h.staged_keyed;
-      fixes = subst (Stored fix_cells (1 ∷ 2 ∷ 3 ∷ []) t.fixes) (sym (o.1.1.1.0 (omega arith))) h.fixes;
-      fixes_numbered = subst AreNumbered (sym (o.1.1.1.0 (omega arith))) h.fixes_numbered;
-      commits = subst (Stored commit_cells (0 ∷ 2 ∷ []) t.commits) (sym (o.1.1.1.1.0 (omega arith))) h.commits;
-      entries = subst (Stored entry_cells (1 ∷ 2 ∷ 3 ∷ 4 ∷ []) t.entries) (sym (o.1.1.1.1.1.0 (omega arith))) h.entries;
-      answers = subst (Stored answer_cells (1 ∷ 2 ∷ 3 ∷ 4 ∷ 5 ∷ []) t.answers) (sym (o.1.1.1.1.1.1.0 (omega arith))) h.answers;
-      answers_numbered = subst AreNumbered (sym (o.1.1.1.1.1.1.0 (omega arith))) h.answers_numbered;
-    }
-
-pub put_blob : (old new : State) (t : Tables) (row : BlobRow) (count : ℕ) → Holds old.now t → Executes text.put_blob (Blob row.digest ∷ Blob row.bytes ∷ []) old new (Ok count) → Holds new.now (with_blob row t)
-put_blob old new t row count h ran =
-    let params = Blob row.digest ∷ Blob row.bytes ∷ [] in
-    let rows = old.now.trees 2 in
-    let new_row = Int (next_rowid rows) ∷ Blob row.digest ∷ Blob row.bytes ∷ [] in
-    let w = runs_as text.put_blob params old new store_schema h.schema (Insert 1 (Values two 3)) text.put_blob_is.0 text.put_blob_is.1 count ran in
-    let p = inserts store_schema 1 _ 2 _ _ _ _ _ refl old new h.schema _ params count two 3 (Null ∷ Blob row.digest ∷ Blob row.bytes ∷ []) refl w in
-    let q : PutsRow store_schema 2 new_row old.now.trees new.now.trees = subst (λ x. PutsRow store_schema 2 x old.now.trees new.now.trees) (chosen_is rows (Blob row.digest ∷ Blob row.bytes ∷ [])) p.1 in
-    let o = q.others in
-    record {
-      schema = p.0;
-      sound = w.sound;
-      meta = subst (Stored meta_cells (1 ∷ 2 ∷ []) t.meta) (sym (o.0 (omega arith))) h.meta;
-      blobs = subst (Stored blob_cells (1 ∷ 2 ∷ []) (row ∷ t.blobs)) (sym q.rows) (stored_more blob_cells (1 ∷ 2 ∷ []) row t.blobs new_row rows refl q.free h.blobs);
-      staged = subst (Stored staged_cells (1 ∷ 2 ∷ 3 ∷ []) t.staged) (sym (o.1.1.0 (omega arith))) h.staged;
-      staged_keyed = subst AreKeyed (sym (o.1.1.0 (omega arith))) h.staged_keyed;
-      fixes = subst (Stored fix_cells (1 ∷ 2 ∷ 3 ∷ []) t.fixes) (sym (o.1.1.1.0 (omega arith))) h.fixes;
-      fixes_numbered = subst AreNumbered (sym (o.1.1.1.0 (omega arith))) h.fixes_numbered;
-      commits = subst (Stored commit_cells (0 ∷ 2 ∷ []) t.commits) (sym (o.1.1.1.1.0 (omega arith))) h.commits;
-      entries = subst (Stored entry_cells (1 ∷ 2 ∷ 3 ∷ 4 ∷ []) t.entries) (sym (o.1.1.1.1.1.0 (omega arith))) h.entries;
-      answers = subst (Stored answer_cells (1 ∷ 2 ∷ 3 ∷ 4 ∷ 5 ∷ []) t.answers) (sym (o.1.1.1.1.1.1.0 (omega arith))) h.answers;
-      answers_numbered = subst AreNumbered (sym (o.1.1.1.1.1.1.0 (omega arith))) h.answers_numbered;
-    }
-
-pub put_staged : (old new : State) (t : Tables) (row : StagedRow) (count : ℕ) → Holds old.now t → Executes text.put_staged (Text row.path ∷ Int row.mode ∷ Blob row.digest ∷ []) old new (Ok count) → Holds new.now (with_staged row t)
-put_staged old new t row count h ran =
-    let params = Text row.path ∷ Int row.mode ∷ Blob row.digest ∷ [] in
-    let rows = old.now.trees 4 in
-    let new_row = Int (next_rowid rows) ∷ Text row.path ∷ Int row.mode ∷ Blob row.digest ∷ [] in
-    let w = runs_as text.put_staged params old new store_schema h.schema (Insert 2 (Values three 4)) text.put_staged_is.0 text.put_staged_is.1 count ran in
-    let p = inserts store_schema 2 _ 4 _ _ _ _ _ refl old new h.schema _ params count three 4 (Null ∷ Text row.path ∷ Int row.mode ∷ Blob row.digest ∷ []) refl w in
-    let q : PutsRow store_schema 4 new_row old.now.trees new.now.trees = subst (λ x. PutsRow store_schema 4 x old.now.trees new.now.trees) (chosen_is rows (Text row.path ∷ cast Integer (Int row.mode) ∷ Blob row.digest ∷ []) ∙ ap (λ v. Int (next_rowid rows) ∷ Text row.path ∷ v ∷ Blob row.digest ∷ []) (cast_int row.mode)) p.1 in
-    let o = q.others in
-    record {
-      schema = p.0;
-      sound = w.sound;
-      meta = subst (Stored meta_cells (1 ∷ 2 ∷ []) t.meta) (sym (o.0 (omega arith))) h.meta;
-      blobs = subst (Stored blob_cells (1 ∷ 2 ∷ []) t.blobs) (sym (o.1.0 (omega arith))) h.blobs;
-      staged = subst (Stored staged_cells (1 ∷ 2 ∷ 3 ∷ []) (row ∷ t.staged)) (sym q.rows) (stored_more staged_cells (1 ∷ 2 ∷ 3 ∷ []) row t.staged new_row rows refl q.free h.staged);
-      staged_keyed = subst AreKeyed (sym q.rows) (record { numbered = put_keyed new_row rows q.keyed h.staged_keyed.numbered; apart = put_apart new_row rows q.free h.staged_keyed.apart });
-      fixes = subst (Stored fix_cells (1 ∷ 2 ∷ 3 ∷ []) t.fixes) (sym (o.1.1.1.0 (omega arith))) h.fixes;
-      fixes_numbered = subst AreNumbered (sym (o.1.1.1.0 (omega arith))) h.fixes_numbered;
-      commits = subst (Stored commit_cells (0 ∷ 2 ∷ []) t.commits) (sym (o.1.1.1.1.0 (omega arith))) h.commits;
-      entries = subst (Stored entry_cells (1 ∷ 2 ∷ 3 ∷ 4 ∷ []) t.entries) (sym (o.1.1.1.1.1.0 (omega arith))) h.entries;
-      answers = subst (Stored answer_cells (1 ∷ 2 ∷ 3 ∷ 4 ∷ 5 ∷ []) t.answers) (sym (o.1.1.1.1.1.1.0 (omega arith))) h.answers;
-      answers_numbered = subst AreNumbered (sym (o.1.1.1.1.1.1.0 (omega arith))) h.answers_numbered;
-    }
-
-pub put_fix : (old new : State) (t : Tables) (row : FixRow) (count : ℕ) → Holds old.now t → Executes text.put_fix (Text row.path ∷ Int row.gone ∷ or_null Blob row.digest ∷ []) old new (Ok count) → Holds new.now (with_fix row t)
-put_fix old new t row count h ran =
-    let params = Text row.path ∷ Int row.gone ∷ or_null Blob row.digest ∷ [] in
-    let rows = old.now.trees 6 in
-    let new_row = Int (next_rowid rows) ∷ Text row.path ∷ Int row.gone ∷ or_null Blob row.digest ∷ [] in
-    let w = runs_as text.put_fix params old new store_schema h.schema (Insert 3 (Values three 4)) text.put_fix_is.0 text.put_fix_is.1 count ran in
-    let p = inserts store_schema 3 _ 6 _ _ _ _ _ refl old new h.schema _ params count three 4 (Null ∷ Text row.path ∷ Int row.gone ∷ or_null Blob row.digest ∷ []) refl w in
-    let q : PutsRow store_schema 6 new_row old.now.trees new.now.trees = subst (λ x. PutsRow store_schema 6 x old.now.trees new.now.trees) (chosen_is rows (Text row.path ∷ cast Integer (Int row.gone) ∷ or_null Blob row.digest ∷ []) ∙ ap (λ v. Int (next_rowid rows) ∷ Text row.path ∷ v ∷ or_null Blob row.digest ∷ []) (cast_int row.gone)) p.1 in
-    let o = q.others in
-    record {
-      schema = p.0;
-      sound = w.sound;
-      meta = subst (Stored meta_cells (1 ∷ 2 ∷ []) t.meta) (sym (o.0 (omega arith))) h.meta;
-      blobs = subst (Stored blob_cells (1 ∷ 2 ∷ []) t.blobs) (sym (o.1.0 (omega arith))) h.blobs;
-      staged = subst (Stored staged_cells (1 ∷ 2 ∷ 3 ∷ []) t.staged) (sym (o.1.1.0 (omega arith))) h.staged;
-      staged_keyed = subst AreKeyed (sym (o.1.1.0 (omega arith))) h.staged_keyed;
-      fixes = subst (Stored fix_cells (1 ∷ 2 ∷ 3 ∷ []) (row ∷ t.fixes)) (sym q.rows) (stored_more fix_cells (1 ∷ 2 ∷ 3 ∷ []) row t.fixes new_row rows refl q.free h.fixes);
-      fixes_numbered = subst AreNumbered (sym q.rows) (put_keyed new_row rows q.keyed h.fixes_numbered);
-      commits = subst (Stored commit_cells (0 ∷ 2 ∷ []) t.commits) (sym (o.1.1.1.1.0 (omega arith))) h.commits;
-      entries = subst (Stored entry_cells (1 ∷ 2 ∷ 3 ∷ 4 ∷ []) t.entries) (sym (o.1.1.1.1.1.0 (omega arith))) h.entries;
-      answers = subst (Stored answer_cells (1 ∷ 2 ∷ 3 ∷ 4 ∷ 5 ∷ []) t.answers) (sym (o.1.1.1.1.1.1.0 (omega arith))) h.answers;
-      answers_numbered = subst AreNumbered (sym (o.1.1.1.1.1.1.0 (omega arith))) h.answers_numbered;
-    }
-
 commit_row : (rows : List Row) (n : ℤ) (message : List ℕ) → with_rowid Chosen rows (cast Integer (Int n) ∷ cast Integer Null ∷ Blob message ∷ []) ≡ Int n ∷ Null ∷ Blob message ∷ []
 commit_row rows n message = rw (cast_int n, cast_null) refl
 
-pub put_commit : (old new : State) (t : Tables) (row : CommitRow) (count : ℕ) → Holds old.now t → Executes text.put_commit (Int row.n ∷ Blob row.message ∷ []) old new (Ok count) → Holds new.now (with_commit row t)
-put_commit old new t row count h ran =
-    let params = Int row.n ∷ Blob row.message ∷ [] in
-    let rows = old.now.trees 8 in
-    let new_row = Int row.n ∷ Null ∷ Blob row.message ∷ [] in
-    let w = runs_as text.put_commit params old new store_schema h.schema (Insert 4 (Values keyed_two 3)) text.put_commit_is.0 text.put_commit_is.1 count ran in
-    let p = inserts store_schema 4 _ 8 _ _ _ _ _ refl old new h.schema _ params count keyed_two 3 (Int row.n ∷ Null ∷ Blob row.message ∷ []) refl w in
-    let q : PutsRow store_schema 8 new_row old.now.trees new.now.trees = subst (λ x. PutsRow store_schema 8 x old.now.trees new.now.trees) (commit_row rows row.n row.message) p.1 in
-    let o = q.others in
-    record {
-      schema = p.0;
-      sound = w.sound;
-      meta = subst (Stored meta_cells (1 ∷ 2 ∷ []) t.meta) (sym (o.0 (omega arith))) h.meta;
-      blobs = subst (Stored blob_cells (1 ∷ 2 ∷ []) t.blobs) (sym (o.1.0 (omega arith))) h.blobs;
-      staged = subst (Stored staged_cells (1 ∷ 2 ∷ 3 ∷ []) t.staged) (sym (o.1.1.0 (omega arith))) h.staged;
-      staged_keyed = subst AreKeyed (sym (o.1.1.0 (omega arith))) h.staged_keyed;
-      fixes = subst (Stored fix_cells (1 ∷ 2 ∷ 3 ∷ []) t.fixes) (sym (o.1.1.1.0 (omega arith))) h.fixes;
-      fixes_numbered = subst AreNumbered (sym (o.1.1.1.0 (omega arith))) h.fixes_numbered;
-      commits = subst (Stored commit_cells (0 ∷ 2 ∷ []) (row ∷ t.commits)) (sym q.rows) (stored_more commit_cells (0 ∷ 2 ∷ []) row t.commits new_row rows refl q.free h.commits);
-      entries = subst (Stored entry_cells (1 ∷ 2 ∷ 3 ∷ 4 ∷ []) t.entries) (sym (o.1.1.1.1.1.0 (omega arith))) h.entries;
-      answers = subst (Stored answer_cells (1 ∷ 2 ∷ 3 ∷ 4 ∷ 5 ∷ []) t.answers) (sym (o.1.1.1.1.1.1.0 (omega arith))) h.answers;
-      answers_numbered = subst AreNumbered (sym (o.1.1.1.1.1.1.0 (omega arith))) h.answers_numbered;
-    }
+-- ---- the statements, whatever tables stand after those of a store
 
-pub put_entry : (old new : State) (t : Tables) (row : EntryRow) (count : ℕ) → Holds old.now t → Executes text.put_entry (Int row.n ∷ Text row.path ∷ Int row.mode ∷ Blob row.digest ∷ []) old new (Ok count) → Holds new.now (with_entry row t)
-put_entry old new t row count h ran =
-    let params = Int row.n ∷ Text row.path ∷ Int row.mode ∷ Blob row.digest ∷ [] in
-    let rows = old.now.trees 9 in
-    let new_row = Int (next_rowid rows) ∷ Int row.n ∷ Text row.path ∷ Int row.mode ∷ Blob row.digest ∷ [] in
-    let w = runs_as text.put_entry params old new store_schema h.schema (Insert 5 (Values four 5)) text.put_entry_is.0 text.put_entry_is.1 count ran in
-    let p = inserts store_schema 5 _ 9 _ _ _ _ _ refl old new h.schema _ params count four 5 (Null ∷ Int row.n ∷ Text row.path ∷ Int row.mode ∷ Blob row.digest ∷ []) refl w in
-    let q : PutsRow store_schema 9 new_row old.now.trees new.now.trees = subst (λ x. PutsRow store_schema 9 x old.now.trees new.now.trees) (chosen_is rows (cast Integer (Int row.n) ∷ Text row.path ∷ cast Integer (Int row.mode) ∷ Blob row.digest ∷ []) ∙ ap (λ v. Int (next_rowid rows) ∷ v ∷ Text row.path ∷ cast Integer (Int row.mode) ∷ Blob row.digest ∷ []) (cast_int row.n) ∙ ap (λ v. Int (next_rowid rows) ∷ Int row.n ∷ Text row.path ∷ v ∷ Blob row.digest ∷ []) (cast_int row.mode)) p.1 in
-    let o = q.others in
-    record {
-      schema = p.0;
-      sound = w.sound;
-      meta = subst (Stored meta_cells (1 ∷ 2 ∷ []) t.meta) (sym (o.0 (omega arith))) h.meta;
-      blobs = subst (Stored blob_cells (1 ∷ 2 ∷ []) t.blobs) (sym (o.1.0 (omega arith))) h.blobs;
-      staged = subst (Stored staged_cells (1 ∷ 2 ∷ 3 ∷ []) t.staged) (sym (o.1.1.0 (omega arith))) h.staged;
-      staged_keyed = subst AreKeyed (sym (o.1.1.0 (omega arith))) h.staged_keyed;
-      fixes = subst (Stored fix_cells (1 ∷ 2 ∷ 3 ∷ []) t.fixes) (sym (o.1.1.1.0 (omega arith))) h.fixes;
-      fixes_numbered = subst AreNumbered (sym (o.1.1.1.0 (omega arith))) h.fixes_numbered;
-      commits = subst (Stored commit_cells (0 ∷ 2 ∷ []) t.commits) (sym (o.1.1.1.1.0 (omega arith))) h.commits;
-      entries = subst (Stored entry_cells (1 ∷ 2 ∷ 3 ∷ 4 ∷ []) (row ∷ t.entries)) (sym q.rows) (stored_more entry_cells (1 ∷ 2 ∷ 3 ∷ 4 ∷ []) row t.entries new_row rows refl q.free h.entries);
-      answers = subst (Stored answer_cells (1 ∷ 2 ∷ 3 ∷ 4 ∷ 5 ∷ []) t.answers) (sym (o.1.1.1.1.1.1.0 (omega arith))) h.answers;
-      answers_numbered = subst AreNumbered (sym (o.1.1.1.1.1.1.0 (omega arith))) h.answers_numbered;
-    }
+module _ (tables : List Table) (indexes : List Index) where
+  abbrev schema : Schema
+  schema = store_with tables indexes
 
-pub put_answer : (old new : State) (t : Tables) (row : AnswerRow) (count : ℕ) → Holds old.now t → Executes text.put_answer (Blob row.words ∷ Blob row.seen ∷ Blob row.output ∷ Blob row.changes ∷ Int row.status ∷ []) old new (Ok count) → Holds new.now (with_answer row t)
-put_answer old new t row count h ran =
-    let params = Blob row.words ∷ Blob row.seen ∷ Blob row.output ∷ Blob row.changes ∷ Int row.status ∷ [] in
-    let rows = old.now.trees 11 in
-    let new_row = Int (next_rowid rows) ∷ Blob row.words ∷ Blob row.seen ∷ Blob row.output ∷ Blob row.changes ∷ Int row.status ∷ [] in
-    let w = runs_as text.put_answer params old new store_schema h.schema (Insert 6 (Values five 6)) text.put_answer_is.0 text.put_answer_is.1 count ran in
-    let p = inserts store_schema 6 _ 11 _ _ _ _ _ refl old new h.schema _ params count five 6 (Null ∷ Blob row.words ∷ Blob row.seen ∷ Blob row.output ∷ Blob row.changes ∷ Int row.status ∷ []) refl w in
-    let q : PutsRow store_schema 11 new_row old.now.trees new.now.trees = subst (λ x. PutsRow store_schema 11 x old.now.trees new.now.trees) (chosen_is rows (Blob row.words ∷ Blob row.seen ∷ Blob row.output ∷ Blob row.changes ∷ cast Integer (Int row.status) ∷ []) ∙ ap (λ v. Int (next_rowid rows) ∷ Blob row.words ∷ Blob row.seen ∷ Blob row.output ∷ Blob row.changes ∷ v ∷ []) (cast_int row.status)) p.1 in
-    let o = q.others in
-    record {
-      schema = p.0;
-      sound = w.sound;
-      meta = subst (Stored meta_cells (1 ∷ 2 ∷ []) t.meta) (sym (o.0 (omega arith))) h.meta;
-      blobs = subst (Stored blob_cells (1 ∷ 2 ∷ []) t.blobs) (sym (o.1.0 (omega arith))) h.blobs;
-      staged = subst (Stored staged_cells (1 ∷ 2 ∷ 3 ∷ []) t.staged) (sym (o.1.1.0 (omega arith))) h.staged;
-      staged_keyed = subst AreKeyed (sym (o.1.1.0 (omega arith))) h.staged_keyed;
-      fixes = subst (Stored fix_cells (1 ∷ 2 ∷ 3 ∷ []) t.fixes) (sym (o.1.1.1.0 (omega arith))) h.fixes;
-      fixes_numbered = subst AreNumbered (sym (o.1.1.1.0 (omega arith))) h.fixes_numbered;
-      commits = subst (Stored commit_cells (0 ∷ 2 ∷ []) t.commits) (sym (o.1.1.1.1.0 (omega arith))) h.commits;
-      entries = subst (Stored entry_cells (1 ∷ 2 ∷ 3 ∷ 4 ∷ []) t.entries) (sym (o.1.1.1.1.1.0 (omega arith))) h.entries;
-      answers = subst (Stored answer_cells (1 ∷ 2 ∷ 3 ∷ 4 ∷ 5 ∷ []) (row ∷ t.answers)) (sym q.rows) (stored_more answer_cells (1 ∷ 2 ∷ 3 ∷ 4 ∷ 5 ∷ []) row t.answers new_row rows refl q.free h.answers);
-      answers_numbered = subst AreNumbered (sym q.rows) (put_keyed new_row rows q.keyed h.answers_numbered);
-    }
+  -- ---- INSERT
 
--- ---- DELETE
+  pub put_meta : (old new : State) (t : Tables) (row : MetaRow) (count : ℕ) → HoldsIn schema old.now t → Executes text.put_meta (Text row.name ∷ Int row.value ∷ []) old new (Ok count) → HoldsIn schema new.now (with_meta row t)
+  put_meta old new t row count h ran =
+      let params = Text row.name ∷ Int row.value ∷ [] in
+      let rows = old.now.trees 0 in
+      let new_row = Int (next_rowid rows) ∷ Text row.name ∷ Int row.value ∷ [] in
+      let w = runs_as text.put_meta params old new schema h.schema (Insert 0 (Values two 3)) (text.put_meta_is tables indexes).0 (text.put_meta_is tables indexes).1 count ran in
+      let p = inserts schema 0 _ 0 _ _ _ _ _ refl old new h.schema _ params count two 3 (Null ∷ Text row.name ∷ Int row.value ∷ []) refl w in
+      let q : PutsRow schema 0 new_row old.now.trees new.now.trees = subst (λ x. PutsRow schema 0 x old.now.trees new.now.trees) (chosen_is rows (Text row.name ∷ cast Integer (Int row.value) ∷ []) ∙ ap (λ v. Int (next_rowid rows) ∷ Text row.name ∷ v ∷ []) (cast_int row.value)) p.1 in
+      let o = q.others in
+      record {
+        schema = p.0;
+        sound = w.sound;
+        meta = subst (Stored meta_cells (1 ∷ 2 ∷ []) (row ∷ t.meta)) (sym q.rows) (stored_more meta_cells (1 ∷ 2 ∷ []) row t.meta new_row rows refl q.free h.meta);
+        blobs = subst (Stored blob_cells (1 ∷ 2 ∷ []) t.blobs) (sym (o.1.0 (omega arith))) h.blobs;
+        staged = subst (Stored staged_cells (1 ∷ 2 ∷ 3 ∷ []) t.staged) (sym (o.1.1.0 (omega arith))) h.staged;
+        staged_keyed = subst AreKeyed (sym (o.1.1.0 (omega arith))) h.staged_keyed;
+        fixes = subst (Stored fix_cells (1 ∷ 2 ∷ 3 ∷ []) t.fixes) (sym (o.1.1.1.0 (omega arith))) h.fixes;
+        fixes_numbered = subst AreNumbered (sym (o.1.1.1.0 (omega arith))) h.fixes_numbered;
+        commits = subst (Stored commit_cells (0 ∷ 2 ∷ []) t.commits) (sym (o.1.1.1.1.0 (omega arith))) h.commits;
+        entries = subst (Stored entry_cells (1 ∷ 2 ∷ 3 ∷ 4 ∷ []) t.entries) (sym (o.1.1.1.1.1.0 (omega arith))) h.entries;
+        answers = subst (Stored answer_cells (1 ∷ 2 ∷ 3 ∷ 4 ∷ 5 ∷ []) t.answers) (sym (o.1.1.1.1.1.1.0 (omega arith))) h.answers;
+        answers_numbered = subst AreNumbered (sym (o.1.1.1.1.1.1.0 (omega arith))) h.answers_numbered;
+      }
 
-pub take_staged : (old new : State) (t : Tables) (path : List ℕ) (count : ℕ) → Holds old.now t → Executes text.take_staged (Text path ∷ []) old new (Ok count) → Holds new.now (without_staged path t)
-take_staged old new t path count h ran =
-    let params = Text path ∷ [] in
-    let rows = old.now.trees 4 in
-    let w = runs_as text.take_staged params old new store_schema h.schema _ text.take_staged_is.0 text.take_staged_is.1 count ran in
-    let p = deletes store_schema 2 _ 4 _ _ _ _ _ refl old new h.schema _ params count path_is_given none_acts h.staged_keyed.numbered h.staged_keyed.apart w in
-    let q = p.1 in
-    let o = q.others in
-    record {
-      schema = p.0;
-      sound = w.sound;
-      meta = subst (Stored meta_cells (1 ∷ 2 ∷ []) t.meta) (sym (o.0 (omega arith))) h.meta;
-      blobs = subst (Stored blob_cells (1 ∷ 2 ∷ []) t.blobs) (sym (o.1.0 (omega arith))) h.blobs;
-      staged = subst (Stored staged_cells (1 ∷ 2 ∷ 3 ∷ []) (without_staged path t).staged) (sym q.rows_are)
-          (subst (λ xs. Stored staged_cells (1 ∷ 2 ∷ 3 ∷ []) xs (filter (λ r. not (passes_all path_is_given params r)) rows)) (others_kept path t.staged)
-          (stored_filtered staged_cells (1 ∷ 2 ∷ 3 ∷ []) (other_path path) t.staged rows h.staged));
-      staged_keyed = subst AreKeyed (sym q.rows_are) (record { numbered = filter_keyed _ rows h.staged_keyed.numbered; apart = filter_apart _ rows h.staged_keyed.apart });
-      fixes = subst (Stored fix_cells (1 ∷ 2 ∷ 3 ∷ []) t.fixes) (sym (o.1.1.1.0 (omega arith))) h.fixes;
-      fixes_numbered = subst AreNumbered (sym (o.1.1.1.0 (omega arith))) h.fixes_numbered;
-      commits = subst (Stored commit_cells (0 ∷ 2 ∷ []) t.commits) (sym (o.1.1.1.1.0 (omega arith))) h.commits;
-      entries = subst (Stored entry_cells (1 ∷ 2 ∷ 3 ∷ 4 ∷ []) t.entries) (sym (o.1.1.1.1.1.0 (omega arith))) h.entries;
-      answers = subst (Stored answer_cells (1 ∷ 2 ∷ 3 ∷ 4 ∷ 5 ∷ []) t.answers) (sym (o.1.1.1.1.1.1.0 (omega arith))) h.answers;
-      answers_numbered = subst AreNumbered (sym (o.1.1.1.1.1.1.0 (omega arith))) h.answers_numbered;
-    }
+  pub put_blob : (old new : State) (t : Tables) (row : BlobRow) (count : ℕ) → HoldsIn schema old.now t → Executes text.put_blob (Blob row.digest ∷ Blob row.bytes ∷ []) old new (Ok count) → HoldsIn schema new.now (with_blob row t)
+  put_blob old new t row count h ran =
+      let params = Blob row.digest ∷ Blob row.bytes ∷ [] in
+      let rows = old.now.trees 2 in
+      let new_row = Int (next_rowid rows) ∷ Blob row.digest ∷ Blob row.bytes ∷ [] in
+      let w = runs_as text.put_blob params old new schema h.schema (Insert 1 (Values two 3)) (text.put_blob_is tables indexes).0 (text.put_blob_is tables indexes).1 count ran in
+      let p = inserts schema 1 _ 2 _ _ _ _ _ refl old new h.schema _ params count two 3 (Null ∷ Blob row.digest ∷ Blob row.bytes ∷ []) refl w in
+      let q : PutsRow schema 2 new_row old.now.trees new.now.trees = subst (λ x. PutsRow schema 2 x old.now.trees new.now.trees) (chosen_is rows (Blob row.digest ∷ Blob row.bytes ∷ [])) p.1 in
+      let o = q.others in
+      record {
+        schema = p.0;
+        sound = w.sound;
+        meta = subst (Stored meta_cells (1 ∷ 2 ∷ []) t.meta) (sym (o.0 (omega arith))) h.meta;
+        blobs = subst (Stored blob_cells (1 ∷ 2 ∷ []) (row ∷ t.blobs)) (sym q.rows) (stored_more blob_cells (1 ∷ 2 ∷ []) row t.blobs new_row rows refl q.free h.blobs);
+        staged = subst (Stored staged_cells (1 ∷ 2 ∷ 3 ∷ []) t.staged) (sym (o.1.1.0 (omega arith))) h.staged;
+        staged_keyed = subst AreKeyed (sym (o.1.1.0 (omega arith))) h.staged_keyed;
+        fixes = subst (Stored fix_cells (1 ∷ 2 ∷ 3 ∷ []) t.fixes) (sym (o.1.1.1.0 (omega arith))) h.fixes;
+        fixes_numbered = subst AreNumbered (sym (o.1.1.1.0 (omega arith))) h.fixes_numbered;
+        commits = subst (Stored commit_cells (0 ∷ 2 ∷ []) t.commits) (sym (o.1.1.1.1.0 (omega arith))) h.commits;
+        entries = subst (Stored entry_cells (1 ∷ 2 ∷ 3 ∷ 4 ∷ []) t.entries) (sym (o.1.1.1.1.1.0 (omega arith))) h.entries;
+        answers = subst (Stored answer_cells (1 ∷ 2 ∷ 3 ∷ 4 ∷ 5 ∷ []) t.answers) (sym (o.1.1.1.1.1.1.0 (omega arith))) h.answers;
+        answers_numbered = subst AreNumbered (sym (o.1.1.1.1.1.1.0 (omega arith))) h.answers_numbered;
+      }
 
-pub clear_fixes : (old new : State) (t : Tables) (count : ℕ) → Holds old.now t → Executes text.clear_fixes [] old new (Ok count) → Holds new.now (without_fixes t)
-clear_fixes old new t count h ran =
-    let w = runs_as text.clear_fixes [] old new store_schema h.schema _ text.clear_fixes_is.0 text.clear_fixes_is.1 count ran in
-    let p = empties store_schema 3 _ 6 _ _ _ _ _ refl old new h.schema _ [] count none_acts h.fixes_numbered w in
-    let q = p.1 in
-    let o = q.others in
-    record {
-      schema = p.0;
-      sound = w.sound;
-      meta = subst (Stored meta_cells (1 ∷ 2 ∷ []) t.meta) (sym (o.0 (omega arith))) h.meta;
-      blobs = subst (Stored blob_cells (1 ∷ 2 ∷ []) t.blobs) (sym (o.1.0 (omega arith))) h.blobs;
-      staged = subst (Stored staged_cells (1 ∷ 2 ∷ 3 ∷ []) t.staged) (sym (o.1.1.0 (omega arith))) h.staged;
-      staged_keyed = subst AreKeyed (sym (o.1.1.0 (omega arith))) h.staged_keyed;
-      fixes = subst (Stored fix_cells (1 ∷ 2 ∷ 3 ∷ []) []) (sym q.rows_are) (IsPermutation-refl []);
-      fixes_numbered = subst AreNumbered (sym q.rows_are) refl;
-      commits = subst (Stored commit_cells (0 ∷ 2 ∷ []) t.commits) (sym (o.1.1.1.1.0 (omega arith))) h.commits;
-      entries = subst (Stored entry_cells (1 ∷ 2 ∷ 3 ∷ 4 ∷ []) t.entries) (sym (o.1.1.1.1.1.0 (omega arith))) h.entries;
-      answers = subst (Stored answer_cells (1 ∷ 2 ∷ 3 ∷ 4 ∷ 5 ∷ []) t.answers) (sym (o.1.1.1.1.1.1.0 (omega arith))) h.answers;
-      answers_numbered = subst AreNumbered (sym (o.1.1.1.1.1.1.0 (omega arith))) h.answers_numbered;
-    }
+  pub put_staged : (old new : State) (t : Tables) (row : StagedRow) (count : ℕ) → HoldsIn schema old.now t → Executes text.put_staged (Text row.path ∷ Int row.mode ∷ Blob row.digest ∷ []) old new (Ok count) → HoldsIn schema new.now (with_staged row t)
+  put_staged old new t row count h ran =
+      let params = Text row.path ∷ Int row.mode ∷ Blob row.digest ∷ [] in
+      let rows = old.now.trees 4 in
+      let new_row = Int (next_rowid rows) ∷ Text row.path ∷ Int row.mode ∷ Blob row.digest ∷ [] in
+      let w = runs_as text.put_staged params old new schema h.schema (Insert 2 (Values three 4)) (text.put_staged_is tables indexes).0 (text.put_staged_is tables indexes).1 count ran in
+      let p = inserts schema 2 _ 4 _ _ _ _ _ refl old new h.schema _ params count three 4 (Null ∷ Text row.path ∷ Int row.mode ∷ Blob row.digest ∷ []) refl w in
+      let q : PutsRow schema 4 new_row old.now.trees new.now.trees = subst (λ x. PutsRow schema 4 x old.now.trees new.now.trees) (chosen_is rows (Text row.path ∷ cast Integer (Int row.mode) ∷ Blob row.digest ∷ []) ∙ ap (λ v. Int (next_rowid rows) ∷ Text row.path ∷ v ∷ Blob row.digest ∷ []) (cast_int row.mode)) p.1 in
+      let o = q.others in
+      record {
+        schema = p.0;
+        sound = w.sound;
+        meta = subst (Stored meta_cells (1 ∷ 2 ∷ []) t.meta) (sym (o.0 (omega arith))) h.meta;
+        blobs = subst (Stored blob_cells (1 ∷ 2 ∷ []) t.blobs) (sym (o.1.0 (omega arith))) h.blobs;
+        staged = subst (Stored staged_cells (1 ∷ 2 ∷ 3 ∷ []) (row ∷ t.staged)) (sym q.rows) (stored_more staged_cells (1 ∷ 2 ∷ 3 ∷ []) row t.staged new_row rows refl q.free h.staged);
+        staged_keyed = subst AreKeyed (sym q.rows) (record { numbered = put_keyed new_row rows q.keyed h.staged_keyed.numbered; apart = put_apart new_row rows q.free h.staged_keyed.apart });
+        fixes = subst (Stored fix_cells (1 ∷ 2 ∷ 3 ∷ []) t.fixes) (sym (o.1.1.1.0 (omega arith))) h.fixes;
+        fixes_numbered = subst AreNumbered (sym (o.1.1.1.0 (omega arith))) h.fixes_numbered;
+        commits = subst (Stored commit_cells (0 ∷ 2 ∷ []) t.commits) (sym (o.1.1.1.1.0 (omega arith))) h.commits;
+        entries = subst (Stored entry_cells (1 ∷ 2 ∷ 3 ∷ 4 ∷ []) t.entries) (sym (o.1.1.1.1.1.0 (omega arith))) h.entries;
+        answers = subst (Stored answer_cells (1 ∷ 2 ∷ 3 ∷ 4 ∷ 5 ∷ []) t.answers) (sym (o.1.1.1.1.1.1.0 (omega arith))) h.answers;
+        answers_numbered = subst AreNumbered (sym (o.1.1.1.1.1.1.0 (omega arith))) h.answers_numbered;
+      }
 
-pub clear_answers : (old new : State) (t : Tables) (count : ℕ) → Holds old.now t → Executes text.clear_answers [] old new (Ok count) → Holds new.now (without_answers t)
-clear_answers old new t count h ran =
-    let w = runs_as text.clear_answers [] old new store_schema h.schema _ text.clear_answers_is.0 text.clear_answers_is.1 count ran in
-    let p = empties store_schema 6 _ 11 _ _ _ _ _ refl old new h.schema _ [] count none_acts h.answers_numbered w in
-    let q = p.1 in
-    let o = q.others in
-    record {
-      schema = p.0;
-      sound = w.sound;
-      meta = subst (Stored meta_cells (1 ∷ 2 ∷ []) t.meta) (sym (o.0 (omega arith))) h.meta;
-      blobs = subst (Stored blob_cells (1 ∷ 2 ∷ []) t.blobs) (sym (o.1.0 (omega arith))) h.blobs;
-      staged = subst (Stored staged_cells (1 ∷ 2 ∷ 3 ∷ []) t.staged) (sym (o.1.1.0 (omega arith))) h.staged;
-      staged_keyed = subst AreKeyed (sym (o.1.1.0 (omega arith))) h.staged_keyed;
-      fixes = subst (Stored fix_cells (1 ∷ 2 ∷ 3 ∷ []) t.fixes) (sym (o.1.1.1.0 (omega arith))) h.fixes;
-      fixes_numbered = subst AreNumbered (sym (o.1.1.1.0 (omega arith))) h.fixes_numbered;
-      commits = subst (Stored commit_cells (0 ∷ 2 ∷ []) t.commits) (sym (o.1.1.1.1.0 (omega arith))) h.commits;
-      entries = subst (Stored entry_cells (1 ∷ 2 ∷ 3 ∷ 4 ∷ []) t.entries) (sym (o.1.1.1.1.1.0 (omega arith))) h.entries;
-      answers = subst (Stored answer_cells (1 ∷ 2 ∷ 3 ∷ 4 ∷ 5 ∷ []) []) (sym q.rows_are) (IsPermutation-refl []);
-      answers_numbered = subst AreNumbered (sym q.rows_are) refl;
-    }
+  pub put_fix : (old new : State) (t : Tables) (row : FixRow) (count : ℕ) → HoldsIn schema old.now t → Executes text.put_fix (Text row.path ∷ Int row.gone ∷ or_null Blob row.digest ∷ []) old new (Ok count) → HoldsIn schema new.now (with_fix row t)
+  put_fix old new t row count h ran =
+      let params = Text row.path ∷ Int row.gone ∷ or_null Blob row.digest ∷ [] in
+      let rows = old.now.trees 6 in
+      let new_row = Int (next_rowid rows) ∷ Text row.path ∷ Int row.gone ∷ or_null Blob row.digest ∷ [] in
+      let w = runs_as text.put_fix params old new schema h.schema (Insert 3 (Values three 4)) (text.put_fix_is tables indexes).0 (text.put_fix_is tables indexes).1 count ran in
+      let p = inserts schema 3 _ 6 _ _ _ _ _ refl old new h.schema _ params count three 4 (Null ∷ Text row.path ∷ Int row.gone ∷ or_null Blob row.digest ∷ []) refl w in
+      let q : PutsRow schema 6 new_row old.now.trees new.now.trees = subst (λ x. PutsRow schema 6 x old.now.trees new.now.trees) (chosen_is rows (Text row.path ∷ cast Integer (Int row.gone) ∷ or_null Blob row.digest ∷ []) ∙ ap (λ v. Int (next_rowid rows) ∷ Text row.path ∷ v ∷ or_null Blob row.digest ∷ []) (cast_int row.gone)) p.1 in
+      let o = q.others in
+      record {
+        schema = p.0;
+        sound = w.sound;
+        meta = subst (Stored meta_cells (1 ∷ 2 ∷ []) t.meta) (sym (o.0 (omega arith))) h.meta;
+        blobs = subst (Stored blob_cells (1 ∷ 2 ∷ []) t.blobs) (sym (o.1.0 (omega arith))) h.blobs;
+        staged = subst (Stored staged_cells (1 ∷ 2 ∷ 3 ∷ []) t.staged) (sym (o.1.1.0 (omega arith))) h.staged;
+        staged_keyed = subst AreKeyed (sym (o.1.1.0 (omega arith))) h.staged_keyed;
+        fixes = subst (Stored fix_cells (1 ∷ 2 ∷ 3 ∷ []) (row ∷ t.fixes)) (sym q.rows) (stored_more fix_cells (1 ∷ 2 ∷ 3 ∷ []) row t.fixes new_row rows refl q.free h.fixes);
+        fixes_numbered = subst AreNumbered (sym q.rows) (put_keyed new_row rows q.keyed h.fixes_numbered);
+        commits = subst (Stored commit_cells (0 ∷ 2 ∷ []) t.commits) (sym (o.1.1.1.1.0 (omega arith))) h.commits;
+        entries = subst (Stored entry_cells (1 ∷ 2 ∷ 3 ∷ 4 ∷ []) t.entries) (sym (o.1.1.1.1.1.0 (omega arith))) h.entries;
+        answers = subst (Stored answer_cells (1 ∷ 2 ∷ 3 ∷ 4 ∷ 5 ∷ []) t.answers) (sym (o.1.1.1.1.1.1.0 (omega arith))) h.answers;
+        answers_numbered = subst AreNumbered (sym (o.1.1.1.1.1.1.0 (omega arith))) h.answers_numbered;
+      }
+
+  pub put_commit : (old new : State) (t : Tables) (row : CommitRow) (count : ℕ) → HoldsIn schema old.now t → Executes text.put_commit (Int row.n ∷ Blob row.message ∷ []) old new (Ok count) → HoldsIn schema new.now (with_commit row t)
+  put_commit old new t row count h ran =
+      let params = Int row.n ∷ Blob row.message ∷ [] in
+      let rows = old.now.trees 8 in
+      let new_row = Int row.n ∷ Null ∷ Blob row.message ∷ [] in
+      let w = runs_as text.put_commit params old new schema h.schema (Insert 4 (Values keyed_two 3)) (text.put_commit_is tables indexes).0 (text.put_commit_is tables indexes).1 count ran in
+      let p = inserts schema 4 _ 8 _ _ _ _ _ refl old new h.schema _ params count keyed_two 3 (Int row.n ∷ Null ∷ Blob row.message ∷ []) refl w in
+      let q : PutsRow schema 8 new_row old.now.trees new.now.trees = subst (λ x. PutsRow schema 8 x old.now.trees new.now.trees) (commit_row rows row.n row.message) p.1 in
+      let o = q.others in
+      record {
+        schema = p.0;
+        sound = w.sound;
+        meta = subst (Stored meta_cells (1 ∷ 2 ∷ []) t.meta) (sym (o.0 (omega arith))) h.meta;
+        blobs = subst (Stored blob_cells (1 ∷ 2 ∷ []) t.blobs) (sym (o.1.0 (omega arith))) h.blobs;
+        staged = subst (Stored staged_cells (1 ∷ 2 ∷ 3 ∷ []) t.staged) (sym (o.1.1.0 (omega arith))) h.staged;
+        staged_keyed = subst AreKeyed (sym (o.1.1.0 (omega arith))) h.staged_keyed;
+        fixes = subst (Stored fix_cells (1 ∷ 2 ∷ 3 ∷ []) t.fixes) (sym (o.1.1.1.0 (omega arith))) h.fixes;
+        fixes_numbered = subst AreNumbered (sym (o.1.1.1.0 (omega arith))) h.fixes_numbered;
+        commits = subst (Stored commit_cells (0 ∷ 2 ∷ []) (row ∷ t.commits)) (sym q.rows) (stored_more commit_cells (0 ∷ 2 ∷ []) row t.commits new_row rows refl q.free h.commits);
+        entries = subst (Stored entry_cells (1 ∷ 2 ∷ 3 ∷ 4 ∷ []) t.entries) (sym (o.1.1.1.1.1.0 (omega arith))) h.entries;
+        answers = subst (Stored answer_cells (1 ∷ 2 ∷ 3 ∷ 4 ∷ 5 ∷ []) t.answers) (sym (o.1.1.1.1.1.1.0 (omega arith))) h.answers;
+        answers_numbered = subst AreNumbered (sym (o.1.1.1.1.1.1.0 (omega arith))) h.answers_numbered;
+      }
+
+  pub put_entry : (old new : State) (t : Tables) (row : EntryRow) (count : ℕ) → HoldsIn schema old.now t → Executes text.put_entry (Int row.n ∷ Text row.path ∷ Int row.mode ∷ Blob row.digest ∷ []) old new (Ok count) → HoldsIn schema new.now (with_entry row t)
+  put_entry old new t row count h ran =
+      let params = Int row.n ∷ Text row.path ∷ Int row.mode ∷ Blob row.digest ∷ [] in
+      let rows = old.now.trees 9 in
+      let new_row = Int (next_rowid rows) ∷ Int row.n ∷ Text row.path ∷ Int row.mode ∷ Blob row.digest ∷ [] in
+      let w = runs_as text.put_entry params old new schema h.schema (Insert 5 (Values four 5)) (text.put_entry_is tables indexes).0 (text.put_entry_is tables indexes).1 count ran in
+      let p = inserts schema 5 _ 9 _ _ _ _ _ refl old new h.schema _ params count four 5 (Null ∷ Int row.n ∷ Text row.path ∷ Int row.mode ∷ Blob row.digest ∷ []) refl w in
+      let q : PutsRow schema 9 new_row old.now.trees new.now.trees = subst (λ x. PutsRow schema 9 x old.now.trees new.now.trees) (chosen_is rows (cast Integer (Int row.n) ∷ Text row.path ∷ cast Integer (Int row.mode) ∷ Blob row.digest ∷ []) ∙ ap (λ v. Int (next_rowid rows) ∷ v ∷ Text row.path ∷ cast Integer (Int row.mode) ∷ Blob row.digest ∷ []) (cast_int row.n) ∙ ap (λ v. Int (next_rowid rows) ∷ Int row.n ∷ Text row.path ∷ v ∷ Blob row.digest ∷ []) (cast_int row.mode)) p.1 in
+      let o = q.others in
+      record {
+        schema = p.0;
+        sound = w.sound;
+        meta = subst (Stored meta_cells (1 ∷ 2 ∷ []) t.meta) (sym (o.0 (omega arith))) h.meta;
+        blobs = subst (Stored blob_cells (1 ∷ 2 ∷ []) t.blobs) (sym (o.1.0 (omega arith))) h.blobs;
+        staged = subst (Stored staged_cells (1 ∷ 2 ∷ 3 ∷ []) t.staged) (sym (o.1.1.0 (omega arith))) h.staged;
+        staged_keyed = subst AreKeyed (sym (o.1.1.0 (omega arith))) h.staged_keyed;
+        fixes = subst (Stored fix_cells (1 ∷ 2 ∷ 3 ∷ []) t.fixes) (sym (o.1.1.1.0 (omega arith))) h.fixes;
+        fixes_numbered = subst AreNumbered (sym (o.1.1.1.0 (omega arith))) h.fixes_numbered;
+        commits = subst (Stored commit_cells (0 ∷ 2 ∷ []) t.commits) (sym (o.1.1.1.1.0 (omega arith))) h.commits;
+        entries = subst (Stored entry_cells (1 ∷ 2 ∷ 3 ∷ 4 ∷ []) (row ∷ t.entries)) (sym q.rows) (stored_more entry_cells (1 ∷ 2 ∷ 3 ∷ 4 ∷ []) row t.entries new_row rows refl q.free h.entries);
+        answers = subst (Stored answer_cells (1 ∷ 2 ∷ 3 ∷ 4 ∷ 5 ∷ []) t.answers) (sym (o.1.1.1.1.1.1.0 (omega arith))) h.answers;
+        answers_numbered = subst AreNumbered (sym (o.1.1.1.1.1.1.0 (omega arith))) h.answers_numbered;
+      }
+
+  pub put_answer : (old new : State) (t : Tables) (row : AnswerRow) (count : ℕ) → HoldsIn schema old.now t → Executes text.put_answer (Blob row.words ∷ Blob row.seen ∷ Blob row.output ∷ Blob row.changes ∷ Int row.status ∷ []) old new (Ok count) → HoldsIn schema new.now (with_answer row t)
+  put_answer old new t row count h ran =
+      let params = Blob row.words ∷ Blob row.seen ∷ Blob row.output ∷ Blob row.changes ∷ Int row.status ∷ [] in
+      let rows = old.now.trees 11 in
+      let new_row = Int (next_rowid rows) ∷ Blob row.words ∷ Blob row.seen ∷ Blob row.output ∷ Blob row.changes ∷ Int row.status ∷ [] in
+      let w = runs_as text.put_answer params old new schema h.schema (Insert 6 (Values five 6)) (text.put_answer_is tables indexes).0 (text.put_answer_is tables indexes).1 count ran in
+      let p = inserts schema 6 _ 11 _ _ _ _ _ refl old new h.schema _ params count five 6 (Null ∷ Blob row.words ∷ Blob row.seen ∷ Blob row.output ∷ Blob row.changes ∷ Int row.status ∷ []) refl w in
+      let q : PutsRow schema 11 new_row old.now.trees new.now.trees = subst (λ x. PutsRow schema 11 x old.now.trees new.now.trees) (chosen_is rows (Blob row.words ∷ Blob row.seen ∷ Blob row.output ∷ Blob row.changes ∷ cast Integer (Int row.status) ∷ []) ∙ ap (λ v. Int (next_rowid rows) ∷ Blob row.words ∷ Blob row.seen ∷ Blob row.output ∷ Blob row.changes ∷ v ∷ []) (cast_int row.status)) p.1 in
+      let o = q.others in
+      record {
+        schema = p.0;
+        sound = w.sound;
+        meta = subst (Stored meta_cells (1 ∷ 2 ∷ []) t.meta) (sym (o.0 (omega arith))) h.meta;
+        blobs = subst (Stored blob_cells (1 ∷ 2 ∷ []) t.blobs) (sym (o.1.0 (omega arith))) h.blobs;
+        staged = subst (Stored staged_cells (1 ∷ 2 ∷ 3 ∷ []) t.staged) (sym (o.1.1.0 (omega arith))) h.staged;
+        staged_keyed = subst AreKeyed (sym (o.1.1.0 (omega arith))) h.staged_keyed;
+        fixes = subst (Stored fix_cells (1 ∷ 2 ∷ 3 ∷ []) t.fixes) (sym (o.1.1.1.0 (omega arith))) h.fixes;
+        fixes_numbered = subst AreNumbered (sym (o.1.1.1.0 (omega arith))) h.fixes_numbered;
+        commits = subst (Stored commit_cells (0 ∷ 2 ∷ []) t.commits) (sym (o.1.1.1.1.0 (omega arith))) h.commits;
+        entries = subst (Stored entry_cells (1 ∷ 2 ∷ 3 ∷ 4 ∷ []) t.entries) (sym (o.1.1.1.1.1.0 (omega arith))) h.entries;
+        answers = subst (Stored answer_cells (1 ∷ 2 ∷ 3 ∷ 4 ∷ 5 ∷ []) (row ∷ t.answers)) (sym q.rows) (stored_more answer_cells (1 ∷ 2 ∷ 3 ∷ 4 ∷ 5 ∷ []) row t.answers new_row rows refl q.free h.answers);
+        answers_numbered = subst AreNumbered (sym q.rows) (put_keyed new_row rows q.keyed h.answers_numbered);
+      }
+
+  -- ---- DELETE
+
+  pub take_staged : NoneActs tables → (old new : State) (t : Tables) (path : List ℕ) (count : ℕ) → HoldsIn schema old.now t → Executes text.take_staged (Text path ∷ []) old new (Ok count) → HoldsIn schema new.now (without_staged path t)
+  take_staged stay old new t path count h ran =
+      let params = Text path ∷ [] in
+      let rows = old.now.trees 4 in
+      let w = runs_as text.take_staged params old new schema h.schema _ (text.take_staged_is tables indexes).0 (text.take_staged_is tables indexes).1 count ran in
+      let p = deletes schema 2 _ 4 _ _ _ _ _ refl old new h.schema _ params count path_is_given (store_stays tables stay) h.staged_keyed.numbered h.staged_keyed.apart w in
+      let q = p.1 in
+      let o = q.others in
+      record {
+        schema = p.0;
+        sound = w.sound;
+        meta = subst (Stored meta_cells (1 ∷ 2 ∷ []) t.meta) (sym (o.0 (omega arith))) h.meta;
+        blobs = subst (Stored blob_cells (1 ∷ 2 ∷ []) t.blobs) (sym (o.1.0 (omega arith))) h.blobs;
+        staged = subst (Stored staged_cells (1 ∷ 2 ∷ 3 ∷ []) (without_staged path t).staged) (sym q.rows_are)
+            (subst (λ xs. Stored staged_cells (1 ∷ 2 ∷ 3 ∷ []) xs (filter (λ r. not (passes_all path_is_given params r)) rows)) (others_kept path t.staged)
+            (stored_filtered staged_cells (1 ∷ 2 ∷ 3 ∷ []) (other_path path) t.staged rows h.staged));
+        staged_keyed = subst AreKeyed (sym q.rows_are) (record { numbered = filter_keyed _ rows h.staged_keyed.numbered; apart = filter_apart _ rows h.staged_keyed.apart });
+        fixes = subst (Stored fix_cells (1 ∷ 2 ∷ 3 ∷ []) t.fixes) (sym (o.1.1.1.0 (omega arith))) h.fixes;
+        fixes_numbered = subst AreNumbered (sym (o.1.1.1.0 (omega arith))) h.fixes_numbered;
+        commits = subst (Stored commit_cells (0 ∷ 2 ∷ []) t.commits) (sym (o.1.1.1.1.0 (omega arith))) h.commits;
+        entries = subst (Stored entry_cells (1 ∷ 2 ∷ 3 ∷ 4 ∷ []) t.entries) (sym (o.1.1.1.1.1.0 (omega arith))) h.entries;
+        answers = subst (Stored answer_cells (1 ∷ 2 ∷ 3 ∷ 4 ∷ 5 ∷ []) t.answers) (sym (o.1.1.1.1.1.1.0 (omega arith))) h.answers;
+        answers_numbered = subst AreNumbered (sym (o.1.1.1.1.1.1.0 (omega arith))) h.answers_numbered;
+      }
+
+  pub clear_fixes : NoneActs tables → (old new : State) (t : Tables) (count : ℕ) → HoldsIn schema old.now t → Executes text.clear_fixes [] old new (Ok count) → HoldsIn schema new.now (without_fixes t)
+  clear_fixes stay old new t count h ran =
+      let w = runs_as text.clear_fixes [] old new schema h.schema _ (text.clear_fixes_is tables indexes).0 (text.clear_fixes_is tables indexes).1 count ran in
+      let p = empties schema 3 _ 6 _ _ _ _ _ refl old new h.schema _ [] count (store_stays tables stay) h.fixes_numbered w in
+      let q = p.1 in
+      let o = q.others in
+      record {
+        schema = p.0;
+        sound = w.sound;
+        meta = subst (Stored meta_cells (1 ∷ 2 ∷ []) t.meta) (sym (o.0 (omega arith))) h.meta;
+        blobs = subst (Stored blob_cells (1 ∷ 2 ∷ []) t.blobs) (sym (o.1.0 (omega arith))) h.blobs;
+        staged = subst (Stored staged_cells (1 ∷ 2 ∷ 3 ∷ []) t.staged) (sym (o.1.1.0 (omega arith))) h.staged;
+        staged_keyed = subst AreKeyed (sym (o.1.1.0 (omega arith))) h.staged_keyed;
+        fixes = subst (Stored fix_cells (1 ∷ 2 ∷ 3 ∷ []) []) (sym q.rows_are) (IsPermutation-refl []);
+        fixes_numbered = subst AreNumbered (sym q.rows_are) refl;
+        commits = subst (Stored commit_cells (0 ∷ 2 ∷ []) t.commits) (sym (o.1.1.1.1.0 (omega arith))) h.commits;
+        entries = subst (Stored entry_cells (1 ∷ 2 ∷ 3 ∷ 4 ∷ []) t.entries) (sym (o.1.1.1.1.1.0 (omega arith))) h.entries;
+        answers = subst (Stored answer_cells (1 ∷ 2 ∷ 3 ∷ 4 ∷ 5 ∷ []) t.answers) (sym (o.1.1.1.1.1.1.0 (omega arith))) h.answers;
+        answers_numbered = subst AreNumbered (sym (o.1.1.1.1.1.1.0 (omega arith))) h.answers_numbered;
+      }
+
+  pub clear_answers : NoneActs tables → (old new : State) (t : Tables) (count : ℕ) → HoldsIn schema old.now t → Executes text.clear_answers [] old new (Ok count) → HoldsIn schema new.now (without_answers t)
+  clear_answers stay old new t count h ran =
+      let w = runs_as text.clear_answers [] old new schema h.schema _ (text.clear_answers_is tables indexes).0 (text.clear_answers_is tables indexes).1 count ran in
+      let p = empties schema 6 _ 11 _ _ _ _ _ refl old new h.schema _ [] count (store_stays tables stay) h.answers_numbered w in
+      let q = p.1 in
+      let o = q.others in
+      record {
+        schema = p.0;
+        sound = w.sound;
+        meta = subst (Stored meta_cells (1 ∷ 2 ∷ []) t.meta) (sym (o.0 (omega arith))) h.meta;
+        blobs = subst (Stored blob_cells (1 ∷ 2 ∷ []) t.blobs) (sym (o.1.0 (omega arith))) h.blobs;
+        staged = subst (Stored staged_cells (1 ∷ 2 ∷ 3 ∷ []) t.staged) (sym (o.1.1.0 (omega arith))) h.staged;
+        staged_keyed = subst AreKeyed (sym (o.1.1.0 (omega arith))) h.staged_keyed;
+        fixes = subst (Stored fix_cells (1 ∷ 2 ∷ 3 ∷ []) t.fixes) (sym (o.1.1.1.0 (omega arith))) h.fixes;
+        fixes_numbered = subst AreNumbered (sym (o.1.1.1.0 (omega arith))) h.fixes_numbered;
+        commits = subst (Stored commit_cells (0 ∷ 2 ∷ []) t.commits) (sym (o.1.1.1.1.0 (omega arith))) h.commits;
+        entries = subst (Stored entry_cells (1 ∷ 2 ∷ 3 ∷ 4 ∷ []) t.entries) (sym (o.1.1.1.1.1.0 (omega arith))) h.entries;
+        answers = subst (Stored answer_cells (1 ∷ 2 ∷ 3 ∷ 4 ∷ 5 ∷ []) []) (sym q.rows_are) (IsPermutation-refl []);
+        answers_numbered = subst AreNumbered (sym q.rows_are) refl;
+      }
 
 -- ---- parameters
 

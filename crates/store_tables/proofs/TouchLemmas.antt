@@ -1,20 +1,26 @@
 -- The empty statement.
-use Rattle.std.proofs.Common.{ℕ, [], Ok, refl, sym, subst}
+use Rattle.std.proofs.Common.{ℕ, List, [], Ok, refl, sym, subst}
+use Rattle.sqlite_schema.specs.declared.schema.Table.{Table}
+use Rattle.sqlite_schema.specs.declared.schema.Index.{Index}
+use Rattle.sqlite_schema.specs.declared.schema.Schema.{Schema}
 use Rattle.sqlite_schema.specs.declared.command.Command.TheVariants.{Nothing}
 use Rattle.sqlite_tied.specs.Compute.{everything}
 use Rattle.sqlite.specs.Effect.{Database}
 use Rattle.sqlite.specs.Listing.{understood}
 use Rattle.sqlite.specs.State.{State, Executes}
 use Rattle.sqlite.proofs.Callers.{runs_as}
-use Rattle.store_tables.specs.Schema.{store_schema}
-use Rattle.store_tables.specs.Tables.{Tables, Holds}
-use Rattle.store_tables.proofs.Compiles.{Compiles}
+use Rattle.store_tables.specs.Tables.{Tables, HoldsIn}
+use Rattle.store_tables.proofs.Compiles.{Compiles, store_with}
 
-nothing_is : Compiles [] Nothing
-unfolding understood everything
-nothing_is = (refl, (refl, refl))
+module _ (tables : List Table) (indexes : List Index) where
+  abbrev schema : Schema
+  schema = store_with tables indexes
 
-pub touch : (old new : State) (t : Tables) (count : ℕ) → Holds old.now t → Executes [] [] old new (Ok count) → Holds new.now t
-touch old new t count h ran =
-    let it = runs_as [] [] old new store_schema h.schema Nothing nothing_is.0 nothing_is.1 count ran in
-    subst (λ (db : Database). Holds db t) (sym it.0.0.now_is) h
+  nothing_is : Compiles schema [] Nothing
+  unfolding understood everything
+  nothing_is = (refl, (refl, refl))
+
+  pub touch : (old new : State) (t : Tables) (count : ℕ) → HoldsIn schema old.now t → Executes [] [] old new (Ok count) → HoldsIn schema new.now t
+  touch old new t count h ran =
+      let it = runs_as [] [] old new schema h.schema Nothing nothing_is.0 nothing_is.1 count ran in
+      subst (λ (db : Database). HoldsIn schema db t) (sym it.0.0.now_is) h

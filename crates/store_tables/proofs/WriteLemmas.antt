@@ -30,7 +30,7 @@ use Rattle.sqlite.specs.Effect.{Database, Reads}
 use Rattle.sqlite.specs.Rows.{Written}
 use Rattle.sqlite.specs.State.{State, Writes, mode_of}
 use Rattle.sqlite.proofs.Callers.{one_step}
-use Rattle.store_tables.specs.Schema.{table_of}
+use Rattle.store_tables.specs.Schema.{store_schema, table_of}
 use Rattle.store_tables.proofs.QueryLemmas.{plain_query, passes_all, shown_as, selected}
 use Rattle.store_tables.proofs.RowLemmas.{passing_out, all_out, all_kept}
 use Rattle.store_tables.specs.Tables.{AreApart}
@@ -64,15 +64,19 @@ module _ (schema : Schema) (keys : Keys) (depth tree : ℕ) (news : List Row) wh
   unmoved (t ∷ tables) = rw (none_mapped (work_for schema keys depth tree [] news t) t.references (from_none t t.references)) (unmoved tables)
 
 -- no reference acts where its parent is deleted
-abbrev pub NoneActs : Schema → Type 0
-NoneActs schema = AllByRecursion (λ t. AllByRecursion (λ (ref : Reference). ref.on_delete ≡ NoAction) t.references) schema.tables
+abbrev pub NoneActs : List Table → Type 0
+NoneActs = AllByRecursion (λ t. AllByRecursion (λ (ref : Reference). ref.on_delete ≡ NoAction) t.references)
+
+-- none of a store does
+pub store_stays : (tables : List Table) → NoneActs tables → NoneActs (store_schema.tables ++ tables)
+store_stays tables stay = (tt, ((tt, ((refl, tt), ((refl, tt), (tt, ((refl, (refl, tt)), ((refl, (refl, (refl, (refl, tt)))), stay))))))))
 
 module _ (schema : Schema) (depth tree : ℕ) (olds : List Row) where
   quiet_refs : (child : Table) (refs : List Reference) → AllByRecursion (λ (ref : Reference). ref.on_delete ≡ NoAction) refs → AllByRecursion (λ ref. work_for schema Enforced depth tree olds [] child ref ≡ None) refs
   quiet_refs child [] none = tt
   quiet_refs child (ref ∷ refs) none = (rw none.0, quiet_refs child refs none.1)
 
-  quiet : (tables : List Table) → AllByRecursion (λ t. AllByRecursion (λ (ref : Reference). ref.on_delete ≡ NoAction) t.references) tables
+  quiet : (tables : List Table) → NoneActs tables
       → flat_map (λ child. filter_map (work_for schema Enforced depth tree olds [] child) child.references) tables ≡ []
   quiet [] none = refl
   quiet (t ∷ tables) none = rw (none_mapped (work_for schema Enforced depth tree olds [] t) t.references (quiet_refs t t.references none.0)) (quiet tables none.1)
@@ -123,7 +127,7 @@ module _ (schema : Schema) (at : ℕ) (name : List ℕ) (tree : ℕ) (columns : 
   rowids_where tests = record { lets = []; body = plain_query tree tests (col 1 0 ∷ []) [] }
 
   -- the rows are taken out by the rowids of those that pass
-  taken : (tests : List Term) → NoneActs schema → Writes old new None (Delete at (rowids_where tests)) text params count
+  taken : (tests : List Term) → NoneActs schema.tables → Writes old new None (Delete at (rowids_where tests)) text params count
       → (new.now.schema ≡ schema) × (shown : List Row) × IsPermutation (map (λ r. rowid r ∷ []) (filter (passes_all tests params) (old.now.trees tree))) shown
       × LeavesRows schema tree (without_all (old.now.trees tree) (ids_of shown)) old.now.trees new.now.trees
   taken tests none w =
@@ -140,14 +144,14 @@ module _ (schema : Schema) (at : ℕ) (name : List ℕ) (tree : ℕ) (columns : 
       (ap (λ (d : Database). d.schema) now, given.0, selected tree tests (col 1 0 ∷ []) [] db params given.0 given.1.answer, record { rows_are = applied.rows; others = applied.tables })
 
   -- DELETE with a test takes out the rows that pass
-  pub deletes : (tests : List Term) → NoneActs schema → have_rowids (old.now.trees tree) ≡ true → AreApart (old.now.trees tree) → Writes old new None (Delete at (rowids_where tests)) text params count
+  pub deletes : (tests : List Term) → NoneActs schema.tables → have_rowids (old.now.trees tree) ≡ true → AreApart (old.now.trees tree) → Writes old new None (Delete at (rowids_where tests)) text params count
       → (new.now.schema ≡ schema) × LeavesRows schema tree (filter (λ r. not (passes_all tests params r)) (old.now.trees tree)) old.now.trees new.now.trees
   deletes tests none keyed apart w =
       let it = taken tests none w in
       (it.0, record { rows_are = it.3.rows_are ∙ passing_out (old.now.trees tree) keyed (passes_all tests params) it.1 it.2 apart; others = it.3.others })
 
   -- and without one all rows
-  pub empties : NoneActs schema → have_rowids (old.now.trees tree) ≡ true → Writes old new None (Delete at (rowids_where [])) text params count
+  pub empties : NoneActs schema.tables → have_rowids (old.now.trees tree) ≡ true → Writes old new None (Delete at (rowids_where [])) text params count
       → (new.now.schema ≡ schema) × LeavesRows schema tree [] old.now.trees new.now.trees
   empties none keyed w =
       let it = taken [] none w in

@@ -74,9 +74,10 @@ pub record AreKeyed (rows : List Row) : Type 0 where
   pub numbered : have_rowids rows ≡ true
   pub apart : AreApart rows
 
--- the database has the tables of a store, obeys their rules, and has these rows in them
-pub record Holds (db : Database) (t : Tables) : Type 0 where
-  pub schema : db.schema ≡ store_schema
+-- The database has the tables that are listed, obeys their rules, and has these rows in those of a store. A later version
+-- of a store lists more of them.
+pub record HoldsIn (listed : Schema) (db : Database) (t : Tables) : Type 0 where
+  pub schema : db.schema ≡ listed
   pub sound : IsDatabase db
   pub meta : Stored meta_cells (1 ∷ 2 ∷ []) t.meta (db.trees 0)
   pub blobs : Stored blob_cells (1 ∷ 2 ∷ []) t.blobs (db.trees 2)
@@ -88,6 +89,10 @@ pub record Holds (db : Database) (t : Tables) : Type 0 where
   pub entries : Stored entry_cells (1 ∷ 2 ∷ 3 ∷ 4 ∷ []) t.entries (db.trees 9)
   pub answers : Stored answer_cells (1 ∷ 2 ∷ 3 ∷ 4 ∷ 5 ∷ []) t.answers (db.trees 11)
   pub answers_numbered : have_rowids (db.trees 11) ≡ true
+
+-- the database has the tables of a store and no others, obeys their rules, and has these rows in them
+abbrev pub Holds : Database → Tables → Type 0
+Holds = HoldsIn store_schema
 
 -- the database of these trees, where they list the tables of a store
 abbrev pub with_schema : Trees → Database

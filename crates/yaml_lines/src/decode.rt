@@ -15,11 +15,21 @@ fn line_behind(bytes: &[u8]) -> usize
     bytes.iter().filter(|byte| **byte == b'\n').count() + 1
 }
 
-// All characters of the text.
+// The characters that the bytes are, each a character of its own.
+fn each_a_character(alloc: Global, bytes: &[u8]) -> Result<Vec<char>, AllocError>
+    ensures { IfOk result (λ all. all.items ≡ bytes.now) }
+{
+    bytes.iter().map(|byte| char::from(*byte)).collect(alloc)
+}
+
+// All characters of the text. Those of a text in ASCII are its bytes, which is the quick way for most texts.
 fn all_characters(alloc: Global, text: &str) -> Result<Vec<char>, AllocError>
     ensures value { IfOk result (λ all. all.items ≡ chars text.now) }
     ensures few { IfOk result (λ all. vec_len all ≤ length text.now) }
 {
+    if text.is_ascii() {
+        return each_a_character(alloc, text.as_bytes());
+    }
     text.chars().collect(alloc)
 }
 

@@ -1,14 +1,18 @@
-use Rattle.std.proofs.Common.{SFits, w64, rules, to_z-of_z, ◌≡◌, ℕ, ◌+◌, ◌<◌, ◌≤◌, List, length, map, refl, sym, ap, ap₂, ◌∙◌, arith}
+use Rattle.std.proofs.Common.{SFits, w64, rules, to_z-of_z, ◌≡◌, ℕ, ◌+◌, ◌<◌, ◌≤◌, List, length, map, refl, sym, ap, ap₂, subst, ◌∙◌, arith}
+use Rattle.std.specs.List.{AllByRecursion}
 use Rattle.std.proofs.lemmas.List.{length-map}
 use Rattle.store_tables.specs.declared.rows.StagedRow.{StagedRow}
+use Rattle.repo_store.specs.Complete.{HaveContents, IsAmong}
 use Rattle.repo_store.specs.Lists.{commit_of, file_of}
+use Rattle.repo_store.specs.Repository.{Commit}
 use Rattle.repo_store.specs.Rows.{blob_row, staged_row}
 use Rattle.repo_store.specs.Whole.{IsEntryRow}
+use Rattle.repo_store.proofs.CompleteLemmas.{have_bare, have_entered}
 use Rattle.repo_store.proofs.LoadLemmas.{all_more, entered_more, length_with_file, damage_of, damage_row, file_moved, none_entered}
 use Rattle.repo_store.proofs.loaded.add_entries.Goals as goal
 
 pub rows-init : goal.rows-init
-rows-init c = record { entered = none_entered (map commit_of c.args.history.now.items) c.requires; count = refl; whole = tt }
+rows-init c = record { entered = none_entered (map commit_of c.args.history.now.items) c.requires; among = have_bare (IsAmong c.args.contents.now) (map commit_of c.args.history.now.items) c.requires; count = refl; whole = tt }
 
 pub returns-in-Err-clause-broken : goal.returns-in-Err-clause-broken
 returns-in-Err-clause-broken c =
@@ -40,6 +44,7 @@ rows-preserved c =
     let place : c.in-Some.place < length (map commit_of old) = omega (arith, length-map old commit_of) in
     record {
       entered = entered_more (map commit_of before) (map commit_of old) (map commit_of new) c.args.rows.now c.rows.row-index c.in-Some.place (file_of c.in-Ok.file) row c.rows-test.true c.row-item.is place c.rows.invariant.entered added c.in_default-add_entry.ensures.rising there.0 shown;
+      among = subst (AllByRecursion (λ (commit : Commit). HaveContents c.args.contents.now commit.tree)) (sym added) (have_entered (IsAmong c.args.contents.now) c.in-Some.place (file_of c.in-Ok.file) (map commit_of old) c.in-Ok.ensures.among c.rows.invariant.among);
       count = same_count ∙ count;
       whole = all_more c.args.rows.now c.rows.row-index row c.rows-test.true c.row-item.is (IsEntryRow blobs (length before)) c.rows.invariant.whole (record { owned = record { at = c.in-Some.place; is = there.0; within = omega arith }; file = whole });
     }

@@ -1,9 +1,11 @@
-use Rattle.std.proofs.Common.{SFits, w64, rules, to_z-of_z, ◌≡◌, ℕ, List, map, sym, ap₂, ◌∙◌}
+use Rattle.std.proofs.Common.{SFits, w64, rules, to_z-of_z, ◌≡◌, ℕ, List, map, sym, ap₂, subst, ◌∙◌}
+use Rattle.hook_base.specs.declared.file.File.{File}
 use Rattle.store_tables.specs.declared.rows.StagedRow.{StagedRow}
+use Rattle.repo_store.specs.Complete.{HaveContents, IsAmong}
 use Rattle.repo_store.specs.Lists.{file_of}
 use Rattle.repo_store.specs.Rows.{blob_row, staged_row}
 use Rattle.repo_store.specs.Whole.{IsStagedRow}
-use Rattle.repo_store.proofs.LoadLemmas.{all_more, rows_more, damage_of, damage_row, file_moved}
+use Rattle.repo_store.proofs.LoadLemmas.{all_more, all_pushed, rows_more, damage_of, damage_row, file_moved}
 use Rattle.repo_store.proofs.loaded.files_of.Goals as goal
 
 pub returns-in-Err-clause-broken : goal.returns-in-Err-clause-broken
@@ -25,5 +27,6 @@ rows-preserved c =
     record {
       files = rows_more c.args.rows.now c.rows.row-index row c.rows-test.true c.row-item.is staged_row (map file_of c.rows.files.items) (map file_of c.add_file.new.files.items) (file_of c.in-Ok.file) c.rows.invariant.files c.in_default.ensures.added this;
       rising = c.in_default.ensures.rising;
+      among = subst (HaveContents c.args.contents.now) (sym c.in_default.ensures.added) (all_pushed (λ (file : File). IsAmong c.args.contents.now file.entry.bytes) (map file_of c.rows.files.items) (file_of c.in-Ok.file) c.rows.invariant.among c.in-Ok.ensures.among);
       whole = all_more c.args.rows.now c.rows.row-index row c.rows-test.true c.row-item.is (IsStagedRow blobs) c.rows.invariant.whole whole;
     }

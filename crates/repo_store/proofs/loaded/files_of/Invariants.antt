@@ -1,10 +1,11 @@
 use Rattle.std.proofs.Common.{◌≡◌, map, take}
 use Rattle.std.specs.List.{AllByRecursion}
 use Rattle.hook_base.specs.Trees.{IsRising}
+use Rattle.repo_store.specs.Complete.{HaveContents}
 use Rattle.repo_store.specs.Lists.{file_of}
 use Rattle.repo_store.specs.Rows.{blob_row, staged_row}
 use Rattle.repo_store.specs.Whole.{IsStagedRow}
 use Rattle.repo_store.proofs.loaded.files_of.Given as goal
 
 abbrev pub invariant-rows : goal.invariant-rows
-invariant-rows l = record { files : map staged_row (map file_of l.files.items) ≡ take l.row-index l.rows; rising : IsRising (map file_of l.files.items); whole : AllByRecursion (IsStagedRow (map blob_row l.contents)) (take l.row-index l.rows) }
+invariant-rows l = record { files : map staged_row (map file_of l.files.items) ≡ take l.row-index l.rows; rising : IsRising (map file_of l.files.items); among : HaveContents l.contents (map file_of l.files.items); whole : AllByRecursion (IsStagedRow (map blob_row l.contents)) (take l.row-index l.rows) }

@@ -1,4 +1,4 @@
-use Rattle.std.proofs.Common.{Ok, Err}
+use Rattle.std.proofs.Common.{[], Ok, Err}
 use Rattle.std.proofs.lemmas.Result.{err_from_is_err_and}
 use Rattle.store_tables.specs.Tables.{IsBare, Holds, first_tables, no_rows}
 use Rattle.store_tables.proofs.MakeLemmas.{made_then, made_all, made_to, stopped}
@@ -6,7 +6,7 @@ use Rattle.store_tables.proofs.creates.make_tables.Goals as goal
 
 pub returns-clause-made : goal.returns-clause-made
 returns-clause-made g c =
-    made_to g.S.Store c.args.tx.now.conn.now c.make_answers.new.tx.conn.now (IsBare (first_tables 0 0)) (IsBare (first_tables 7 6)) (λ db. Holds db no_rows) made_all (made_then g.S.Store c.args.tx.now.conn.now c.make_entries.new.tx.conn.now c.make_answers.new.tx.conn.now (Ok tt) (IsBare (first_tables 0 0)) (IsBare (first_tables 6 5)) (IsBare (first_tables 7 6)) (made_then g.S.Store c.args.tx.now.conn.now c.make_commits.new.tx.conn.now c.make_entries.new.tx.conn.now (Ok tt) (IsBare (first_tables 0 0)) (IsBare (first_tables 5 4)) (IsBare (first_tables 6 5)) (made_then g.S.Store c.args.tx.now.conn.now c.make_fixes.new.tx.conn.now c.make_commits.new.tx.conn.now (Ok tt) (IsBare (first_tables 0 0)) (IsBare (first_tables 4 4)) (IsBare (first_tables 5 4)) (made_then g.S.Store c.args.tx.now.conn.now c.make_staged.new.tx.conn.now c.make_fixes.new.tx.conn.now (Ok tt) (IsBare (first_tables 0 0)) (IsBare (first_tables 3 3)) (IsBare (first_tables 4 4)) (made_then g.S.Store c.args.tx.now.conn.now c.make_blobs.new.tx.conn.now c.make_staged.new.tx.conn.now (Ok tt) (IsBare (first_tables 0 0)) (IsBare (first_tables 2 2)) (IsBare (first_tables 3 3)) (made_then g.S.Store c.args.tx.now.conn.now c.make_meta.new.tx.conn.now c.make_blobs.new.tx.conn.now (Ok tt) (IsBare (first_tables 0 0)) (IsBare (first_tables 1 1)) (IsBare (first_tables 2 2)) c.in_ok-make_meta.ensures.made c.in_ok-make_blobs.ensures.made) c.in_ok-make_staged.ensures.made) c.in_ok-make_fixes.ensures.made) c.in_ok-make_commits.ensures.made) c.in_ok-make_entries.ensures.made) c.in_ok-make_answers.ensures.made)
+    made_to g.S.Store c.args.tx.now.conn.now c.make_answers.new.tx.conn.now (IsBare (first_tables 0 0)) (IsBare (first_tables 7 6)) (λ db. Holds db no_rows) (made_all [] []) (made_then g.S.Store c.args.tx.now.conn.now c.make_entries.new.tx.conn.now c.make_answers.new.tx.conn.now (Ok tt) (IsBare (first_tables 0 0)) (IsBare (first_tables 6 5)) (IsBare (first_tables 7 6)) (made_then g.S.Store c.args.tx.now.conn.now c.make_commits.new.tx.conn.now c.make_entries.new.tx.conn.now (Ok tt) (IsBare (first_tables 0 0)) (IsBare (first_tables 5 4)) (IsBare (first_tables 6 5)) (made_then g.S.Store c.args.tx.now.conn.now c.make_fixes.new.tx.conn.now c.make_commits.new.tx.conn.now (Ok tt) (IsBare (first_tables 0 0)) (IsBare (first_tables 4 4)) (IsBare (first_tables 5 4)) (made_then g.S.Store c.args.tx.now.conn.now c.make_staged.new.tx.conn.now c.make_fixes.new.tx.conn.now (Ok tt) (IsBare (first_tables 0 0)) (IsBare (first_tables 3 3)) (IsBare (first_tables 4 4)) (made_then g.S.Store c.args.tx.now.conn.now c.make_blobs.new.tx.conn.now c.make_staged.new.tx.conn.now (Ok tt) (IsBare (first_tables 0 0)) (IsBare (first_tables 2 2)) (IsBare (first_tables 3 3)) (made_then g.S.Store c.args.tx.now.conn.now c.make_meta.new.tx.conn.now c.make_blobs.new.tx.conn.now (Ok tt) (IsBare (first_tables 0 0)) (IsBare (first_tables 1 1)) (IsBare (first_tables 2 2)) c.in_ok-make_meta.ensures.made c.in_ok-make_blobs.ensures.made) c.in_ok-make_staged.ensures.made) c.in_ok-make_fixes.ensures.made) c.in_ok-make_commits.ensures.made) c.in_ok-make_entries.ensures.made) c.in_ok-make_answers.ensures.made)
 
 pub returns-in_err-make_meta-clause-made : goal.returns-in_err-make_meta-clause-made
 returns-in_err-make_meta-clause-made g c =

@@ -4,6 +4,7 @@ use Rattle.repo_store.specs.Kept.{accepting}
 use Rattle.repo_store.specs.Lists.{file_of}
 use Rattle.repo_store.specs.Shown.{Shown, Changes}
 use Rattle.repo_store.proofs.KeptLemmas.{accepting_handed}
+use Rattle.repo_store.proofs.CompleteLemmas.{complete_accepted}
 use Rattle.repo_store.proofs.StandLemmas.{tables_in, refused_stands, done_stands, refused_changes, done_changes}
 use Rattle.repo_store.proofs.store.Store.accept.Goals as goal
 
@@ -13,7 +14,8 @@ invariant_of-self g c =
     let kept = c.self.inside.lists.kept in
     let files : map file_of c.as_slice.result.now ≡ apply_changes kept.repo.fixes kept.repo.staged = ap (map file_of) c.as_slice.ensures.value ∙ c.in-Ok.ensures in
     let same = accepting_handed (map file_of c.as_slice.result.now) kept files in
-    refused_stands g.S.Store c.self.inside.conn new kept (accepting kept) _ c.self.invariant same (g.met.S.Store.shut_if_dirty new.store)
+    let complete = complete_accepted kept c.self.invariant.complete in
+    refused_stands g.S.Store c.self.inside.conn new kept (accepting kept) _ c.self.invariant same (g.met.S.Store.shut_if_dirty new.store) complete
     kept refl c.in-Err-accept_rows.error (c.in-Err-accept_rows.ensures (tables_in kept))
 
 pub returns-in-Err-accept_rows-clause-change : goal.returns-in-Err-accept_rows-clause-change
@@ -22,8 +24,9 @@ returns-in-Err-accept_rows-clause-change g c =
     let kept = c.self.inside.lists.kept in
     let files : map file_of c.as_slice.result.now ≡ apply_changes kept.repo.fixes kept.repo.staged = ap (map file_of) c.as_slice.ensures.value ∙ c.in-Ok.ensures in
     let same = accepting_handed (map file_of c.as_slice.result.now) kept files in
+    let complete = complete_accepted kept c.self.invariant.complete in
     subst (λ (s : Shown g.row.S.Denot). Changes g.S.Store s (record { conn = new; kept = kept }) (Err c.fault_of.result) (accepting s.kept)) c.self.view_is
-    (refused_changes g.S.Store c.self.inside.conn new kept (accepting kept) _ c.self.invariant same (g.met.S.Store.shut_if_dirty new.store)
+    (refused_changes g.S.Store c.self.inside.conn new kept (accepting kept) _ c.self.invariant same (g.met.S.Store.shut_if_dirty new.store) complete
     kept refl c.in-Err-accept_rows.error (c.in-Err-accept_rows.ensures (tables_in kept)) c.fault_of.result)
 
 pub invariant_of-self-2 : goal.invariant_of-self-2
@@ -32,7 +35,8 @@ invariant_of-self-2 g c =
     let kept = c.self.inside.lists.kept in
     let files : map file_of c.as_slice.result.now ≡ apply_changes kept.repo.fixes kept.repo.staged = ap (map file_of) c.as_slice.ensures.value ∙ c.in-Ok.ensures in
     let same = accepting_handed (map file_of c.as_slice.result.now) kept files in
-    done_stands g.S.Store c.self.inside.conn new kept (accepting kept) _ c.self.invariant same (g.met.S.Store.shut_if_dirty new.store)
+    let complete = complete_accepted kept c.self.invariant.complete in
+    done_stands g.S.Store c.self.inside.conn new kept (accepting kept) _ c.self.invariant same (g.met.S.Store.shut_if_dirty new.store) complete
     c.accept.new.self.kept c.accept.ensures c.in_default.field-0 (c.in_default.ensures (tables_in kept))
 
 pub returns-clause-change : goal.returns-clause-change
@@ -41,6 +45,7 @@ returns-clause-change g c =
     let kept = c.self.inside.lists.kept in
     let files : map file_of c.as_slice.result.now ≡ apply_changes kept.repo.fixes kept.repo.staged = ap (map file_of) c.as_slice.ensures.value ∙ c.in-Ok.ensures in
     let same = accepting_handed (map file_of c.as_slice.result.now) kept files in
+    let complete = complete_accepted kept c.self.invariant.complete in
     subst (λ (s : Shown g.row.S.Denot). Changes g.S.Store s (record { conn = new; kept = c.accept.new.self.kept }) (Ok c.count_fixes-number.result) (accepting s.kept)) c.self.view_is
-    (done_changes g.S.Store c.self.inside.conn new kept (accepting kept) _ c.self.invariant same (g.met.S.Store.shut_if_dirty new.store)
+    (done_changes g.S.Store c.self.inside.conn new kept (accepting kept) _ c.self.invariant same (g.met.S.Store.shut_if_dirty new.store) complete
     (g.met.S.Store.settled new.store) c.accept.new.self.kept c.accept.ensures c.in_default.field-0 (c.in_default.ensures (tables_in kept)) c.count_fixes-number.result)

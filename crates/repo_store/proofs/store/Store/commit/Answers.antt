@@ -4,6 +4,7 @@ use Rattle.repo_store.specs.Lists.{file_of}
 use Rattle.repo_store.specs.Repository.{Commit}
 use Rattle.repo_store.specs.Shown.{Shown, Changes}
 use Rattle.repo_store.proofs.KeptLemmas.{committing_handed}
+use Rattle.repo_store.proofs.CompleteLemmas.{complete_committed}
 use Rattle.repo_store.proofs.StandLemmas.{tables_in, refused_stands, done_stands, refused_changes, done_changes}
 use Rattle.repo_store.proofs.store.Store.commit.Goals as goal
 
@@ -15,7 +16,8 @@ invariant_of-self-in-Err-commit_rows g c =
     let count : c.commits-number.result + 1 ≡ length kept.repo.history + 1 = ap (λ (n : ℕ). n + 1) (c.commits-number.ensures ∙ ap (λ (k : Kept). length k.repo.history) prepared.same) in
     let same = committing_handed c.args.message.now c.in-Ok.commit.message (c.commits-number.result + 1) (map file_of c.in-Ok.commit.files.items) kept
     (ap (λ (commit : Commit). commit.message) prepared.commit) count (ap (λ (commit : Commit). commit.tree) prepared.commit) in
-    refused_stands g.S.Store c.self.inside.conn new kept (committing c.args.message.now kept) _ c.self.invariant same (g.met.S.Store.shut_if_dirty new.store)
+    let complete = complete_committed c.args.message.now kept c.self.invariant.complete prepared.within.1 in
+    refused_stands g.S.Store c.self.inside.conn new kept (committing c.args.message.now kept) _ c.self.invariant same (g.met.S.Store.shut_if_dirty new.store) complete
     c.prepare_commit.new.self.kept prepared.same c.in-Err-commit_rows.error (c.in-Err-commit_rows.ensures (tables_in kept))
 
 pub returns-in-Err-commit_rows-clause-change : goal.returns-in-Err-commit_rows-clause-change
@@ -26,8 +28,9 @@ returns-in-Err-commit_rows-clause-change g c =
     let count : c.commits-number.result + 1 ≡ length kept.repo.history + 1 = ap (λ (n : ℕ). n + 1) (c.commits-number.ensures ∙ ap (λ (k : Kept). length k.repo.history) prepared.same) in
     let same = committing_handed c.args.message.now c.in-Ok.commit.message (c.commits-number.result + 1) (map file_of c.in-Ok.commit.files.items) kept
     (ap (λ (commit : Commit). commit.message) prepared.commit) count (ap (λ (commit : Commit). commit.tree) prepared.commit) in
+    let complete = complete_committed c.args.message.now kept c.self.invariant.complete prepared.within.1 in
     subst (λ (s : Shown g.row.S.Denot). Changes g.S.Store s (record { conn = new; kept = c.prepare_commit.new.self.kept }) (Err c.fault_of.result) (committing c.args.message.now s.kept)) c.self.view_is
-    (refused_changes g.S.Store c.self.inside.conn new kept (committing c.args.message.now kept) _ c.self.invariant same (g.met.S.Store.shut_if_dirty new.store)
+    (refused_changes g.S.Store c.self.inside.conn new kept (committing c.args.message.now kept) _ c.self.invariant same (g.met.S.Store.shut_if_dirty new.store) complete
     c.prepare_commit.new.self.kept prepared.same c.in-Err-commit_rows.error (c.in-Err-commit_rows.ensures (tables_in kept)) c.fault_of.result)
 
 pub invariant_of-self-2 : goal.invariant_of-self-2
@@ -39,7 +42,8 @@ invariant_of-self-2 g c =
     let same = committing_handed c.args.message.now c.in-Ok.commit.message (c.commits-number.result + 1) (map file_of c.in-Ok.commit.files.items) kept
     (ap (λ (commit : Commit). commit.message) prepared.commit) count (ap (λ (commit : Commit). commit.tree) prepared.commit) in
     let now = c.commit.ensures ∙ ap₂ (λ (m : List ℕ) (k : Kept). committing m k) (ap (λ (commit : Commit). commit.message) prepared.commit) prepared.same in
-    done_stands g.S.Store c.self.inside.conn new kept (committing c.args.message.now kept) _ c.self.invariant same (g.met.S.Store.shut_if_dirty new.store)
+    let complete = complete_committed c.args.message.now kept c.self.invariant.complete prepared.within.1 in
+    done_stands g.S.Store c.self.inside.conn new kept (committing c.args.message.now kept) _ c.self.invariant same (g.met.S.Store.shut_if_dirty new.store) complete
     c.commit.new.self.kept now c.in_default.field-0 (c.in_default.ensures (tables_in kept))
 
 pub returns-clause-change : goal.returns-clause-change
@@ -51,6 +55,7 @@ returns-clause-change g c =
     let same = committing_handed c.args.message.now c.in-Ok.commit.message (c.commits-number.result + 1) (map file_of c.in-Ok.commit.files.items) kept
     (ap (λ (commit : Commit). commit.message) prepared.commit) count (ap (λ (commit : Commit). commit.tree) prepared.commit) in
     let now = c.commit.ensures ∙ ap₂ (λ (m : List ℕ) (k : Kept). committing m k) (ap (λ (commit : Commit). commit.message) prepared.commit) prepared.same in
+    let complete = complete_committed c.args.message.now kept c.self.invariant.complete prepared.within.1 in
     subst (λ (s : Shown g.row.S.Denot). Changes g.S.Store s (record { conn = new; kept = c.commit.new.self.kept }) (Ok (c.commits-number.result + 1)) (committing c.args.message.now s.kept)) c.self.view_is
-    (done_changes g.S.Store c.self.inside.conn new kept (committing c.args.message.now kept) _ c.self.invariant same (g.met.S.Store.shut_if_dirty new.store)
+    (done_changes g.S.Store c.self.inside.conn new kept (committing c.args.message.now kept) _ c.self.invariant same (g.met.S.Store.shut_if_dirty new.store) complete
     (g.met.S.Store.settled new.store) c.commit.new.self.kept now c.in_default.field-0 (c.in_default.ensures (tables_in kept)) (c.commits-number.result + 1))

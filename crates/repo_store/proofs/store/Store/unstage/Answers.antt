@@ -4,6 +4,7 @@ use Rattle.repo_store.specs.Kept.{Kept, unstaging}
 use Rattle.repo_store.specs.Shown.{Shown, Changes}
 use Rattle.repo_store.proofs.KeptLemmas.{unstaging_tables}
 use Rattle.repo_store.proofs.SameLemmas.{IsSame}
+use Rattle.repo_store.proofs.CompleteLemmas.{complete_unstaged}
 use Rattle.repo_store.proofs.StandLemmas.{tables_in, refused_stands, done_stands, refused_changes, done_changes}
 use Rattle.repo_store.proofs.store.Store.unstage.Goals as goal
 
@@ -14,28 +15,32 @@ pub invariant_of-self : goal.invariant_of-self
 invariant_of-self g c =
     let new = c.unstage_rows.new.conn in
     let kept = c.self.inside.lists.kept in
-    refused_stands g.S.Store c.self.inside.conn new kept (unstaging c.args.path.now kept) _ c.self.invariant (unstaged c.args.path.now c.as_str.result.now kept c.as_str.ensures.same) (g.met.S.Store.shut_if_dirty new.store)
+    let complete = complete_unstaged c.args.path.now kept c.self.invariant.complete in
+    refused_stands g.S.Store c.self.inside.conn new kept (unstaging c.args.path.now kept) _ c.self.invariant (unstaged c.args.path.now c.as_str.result.now kept c.as_str.ensures.same) (g.met.S.Store.shut_if_dirty new.store) complete
     kept refl c.in-Err.error (c.in-Err.ensures (tables_in kept))
 
 pub invariant_of-self-2 : goal.invariant_of-self-2
 invariant_of-self-2 g c =
     let new = c.unstage_rows.new.conn in
     let kept = c.self.inside.lists.kept in
-    done_stands g.S.Store c.self.inside.conn new kept (unstaging c.args.path.now kept) _ c.self.invariant (unstaged c.args.path.now c.as_str.result.now kept c.as_str.ensures.same) (g.met.S.Store.shut_if_dirty new.store)
+    let complete = complete_unstaged c.args.path.now kept c.self.invariant.complete in
+    done_stands g.S.Store c.self.inside.conn new kept (unstaging c.args.path.now kept) _ c.self.invariant (unstaged c.args.path.now c.as_str.result.now kept c.as_str.ensures.same) (g.met.S.Store.shut_if_dirty new.store) complete
     c.unstage.new.self.kept c.unstage.ensures c.in_default.field-0 (c.in_default.ensures (tables_in kept))
 
 pub returns-in-Err-clause-change : goal.returns-in-Err-clause-change
 returns-in-Err-clause-change g c =
     let new = c.unstage_rows.new.conn in
     let kept = c.self.inside.lists.kept in
+    let complete = complete_unstaged c.args.path.now kept c.self.invariant.complete in
     subst (λ (s : Shown g.row.S.Denot). Changes g.S.Store s (record { conn = new; kept = kept }) (Err c.fault_of.result) (unstaging c.args.path.now s.kept)) c.self.view_is
-    (refused_changes g.S.Store c.self.inside.conn new kept (unstaging c.args.path.now kept) _ c.self.invariant (unstaged c.args.path.now c.as_str.result.now kept c.as_str.ensures.same) (g.met.S.Store.shut_if_dirty new.store)
+    (refused_changes g.S.Store c.self.inside.conn new kept (unstaging c.args.path.now kept) _ c.self.invariant (unstaged c.args.path.now c.as_str.result.now kept c.as_str.ensures.same) (g.met.S.Store.shut_if_dirty new.store) complete
     kept refl c.in-Err.error (c.in-Err.ensures (tables_in kept)) c.fault_of.result)
 
 pub returns-clause-change : goal.returns-clause-change
 returns-clause-change g c =
     let new = c.unstage_rows.new.conn in
     let kept = c.self.inside.lists.kept in
+    let complete = complete_unstaged c.args.path.now kept c.self.invariant.complete in
     subst (λ (s : Shown g.row.S.Denot). Changes g.S.Store s (record { conn = new; kept = c.unstage.new.self.kept }) (Ok tt) (unstaging c.args.path.now s.kept)) c.self.view_is
-    (done_changes g.S.Store c.self.inside.conn new kept (unstaging c.args.path.now kept) _ c.self.invariant (unstaged c.args.path.now c.as_str.result.now kept c.as_str.ensures.same) (g.met.S.Store.shut_if_dirty new.store)
+    (done_changes g.S.Store c.self.inside.conn new kept (unstaging c.args.path.now kept) _ c.self.invariant (unstaged c.args.path.now c.as_str.result.now kept c.as_str.ensures.same) (g.met.S.Store.shut_if_dirty new.store) complete
     (g.met.S.Store.settled new.store) c.unstage.new.self.kept c.unstage.ensures c.in_default.field-0 (c.in_default.ensures (tables_in kept)) tt)

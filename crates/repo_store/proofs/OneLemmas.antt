@@ -1,0 +1,261 @@
+-- Rows tell one whole repository at most.
+use Rattle.std.proofs.Common.{◌≡◌, ℕ, ◌+◌, ◌<◌, ℤ, pos, Bool, true, false, not, List, [], ◌∷◌, ◌++◌, map, filter, length, get_or, Option, None, Some, MatchOption, Ordering, Less, Equal, Greater, is_lt, IsPermutation, ◌⊎◌, inl, inr, refl, sym, ap, ap₂, subst, ◌∙◌, arith}
+use Rattle.std.specs.List.{Any, AllByRecursion}
+use Rattle.std.specs.Ordering.{int_cmp}
+use Rattle.std.specs.Str.{bytes_eq}
+use Rattle.std.specs.Cmp.Lexicographic.{bytes_decides}
+use Rattle.std.proofs.lemmas.Bool.{false_from_ne_true}
+use Rattle.std.proofs.lemmas.Cmp.{int_cmp_total, tied_itself}
+use Rattle.std.proofs.lemmas.List.{append-nil, get_or_default}
+use Rattle.std.proofs.lemmas.List.Elements.{filter-append}
+use Rattle.std.proofs.lemmas.List.Folds.{Any-from_list_any}
+use Rattle.std.proofs.lemmas.List.Sorted.{length_permutation, IsPermutation-sym, IsPermutation-map, list_any-IsPermutation}
+use Rattle.sha2.specs.Sha256.{sha256}
+use Rattle.sqlite_keyed.proofs.ListLemmas.{IsPermutation-filter, filter_all, filter_none}
+use Rattle.sqlite.specs.Effect.{Database}
+use Rattle.sqlite_trees.specs.Tree.{IsAscending, Trees}
+use Rattle.hook_base.specs.declared.file.File.{File}
+use Rattle.hook_base.specs.declared.file.Mode.{Mode}
+use Rattle.hook_base.specs.declared.file.Mode.TheVariants.{Plain, Executable}
+use Rattle.hook_base.specs.declared.change.Change.{Change}
+use Rattle.hook_base.specs.Rising.{path_cmp, IsBelow, IsBelowAll, IsRisingBy}
+use Rattle.hook_base.specs.RisingLaws.{IsBelow-trans, below_not_same}
+use Rattle.hook_base.specs.Trees.{IsRising, path_of}
+use Rattle.store_tables.specs.declared.rows.BlobRow.{BlobRow}
+use Rattle.store_tables.specs.declared.rows.CommitRow.{CommitRow}
+use Rattle.store_tables.specs.declared.rows.EntryRow.{EntryRow}
+use Rattle.store_tables.specs.declared.rows.FixRow.{FixRow}
+use Rattle.store_tables.specs.declared.rows.StagedRow.{StagedRow}
+use Rattle.store_tables.specs.Tables.{Holds, with_schema}
+use Rattle.repo_store.specs.Complete.{AreAlike, AreApart, HaveContents, HaveNewContents, IsAmong, IsComplete}
+use Rattle.repo_store.specs.Kept.{Kept}
+use Rattle.repo_store.specs.Loaded.{IsSame}
+use Rattle.repo_store.specs.Repository.{Commit}
+use Rattle.repo_store.specs.Shown.{Leaves}
+use Rattle.repo_store.specs.Rows.{blob_row, commit_row, commit_rows, entry_row, entry_rows, fix_at, fix_row, mode_number, staged_row, tables_of}
+use Rattle.repo_store.proofs.LoadLemmas.{fix_path, pos_less}
+use Rattle.repo_store.proofs.WholeLemmas.{all_same, all_weaker, holds_one}
+
+-- ---- lists in one order
+
+module _ {X : Type 0} (is_before : X → X → Bool) (never_back : (x y : X) → is_before x y ≡ true → is_before y x ≡ true → ⊥) where
+  abbrev Rises : List X → Type 0
+  Rises = IsAscending (λ x y. is_before x y ≡ true)
+
+  first_or_later : (x : X) (xs : List X) → Rises (x ∷ xs) → AllByRecursion (λ z. (z ≡ x) ⊎ (is_before x z ≡ true)) (x ∷ xs)
+  first_or_later x xs up = (inl refl, all_weaker (λ z. is_before x z ≡ true) (λ z. (z ≡ x) ⊎ (is_before x z ≡ true)) xs (λ z h. inr h) up.0)
+
+  same_first : (x y : X) (xs ys : List X) → Rises (x ∷ xs) → Rises (y ∷ ys) → IsPermutation (x ∷ xs) (y ∷ ys) → x ≡ y
+  same_first x y xs ys up also same =
+      elim (all_same (λ z. (z ≡ y) ⊎ (is_before y z ≡ true)) (y ∷ ys) (x ∷ xs) (IsPermutation-sym _ _ same) (first_or_later y ys also)).0 [
+        | inl is ↦ is
+        | inr y_first ↦ elim (all_same (λ z. (z ≡ x) ⊎ (is_before x z ≡ true)) (x ∷ xs) (y ∷ ys) same (first_or_later x xs up)).0 [ inl is ↦ sym is | inr x_first ↦ absurd (never_back x y x_first y_first) ]
+      ]
+
+  all_but_first : (x : X) (xs : List X) → Rises (x ∷ xs) → filter (is_before x) (x ∷ xs) ≡ xs
+  all_but_first x xs up = rw (false_from_ne_true (is_before x x) (λ h. never_back x x h h), filter_all (is_before x) xs up.0)
+
+  pub one_order : (xs ys : List X) → Rises xs → Rises ys → IsPermutation xs ys → xs ≡ ys
+  one_order [] [] up also same = refl
+  one_order [] (y ∷ ys) up also same = absurd (omega (arith, length_permutation [] (y ∷ ys) same))
+  one_order (x ∷ xs) [] up also same = absurd (omega (arith, length_permutation (x ∷ xs) [] same))
+  one_order (x ∷ xs) (y ∷ ys) up also same =
+      let first = same_first x y xs ys up also same in
+      let left = subst (λ (l : List X). IsPermutation l (filter (is_before x) (y ∷ ys))) (all_but_first x xs up) (IsPermutation-filter (is_before x) (x ∷ xs) (y ∷ ys) same) in
+      let rest = subst (IsPermutation xs) (ap (λ (z : X). filter (is_before z) (y ∷ ys)) first ∙ all_but_first y ys also) left in
+      ap₂ (λ (z : X) (l : List X). z ∷ l) first (one_order xs ys up.1 also.1 rest)
+
+less_if : (o : Ordering) → is_lt o ≡ true → o ≡ Less
+less_if Less h = refl
+less_if Equal h = absurd (let never : false ≡ true = h in cc)
+less_if Greater h = absurd (let never : false ≡ true = h in cc)
+
+paths_apart : (p q : List ℕ) → is_lt (path_cmp p q) ≡ true → is_lt (path_cmp q p) ≡ true → ⊥
+paths_apart p q below back =
+    let one : IsBelow p q = record { is_less = less_if (path_cmp p q) below } in
+    let two : IsBelow q p = record { is_less = less_if (path_cmp q p) back } in
+    below_not_same p p (IsBelow-trans p q p one two) refl
+
+numbers_apart : (m n : ℤ) → is_lt (int_cmp m n) ≡ true → is_lt (int_cmp n m) ≡ true → ⊥
+numbers_apart m n below back =
+    let less = int_cmp_total.trans m n m (less_if (int_cmp m n) below) (less_if (int_cmp n m) back) in
+    let tied = tied_itself int_cmp_total m in
+    let never : Less ≡ Equal = sym less ∙ tied in
+    absurd (cc)
+
+-- rows of what is in the order of its paths
+module _ {X Y : Type 0} (path_in : X → List ℕ) (row : X → Y) (row_path : Y → List ℕ) (shows : (x : X) → row_path (row x) ≡ path_in x) where
+  abbrev comes_first : Y → Y → Bool
+  comes_first r s = is_lt (path_cmp (row_path r) (row_path s))
+
+  rows_below : (x : X) (ys : List X) → IsBelowAll path_in (path_in x) ys → AllByRecursion (λ s. comes_first (row x) s ≡ true) (map row ys)
+  rows_below x [] below = tt
+  rows_below x (y ∷ ys) below = (ap₂ (λ (p q : List ℕ). is_lt (path_cmp p q)) (shows x) (shows y) ∙ ap is_lt below.0.is_less, rows_below x ys below.1)
+
+  rows_rise : (xs : List X) → IsRisingBy path_in xs → IsAscending (λ r s. comes_first r s ≡ true) (map row xs)
+  rows_rise [] up = tt
+  rows_rise (x ∷ xs) up = (rows_below x xs up.0, rows_rise xs up.1)
+
+  pub one_rising : (xs ys : List X) → IsRisingBy path_in xs → IsRisingBy path_in ys → IsPermutation (map row xs) (map row ys) → map row xs ≡ map row ys
+  one_rising xs ys up also = one_order comes_first (λ r s. paths_apart (row_path r) (row_path s)) (map row xs) (map row ys) (rows_rise xs up) (rows_rise ys also)
+
+-- ---- contents
+
+bytes_back : (contents : List (List ℕ)) → map (λ (row : BlobRow). row.bytes) (map blob_row contents) ≡ contents
+bytes_back [] = refl
+bytes_back (bytes ∷ contents) = ap (λ (l : List (List ℕ)). bytes ∷ l) (bytes_back contents)
+
+same_contents : (a b : List (List ℕ)) → IsPermutation (map blob_row a) (map blob_row b) → IsPermutation a b
+same_contents a b same =
+    subst (λ (l : List (List ℕ)). IsPermutation l b) (bytes_back a)
+    (subst (IsPermutation (map (λ (row : BlobRow). row.bytes) (map blob_row a))) (bytes_back b) (IsPermutation-map (λ (row : BlobRow). row.bytes) (map blob_row a) (map blob_row b) same))
+
+module _ (a b : List (List ℕ)) (same : IsPermutation a b) (apart : AreApart b) where
+  -- one digest stands for the same bytes among both
+  same_bytes : (x y : List ℕ) → IsAmong a x → IsAmong b y → sha256 x ≡ sha256 y → x ≡ y
+  same_bytes x y x_in y_in digests =
+      let one : Any (λ z. bytes_eq x z ≡ true) b = Any-from_list_any (bytes_eq x) b (sym (list_any-IsPermutation (bytes_eq x) a b same) ∙ x_in) in
+      let two : Any (λ z. bytes_eq y z ≡ true) b = Any-from_list_any (bytes_eq y) b y_in in
+      let x_is : get_or b one.0 [] ≡ x = get_or_default b one.0 [] one.1 one.2 ∙ one.3 ∙ sym ((bytes_decides x one.1).0 one.4) in
+      let y_is : get_or b two.0 [] ≡ y = get_or_default b two.0 [] two.1 two.2 ∙ two.3 ∙ sym ((bytes_decides y two.1).0 two.4) in
+      let at : one.0 ≡ two.0 = apart one.0 two.0 one.2 two.2 (ap sha256 x_is ∙ digests ∙ sym (ap sha256 y_is)) in
+      sym x_is ∙ ap (λ (i : ℕ). get_or b i []) at ∙ y_is
+
+  same_mode : (m n : Mode) → pos (mode_number m) ≡ pos (mode_number n) → m ≡ n
+  same_mode Plain Plain h = refl
+  same_mode Plain Executable h = absurd (cc)
+  same_mode Executable Plain h = absurd (cc)
+  same_mode Executable Executable h = refl
+
+  same_file : (f g : File) → IsAmong a f.entry.bytes → IsAmong b g.entry.bytes → staged_row f ≡ staged_row g → f ≡ g
+  same_file f g f_in g_in rows =
+      let path = ap (λ (row : StagedRow). row.path) rows in
+      let mode = same_mode f.entry.mode g.entry.mode (ap (λ (row : StagedRow). row.mode) rows) in
+      let bytes = same_bytes f.entry.bytes g.entry.bytes f_in g_in (ap (λ (row : StagedRow). row.digest) rows) in
+      ap₂ (λ (p : List ℕ) (e : _). let made : File = record { path = p; entry = e } in made) path (ap₂ (λ (m : Mode) (x : List ℕ). record { mode = m; bytes = x }) mode bytes)
+
+  -- files are the same where their rows are
+  module _ {Y : Type 0} (row : File → Y) (shown : Y → StagedRow) (shows : (f : File) → shown (row f) ≡ staged_row f) where
+    same_files : (fs gs : List File) → HaveContents a fs → HaveContents b gs → map row fs ≡ map row gs → fs ≡ gs
+    same_files [] [] fs_in gs_in rows = refl
+    same_files [] (g ∷ gs) fs_in gs_in rows = absurd (let count = ap length rows in omega arith)
+    same_files (f ∷ fs) [] fs_in gs_in rows = absurd (let count = ap length rows in omega arith)
+    same_files (f ∷ fs) (g ∷ gs) fs_in gs_in rows =
+        let first : row f ≡ row g = cc in
+        let rest : map row fs ≡ map row gs = cc in
+        ap₂ (λ (h : File) (l : List File). h ∷ l) (same_file f g fs_in.0 gs_in.0 (sym (shows f) ∙ ap shown first ∙ shows g)) (same_files fs gs fs_in.1 gs_in.1 rest)
+
+  same_now : (p q : List ℕ) (m n : Option (List ℕ)) → MatchOption m (Unit {0}) (IsAmong a) → MatchOption n (Unit {0}) (IsAmong b) → (fix_at p m).digest ≡ (fix_at q n).digest → m ≡ n
+  same_now p q None None m_in n_in rows = refl
+  same_now p q None (Some y) m_in n_in rows = absurd (let never : ◌≡◌ {A = Option (List ℕ)} None (Some (sha256 y)) = rows in cc)
+  same_now p q (Some x) None m_in n_in rows = absurd (let never : ◌≡◌ {A = Option (List ℕ)} (Some (sha256 x)) None = rows in cc)
+  same_now p q (Some x) (Some y) m_in n_in rows = let digests : sha256 x ≡ sha256 y = cc in ap Some (same_bytes x y m_in n_in digests)
+
+  same_fixes : (cs ds : List Change) → HaveNewContents a cs → HaveNewContents b ds → map fix_row cs ≡ map fix_row ds → cs ≡ ds
+  same_fixes [] [] cs_in ds_in rows = refl
+  same_fixes [] (d ∷ ds) cs_in ds_in rows = absurd (let count = ap length rows in omega arith)
+  same_fixes (c ∷ cs) [] cs_in ds_in rows = absurd (let count = ap length rows in omega arith)
+  same_fixes (c ∷ cs) (d ∷ ds) cs_in ds_in rows =
+      let first : fix_row c ≡ fix_row d = cc in
+      let rest : map fix_row cs ≡ map fix_row ds = cc in
+      let path = sym (fix_path c.path c.now) ∙ ap (λ (row : FixRow). row.path) first ∙ fix_path d.path d.now in
+      let now = same_now c.path d.path c.now d.now cs_in.0 ds_in.0 (ap (λ (row : FixRow). row.digest) first) in
+      ap₂ (λ (x : Change) (l : List Change). x ∷ l) (ap₂ (λ (p : List ℕ) (n : Option (List ℕ)). let made : Change = record { path = p; now = n } in made) path now) (same_fixes cs ds cs_in.1 ds_in.1 rest)
+
+-- ---- commits
+
+abbrev is_later : ℕ → ℤ → Bool
+is_later k n = is_lt (int_cmp (pos k) n)
+
+later_commits : (k n : ℕ) (history : List Commit) → k < n → AllByRecursion (λ (row : CommitRow). is_later k row.n ≡ true) (commit_rows n history)
+later_commits k n [] below = tt
+later_commits k n (commit ∷ history) below = (ap is_lt (pos_less k n below), later_commits k (n + 1) history (omega arith))
+
+commits_rise : (n : ℕ) (history : List Commit) → IsAscending (λ (r s : CommitRow). is_lt (int_cmp r.n s.n) ≡ true) (commit_rows n history)
+commits_rise n [] = tt
+commits_rise n (commit ∷ history) = (later_commits n (n + 1) history (omega arith), commits_rise (n + 1) history)
+
+same_commits : (g h : List Commit) → IsPermutation (commit_rows 1 g) (commit_rows 1 h) → commit_rows 1 g ≡ commit_rows 1 h
+same_commits g h = one_order (λ (r s : CommitRow). is_lt (int_cmp r.n s.n)) (λ r s. numbers_apart r.n s.n) (commit_rows 1 g) (commit_rows 1 h) (commits_rise 1 g) (commits_rise 1 h)
+
+all_both : {X : Type 0} (P : X → Type 0) (xs ys : List X) → AllByRecursion P xs → AllByRecursion P ys → AllByRecursion P (xs ++ ys)
+all_both P [] ys one two = two
+all_both P (x ∷ xs) ys one two = (one.0, all_both P xs ys one.1 two)
+
+later_files : (k n : ℕ) (files : List File) → k < n → AllByRecursion (λ (row : EntryRow). is_later k row.n ≡ true) (map (entry_row n) files)
+later_files k n [] below = tt
+later_files k n (file ∷ files) below = (ap is_lt (pos_less k n below), later_files k n files below)
+
+later_entries : (k n : ℕ) (history : List Commit) → k < n → AllByRecursion (λ (row : EntryRow). is_later k row.n ≡ true) (entry_rows n history)
+later_entries k n [] below = tt
+later_entries k n (commit ∷ history) below =
+    all_both (λ (row : EntryRow). is_later k row.n ≡ true) (map (entry_row n) commit.tree) (entry_rows (n + 1) history) (later_files k n commit.tree below) (later_entries k (n + 1) history (omega arith))
+
+here_files : (n : ℕ) (files : List File) → AllByRecursion (λ (row : EntryRow). is_later n row.n ≡ false) (map (entry_row n) files)
+here_files n [] = tt
+here_files n (file ∷ files) = (ap is_lt (tied_itself int_cmp_total (pos n)), here_files n files)
+
+module _ (n : ℕ) (files : List File) (history : List Commit) where
+  abbrev later : EntryRow → Bool
+  later row = is_later n row.n
+
+  files_here : filter (λ row. not (later row)) (map (entry_row n) files ++ entry_rows (n + 1) history) ≡ map (entry_row n) files
+  files_here =
+      filter-append (λ row. not (later row)) (map (entry_row n) files) (entry_rows (n + 1) history)
+      ∙ ap₂ ◌++◌ (filter_all (λ row. not (later row)) (map (entry_row n) files) (all_weaker (λ row. later row ≡ false) (λ row. not (later row) ≡ true) (map (entry_row n) files) (λ row. ap not) (here_files n files)))
+      (filter_none (λ row. not (later row)) (entry_rows (n + 1) history) (all_weaker (λ row. later row ≡ true) (λ row. not (later row) ≡ false) (entry_rows (n + 1) history) (λ row. ap not) (later_entries n (n + 1) history (omega arith))))
+      ∙ append-nil (map (entry_row n) files)
+
+  files_later : filter later (map (entry_row n) files ++ entry_rows (n + 1) history) ≡ entry_rows (n + 1) history
+  files_later =
+      filter-append later (map (entry_row n) files) (entry_rows (n + 1) history)
+      ∙ ap₂ ◌++◌ (filter_none later (map (entry_row n) files) (here_files n files)) (filter_all later (entry_rows (n + 1) history) (later_entries n (n + 1) history (omega arith)))
+
+filtered : {X : Type 0} (p : X → Bool) (xs ys us vs : List X) → filter p xs ≡ us → filter p ys ≡ vs → IsPermutation xs ys → IsPermutation us vs
+filtered {X} p xs ys us vs left right same = subst (λ (l : List X). IsPermutation l vs) left (subst (IsPermutation (filter p xs)) right (IsPermutation-filter p xs ys same))
+
+abbrev Rise : List Commit → Type 0
+Rise history = AllByRecursion (λ (commit : Commit). IsRising commit.tree) history
+
+abbrev Have : List (List ℕ) → List Commit → Type 0
+Have contents history = AllByRecursion (λ (commit : Commit). HaveContents contents commit.tree) history
+
+module _ (a b : List (List ℕ)) (same : IsPermutation a b) (apart : AreApart b) where
+  same_history : (n : ℕ) (g h : List Commit) → commit_rows n g ≡ commit_rows n h → IsPermutation (entry_rows n g) (entry_rows n h) → Rise g → Rise h → Have a g → Have b h → g ≡ h
+  same_history n [] [] rows entries up also g_in h_in = refl
+  same_history n [] (d ∷ h) rows entries up also g_in h_in = absurd (let count = ap length rows in omega arith)
+  same_history n (c ∷ g) [] rows entries up also g_in h_in = absurd (let count = ap length rows in omega arith)
+  same_history n (c ∷ g) (d ∷ h) rows entries up also g_in h_in =
+      let row : commit_row n c ≡ commit_row n d = cc in
+      let first : c.message ≡ d.message = ap (λ (r : CommitRow). r.message) row in
+      let rest : commit_rows (n + 1) g ≡ commit_rows (n + 1) h = cc in
+      let here = filtered (λ (row : EntryRow). not (later n c.tree g row)) (entry_rows n (c ∷ g)) (entry_rows n (d ∷ h)) (map (entry_row n) c.tree) (map (entry_row n) d.tree) (files_here n c.tree g) (files_here n d.tree h) entries in
+      let behind = filtered (later n c.tree g) (entry_rows n (c ∷ g)) (entry_rows n (d ∷ h)) (entry_rows (n + 1) g) (entry_rows (n + 1) h) (files_later n c.tree g) (files_later n d.tree h) entries in
+      let shown = one_rising path_of (entry_row n) (λ (row : EntryRow). row.path) (λ file. refl) c.tree d.tree up.0 also.0 here in
+      let tree = same_files a b same apart (entry_row n) (λ (row : EntryRow). record { path = row.path; mode = row.mode; digest = row.digest }) (λ file. refl) c.tree d.tree g_in.0 h_in.0 shown in
+      ap₂ (λ (x : Commit) (l : List Commit). x ∷ l) (ap₂ (λ (m : List ℕ) (t : List File). let made : Commit = record { message = m; tree = t } in made) first tree) (same_history (n + 1) g h rest behind up.1 also.1 g_in.1 h_in.1)
+
+-- ---- all of it
+
+alike_from_same : (a b : Kept) → IsComplete a → IsComplete b → IsSame (tables_of a.repo a.contents) (tables_of b.repo b.contents) → AreAlike a b
+alike_from_same a b whole other same =
+    let contents = same_contents a.contents b.contents same.blobs in
+    let staged =
+    same_files a.contents b.contents contents other.apart staged_row (λ (row : StagedRow). row) (λ file. refl) a.repo.staged b.repo.staged whole.staged other.staged
+    (one_rising path_of staged_row (λ (row : StagedRow). row.path) (λ file. refl) a.repo.staged b.repo.staged whole.sound.staged_rise other.sound.staged_rise same.staged) in
+    let fixes =
+    same_fixes a.contents b.contents contents other.apart a.repo.fixes b.repo.fixes whole.fixes other.fixes
+    (one_rising (λ (change : Change). change.path) fix_row (λ (row : FixRow). row.path) (λ change. fix_path change.path change.now) a.repo.fixes b.repo.fixes whole.sound.fixes_rise other.sound.fixes_rise same.fixes) in
+    let history =
+    same_history a.contents b.contents contents other.apart 1 a.repo.history b.repo.history (same_commits a.repo.history b.repo.history same.commits) same.entries
+    whole.sound.trees_rise other.sound.trees_rise whole.trees other.trees in
+    record {
+      repo = ap₂ (λ (h : List Commit) (r : List File × List Change). record { history = h; staged = r.0; fixes = r.1 }) history (ap₂ (λ (s : List File) (f : List Change). (s, f)) staged fixes);
+      contents = contents;
+    }
+
+pub held_alike : (db : Database) (a b : Kept) → IsComplete a → IsComplete b → Holds db (tables_of a.repo a.contents) → Holds db (tables_of b.repo b.contents) → AreAlike a b
+held_alike db a b whole other holds also = alike_from_same a b whole other (holds_one db (tables_of a.repo a.contents) (tables_of b.repo b.contents) holds also)
+
+pub left_alike : (trees : Trees) (a b : Kept) → Leaves a trees → Leaves b trees → AreAlike a b
+left_alike trees a b left also = held_alike (with_schema trees) a b left.complete also.complete left.holds also.holds

@@ -1,0 +1,38 @@
+-- What is kept is one whole repository.
+use Rattle.std.specs.Prelude.{◌≡◌, ℕ, ◌<◌, true, List, [], length, slice_index_or, MatchOption, IsPermutation}
+use Rattle.std.specs.List.{AllByRecursion}
+use Rattle.sha2.specs.Sha256.{sha256}
+use Rattle.hook_base.specs.declared.file.File.{File}
+use Rattle.hook_base.specs.declared.change.Change.{Change}
+use Rattle.repo_store.specs.Contents.{has_content}
+use Rattle.repo_store.specs.Kept.{Kept}
+use Rattle.repo_store.specs.Repository.{Commit}
+use Rattle.repo_store.specs.Sound.{IsSound}
+
+abbrev pub IsAmong : List (List ℕ) → List ℕ → Type 0
+IsAmong contents bytes = has_content bytes contents ≡ true
+
+-- the bytes of each file are among the contents
+abbrev pub HaveContents : List (List ℕ) → List File → Type 0
+HaveContents contents files = AllByRecursion (λ (file : File). IsAmong contents file.entry.bytes) files
+
+-- the new bytes of each change are among the contents
+abbrev pub HaveNewContents : List (List ℕ) → List Change → Type 0
+HaveNewContents contents changes = AllByRecursion (λ (change : Change). MatchOption change.now (Unit {0}) (IsAmong contents)) changes
+
+-- no two of the contents stand under one digest
+abbrev pub AreApart : List (List ℕ) → Type 0
+AreApart contents = (i j : ℕ) → i < length contents → j < length contents → sha256 (slice_index_or contents i []) ≡ sha256 (slice_index_or contents j []) → i ≡ j
+
+-- The repository is sound, and the contents of each of its files are kept, under a digest of their own.
+pub record IsComplete (kept : Kept) : Type 0 where
+  pub sound : IsSound kept.repo
+  pub staged : HaveContents kept.contents kept.repo.staged
+  pub fixes : HaveNewContents kept.contents kept.repo.fixes
+  pub trees : AllByRecursion (λ (commit : Commit). HaveContents kept.contents commit.tree) kept.repo.history
+  pub apart : AreApart kept.contents
+
+-- the same repository, and the same contents in some order
+pub record AreAlike (a b : Kept) : Type 0 where
+  pub repo : a.repo ≡ b.repo
+  pub contents : IsPermutation a.contents b.contents
