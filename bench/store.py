@@ -5,8 +5,11 @@ Usage: bench/store.py [PROGRAM]   (default: crates/store_trial/out/store_trial)
 
 Stagings are each a transaction of their own. Opening is timed after 1, 10 and 100 commits of 1,000 files of 400 bytes, once
 with the same contents in each commit and once with other contents in each, and beside it what the database alone takes:
-to open the file, and to open it, read each table once and hash the contents. Each time is wall time in milliseconds, the
-least of several runs where nothing is written. The peak memory is of the whole process, beside the contents held.
+to open the file, and to open it, read each table once and hash the contents. The first staging after an opening is timed
+apart from the next 100: it pays for what opening freed, since the C library's malloc joins small free blocks at the
+next request for a large one. Each time is wall time in milliseconds, the least of several runs where nothing is written.
+The peak memory is of the whole process, beside the contents held, and beside it what the database alone takes: to put
+contents into their table, and to open a file and read its tables.
 """
 import hashlib
 import os
@@ -23,6 +26,8 @@ from timing import HERE, show
 PROGRAM = os.path.abspath(sys.argv[1] if len(sys.argv) > 1 else os.path.join(HERE, "..", "crates/store_trial/out/store_trial"))
 SQLITE = shutil.which("sqlite3") or sys.exit("bench/store.py: there is no sqlite3 to compare with")
 SIZE, FILES, LARGE = 400, 1000, 16777216
+# A seed that no history has.
+NEW = 1000000
 # The log, the syncs and the checks of references that a store has.
 PRAGMAS = "PRAGMA journal_mode = WAL; PRAGMA synchronous = FULL; PRAGMA foreign_keys = ON;\n"
 READ = [
@@ -53,16 +58,20 @@ class Play:
             sys.exit(f"{line[:80]!r} is answered {answer[:200]!r}")
         return took
 
+    def peak(self):
+        """The peak memory so far in MB. What wait4 tells counts this script's own memory too, from before the exec."""
+        with open(f"/proc/{self.child.pid}/status") as status:
+            return next(int(line.split()[1]) for line in status if line.startswith("VmHWM:")) * 1024 / 1e6
+
     def end(self):
         """Ends the program, and answers its peak memory in MB."""
+        peak = self.peak()
         self.child.stdin.close()
         self.child.stdout.read()
         self.child.stdout.close()
-        _, status, used = os.wait4(self.child.pid, 0)
-        self.child.returncode = os.waitstatus_to_exitcode(status)
-        if self.child.returncode:
+        if self.child.wait():
             sys.exit(f"store_trial ended with {self.child.returncode}")
-        return used.ru_maxrss / 1000
+        return peak
 
 
 def played(path, lines):
@@ -122,10 +131,17 @@ def time_large_commit(ours, other):
     show("one commit of 10000 files", times[1], beside, "sqlite3")
 
 
+def tell_peak(peak, held, alone):
+    """Prints a peak in MB and that of the database alone, beside so many bytes of contents."""
+    told = "; ".join(f"{what} {each:.1f} MB, {each * 1e6 / held:.1f} times" for what, each in alone)
+    print(f"{'':44} peak memory {peak:.1f} MB, {peak * 1e6 / held:.1f} times the contents; {told}")
+
+
 def time_large_contents(folder):
-    ours, other, bytes_ = (os.path.join(folder, name) for name in ("large.db", "large_other.db", "bytes"))
+    ours, other, alone, bytes_ = (os.path.join(folder, name) for name in ("large.db", "large_other.db", "large_alone.db", "bytes"))
     played(ours, ["create", "close"])
     copy(ours, other)
+    copy(ours, alone)
     with open(bytes_, "wb") as file:
         file.write(contents_of(LARGE, 0, 0))
     digest = hashlib.sha256(contents_of(LARGE, 0, 0)).hexdigest()
@@ -133,11 +149,12 @@ def time_large_contents(folder):
     beside = by_sqlite(other, PRAGMAS + f"BEGIN; INSERT INTO blobs VALUES (x'{digest}', readfile('{bytes_}')); "
                        f"INSERT INTO staged VALUES ('many/000000', 0, x'{digest}'); COMMIT;")
     show("16 MiB of contents in", times[1], beside, "sqlite3")
-    print(f"{'':44} peak memory {peak:.1f} MB, {peak * 1e6 / LARGE:.1f} times the contents")
+    tell_peak(peak, LARGE, [("the database alone", played(alone, [f"insert-alone {LARGE}"])[1])])
     times, peak = played(ours, ["open", "weigh"])
     beside = by_sqlite(other, "SELECT writefile('/dev/null', bytes) FROM blobs;")
     show("16 MiB of contents out, by an opened store", sum(times), beside, "sqlite3")
-    print(f"{'':44} opened in {times[0]:.1f} ms; peak memory {peak:.1f} MB, {peak * 1e6 / LARGE:.1f} times the contents")
+    print(f"{'':44} opened in {times[0]:.1f} ms")
+    tell_peak(peak, LARGE, [("to open the database alone", played(ours, ["connect"])[1]), ("and read it", played(ours, ["read-tables"])[1])])
 
 
 def rows_of_history(commits, are_same):
@@ -174,21 +191,26 @@ def least_of_line(path, line, runs=5):
 
 
 def time_opening(folder, are_same):
-    stagings = []
+    firsts, stagings = [], []
     for commits in (1, 10, 100):
         path = os.path.join(folder, f"{commits}{are_same}.db")
         held = make_history(path, commits, are_same)
         ours, peak = least_of_line(path, "open")
-        alone, _ = least_of_line(path, "connect")
+        alone, alone_peak = least_of_line(path, "connect")
         read, read_peak = least_of_line(path, "read-tables")
         beside = min(by_sqlite(path, ";\n".join(READ) + ";\n") for _ in range(5))
         checked = min(by_sqlite(path, "PRAGMA integrity_check; PRAGMA foreign_key_check;\n" + ";\n".join(READ) + ";\n") for _ in range(5))
         show(f"opening {commits} commits of {FILES} files, {'the same' if are_same else 'other'} contents", ours, beside, "sqlite3, rows read  ")
         show("", ours, checked, "and the file checked")
         print(f"{'':44} {alone:9.2f} ms of it to open the database alone, {read:.2f} ms to open, read and hash: ratio {ours / read:.2f}")
-        print(f"{'':44} {os.path.getsize(path) / 1e6:9.1f} MB of file, {held:.1f} MB of contents; peak memory {peak:.1f} MB, to read alone {read_peak:.1f} MB")
-        stagings.append(min(played(copy(path, path + ".more"), ["open", f"stage-many 100 {SIZE} 0"])[0][1] for _ in range(3)))
-    print(f"100 stagings after 1, 10 and 100 commits: {', '.join(f'{each:.1f}' for each in stagings)} ms; ratio of the last to the first {stagings[-1] / stagings[0]:.2f}")
+        print(f"{'':44} {os.path.getsize(path) / 1e6:9.1f} MB of file, {held:.1f} MB of contents")
+        tell_peak(peak, held * 1e6, [("to open the database alone", alone_peak), ("and read it", read_peak)])
+        lines = ["open", f"stage-many 1 {SIZE} {NEW}", f"stage-many 100 {SIZE} {NEW + 1}"]
+        runs = [played(copy(path, path + ".more"), lines)[0] for _ in range(5)]
+        firsts.append(min(times[1] for times in runs))
+        stagings.append(min(times[2] for times in runs))
+    for what, times in (("the first staging", firsts), ("the next 100", stagings)):
+        print(f"{what} after 1, 10 and 100 commits: {', '.join(f'{each:.1f}' for each in times)} ms; ratio of the last to the first {times[-1] / times[0]:.2f}")
 
 
 def main():

@@ -15,6 +15,8 @@ pub(crate) enum Command<'a> {
     Connect,
     /// Opens the file's database, reads its tables and hashes the contents, with no store.
     ReadTables,
+    /// Opens the file's database and puts contents of a size into its table, with no store.
+    InsertAlone(u32),
     /// Stops the machine of a disk that stops, and starts it again.
     Crash,
     /// A call on the store that is open.
@@ -65,7 +67,10 @@ pub(crate) fn read_command(line: &str) -> Option<Command<'_>> {
         "connect" => Some(Command::Connect),
         "read-tables" => Some(Command::ReadTables),
         "crash" => Some(Command::Crash),
-        _ => Some(Command::Call(read_call(line)?)),
+        _ => match line.strip_prefix("insert-alone ") {
+            Some(size) => Some(Command::InsertAlone(size.parse().ok()?)),
+            None => Some(Command::Call(read_call(line)?)),
+        },
     }
 }
 

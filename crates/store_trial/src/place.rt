@@ -1,10 +1,11 @@
 //! The file of a play, and the store that is open in it.
 
 use crate::answer::Answer;
+use crate::bulk::contents_of;
 use crate::calls::{answered, play_call};
 use crate::command::{Call, Command};
 use crate::stop::Stop;
-use crate::tables::read_tables;
+use crate::tables::{insert_contents, read_tables};
 use hook_base::Change;
 use repo_store::{Store, StoreFault};
 use sqlite::{Alter, Connection, Error, ErrorCode, File, FileStore};
@@ -38,6 +39,7 @@ impl Place {
             Command::Close => self.close(rt.alloc()),
             Command::Connect => connect(rt, name),
             Command::ReadTables => show_tables(rt, name),
+            Command::InsertAlone(size) => insert_alone(rt, name, size),
             Command::Crash => Err(Stop::BadLine),
             Command::Call(call) => self.call(rt.alloc(), call),
         }
@@ -126,4 +128,14 @@ fn show_tables(rt: &HostRuntime, name: &str) -> Result<Answer, Stop> {
         }
         Err(error) => Answer::refused(alloc, &fault_of(error)),
     }
+}
+
+fn insert_alone(rt: &HostRuntime, name: &str, size: u32) -> Result<Answer, Stop> {
+    let alloc = rt.alloc();
+    let bytes = contents_of(alloc, size, 0, 0)?;
+    let inserted = match Connection::open(rt, name) {
+        Ok(mut conn) => insert_contents(&mut conn, bytes.as_slice()),
+        Err(error) => Err(error),
+    };
+    answered(alloc, inserted.map_err(fault_of))
 }

@@ -54,7 +54,8 @@ impl StoppingPlace {
             Command::Open => self.begin(alloc, false),
             Command::Crash => self.crash(alloc),
             Command::Call(call) => self.call(alloc, call),
-            Command::Close | Command::Connect | Command::ReadTables => Err(Stop::BadLine),
+            Command::Close | Command::Connect | Command::ReadTables | Command::InsertAlone(_) =>
+                Err(Stop::BadLine),
         }
     }
 

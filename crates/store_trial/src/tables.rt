@@ -1,10 +1,11 @@
-//! Reads the tables of a database with no store, so that what a store costs can be told from what its database costs.
+//! Reads and writes the tables of a database with no store, so that what a store costs can be told from what its
+//! database costs.
 
 use sha2::{Digest as _, Sha256};
 use sqlite::{Alter, Connection, Error};
 use std::alloc::Global;
 use store_tables::{
-    BlobRow, read_answers, read_blobs, read_commits, read_entries, read_fixes, read_meta,
+    BlobRow, put_blob, read_answers, read_blobs, read_commits, read_entries, read_fixes, read_meta,
     read_staged,
 };
 
@@ -38,6 +39,20 @@ pub(crate) fn read_tables<S: Alter>(
         contents: blobs.len(),
         strays: count_strays(blobs.as_slice()),
     })
+}
+
+/// Keeps contents under their digest, in a transaction of their own.
+pub(crate) fn insert_contents<S: Alter>(
+    conn: &mut Connection<S>,
+    bytes: &[u8],
+) -> Result<(), Error> {
+    if !conn.is_autocommit() {
+        return Err(Error::InvalidQuery);
+    }
+    let digest = Sha256::digest(bytes);
+    let mut tx = conn.transaction();
+    put_blob(&mut tx, &digest, bytes)?;
+    tx.commit()
 }
 
 fn total(counts: &[usize]) -> usize {
