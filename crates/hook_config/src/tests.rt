@@ -1,6 +1,7 @@
 //! The kinds of refusals and their places, which no contract says, and texts whose configuration is known.
 
 mod lists;
+mod nodes;
 mod stages;
 
 use crate::config_fault::ConfigFault;
