@@ -23,8 +23,9 @@ use Rattle.repo_store.specs.Complete.{AreAlike, IsComplete}
 use Rattle.repo_store.specs.Faults.{IsDamage, IsRefusal}
 use Rattle.repo_store.specs.Kept.{Kept, Mirror}
 use Rattle.repo_store.specs.Loaded.{AreShown, IsSame, rows_in}
-use Rattle.repo_store.specs.Opens.{AreListed, AreLoaded, AreRead, IsFoundIn, IsUnfit}
+use Rattle.repo_store.specs.Opens.{AreListed, AreLoaded, AreRead, IsFoundIn}
 use Rattle.repo_store.specs.Rows.{tables_of, version_row}
+use Rattle.repo_store.specs.Unfit.{IsDamaged, IsUnfit}
 use Rattle.repo_store.specs.Whole.{IsWhole}
 use Rattle.repo_store.proofs.ReadingLemmas.{unchanged_kept}
 use Rattle.repo_store.specs.Shown.{Stands, Leaves}
@@ -43,7 +44,7 @@ refused_unfit db Collision h = h
 refused_unfit db TooLarge h = h
 refused_unfit db TooMany h = h
 
-damage_unfit : (db : Database) (broken : Type 0) (fault : StoreFault) → (broken → (t : Tables) → Holds db t → ¬ IsWhole t) → IsDamage broken fault → IsUnfit db fault
+damage_unfit : (db : Database) (broken : Type 0) (fault : StoreFault) → (broken → IsDamaged db) → IsDamage broken fault → IsUnfit db fault
 damage_unfit db broken NotAStore f h = absurd h
 damage_unfit db broken Damaged f h = f h
 damage_unfit db broken (Sql error) f h = tt
@@ -69,7 +70,7 @@ meta_fails g a b e Rows fault one why = record { found = λ clean ours live. ref
 module _ {S X : Type 0} (g : Ghosts S) (a b : Held S) (meta : X) (listed : X → List MetaRow) (one : IsRead g a b (Ok meta) (MetaShown listed)) where
   pub unversioned : (listed meta ≡ version_row ∷ [] → ⊥) → AreListed g a b (Err NotAStore)
   unversioned other = record {
-    found = λ clean ours live t holds versioned. other (only_one t.meta (listed meta) version_row (same_meta t.meta (listed meta) ((state g a).now.trees 0) holds.meta (one.rows clean ours).1) versioned);
+    found = λ clean ours live. inr (record { schema = ours; rows = listed meta; stored = (one.rows clean ours).1; other = other });
     was_open = λ clean ours. tt;
     kept = λ clean ours inside. one.kept clean inside;
     survives = one.survives;
@@ -126,7 +127,7 @@ module _ {S X : Type 0} (g : Ghosts S) (a b : Held S) (meta : X) (listed : X →
           → MatchResult r (IsFoundIn (state g a).now) (IsUnfit (state g a).now)
       decide (Ok lists) hold same broken = holds_same (state g a).now (rows_in rows) (tables_of lists.kept.repo lists.kept.contents) same hold
       decide (Err fault) hold same broken =
-          damage_unfit (state g a).now (¬ IsWhole (rows_in rows)) fault (λ breaks t other whole. breaks (whole_same t (rows_in rows) (holds_one (state g a).now t (rows_in rows) other hold) whole)) broken
+          damage_unfit (state g a).now (¬ IsWhole (rows_in rows)) fault (λ breaks. record { tables = rows_in rows; holds = hold; versioned = refl; broken = breaks }) broken
 
 -- and those rows are whole
 pub listed_whole : (rows : StoreRows) (r : Result Mirror StoreFault) → IfOk r (λ lists. IsSame (rows_in rows) (tables_of lists.kept.repo lists.kept.contents)) → OnOk r (IsWhole (rows_in rows)) → IfOk r (λ lists. IsWhole (tables_of lists.kept.repo lists.kept.contents))

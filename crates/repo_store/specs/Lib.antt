@@ -13,4 +13,5 @@ pub mod Repository
 pub mod Rows
 pub mod Shown
 pub mod Sound
+pub mod Unfit
 pub mod Whole

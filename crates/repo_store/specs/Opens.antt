@@ -1,4 +1,4 @@
--- What opening a store finds in a database, and why it refuses.
+-- What is read of a store that is opened.
 use Rattle.std.specs.Prelude.{◌≡◌, false, Result, MatchResult, IfOk, OnOk, IsTrue}
 use Rattle.sqlite_trees.specs.declared.store.Store.{Ghosts}
 use Rattle.sqlite_trees.specs.Tree.{Trees}
@@ -7,24 +7,12 @@ use Rattle.sqlite.specs.Effect.{Database, IsDatabase}
 use Rattle.sqlite.specs.Held.{Held, state}
 use Rattle.sqlite.specs.State.{HasCleanDisk, IsUnchanged, KeepsCommit, Survives}
 use Rattle.store_tables.specs.Schema.{store_schema}
-use Rattle.store_tables.specs.Tables.{Tables, Holds}
+use Rattle.store_tables.specs.Tables.{Holds}
 use Rattle.repo_store.specs.declared.fault.StoreFault.{StoreFault}
-use Rattle.repo_store.specs.declared.fault.StoreFault.TheVariants.{NotAStore, Damaged, Sql, OutOfMemory, Collision, TooLarge, TooMany}
 use Rattle.repo_store.specs.Calls.{Rests}
 use Rattle.repo_store.specs.Kept.{Mirror}
 use Rattle.repo_store.specs.Rows.{tables_of}
-use Rattle.repo_store.specs.Whole.{IsVersioned, IsWhole}
-
--- A refusal of a database: as `NotAStore` only where it holds no tables of a store of version 1, and as `Damaged` only
--- where the rows of those that it holds break a rule. Nothing is said of when memory or the database refuses.
-abbrev pub IsUnfit : Database → StoreFault → Type 0
-IsUnfit db NotAStore = (t : Tables) → Holds db t → ¬ IsVersioned t
-IsUnfit db Damaged = (t : Tables) → Holds db t → ¬ IsWhole t
-IsUnfit db (Sql error) = Unit {0}
-IsUnfit db OutOfMemory = Unit {0}
-IsUnfit db Collision = ⊥
-IsUnfit db TooLarge = ⊥
-IsUnfit db TooMany = ⊥
+use Rattle.repo_store.specs.Unfit.{IsUnfit}
 
 -- the rows of the database are those of the lists
 abbrev pub IsFoundIn : Database → Mirror → Type 0

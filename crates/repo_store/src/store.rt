@@ -15,10 +15,10 @@ ghost use Rattle.repo_store.specs.Faults.{IsRefusal};
 ghost use Rattle.repo_store.specs.Kept.{FixCollides, HasLarge, Kept, accepting, committing, keeping, setting, staging, unstaging};
 ghost use Rattle.repo_store.specs.Limits.{Fits, IsSmall};
 ghost use Rattle.repo_store.specs.Log.{log_from};
-ghost use Rattle.repo_store.specs.Opens.{IsUnfit};
 ghost use Rattle.repo_store.specs.Repository.{Commit, commit_at, empty, last_tree, staged_changes};
 ghost use Rattle.repo_store.specs.Rows.{tables_of};
 ghost use Rattle.repo_store.specs.Shown.{IsOneTransaction, Leaves, Stands};
+ghost use Rattle.repo_store.specs.Unfit.{IsUnfit};
 ghost use Rattle.repo_store.specs.Whole.{IsWhole};
 
 use crate::accept::accept_rows;
