@@ -11,6 +11,7 @@ pub mod LoadLemmas
 pub mod OneLemmas
 pub mod PlaceLemmas
 pub mod ReadingLemmas
+pub mod RuleLemmas
 pub mod SameLemmas
 pub mod SoundLemmas
 pub mod StandLemmas

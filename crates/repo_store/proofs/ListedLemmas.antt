@@ -14,7 +14,7 @@ use Rattle.sqlite.proofs.StateLemmas.{survives_then}
 use Rattle.store_tables.specs.declared.rows.MetaRow.{MetaRow}
 use Rattle.store_tables.specs.Schema.{store_schema}
 use Rattle.store_tables.specs.Steps.{IsRead}
-use Rattle.store_tables.specs.Tables.{Tables, Holds, Stored, meta_cells}
+use Rattle.store_tables.specs.Tables.{Holds, Stored, meta_cells}
 use Rattle.repo_store.specs.declared.fault.StoreFault.{StoreFault}
 use Rattle.repo_store.specs.declared.fault.StoreFault.TheVariants.{NotAStore, Damaged, Sql, OutOfMemory, Collision, TooLarge, TooMany}
 use Rattle.repo_store.specs.declared.table_rows.StoreRows.{StoreRows}
@@ -33,7 +33,7 @@ use Rattle.repo_store.proofs.CallLemmas.{clean_if_open, holds_as, leaves_commit}
 use Rattle.repo_store.proofs.OneLemmas.{left_alike}
 use Rattle.repo_store.proofs.StandLemmas.{ShutIfDirty}
 use Rattle.repo_store.proofs.SameLemmas.{holds_same}
-use Rattle.repo_store.proofs.WholeLemmas.{same_meta, holds_one, whole_same}
+use Rattle.repo_store.proofs.WholeLemmas.{whole_same}
 
 refused_unfit : (db : Database) (fault : StoreFault) → IsRefusal ⊥ ⊥ ⊥ fault → IsUnfit db fault
 refused_unfit db NotAStore h = absurd h
@@ -159,7 +159,7 @@ loaded {S} g old mid end new r begun listed outside undone survives = record {
     clean_end clean = omega (arith, survives.clean)
 
 -- what stands in a store that was opened
-module _ {S : Type 0} (g : Ghosts S) (old new : Held S) (lists : Mirror) (complete : IsComplete lists.kept) (ours : (state g old).now.schema ≡ store_schema) (live : IsTrue (state g old).is_open → IsDatabase (state g old).now)
+module _ {S : Type 0} (g : Ghosts S) (old new : Held S) (lists : Mirror) (complete : IsComplete lists.kept) (whole : IsWhole (tables_of lists.kept.repo lists.kept.contents)) (ours : (state g old).now.schema ≡ store_schema) (live : IsTrue (state g old).is_open → IsDatabase (state g old).now)
     (settled : IsTrue (state g old).is_open → (state g old).now ≡ (state g old).committed) (load : AreLoaded g old new (Ok lists)) (dirty : ShutIfDirty (state g new)) where
   clean_new : IsTrue (state g new).is_open → HasCleanDisk (state g new)
   clean_new h = clean_if_open (state g new).is_clean (state g new).is_open dirty h
@@ -173,6 +173,7 @@ module _ {S : Type 0} (g : Ghosts S) (old new : Held S) (lists : Mirror) (comple
   opened_stands = record {
     outside = load.outside;
     complete = complete;
+    whole = whole;
     now = λ h. let rest = load.rests (clean_new h) ours in subst (λ (db : Database). Holds db (tables_of lists.kept.repo lists.kept.contents)) (sym (rest.now h)) (opened_holds h);
     committed = λ h. let rest = load.rests (clean_new h) ours in subst (λ (db : Database). Holds db (tables_of lists.kept.repo lists.kept.contents)) (sym (rest.committed h)) (opened_holds h);
   }
@@ -180,7 +181,7 @@ module _ {S : Type 0} (g : Ghosts S) (old new : Held S) (lists : Mirror) (comple
   -- the repository that was left is the one that is opened
   pub opened_again : IsTrue (state g new).is_open → (kept : Kept) → Leaves kept (state g old).committed.trees → AreAlike lists.kept kept
   opened_again h kept left =
-      left_alike (state g old).committed.trees lists.kept kept (record { holds = holds_as (state g old).committed (tables_of lists.kept.repo lists.kept.contents) (opened_holds h); complete = complete }) left
+      left_alike (state g old).committed.trees lists.kept kept (record { holds = holds_as (state g old).committed (tables_of lists.kept.repo lists.kept.contents) (opened_holds h); complete = complete; whole = whole }) left
 
   -- what a crash may leave was there before, and is what was committed
   pub opened_durable : ((trees : Trees) → IsTrue (state g old).is_open → (state g old).may_leave trees → trees ≡ (state g old).committed.trees)
@@ -191,6 +192,7 @@ module _ {S : Type 0} (g : Ghosts S) (old new : Held S) (lists : Mirror) (comple
       record {
         holds = leaves_commit (state g old).committed trees (tables_of lists.kept.repo lists.kept.contents) holds (law trees was (elim (load.survives.crash clean trees left) [ inl before ↦ before | inr none ↦ absurd none ]));
         complete = complete;
+        whole = whole;
       }
 
 -- a read that left the connection open left the last commit

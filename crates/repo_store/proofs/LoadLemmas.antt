@@ -282,7 +282,7 @@ pub fix_path : (path : List ℕ) (now : Option (List ℕ)) → (fix_at path now)
 fix_path path None = refl
 fix_path path (Some bytes) = refl
 
-fixes_staged : (fixes : List Change) (files : List File) (blobs : List BlobRow) → AllByRecursion (IsFixRow blobs (map staged_row files)) (map fix_row fixes) → AreStaged fixes files
+pub fixes_staged : (fixes : List Change) (files : List File) (blobs : List BlobRow) → AllByRecursion (IsFixRow blobs (map staged_row files)) (map fix_row fixes) → AreStaged fixes files
 fixes_staged [] files blobs all = tt
 fixes_staged (fix ∷ fixes) files blobs all =
     (staged_as_entry fix.path files ∙ ap (is_staged (map staged_row files)) (sym (fix_path fix.path fix.now)) ∙ all.0.file_staged, fixes_staged fixes files blobs all.1)

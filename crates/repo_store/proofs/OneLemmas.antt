@@ -34,7 +34,7 @@ use Rattle.repo_store.specs.Repository.{Commit}
 use Rattle.repo_store.specs.Shown.{Leaves}
 use Rattle.repo_store.specs.Rows.{blob_row, commit_row, commit_rows, entry_row, entry_rows, fix_at, fix_row, mode_number, staged_row, tables_of}
 use Rattle.repo_store.proofs.LoadLemmas.{fix_path, pos_less}
-use Rattle.repo_store.proofs.WholeLemmas.{all_same, all_weaker, holds_one}
+use Rattle.repo_store.proofs.WholeLemmas.{all_both, all_same, all_weaker, holds_one}
 
 -- ---- lists in one order
 
@@ -177,10 +177,6 @@ commits_rise n (commit ∷ history) = (later_commits n (n + 1) history (omega ar
 
 same_commits : (g h : List Commit) → IsPermutation (commit_rows 1 g) (commit_rows 1 h) → commit_rows 1 g ≡ commit_rows 1 h
 same_commits g h = one_order (λ (r s : CommitRow). is_lt (int_cmp r.n s.n)) (λ r s. numbers_apart r.n s.n) (commit_rows 1 g) (commit_rows 1 h) (commits_rise 1 g) (commits_rise 1 h)
-
-all_both : {X : Type 0} (P : X → Type 0) (xs ys : List X) → AllByRecursion P xs → AllByRecursion P ys → AllByRecursion P (xs ++ ys)
-all_both P [] ys one two = two
-all_both P (x ∷ xs) ys one two = (one.0, all_both P xs ys one.1 two)
 
 later_files : (k n : ℕ) (files : List File) → k < n → AllByRecursion (λ (row : EntryRow). is_later k row.n ≡ true) (map (entry_row n) files)
 later_files k n [] below = tt

@@ -57,7 +57,7 @@ sound_committed message repo sound room =
 abbrev change_path : Change → List ℕ
 change_path change = change.path
 
-all_kept : {X : Type 0} (p : X → Bool) (xs : List X) → AllByRecursion (λ x. p x ≡ true) (filter p xs)
+pub all_kept : {X : Type 0} (p : X → Bool) (xs : List X) → AllByRecursion (λ x. p x ≡ true) (filter p xs)
 all_kept p [] = tt
 all_kept {X} p (x ∷ xs) = elim (p x) as (λ b. p x ≡ b → AllByRecursion (λ (y : X). p y ≡ true) (if b then x ∷ filter p xs else filter p xs)) [ true ↦ λ e. (e, all_kept p xs) | false ↦ λ e. all_kept p xs ] refl
 

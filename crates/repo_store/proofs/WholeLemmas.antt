@@ -1,5 +1,5 @@
 -- The rules of a store speak of its rows alone, and not of their order.
-use Rattle.std.proofs.Common.{◌≡◌, ℕ, ◌+◌, ℤ, pos, true, List, [], ◌∷◌, map, length, Option, None, Some, IsPermutation, refl, sym, ap, ap₂, subst, ◌∙◌, arith}
+use Rattle.std.proofs.Common.{◌≡◌, ℕ, ◌+◌, ℤ, pos, true, List, [], ◌∷◌, ◌++◌, map, length, Option, None, Some, IsPermutation, refl, sym, ap, ap₂, subst, ◌∙◌, arith}
 use Rattle.std.specs.List.{AllByRecursion}
 use Rattle.std.specs.Str.{bytes_eq}
 use Rattle.std.proofs.lemmas.List.Elements.{recursion_from_All, All-from_recursion}
@@ -78,6 +78,10 @@ all_same P xs ys same all = recursion_from_All P ys (All-permutation P xs ys sam
 pub all_weaker : {X : Type 0} (P Q : X → Type 0) (xs : List X) → ((x : X) → P x → Q x) → AllByRecursion P xs → AllByRecursion Q xs
 all_weaker P Q [] f all = tt
 all_weaker P Q (x ∷ xs) f all = (f x all.0, all_weaker P Q xs f all.1)
+
+pub all_both : {X : Type 0} (P : X → Type 0) (xs ys : List X) → AllByRecursion P xs → AllByRecursion P ys → AllByRecursion P (xs ++ ys)
+all_both P [] ys one two = two
+all_both P (x ∷ xs) ys one two = (one.0, all_both P xs ys one.1 two)
 
 numbers_same : (n : ℕ) (xs ys : List CommitRow) → length xs ≡ length ys → numbers_from n xs ≡ numbers_from n ys
 numbers_same n [] [] same = refl

@@ -1,5 +1,6 @@
 ghost use Rattle.std.specs.Prelude.{◌≡◌, ◌↔◌, ◌<◌, ◌^◌, map, length, filter, not, sum_by, is_some, IfOk, OnOk, MatchResult, IsTrue, vec_len, vec_capacity};
-ghost use Rattle.std.specs.Str.{bytes_eq};
+ghost use Rattle.std.specs.Str.{IsUtf8, bytes_eq};
+ghost use Rattle.hook_base.specs.Paths.{IsRepoPath};
 ghost use Rattle.hook_base.specs.Places.{IsAt, IsGap};
 ghost use Rattle.hook_base.specs.declared.file.FileEntry.{FileEntry};
 ghost use Rattle.hook_base.specs.Trees.{IsRising, apply_change, apply_changes, entry_of, put_file, put_row};
@@ -60,12 +61,15 @@ pub fn fit(files: &[HeldFile]) -> bool
 pub fn may_put(files: &[HeldFile], path: &RepoPath) -> bool
     requires rising { IsRising (map file_of files.now) }
     requires fits { Fits (map file_of files.now) }
-    ensures { (entry : FileEntry) → IsTrue result ↔ Fits (put_file path.now entry (map file_of files.now)) }
+    ensures fits { (entry : FileEntry) → IsTrue result ↔ Fits (put_file path.now entry (map file_of files.now)) }
+    ensures path { IsRepoPath path.now }
+    ensures utf8 { IsUtf8 path.now }
 {
+    let text = path.as_str();
     match place_of(files, path) {
         Ok(_) => true,
         Err(_) => {
-            let bytes = count_path_bytes(files) + path.as_str().len();
+            let bytes = count_path_bytes(files) + text.len();
             files.len() < FILE_LIMIT && bytes <= PATH_LIMIT
         }
     }

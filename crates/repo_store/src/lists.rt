@@ -1,4 +1,6 @@
 ghost use Rattle.std.specs.Prelude.{◌≡◌, ◌<◌, ◌≤◌, [], true, map, length, take, drop, is_some, option_map, MatchOption, IfOk, IfErr, OnOk, OnErr};
+ghost use Rattle.std.specs.Str.{IsUtf8};
+ghost use Rattle.hook_base.specs.Paths.{IsRepoPath};
 ghost use Rattle.hook_base.specs.Trees.{IsRising, IsRisingChanges, apply_changes, entry_of, put_file};
 ghost use Rattle.repo_store.specs.Kept.{FixCollides, HasLarge, accepting, committing, keeping, unstaging};
 ghost use Rattle.repo_store.specs.Lists.{commit_of, file_of, fix_of, repository_of};
@@ -145,6 +147,8 @@ impl Lists {
         ensures why { IfErr result (IsRefusal (¬ IsSmall bytes.now) (¬ Fits (put_file path.now (record { mode = mode; bytes = bytes.now }) self.old.kept.repo.staged)) (Collides bytes.now self.old.kept.contents)) }
         ensures apart { OnOk result (¬ Collides bytes.now self.old.kept.contents) }
         ensures rising { IsRising self.old.kept.repo.staged }
+        ensures path { IsRepoPath path.now }
+        ensures utf8 { IsUtf8 path.now }
     {
         if !may_put(self.staged.as_slice(), path) {
             return Err(StoreFault::TooMany);

@@ -6,6 +6,7 @@ use Rattle.repo_store.specs.Changes.{Changes}
 use Rattle.repo_store.specs.Shown.{Shown, IsOneTransaction}
 use Rattle.repo_store.proofs.KeptLemmas.{accepting_handed}
 use Rattle.repo_store.proofs.CompleteLemmas.{complete_accepted}
+use Rattle.repo_store.proofs.RuleLemmas.{whole_accepted}
 use Rattle.repo_store.proofs.StandLemmas.{tables_in, refused_stands, done_stands, refused_transaction, done_transaction}
 use Rattle.repo_store.proofs.store.Store.accept.Goals as goal
 
@@ -16,7 +17,8 @@ invariant_of-self g c =
     let files : map file_of c.as_slice.result.now ≡ apply_changes kept.repo.fixes kept.repo.staged = ap (map file_of) c.as_slice.ensures.value ∙ c.in-Ok.ensures in
     let same = accepting_handed (map file_of c.as_slice.result.now) kept files in
     let complete = complete_accepted kept c.self.invariant.complete in
-    refused_stands g.S.Store c.self.inside.conn new kept (accepting kept) _ c.self.invariant same (g.met.S.Store.shut_if_dirty new.store) complete
+    let whole = whole_accepted kept c.self.invariant.whole complete in
+    refused_stands g.S.Store c.self.inside.conn new kept (accepting kept) _ c.self.invariant same (g.met.S.Store.shut_if_dirty new.store) complete whole
     kept refl c.in-Err-accept_rows.error (c.in-Err-accept_rows.ensures (tables_in kept))
 
 pub returns-in-Err-accept_rows-clause-change : goal.returns-in-Err-accept_rows-clause-change
@@ -31,8 +33,9 @@ returns-in-Err-accept_rows-clause-transaction g c =
     let files : map file_of c.as_slice.result.now ≡ apply_changes kept.repo.fixes kept.repo.staged = ap (map file_of) c.as_slice.ensures.value ∙ c.in-Ok.ensures in
     let same = accepting_handed (map file_of c.as_slice.result.now) kept files in
     let complete = complete_accepted kept c.self.invariant.complete in
+    let whole = whole_accepted kept c.self.invariant.whole complete in
     subst (λ (s : Shown g.row.S.Denot). IsOneTransaction g.S.Store s (record { conn = new; kept = kept }) (Err c.fault_of.result) (accepting s.kept)) c.self.view_is
-    (refused_transaction g.S.Store c.self.inside.conn new kept (accepting kept) _ c.self.invariant same (g.met.S.Store.shut_if_dirty new.store) complete
+    (refused_transaction g.S.Store c.self.inside.conn new kept (accepting kept) _ c.self.invariant same (g.met.S.Store.shut_if_dirty new.store) complete whole
     kept refl c.in-Err-accept_rows.error (c.in-Err-accept_rows.ensures (tables_in kept)) c.fault_of.result)
 
 pub invariant_of-self-2 : goal.invariant_of-self-2
@@ -42,7 +45,8 @@ invariant_of-self-2 g c =
     let files : map file_of c.as_slice.result.now ≡ apply_changes kept.repo.fixes kept.repo.staged = ap (map file_of) c.as_slice.ensures.value ∙ c.in-Ok.ensures in
     let same = accepting_handed (map file_of c.as_slice.result.now) kept files in
     let complete = complete_accepted kept c.self.invariant.complete in
-    done_stands g.S.Store c.self.inside.conn new kept (accepting kept) _ c.self.invariant same (g.met.S.Store.shut_if_dirty new.store) complete
+    let whole = whole_accepted kept c.self.invariant.whole complete in
+    done_stands g.S.Store c.self.inside.conn new kept (accepting kept) _ c.self.invariant same (g.met.S.Store.shut_if_dirty new.store) complete whole
     c.accept.new.self.kept c.accept.ensures c.in_default.field-0 (c.in_default.ensures (tables_in kept))
 
 pub returns-clause-change : goal.returns-clause-change
@@ -56,6 +60,7 @@ returns-clause-transaction g c =
     let files : map file_of c.as_slice.result.now ≡ apply_changes kept.repo.fixes kept.repo.staged = ap (map file_of) c.as_slice.ensures.value ∙ c.in-Ok.ensures in
     let same = accepting_handed (map file_of c.as_slice.result.now) kept files in
     let complete = complete_accepted kept c.self.invariant.complete in
+    let whole = whole_accepted kept c.self.invariant.whole complete in
     subst (λ (s : Shown g.row.S.Denot). IsOneTransaction g.S.Store s (record { conn = new; kept = c.accept.new.self.kept }) (Ok c.count_fixes-number.result) (accepting s.kept)) c.self.view_is
-    (done_transaction g.S.Store c.self.inside.conn new kept (accepting kept) _ c.self.invariant same (g.met.S.Store.shut_if_dirty new.store) complete
+    (done_transaction g.S.Store c.self.inside.conn new kept (accepting kept) _ c.self.invariant same (g.met.S.Store.shut_if_dirty new.store) complete whole
     (g.met.S.Store.settled new.store) c.accept.new.self.kept c.accept.ensures c.in_default.field-0 (c.in_default.ensures (tables_in kept)) c.count_fixes-number.result)

@@ -1,4 +1,6 @@
-use Rattle.std.proofs.Common.{ℕ, Ok, Err, drop, ap, ap₂, subst, ◌∙◌}
+use Rattle.std.proofs.Common.{◌≢◌, ℕ, List, inl, inr, Ok, Err, drop, ap, ap₂, subst, ◌∙◌}
+use Rattle.std.specs.Str.{IsUtf8}
+use Rattle.hook_base.specs.Paths.{IsRepoPath, message_path}
 use Rattle.hook_base.specs.declared.file.File.{File}
 use Rattle.hook_base.specs.declared.file.FileEntry.{FileEntry}
 use Rattle.repo_store.specs.Kept.{Kept, Mirror, staging}
@@ -6,10 +8,15 @@ use Rattle.repo_store.specs.Lists.{file_of}
 use Rattle.repo_store.specs.Repository.{with_staged}
 use Rattle.repo_store.specs.Changes.{Changes}
 use Rattle.repo_store.specs.Shown.{Shown, IsOneTransaction}
+use Rattle.repo_store.specs.Whole.{IsPathText}
 use Rattle.repo_store.proofs.KeptLemmas.{staging_handed, forgotten}
 use Rattle.repo_store.proofs.CompleteLemmas.{complete_staged}
+use Rattle.repo_store.proofs.RuleLemmas.{whole_staged}
 use Rattle.repo_store.proofs.StandLemmas.{tables_in, refused_stands, done_stands, refused_transaction, done_transaction}
 use Rattle.repo_store.proofs.store.Store.stage.Goals as goal
+
+legal : (path : List ℕ) → IsUtf8 path → IsRepoPath path → path ≢ message_path → IsPathText path
+legal path utf8 is other = record { utf8 = utf8; legal = elim is [ inl none ↦ none | inr message ↦ absurd (other message) ] }
 
 pub invariant_of-self-in-Err-stage_rows : goal.invariant_of-self-in-Err-stage_rows
 invariant_of-self-in-Err-stage_rows g c =
@@ -22,7 +29,8 @@ invariant_of-self-in-Err-stage_rows g c =
     let same = staging_handed file (file_of c.in-Ok.file) c.in-Ok.file.path c.since.result.now kept prepared.rising prepared.file (ap (λ (f : File). f.path) prepared.file) news in
     let now = forgotten c.args.bytes.now kept c.prepare.new.self.kept c.forget_since.new.self.kept c.count-before.result c.count-before.ensures prepared.kept (ap (λ (m : Mirror). m.kept) c.forget_since.ensures) in
     let complete = complete_staged c.args.path.now entry kept c.self.invariant.complete prepared.within.1 prepared.apart in
-    refused_stands g.S.Store c.self.inside.conn new kept (staging c.args.path.now entry kept) _ c.self.invariant same (g.met.S.Store.shut_if_dirty new.store) complete
+    let whole = whole_staged kept c.self.invariant.whole c.args.path.now entry (legal c.args.path.now prepared.utf8 prepared.path c.requires) prepared.within.0 complete in
+    refused_stands g.S.Store c.self.inside.conn new kept (staging c.args.path.now entry kept) _ c.self.invariant same (g.met.S.Store.shut_if_dirty new.store) complete whole
     c.forget_since.new.self.kept now c.in-Err-stage_rows.error (c.in-Err-stage_rows.ensures (tables_in kept))
 
 pub returns-in-Err-stage_rows-clause-change : goal.returns-in-Err-stage_rows-clause-change
@@ -44,8 +52,9 @@ returns-in-Err-stage_rows-clause-transaction g c =
     let same = staging_handed file (file_of c.in-Ok.file) c.in-Ok.file.path c.since.result.now kept prepared.rising prepared.file (ap (λ (f : File). f.path) prepared.file) news in
     let now = forgotten c.args.bytes.now kept c.prepare.new.self.kept c.forget_since.new.self.kept c.count-before.result c.count-before.ensures prepared.kept (ap (λ (m : Mirror). m.kept) c.forget_since.ensures) in
     let complete = complete_staged c.args.path.now entry kept c.self.invariant.complete prepared.within.1 prepared.apart in
+    let whole = whole_staged kept c.self.invariant.whole c.args.path.now entry (legal c.args.path.now prepared.utf8 prepared.path c.requires) prepared.within.0 complete in
     subst (λ (s : Shown g.row.S.Denot). IsOneTransaction g.S.Store s (record { conn = new; kept = c.forget_since.new.self.kept }) (Err c.fault_of.result) (staging c.args.path.now entry s.kept)) c.self.view_is
-    (refused_transaction g.S.Store c.self.inside.conn new kept (staging c.args.path.now entry kept) _ c.self.invariant same (g.met.S.Store.shut_if_dirty new.store) complete
+    (refused_transaction g.S.Store c.self.inside.conn new kept (staging c.args.path.now entry kept) _ c.self.invariant same (g.met.S.Store.shut_if_dirty new.store) complete whole
     c.forget_since.new.self.kept now c.in-Err-stage_rows.error (c.in-Err-stage_rows.ensures (tables_in kept)) c.fault_of.result)
 
 pub invariant_of-self-2 : goal.invariant_of-self-2
@@ -59,7 +68,8 @@ invariant_of-self-2 g c =
     let same = staging_handed file (file_of c.in-Ok.file) c.in-Ok.file.path c.since.result.now kept prepared.rising prepared.file (ap (λ (f : File). f.path) prepared.file) news in
     let now = c.stage.ensures ∙ ap₂ (λ (f : File) (k : Kept). record { repo = with_staged f.path f.entry k.repo; contents = k.contents }) prepared.file prepared.kept in
     let complete = complete_staged c.args.path.now entry kept c.self.invariant.complete prepared.within.1 prepared.apart in
-    done_stands g.S.Store c.self.inside.conn new kept (staging c.args.path.now entry kept) _ c.self.invariant same (g.met.S.Store.shut_if_dirty new.store) complete
+    let whole = whole_staged kept c.self.invariant.whole c.args.path.now entry (legal c.args.path.now prepared.utf8 prepared.path c.requires) prepared.within.0 complete in
+    done_stands g.S.Store c.self.inside.conn new kept (staging c.args.path.now entry kept) _ c.self.invariant same (g.met.S.Store.shut_if_dirty new.store) complete whole
     c.stage.new.self.kept now c.in_default.field-0 (c.in_default.ensures (tables_in kept))
 
 pub returns-clause-change : goal.returns-clause-change
@@ -80,6 +90,7 @@ returns-clause-transaction g c =
     let same = staging_handed file (file_of c.in-Ok.file) c.in-Ok.file.path c.since.result.now kept prepared.rising prepared.file (ap (λ (f : File). f.path) prepared.file) news in
     let now = c.stage.ensures ∙ ap₂ (λ (f : File) (k : Kept). record { repo = with_staged f.path f.entry k.repo; contents = k.contents }) prepared.file prepared.kept in
     let complete = complete_staged c.args.path.now entry kept c.self.invariant.complete prepared.within.1 prepared.apart in
+    let whole = whole_staged kept c.self.invariant.whole c.args.path.now entry (legal c.args.path.now prepared.utf8 prepared.path c.requires) prepared.within.0 complete in
     subst (λ (s : Shown g.row.S.Denot). IsOneTransaction g.S.Store s (record { conn = new; kept = c.stage.new.self.kept }) (Ok tt) (staging c.args.path.now entry s.kept)) c.self.view_is
-    (done_transaction g.S.Store c.self.inside.conn new kept (staging c.args.path.now entry kept) _ c.self.invariant same (g.met.S.Store.shut_if_dirty new.store) complete
+    (done_transaction g.S.Store c.self.inside.conn new kept (staging c.args.path.now entry kept) _ c.self.invariant same (g.met.S.Store.shut_if_dirty new.store) complete whole
     (g.met.S.Store.settled new.store) c.stage.new.self.kept now c.in_default.field-0 (c.in_default.ensures (tables_in kept)) tt)

@@ -6,6 +6,7 @@ use Rattle.repo_store.specs.Shown.{Shown, IsOneTransaction}
 use Rattle.repo_store.proofs.KeptLemmas.{unstaging_tables}
 use Rattle.repo_store.proofs.SameLemmas.{IsSame}
 use Rattle.repo_store.proofs.CompleteLemmas.{complete_unstaged}
+use Rattle.repo_store.proofs.RuleLemmas.{whole_unstaged}
 use Rattle.repo_store.proofs.StandLemmas.{tables_in, refused_stands, done_stands, refused_transaction, done_transaction}
 use Rattle.repo_store.proofs.store.Store.unstage.Goals as goal
 
@@ -17,7 +18,8 @@ invariant_of-self g c =
     let new = c.unstage_rows.new.conn in
     let kept = c.self.inside.lists.kept in
     let complete = complete_unstaged c.args.path.now kept c.self.invariant.complete in
-    refused_stands g.S.Store c.self.inside.conn new kept (unstaging c.args.path.now kept) _ c.self.invariant (unstaged c.args.path.now c.as_str.result.now kept c.as_str.ensures.same) (g.met.S.Store.shut_if_dirty new.store) complete
+    let whole = whole_unstaged kept c.self.invariant.whole c.args.path.now complete in
+    refused_stands g.S.Store c.self.inside.conn new kept (unstaging c.args.path.now kept) _ c.self.invariant (unstaged c.args.path.now c.as_str.result.now kept c.as_str.ensures.same) (g.met.S.Store.shut_if_dirty new.store) complete whole
     kept refl c.in-Err.error (c.in-Err.ensures (tables_in kept))
 
 pub invariant_of-self-2 : goal.invariant_of-self-2
@@ -25,7 +27,8 @@ invariant_of-self-2 g c =
     let new = c.unstage_rows.new.conn in
     let kept = c.self.inside.lists.kept in
     let complete = complete_unstaged c.args.path.now kept c.self.invariant.complete in
-    done_stands g.S.Store c.self.inside.conn new kept (unstaging c.args.path.now kept) _ c.self.invariant (unstaged c.args.path.now c.as_str.result.now kept c.as_str.ensures.same) (g.met.S.Store.shut_if_dirty new.store) complete
+    let whole = whole_unstaged kept c.self.invariant.whole c.args.path.now complete in
+    done_stands g.S.Store c.self.inside.conn new kept (unstaging c.args.path.now kept) _ c.self.invariant (unstaged c.args.path.now c.as_str.result.now kept c.as_str.ensures.same) (g.met.S.Store.shut_if_dirty new.store) complete whole
     c.unstage.new.self.kept c.unstage.ensures c.in_default.field-0 (c.in_default.ensures (tables_in kept))
 
 pub returns-in-Err-clause-change : goal.returns-in-Err-clause-change
@@ -38,8 +41,9 @@ returns-in-Err-clause-transaction g c =
     let new = c.unstage_rows.new.conn in
     let kept = c.self.inside.lists.kept in
     let complete = complete_unstaged c.args.path.now kept c.self.invariant.complete in
+    let whole = whole_unstaged kept c.self.invariant.whole c.args.path.now complete in
     subst (λ (s : Shown g.row.S.Denot). IsOneTransaction g.S.Store s (record { conn = new; kept = kept }) (Err c.fault_of.result) (unstaging c.args.path.now s.kept)) c.self.view_is
-    (refused_transaction g.S.Store c.self.inside.conn new kept (unstaging c.args.path.now kept) _ c.self.invariant (unstaged c.args.path.now c.as_str.result.now kept c.as_str.ensures.same) (g.met.S.Store.shut_if_dirty new.store) complete
+    (refused_transaction g.S.Store c.self.inside.conn new kept (unstaging c.args.path.now kept) _ c.self.invariant (unstaged c.args.path.now c.as_str.result.now kept c.as_str.ensures.same) (g.met.S.Store.shut_if_dirty new.store) complete whole
     kept refl c.in-Err.error (c.in-Err.ensures (tables_in kept)) c.fault_of.result)
 
 pub returns-clause-change : goal.returns-clause-change
@@ -51,6 +55,7 @@ returns-clause-transaction g c =
     let new = c.unstage_rows.new.conn in
     let kept = c.self.inside.lists.kept in
     let complete = complete_unstaged c.args.path.now kept c.self.invariant.complete in
+    let whole = whole_unstaged kept c.self.invariant.whole c.args.path.now complete in
     subst (λ (s : Shown g.row.S.Denot). IsOneTransaction g.S.Store s (record { conn = new; kept = c.unstage.new.self.kept }) (Ok tt) (unstaging c.args.path.now s.kept)) c.self.view_is
-    (done_transaction g.S.Store c.self.inside.conn new kept (unstaging c.args.path.now kept) _ c.self.invariant (unstaged c.args.path.now c.as_str.result.now kept c.as_str.ensures.same) (g.met.S.Store.shut_if_dirty new.store) complete
+    (done_transaction g.S.Store c.self.inside.conn new kept (unstaging c.args.path.now kept) _ c.self.invariant (unstaged c.args.path.now c.as_str.result.now kept c.as_str.ensures.same) (g.met.S.Store.shut_if_dirty new.store) complete whole
     (g.met.S.Store.settled new.store) c.unstage.new.self.kept c.unstage.ensures c.in_default.field-0 (c.in_default.ensures (tables_in kept)) tt)
