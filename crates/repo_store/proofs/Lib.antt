@@ -2,6 +2,7 @@ pub mod CallLemmas
 pub mod CellLemmas
 pub mod ChangeLemmas
 pub mod CompleteLemmas
+pub mod FitLemmas
 pub mod FixLemmas
 pub mod IndexLemmas
 pub mod KeptLemmas

@@ -1,8 +1,5 @@
 -- From the rows that were read to the lists, or to the refusal.
-use Rattle.std.proofs.Common.{◌≡◌, List, [], ◌∷◌, length, Result, Ok, Err, IfOk, IfErr, OnOk, MatchResult, IsTrue, false, true, IsPermutation, refl, sym, ap, subst, ◌∙◌, inl, inr, arith}
-use Rattle.std.specs.List.{AllByRecursion}
-use Rattle.std.proofs.lemmas.List.Elements.{recursion_from_All, All-from_recursion}
-use Rattle.std.proofs.lemmas.List.Sorted.{length_permutation, All-permutation}
+use Rattle.std.proofs.Common.{◌≡◌, List, [], ◌∷◌, Result, Ok, Err, IfOk, IfErr, OnOk, MatchResult, IsTrue, false, true, refl, sym, ap, subst, ◌∙◌, inl, inr, arith}
 use Rattle.sqlite_trees.specs.declared.store.Store.{Ghosts}
 use Rattle.sqlite_trees.specs.Tree.{Trees}
 use Rattle.sqlite.specs.declared.error.Error.{Error}
@@ -52,14 +49,6 @@ damage_unfit db broken OutOfMemory f h = tt
 damage_unfit db broken Collision f h = h
 damage_unfit db broken TooLarge f h = h
 damage_unfit db broken TooMany f h = h
-
--- a list with one element, in another order
-only_one : (xs ys : List MetaRow) (x : MetaRow) → IsPermutation xs ys → xs ≡ x ∷ [] → ys ≡ x ∷ []
-only_one xs [] x same is = let count = length_permutation xs [] same in let one = ap length is in absurd (omega arith)
-only_one xs (y ∷ []) x same is =
-    let all : AllByRecursion (λ (z : MetaRow). z ≡ x) xs = subst (AllByRecursion (λ (z : MetaRow). z ≡ x)) (sym is) (refl, tt) in
-    ap (λ (z : MetaRow). z ∷ []) (recursion_from_All (λ (z : MetaRow). z ≡ x) (y ∷ []) (All-permutation (λ (z : MetaRow). z ≡ x) xs (y ∷ []) same (All-from_recursion (λ (z : MetaRow). z ≡ x) xs all))).0
-only_one xs (y ∷ z ∷ ys) x same is = let count = length_permutation xs (y ∷ z ∷ ys) same in let one = ap length is in absurd (omega arith)
 
 abbrev pub MetaShown : {X : Type 0} → (X → List MetaRow) → X → Trees → Type 0
 MetaShown listed rows trees = Stored meta_cells (1 ∷ 2 ∷ []) (listed rows) (trees 0)

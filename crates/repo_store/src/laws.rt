@@ -3,11 +3,16 @@
 
 ghost use Rattle.sqlite.specs.Effect.{Database};
 ghost use Rattle.sqlite_trees.specs.Tree.{Trees};
-ghost use Rattle.store_tables.specs.Tables.{Holds};
+ghost use Rattle.store_tables.specs.Tables.{Holds, with_schema};
 ghost use Rattle.repo_store.specs.Complete.{AreAlike, IsComplete};
+ghost use Rattle.repo_store.specs.declared.fault.StoreFault.{StoreFault};
+ghost use Rattle.repo_store.specs.declared.fault.StoreFault.TheVariants.{Damaged, NotAStore};
+ghost use Rattle.repo_store.specs.Faults.{IsRefusal};
 ghost use Rattle.repo_store.specs.Kept.{Kept};
 ghost use Rattle.repo_store.specs.Rows.{tables_of};
 ghost use Rattle.repo_store.specs.Shown.{Leaves};
+ghost use Rattle.repo_store.specs.Unfit.{IsUnfit};
+ghost use Rattle.repo_store.specs.Whole.{IsWhole};
 
 /// A database holds one whole repository at most: if two stand in its tables, they have the same commits, staged files and
 /// fixes, and the same contents in some order. So trees that a crash leaves as a store with one of them (`trees`) are no
@@ -15,4 +20,12 @@ ghost use Rattle.repo_store.specs.Shown.{Leaves};
 pub fn a_database_holds_one_repository()
     ensures tables { (db : Database) (a b : Kept) → IsComplete a → IsComplete b → Holds db (tables_of a.repo a.contents) → Holds db (tables_of b.repo b.contents) → AreAlike a b }
     ensures trees { (trees : Trees) (a b : Kept) → Leaves a trees → Leaves b trees → AreAlike a b }
+{}
+
+/// What the calls and a crash leave is a store: trees that keep a repository are neither a damaged store nor no store. So
+/// `open` refuses a database that holds one (`tables`) only where memory or the database refuses.
+pub fn what_is_left_is_a_store()
+    ensures tables { (db : Database) (kept : Kept) (fault : StoreFault) → Holds db (tables_of kept.repo kept.contents) → IsWhole (tables_of kept.repo kept.contents) → IsUnfit db fault → IsRefusal ⊥ ⊥ ⊥ fault }
+    ensures undamaged { (trees : Trees) (kept : Kept) → Leaves kept trees → ¬ IsUnfit (with_schema trees) Damaged }
+    ensures versioned { (trees : Trees) (kept : Kept) → Leaves kept trees → ¬ IsUnfit (with_schema trees) NotAStore }
 {}

@@ -4,7 +4,8 @@
 //! (what each call makes of it and of the contents, and which collide), `specs/Limits`, `specs/Faults` (when each refusal may
 //! come), `specs/Rows` (the tables of a repository), `specs/Whole` (the rules of their rows), `specs/Complete` (a whole
 //! repository), `specs/Calls` and `specs/Shown` (what is seen of a store, and what a refusal or a crash leaves), and
-//! `specs/Unfit` (why a database isn't opened). [`laws`] says that a database holds one whole repository at most.
+//! `specs/Unfit` (why a database isn't opened). [`laws`] says that a database holds one whole repository at most, and that
+//! what the calls and a crash leave is never taken for a damaged store or for none.
 #![tactic(auto)]
 
 mod accept;
