@@ -80,9 +80,9 @@ REFUSED_HERE = {
         (holds(r"^\?\n"), "a `?` alone is the key of nothing; PyYAML takes it for an empty key"),
         (holds(r"[\"'\]},]#"), "a comment begins after a blank (YAML 1.2.2, 6.6)"),
         (holds(r"(?m)^ +[|>]$"), "a block text begins behind its key or its dash"),
-        (holds(r"\w\n *\w"), "a plain text stands on one line"),
-        (holds(r": *[,}]"), "an empty place in a flow is left out"),
         (has_shallow_flow, "a line of a flow stands deeper than the line that the flow belongs to"),
+        (holds(r"(?m)\w\n *[^\s:#-][^:\n]*$"), "a plain text stands on one line"),
+        (holds(r": *[,}]"), "an empty place in a flow is left out"),
     ],
 }
 
