@@ -361,7 +361,7 @@ def refuses_a_second_store(folder):
 FILLING = ["create", "stage plain a.txt 1", "stage plain b.txt 2", "commit m\\n", "commit n\\n", "fix a.txt 2", "set", "close"]
 ONE, TWO = digest_of("1"), digest_of("2")
 NOT_A_STORE, DAMAGED, SQL = "refused\t1\tNotAStore\t", "refused\t2\tDamaged\t", "refused\t3\tSql\t"
-# What is done to the file of FILLING, how it is refused then, and what takes it back (none: nothing does).
+# What is done to the file of FILLING, how it is refused then, and what takes it back.
 PLANTS = [
     ("no version", "DELETE FROM meta", NOT_A_STORE, "INSERT INTO meta VALUES ('version', 1)"),
     ("another version", "UPDATE meta SET value = 2", NOT_A_STORE, "UPDATE meta SET value = 1"),
@@ -387,6 +387,10 @@ PLANTS = [
      f"INSERT INTO staged SELECT printf('%04096d', n), 0, x'{ONE}' FROM c", DAMAGED, "DELETE FROM staged WHERE length(path) = 4096"),
     ("100,001 staged files", "WITH RECURSIVE c(n) AS (SELECT 1 UNION ALL SELECT n + 1 FROM c WHERE n < 99999) "
      f"INSERT INTO staged SELECT 'd/' || n, 0, x'{ONE}' FROM c", DAMAGED, "DELETE FROM staged WHERE path = 'd/1'"),
+    ("more than 100,000 commits", "WITH RECURSIVE c(n) AS (SELECT 3 UNION ALL SELECT n + 1 FROM c WHERE n < 100001) "
+     "INSERT INTO commits SELECT n, x'6d' FROM c", DAMAGED, "DELETE FROM commits WHERE n > 2"),
+    ("contents of more than 16 MiB", f"INSERT INTO blobs VALUES (x'{hashlib.sha256(bytes(16777217)).hexdigest()}', zeroblob(16777217))", DAMAGED,
+     "DELETE FROM blobs WHERE length(bytes) > 16777216"),
     ("a message of more than 16 MiB", "UPDATE commits SET message = zeroblob(16777217) WHERE n = 2", DAMAGED, "UPDATE commits SET message = x'6e0a' WHERE n = 2"),
     # Here the tables' own rules are broken, which the kit's database refuses when it opens a file.
     ("an entry without its commit", f"INSERT INTO entries VALUES (3, 'a.txt', 0, x'{ONE}')", SQL, "DELETE FROM entries WHERE n = 3"),
@@ -485,13 +489,14 @@ def refuses_more_files_than_a_tree_may_have(folder):
 
 
 def is_left_whole_by_a_kill(folder):
-    """Killed at random moments, the store is the one after some calls, at least those that were answered."""
+    """Killed at random moments, the store is the one after some calls, at least those that were answered, in what it shows
+    and in its rows, in which contents stand that no file has."""
     chance = random.Random(1)
     lines = random_play(7, 600)
-    models, model = [None], Model()
+    states, model = [(None, None)], Model()
     for line in lines:
         model.play(line)
-        models.append(model.shown())
+        states.append((model.shown(), rows_of_model(model.store)))
     for number in range(40):
         path = os.path.join(folder, f"{number}.db")
         child = subprocess.Popen([PROGRAM, path], stdin=subprocess.PIPE, stdout=subprocess.PIPE)
@@ -503,7 +508,8 @@ def is_left_whole_by_a_kill(folder):
         opened = answers(path, ["open", *SHOWN])
         found = opened[1:] if opened[0] == "ok" else None
         check(found is not None or opened[0].startswith(NOT_A_STORE), f"kill {number}: {opened[0]!r}")
-        check(found in models[answered:answered + 2], f"kill {number} after {answered} answers: it shows {found!r}")
+        state = (found, rows_of(path) if found else None)
+        check(state in states[answered:answered + 2], f"kill {number} after {answered} answers: it is {state!r}")
 
 
 # ---- memory that is refused
@@ -519,8 +525,8 @@ def refusing_library(folder):
 
 
 def is_want(answer):
-    """The call was refused for want of memory, or because the database was."""
-    return answer.startswith(("refused\t4\tOutOfMemory\t", SQL))
+    """The call was refused for want of memory, as which the database's own want comes too."""
+    return answer.startswith("refused\t4\tOutOfMemory\t")
 
 
 def states_after(given, status):
