@@ -16,9 +16,8 @@ use Rattle.sqlite_resolve.specs.Compile.{table_defined_by}
 use Rattle.sqlite_tied.specs.Compute.{everything}
 use Rattle.sqlite.specs.Listing.{understood, reads_listing}
 use Rattle.sqlite_schema.specs.declared.schema.Table.{Table}
-use Rattle.sqlite_schema.specs.declared.schema.Index.{Index}
 use Rattle.sqlite_schema.specs.declared.schema.Schema.{Schema}
-use Rattle.store_tables.specs.Schema.{meta, blobs, staged, fixes, commits, entries, answers, store_schema}
+use Rattle.store_tables.specs.Schema.{meta, blobs, staged, fixes, commits, entries, answers, MoreTables, store_with}
 
 -- a table before it is given its tree
 abbrev pub unplaced : Table → Table
@@ -118,10 +117,6 @@ keyed_two = col 0 0 ∷ lit Null ∷ col 0 1 ∷ []
 abbrev pub Compiles : Schema → List ℕ → Command → Type 0
 Compiles schema text command = (command_of (understood schema text) ≡ command) × IsPlain (understood schema text)
 
--- a store with more tables after its own, as a later version of it has them
-abbrev pub store_with : List Table → List Index → Schema
-store_with tables indexes = record { tables = store_schema.tables ++ tables; indexes = store_schema.indexes ++ indexes; views = [] }
-
 abbrev pub take_staged : List ℕ
 take_staged = codes "DELETE FROM staged WHERE path = ?1"
 
@@ -167,9 +162,9 @@ rising place = (col 1 place, ascending Binary)
 
 -- ---- what they compile to, whatever tables stand after those of a store
 
-module _ (tables : List Table) (indexes : List Index) where
+module _ (more : MoreTables) where
   abbrev schema : Schema
-  schema = store_with tables indexes
+  schema = store_with more
 
   pub put_meta_is : Compiles schema put_meta (Insert 0 (Values two 3))
   unfolding understood everything

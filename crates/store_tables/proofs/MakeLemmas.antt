@@ -4,7 +4,6 @@ use Rattle.std.specs.List.{AllByRecursion}
 use Rattle.std.proofs.lemmas.List.Sorted.{IsPermutation-refl}
 use Rattle.sqlite_trees.specs.declared.store.Store.{Ghosts}
 use Rattle.sqlite_schema.specs.declared.schema.Table.{Table}
-use Rattle.sqlite_schema.specs.declared.schema.Index.{Index}
 use Rattle.sqlite_schema.specs.declared.schema.Schema.{Schema}
 use Rattle.sqlite_schema.specs.declared.command.Command.TheVariants.{CreateTable}
 use Rattle.sqlite_resolve.specs.Compile.{table_defined_by}
@@ -22,11 +21,11 @@ use Rattle.sqlite.specs.State.{State, HasCleanDisk, Shows, Survives, Writes, Exe
 use Rattle.sqlite.proofs.Callers.{IsPlain, command_of, statement_of, runs_as}
 use Rattle.sqlite.proofs.InsideLemmas.{keeps_then}
 use Rattle.sqlite.proofs.StateLemmas.{survives_then}
-use Rattle.store_tables.specs.Schema.{meta, blobs, staged, fixes, commits, entries, answers}
+use Rattle.store_tables.specs.Schema.{meta, blobs, staged, fixes, commits, entries, answers, MoreTables, store_with}
 use Rattle.store_tables.specs.Steps.{IsMade}
 use Rattle.store_tables.specs.Tables.{HoldsIn, IsBare, first_tables, no_rows}
 use Rattle.store_tables.proofs.Compiles as text
-use Rattle.store_tables.proofs.Compiles.{unplaced, store_with}
+use Rattle.store_tables.proofs.Compiles.{unplaced}
 use Rattle.store_tables.proofs.StepLemmas.{keeps}
 use Rattle.store_tables.proofs.WriteLemmas.{went, same_value}
 
@@ -90,8 +89,8 @@ unfolding understood everything
 makes_answers = record { is = refl; plain = (refl, refl); whole = refl; defined = text.answers_defined; after_is = refl; uncounted = refl }
 
 -- all tables are made, and hold nothing
-pub made_all : (tables : List Table) (indexes : List Index) (db : Database) → IsBare (store_with tables indexes) db → HoldsIn (store_with tables indexes) db no_rows
-made_all tables indexes db bare =
+pub made_all : (more : MoreTables) (db : Database) → IsBare (store_with more) db → HoldsIn (store_with more) db no_rows
+made_all more db bare =
     let e = bare.empty in
     record {
       schema = bare.schema_is;

@@ -13,8 +13,6 @@ use Rattle.sqlite_trees.specs.Tree.{put_row}
 use Rattle.sqlite_sql.specs.Ops.{unary, binary, is_true, from_truth}
 use Rattle.sqlite_sql.specs.declared.ops.BinaryOp.TheVariants.{Compare}
 use Rattle.sqlite_sql.specs.declared.ops.CompareOp.TheVariants.{Eq}
-use Rattle.sqlite_schema.specs.declared.schema.Table.{Table}
-use Rattle.sqlite_schema.specs.declared.schema.Index.{Index}
 use Rattle.sqlite_schema.specs.declared.schema.Schema.{Schema}
 use Rattle.sqlite_schema.specs.declared.schema.Kind.TheVariants.{Integer}
 use Rattle.sqlite_schema.specs.declared.command.Source.TheVariants.{Values}
@@ -33,12 +31,13 @@ use Rattle.store_tables.specs.declared.rows.FixRow.{FixRow}
 use Rattle.store_tables.specs.declared.rows.CommitRow.{CommitRow}
 use Rattle.store_tables.specs.declared.rows.EntryRow.{EntryRow}
 use Rattle.store_tables.specs.declared.rows.AnswerRow.{AnswerRow}
+use Rattle.store_tables.specs.Schema.{MoreTables, store_with}
 use Rattle.store_tables.specs.Tables.{Tables, HoldsIn, Stored, AreKeyed, meta_cells, blob_cells, staged_cells, fix_cells, commit_cells, entry_cells, answer_cells, with_meta, with_blob, with_staged, without_staged, with_fix, fix_row, without_fixes, with_commit, with_entry, with_answer, without_answers}
 use Rattle.store_tables.proofs.Compiles as text
-use Rattle.store_tables.proofs.Compiles.{two, three, four, five, keyed_two, path_is_given, store_with}
+use Rattle.store_tables.proofs.Compiles.{two, three, four, five, keyed_two, path_is_given}
 use Rattle.store_tables.proofs.QueryLemmas.{passes_all}
 use Rattle.store_tables.proofs.RowLemmas.{put_permutes, put_apart, put_keyed, filter_apart, filter_keyed}
-use Rattle.store_tables.proofs.WriteLemmas.{PutsRow, NoneActs, store_stays, inserts, deletes, empties}
+use Rattle.store_tables.proofs.WriteLemmas.{PutsRow, store_stays, inserts, deletes, empties}
 
 abbrev AreNumbered : List Row → Type 0
 AreNumbered rows = have_rowids rows ≡ true
@@ -101,9 +100,9 @@ commit_row rows n message = rw (cast_int n, cast_null) refl
 
 -- ---- the statements, whatever tables stand after those of a store
 
-module _ (tables : List Table) (indexes : List Index) where
+module _ (more : MoreTables) where
   abbrev schema : Schema
-  schema = store_with tables indexes
+  schema = store_with more
 
   -- ---- INSERT
 
@@ -112,7 +111,7 @@ module _ (tables : List Table) (indexes : List Index) where
       let params = Text row.name ∷ Int row.value ∷ [] in
       let rows = old.now.trees 0 in
       let new_row = Int (next_rowid rows) ∷ Text row.name ∷ Int row.value ∷ [] in
-      let w = runs_as text.put_meta params old new schema h.schema (Insert 0 (Values two 3)) (text.put_meta_is tables indexes).0 (text.put_meta_is tables indexes).1 count ran in
+      let w = runs_as text.put_meta params old new schema h.schema (Insert 0 (Values two 3)) (text.put_meta_is more).0 (text.put_meta_is more).1 count ran in
       let p = inserts schema 0 _ 0 _ _ _ _ _ refl old new h.schema _ params count two 3 (Null ∷ Text row.name ∷ Int row.value ∷ []) refl w in
       let q : PutsRow schema 0 new_row old.now.trees new.now.trees = subst (λ x. PutsRow schema 0 x old.now.trees new.now.trees) (chosen_is rows (Text row.name ∷ cast Integer (Int row.value) ∷ []) ∙ ap (λ v. Int (next_rowid rows) ∷ Text row.name ∷ v ∷ []) (cast_int row.value)) p.1 in
       let o = q.others in
@@ -136,7 +135,7 @@ module _ (tables : List Table) (indexes : List Index) where
       let params = Blob row.digest ∷ Blob row.bytes ∷ [] in
       let rows = old.now.trees 2 in
       let new_row = Int (next_rowid rows) ∷ Blob row.digest ∷ Blob row.bytes ∷ [] in
-      let w = runs_as text.put_blob params old new schema h.schema (Insert 1 (Values two 3)) (text.put_blob_is tables indexes).0 (text.put_blob_is tables indexes).1 count ran in
+      let w = runs_as text.put_blob params old new schema h.schema (Insert 1 (Values two 3)) (text.put_blob_is more).0 (text.put_blob_is more).1 count ran in
       let p = inserts schema 1 _ 2 _ _ _ _ _ refl old new h.schema _ params count two 3 (Null ∷ Blob row.digest ∷ Blob row.bytes ∷ []) refl w in
       let q : PutsRow schema 2 new_row old.now.trees new.now.trees = subst (λ x. PutsRow schema 2 x old.now.trees new.now.trees) (chosen_is rows (Blob row.digest ∷ Blob row.bytes ∷ [])) p.1 in
       let o = q.others in
@@ -160,7 +159,7 @@ module _ (tables : List Table) (indexes : List Index) where
       let params = Text row.path ∷ Int row.mode ∷ Blob row.digest ∷ [] in
       let rows = old.now.trees 4 in
       let new_row = Int (next_rowid rows) ∷ Text row.path ∷ Int row.mode ∷ Blob row.digest ∷ [] in
-      let w = runs_as text.put_staged params old new schema h.schema (Insert 2 (Values three 4)) (text.put_staged_is tables indexes).0 (text.put_staged_is tables indexes).1 count ran in
+      let w = runs_as text.put_staged params old new schema h.schema (Insert 2 (Values three 4)) (text.put_staged_is more).0 (text.put_staged_is more).1 count ran in
       let p = inserts schema 2 _ 4 _ _ _ _ _ refl old new h.schema _ params count three 4 (Null ∷ Text row.path ∷ Int row.mode ∷ Blob row.digest ∷ []) refl w in
       let q : PutsRow schema 4 new_row old.now.trees new.now.trees = subst (λ x. PutsRow schema 4 x old.now.trees new.now.trees) (chosen_is rows (Text row.path ∷ cast Integer (Int row.mode) ∷ Blob row.digest ∷ []) ∙ ap (λ v. Int (next_rowid rows) ∷ Text row.path ∷ v ∷ Blob row.digest ∷ []) (cast_int row.mode)) p.1 in
       let o = q.others in
@@ -184,7 +183,7 @@ module _ (tables : List Table) (indexes : List Index) where
       let params = Text row.path ∷ Int row.gone ∷ or_null Blob row.digest ∷ [] in
       let rows = old.now.trees 6 in
       let new_row = Int (next_rowid rows) ∷ Text row.path ∷ Int row.gone ∷ or_null Blob row.digest ∷ [] in
-      let w = runs_as text.put_fix params old new schema h.schema (Insert 3 (Values three 4)) (text.put_fix_is tables indexes).0 (text.put_fix_is tables indexes).1 count ran in
+      let w = runs_as text.put_fix params old new schema h.schema (Insert 3 (Values three 4)) (text.put_fix_is more).0 (text.put_fix_is more).1 count ran in
       let p = inserts schema 3 _ 6 _ _ _ _ _ refl old new h.schema _ params count three 4 (Null ∷ Text row.path ∷ Int row.gone ∷ or_null Blob row.digest ∷ []) refl w in
       let q : PutsRow schema 6 new_row old.now.trees new.now.trees = subst (λ x. PutsRow schema 6 x old.now.trees new.now.trees) (chosen_is rows (Text row.path ∷ cast Integer (Int row.gone) ∷ or_null Blob row.digest ∷ []) ∙ ap (λ v. Int (next_rowid rows) ∷ Text row.path ∷ v ∷ or_null Blob row.digest ∷ []) (cast_int row.gone)) p.1 in
       let o = q.others in
@@ -208,7 +207,7 @@ module _ (tables : List Table) (indexes : List Index) where
       let params = Int row.n ∷ Blob row.message ∷ [] in
       let rows = old.now.trees 8 in
       let new_row = Int row.n ∷ Null ∷ Blob row.message ∷ [] in
-      let w = runs_as text.put_commit params old new schema h.schema (Insert 4 (Values keyed_two 3)) (text.put_commit_is tables indexes).0 (text.put_commit_is tables indexes).1 count ran in
+      let w = runs_as text.put_commit params old new schema h.schema (Insert 4 (Values keyed_two 3)) (text.put_commit_is more).0 (text.put_commit_is more).1 count ran in
       let p = inserts schema 4 _ 8 _ _ _ _ _ refl old new h.schema _ params count keyed_two 3 (Int row.n ∷ Null ∷ Blob row.message ∷ []) refl w in
       let q : PutsRow schema 8 new_row old.now.trees new.now.trees = subst (λ x. PutsRow schema 8 x old.now.trees new.now.trees) (commit_row rows row.n row.message) p.1 in
       let o = q.others in
@@ -232,7 +231,7 @@ module _ (tables : List Table) (indexes : List Index) where
       let params = Int row.n ∷ Text row.path ∷ Int row.mode ∷ Blob row.digest ∷ [] in
       let rows = old.now.trees 9 in
       let new_row = Int (next_rowid rows) ∷ Int row.n ∷ Text row.path ∷ Int row.mode ∷ Blob row.digest ∷ [] in
-      let w = runs_as text.put_entry params old new schema h.schema (Insert 5 (Values four 5)) (text.put_entry_is tables indexes).0 (text.put_entry_is tables indexes).1 count ran in
+      let w = runs_as text.put_entry params old new schema h.schema (Insert 5 (Values four 5)) (text.put_entry_is more).0 (text.put_entry_is more).1 count ran in
       let p = inserts schema 5 _ 9 _ _ _ _ _ refl old new h.schema _ params count four 5 (Null ∷ Int row.n ∷ Text row.path ∷ Int row.mode ∷ Blob row.digest ∷ []) refl w in
       let q : PutsRow schema 9 new_row old.now.trees new.now.trees = subst (λ x. PutsRow schema 9 x old.now.trees new.now.trees) (chosen_is rows (cast Integer (Int row.n) ∷ Text row.path ∷ cast Integer (Int row.mode) ∷ Blob row.digest ∷ []) ∙ ap (λ v. Int (next_rowid rows) ∷ v ∷ Text row.path ∷ cast Integer (Int row.mode) ∷ Blob row.digest ∷ []) (cast_int row.n) ∙ ap (λ v. Int (next_rowid rows) ∷ Int row.n ∷ Text row.path ∷ v ∷ Blob row.digest ∷ []) (cast_int row.mode)) p.1 in
       let o = q.others in
@@ -256,7 +255,7 @@ module _ (tables : List Table) (indexes : List Index) where
       let params = Blob row.words ∷ Blob row.seen ∷ Blob row.output ∷ Blob row.changes ∷ Int row.status ∷ [] in
       let rows = old.now.trees 11 in
       let new_row = Int (next_rowid rows) ∷ Blob row.words ∷ Blob row.seen ∷ Blob row.output ∷ Blob row.changes ∷ Int row.status ∷ [] in
-      let w = runs_as text.put_answer params old new schema h.schema (Insert 6 (Values five 6)) (text.put_answer_is tables indexes).0 (text.put_answer_is tables indexes).1 count ran in
+      let w = runs_as text.put_answer params old new schema h.schema (Insert 6 (Values five 6)) (text.put_answer_is more).0 (text.put_answer_is more).1 count ran in
       let p = inserts schema 6 _ 11 _ _ _ _ _ refl old new h.schema _ params count five 6 (Null ∷ Blob row.words ∷ Blob row.seen ∷ Blob row.output ∷ Blob row.changes ∷ Int row.status ∷ []) refl w in
       let q : PutsRow schema 11 new_row old.now.trees new.now.trees = subst (λ x. PutsRow schema 11 x old.now.trees new.now.trees) (chosen_is rows (Blob row.words ∷ Blob row.seen ∷ Blob row.output ∷ Blob row.changes ∷ cast Integer (Int row.status) ∷ []) ∙ ap (λ v. Int (next_rowid rows) ∷ Blob row.words ∷ Blob row.seen ∷ Blob row.output ∷ Blob row.changes ∷ v ∷ []) (cast_int row.status)) p.1 in
       let o = q.others in
@@ -277,12 +276,12 @@ module _ (tables : List Table) (indexes : List Index) where
 
   -- ---- DELETE
 
-  pub take_staged : NoneActs tables → (old new : State) (t : Tables) (path : List ℕ) (count : ℕ) → HoldsIn schema old.now t → Executes text.take_staged (Text path ∷ []) old new (Ok count) → HoldsIn schema new.now (without_staged path t)
-  take_staged stay old new t path count h ran =
+  pub take_staged : (old new : State) (t : Tables) (path : List ℕ) (count : ℕ) → HoldsIn schema old.now t → Executes text.take_staged (Text path ∷ []) old new (Ok count) → HoldsIn schema new.now (without_staged path t)
+  take_staged old new t path count h ran =
       let params = Text path ∷ [] in
       let rows = old.now.trees 4 in
-      let w = runs_as text.take_staged params old new schema h.schema _ (text.take_staged_is tables indexes).0 (text.take_staged_is tables indexes).1 count ran in
-      let p = deletes schema 2 _ 4 _ _ _ _ _ refl old new h.schema _ params count path_is_given (store_stays tables stay) h.staged_keyed.numbered h.staged_keyed.apart w in
+      let w = runs_as text.take_staged params old new schema h.schema _ (text.take_staged_is more).0 (text.take_staged_is more).1 count ran in
+      let p = deletes schema 2 _ 4 _ _ _ _ _ refl old new h.schema _ params count path_is_given (store_stays more.tables more.rests) h.staged_keyed.numbered h.staged_keyed.apart w in
       let q = p.1 in
       let o = q.others in
       record {
@@ -302,10 +301,10 @@ module _ (tables : List Table) (indexes : List Index) where
         answers_numbered = subst AreNumbered (sym (o.1.1.1.1.1.1.0 (omega arith))) h.answers_numbered;
       }
 
-  pub clear_fixes : NoneActs tables → (old new : State) (t : Tables) (count : ℕ) → HoldsIn schema old.now t → Executes text.clear_fixes [] old new (Ok count) → HoldsIn schema new.now (without_fixes t)
-  clear_fixes stay old new t count h ran =
-      let w = runs_as text.clear_fixes [] old new schema h.schema _ (text.clear_fixes_is tables indexes).0 (text.clear_fixes_is tables indexes).1 count ran in
-      let p = empties schema 3 _ 6 _ _ _ _ _ refl old new h.schema _ [] count (store_stays tables stay) h.fixes_numbered w in
+  pub clear_fixes : (old new : State) (t : Tables) (count : ℕ) → HoldsIn schema old.now t → Executes text.clear_fixes [] old new (Ok count) → HoldsIn schema new.now (without_fixes t)
+  clear_fixes old new t count h ran =
+      let w = runs_as text.clear_fixes [] old new schema h.schema _ (text.clear_fixes_is more).0 (text.clear_fixes_is more).1 count ran in
+      let p = empties schema 3 _ 6 _ _ _ _ _ refl old new h.schema _ [] count (store_stays more.tables more.rests) h.fixes_numbered w in
       let q = p.1 in
       let o = q.others in
       record {
@@ -323,10 +322,10 @@ module _ (tables : List Table) (indexes : List Index) where
         answers_numbered = subst AreNumbered (sym (o.1.1.1.1.1.1.0 (omega arith))) h.answers_numbered;
       }
 
-  pub clear_answers : NoneActs tables → (old new : State) (t : Tables) (count : ℕ) → HoldsIn schema old.now t → Executes text.clear_answers [] old new (Ok count) → HoldsIn schema new.now (without_answers t)
-  clear_answers stay old new t count h ran =
-      let w = runs_as text.clear_answers [] old new schema h.schema _ (text.clear_answers_is tables indexes).0 (text.clear_answers_is tables indexes).1 count ran in
-      let p = empties schema 6 _ 11 _ _ _ _ _ refl old new h.schema _ [] count (store_stays tables stay) h.answers_numbered w in
+  pub clear_answers : (old new : State) (t : Tables) (count : ℕ) → HoldsIn schema old.now t → Executes text.clear_answers [] old new (Ok count) → HoldsIn schema new.now (without_answers t)
+  clear_answers old new t count h ran =
+      let w = runs_as text.clear_answers [] old new schema h.schema _ (text.clear_answers_is more).0 (text.clear_answers_is more).1 count ran in
+      let p = empties schema 6 _ 11 _ _ _ _ _ refl old new h.schema _ [] count (store_stays more.tables more.rests) h.answers_numbered w in
       let q = p.1 in
       let o = q.others in
       record {

@@ -1,7 +1,5 @@
 -- The empty statement.
 use Rattle.std.proofs.Common.{ℕ, List, [], Ok, refl, sym, subst}
-use Rattle.sqlite_schema.specs.declared.schema.Table.{Table}
-use Rattle.sqlite_schema.specs.declared.schema.Index.{Index}
 use Rattle.sqlite_schema.specs.declared.schema.Schema.{Schema}
 use Rattle.sqlite_schema.specs.declared.command.Command.TheVariants.{Nothing}
 use Rattle.sqlite_tied.specs.Compute.{everything}
@@ -9,12 +7,13 @@ use Rattle.sqlite.specs.Effect.{Database}
 use Rattle.sqlite.specs.Listing.{understood}
 use Rattle.sqlite.specs.State.{State, Executes}
 use Rattle.sqlite.proofs.Callers.{runs_as}
+use Rattle.store_tables.specs.Schema.{MoreTables, store_with}
 use Rattle.store_tables.specs.Tables.{Tables, HoldsIn}
-use Rattle.store_tables.proofs.Compiles.{Compiles, store_with}
+use Rattle.store_tables.proofs.Compiles.{Compiles}
 
-module _ (tables : List Table) (indexes : List Index) where
+module _ (more : MoreTables) where
   abbrev schema : Schema
-  schema = store_with tables indexes
+  schema = store_with more
 
   nothing_is : Compiles schema [] Nothing
   unfolding understood everything

@@ -30,7 +30,7 @@ use Rattle.sqlite.specs.Effect.{Database, Reads}
 use Rattle.sqlite.specs.Rows.{Written}
 use Rattle.sqlite.specs.State.{State, Writes, mode_of}
 use Rattle.sqlite.proofs.Callers.{one_step}
-use Rattle.store_tables.specs.Schema.{store_schema, table_of}
+use Rattle.store_tables.specs.Schema.{NoneActs, store_schema, table_of}
 use Rattle.store_tables.proofs.QueryLemmas.{plain_query, passes_all, shown_as, selected}
 use Rattle.store_tables.proofs.RowLemmas.{passing_out, all_out, all_kept}
 use Rattle.store_tables.specs.Tables.{AreApart}
@@ -63,11 +63,7 @@ module _ (schema : Schema) (keys : Keys) (depth tree : ℕ) (news : List Row) wh
   unmoved [] = refl
   unmoved (t ∷ tables) = rw (none_mapped (work_for schema keys depth tree [] news t) t.references (from_none t t.references)) (unmoved tables)
 
--- no reference acts where its parent is deleted
-abbrev pub NoneActs : List Table → Type 0
-NoneActs = AllByRecursion (λ t. AllByRecursion (λ (ref : Reference). ref.on_delete ≡ NoAction) t.references)
-
--- none of a store does
+-- no reference of a store acts
 pub store_stays : (tables : List Table) → NoneActs tables → NoneActs (store_schema.tables ++ tables)
 store_stays tables stay = (tt, ((tt, ((refl, tt), ((refl, tt), (tt, ((refl, (refl, tt)), ((refl, (refl, (refl, (refl, tt)))), stay))))))))
 

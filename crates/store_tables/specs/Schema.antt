@@ -1,6 +1,7 @@
 -- The seven tables of a store, as SQLite's schema of them. STRICT makes each column of a PRIMARY KEY NOT NULL, also where
 -- the statement doesn't say so, but for the one that is the rowid.
-use Rattle.std.specs.Prelude.{true, false, Bool, List, [], ◌∷◌, ◌++◌, ◌+◌, ℕ, map, Option, Some, None, codes}
+use Rattle.std.specs.Prelude.{◌≡◌, true, false, Bool, List, [], ◌∷◌, ◌++◌, ◌+◌, ℕ, map, Option, Some, None, codes}
+use Rattle.std.specs.List.{AllByRecursion}
 use Rattle.sqlite_value.specs.declared.value.Value.TheVariants.{Null}
 use Rattle.sqlite_value.specs.declared.keys.Collation.TheVariants.{Binary}
 use Rattle.sqlite_value.specs.Keys.{plain}
@@ -87,3 +88,21 @@ store_schema = record {
       ∷ key_index (codes "entries") 9 (1 ∷ 2 ∷ []) ∷ key_index (codes "answers") 11 (1 ∷ 2 ∷ []) ∷ [];
   views = [];
 }
+
+-- ---- a store with more tables, as a later version of it has them
+
+-- no reference acts where a row of its parent is deleted
+abbrev pub NoneActs : List Table → Type 0
+NoneActs = AllByRecursion (λ t. AllByRecursion (λ (ref : Reference). ref.on_delete ≡ NoAction) t.references)
+
+-- What is listed after the tables of a store and after their indexes.
+pub record MoreTables : Type 0 where
+  pub tables : List Table
+  pub indexes : List Index
+  pub rests : NoneActs tables
+
+abbrev pub no_more : MoreTables
+no_more = record { tables = []; indexes = []; rests = tt }
+
+abbrev pub store_with : MoreTables → Schema
+store_with more = record { tables = store_schema.tables ++ more.tables; indexes = store_schema.indexes ++ more.indexes; views = [] }

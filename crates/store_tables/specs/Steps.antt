@@ -7,7 +7,7 @@ use Rattle.sqlite.specs.declared.error.Error.{Error}
 use Rattle.sqlite.specs.Effect.{Database}
 use Rattle.sqlite.specs.Held.{Held, state}
 use Rattle.sqlite.specs.State.{State, HasCleanDisk, IsUnchanged, KeepsCommit, Shows, Survives}
-use Rattle.store_tables.specs.Schema.{store_schema}
+use Rattle.store_tables.specs.Schema.{MoreTables, store_with}
 use Rattle.store_tables.specs.Tables.{Tables, HoldsIn}
 
 -- A statement inside a transaction is done, where these tables are listed: nothing is committed, and it makes this of those
@@ -16,10 +16,6 @@ pub record IsDoneIn (listed : Schema) (old new : State) (makes : Tables → Tabl
   pub shown : Shows old new new.now old.committed true
   pub holds : (t : Tables) → HoldsIn listed old.now t → HoldsIn listed new.now (makes t)
 
--- where no others are listed
-abbrev pub IsDone : State → State → (Tables → Tables) → Type 0
-IsDone = IsDoneIn store_schema
-
 -- A statement inside a transaction: at `Ok` it is done, and otherwise it was not done or the transaction is rolled
 -- back. A crash leaves no more than before.
 pub record IsStepIn {S A : Type 0} (listed : Schema) (g : Ghosts S) (old new : Held S) (result : Result A Error) (makes : Tables → Tables) : Type 0 where
@@ -27,9 +23,9 @@ pub record IsStepIn {S A : Type 0} (listed : Schema) (g : Ghosts S) (old new : H
   pub kept : HasCleanDisk (state g new) → KeepsCommit (state g old) (state g new)
   pub survives : Survives (state g old) (state g new) (λ _. ⊥)
 
--- where no others are listed
+-- whatever tables are listed after those of a store
 abbrev pub IsStep : {S A : Type 0} (g : Ghosts S) (old new : Held S) (result : Result A Error) (makes : Tables → Tables) → Type 0
-IsStep g old new result makes = IsStepIn store_schema g old new result makes
+IsStep g old new result makes = (more : MoreTables) → IsStepIn (store_with more) g old new result makes
 
 -- The same for a statement that makes tables: from a database with Before it makes one with After.
 pub record IsMade {S A : Type 0} (g : Ghosts S) (old new : Held S) (result : Result A Error) (Before After : Database → Type 0) : Type 0 where
@@ -46,6 +42,6 @@ pub record IsReadIn {S A : Type 0} (listed : Schema) (g : Ghosts S) (old new : H
   pub kept : HasCleanDisk (state g new) → IsTrue (state g old).in_transaction → KeepsCommit (state g old) (state g new)
   pub survives : Survives (state g old) (state g new) (λ _. ⊥)
 
--- where no others are listed
+-- whatever tables are listed after those of a store
 abbrev pub IsRead : {S A : Type 0} (g : Ghosts S) (old new : Held S) (result : Result A Error) (Rows : A → Trees → Type 0) → Type 0
-IsRead g old new result Rows = IsReadIn store_schema g old new result Rows
+IsRead g old new result Rows = (more : MoreTables) → IsReadIn (store_with more) g old new result Rows

@@ -147,3 +147,7 @@ pub record IsBare (schema : Schema) (db : Database) : Type 0 where
 -- the first of the store's tables, and of their indexes
 abbrev pub first_tables : ℕ → ℕ → Schema
 first_tables tables indexes = record { tables = take tables store_schema.tables; indexes = take indexes store_schema.indexes; views = [] }
+
+-- the tables of a store and no others, in which nothing stands
+abbrev pub IsEmptyStore : Database → Type 0
+IsEmptyStore db = IsBare store_schema db × Holds db no_rows

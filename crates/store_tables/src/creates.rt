@@ -1,7 +1,7 @@
 ghost use Rattle.std.specs.Prelude.{◌≡◌};
 ghost use Rattle.store_tables.specs.Schema.{no_schema};
 ghost use Rattle.store_tables.specs.Steps.{IsMade};
-ghost use Rattle.store_tables.specs.Tables.{Holds, IsBare, first_tables, no_rows};
+ghost use Rattle.store_tables.specs.Tables.{IsBare, IsEmptyStore, first_tables};
 
 use sqlite::{Alter, Error, Transaction};
 
@@ -85,7 +85,7 @@ fn make_answers<S: Alter>(tx: &mut Transaction<'_, S>) -> Result<(), Error>
 /// Makes the seven tables of a store in a database that has none.
 pub fn make_tables<S: Alter>(tx: &mut Transaction<'_, S>) -> Result<(), Error>
     ensures same_reference { tx.new.conn.ghost_name ≡ tx.old.conn.ghost_name }
-    ensures made { IsMade S.Store tx.old.conn.now tx.new.conn.now result (IsBare no_schema) (λ db. Holds db no_rows) }
+    ensures made { IsMade S.Store tx.old.conn.now tx.new.conn.now result (IsBare no_schema) IsEmptyStore }
 {
     make_meta(tx)?;
     make_blobs(tx)?;
