@@ -23,7 +23,8 @@ use Rattle.sqlite.specs.State.{State, HasCleanDisk, IsUnchanged, KeepsCommit, Su
 use Rattle.sqlite.proofs.Callers.{IsPlain, reads_as}
 use Rattle.sqlite.proofs.InsideLemmas.{unchanged_keeps}
 use Rattle.sqlite_keyed.proofs.ListLemmas.{map-map}
-use Rattle.store_tables.specs.Steps.{IsReadIn}
+use Rattle.store_tables.specs.Schema.{MoreTables, store_with}
+use Rattle.store_tables.specs.Steps.{IsRead}
 use Rattle.store_tables.specs.Tables.{Stored}
 use Rattle.store_tables.proofs.Compiles.{Selects}
 use Rattle.store_tables.proofs.QueryLemmas.{shown_as}
@@ -80,7 +81,7 @@ ids_number rows ids same =
     test_from (λ r. is_int (rowid r)) rows (λ r h.
     let n = has_mapped Int ids (rowid r) (has_permuted (map rowid rows) (map Int ids) (rowid r) same (mapped_has rowid rows r h)) in ap is_int n.2)
 
-module _ {S : Type 0} (schema : Schema) (g : Ghosts S) (old new : Held S) (sql : List ℕ) where
+module _ {S : Type 0} (g : Ghosts S) (old new : Held S) (sql : List ℕ) where
   abbrev pub Answered : {V : Type 0} → (V → List Row) → Result V Error → Type 0
   Answered items r = HasCleanDisk (state g new) → IfOk r (λ rows. Shown sql [] (state g old) (state g new) (items rows))
 
@@ -95,28 +96,28 @@ module _ {S : Type 0} (schema : Schema) (g : Ghosts S) (old new : Held S) (sql :
   ]
 
   -- the rows of the table that the text selects, and that nothing has changed
-  pub table_shown : (tree : ℕ) (project : List Term) (order : List (Term × Key)) (names : List (List ℕ)) → Selects schema sql tree project order names → (rows : List Row) → (state g old).now.schema ≡ schema
+  pub table_shown : (schema : Schema) (tree : ℕ) (project : List Term) (order : List (Term × Key)) (names : List (List ℕ)) → Selects schema sql tree project order names → (rows : List Row) → (state g old).now.schema ≡ schema
       → Shown sql [] (state g old) (state g new) rows → IsUnchanged (state g old) (state g new) × IsPermutation (map (shown_as project []) ((state g old).now.trees tree)) rows
-  table_shown tree project order names text rows has h = (
+  table_shown schema tree project order names text rows has h = (
     shown_unchanged sql [] (state g old) (state g new) rows (subst (λ s. IsPlain (understood s sql)) (sym has) text.0.1) h,
     shows (state g old).now tree project order names [] rows (reads_as sql [] (state g old) (state g new) schema has _ text.0.0 text.0.1 text.1 rows h),
   )
 
   module _ {V : Type 0} (items : V → List Row) (r : Result V Error) (ok : Answered items r) (err : Refused r) (survives : Survives (state g old) (state g new) (λ _. ⊥)) where
-    pub read_fails : {W : Type 0} (out : Result W Error) (d : Error) → out ≡ Err d → (Rows : W → Trees → Type 0) → IsReadIn schema g old new out Rows
-    read_fails out d is Rows = record { rows = λ _ _. rw is tt; kept = query_keeps items r ok err; survives = survives }
+    pub read_fails : {W : Type 0} (out : Result W Error) (d : Error) → out ≡ Err d → (Rows : W → Trees → Type 0) → IsRead g old new out Rows
+    read_fails out d is Rows = record { rows = λ _ _ _. rw is tt; kept = query_keeps items r ok err; survives = survives }
 
-    module _ (tree : ℕ) (project : List Term) (order : List (Term × Key)) (names : List (List ℕ)) (text : Selects schema sql tree project order names) (shown : V) (is : r ≡ Ok shown) where
-      answer : HasCleanDisk (state g new) → (state g old).now.schema ≡ schema → IsUnchanged (state g old) (state g new) × IsPermutation (map (shown_as project []) ((state g old).now.trees tree)) (items shown)
-      answer clean has = table_shown tree project order names text (items shown) has (IfOk-at_ok (λ rows. Shown sql [] (state g old) (state g new) (items rows)) is (ok clean))
+    module _ (tree : ℕ) (project : List Term) (order : List (Term × Key)) (names : List (List ℕ)) (text : (more : MoreTables) → Selects (store_with more) sql tree project order names) (shown : V) (is : r ≡ Ok shown) where
+      answer : (more : MoreTables) → HasCleanDisk (state g new) → (state g old).now.schema ≡ store_with more → IsUnchanged (state g old) (state g new) × IsPermutation (map (shown_as project []) ((state g old).now.trees tree)) (items shown)
+      answer more clean has = table_shown (store_with more) tree project order names (text more) (items shown) has (IfOk-at_ok (λ rows. Shown sql [] (state g old) (state g new) (items rows)) is (ok clean))
 
       -- with what else the answer shows of the rows
       pub read_also : {W X : Type 0} (K : List Row → Type 0) (out : Result W Error) (listed : W → List X) (cells : X → Row) (places : List ℕ) (first : ℕ) → ((row : Row) → drop first (shown_as project [] row) ≡ map (column row) places)
           → (values : List Row) → values ≡ items shown → ((rows : List Row) → IsPermutation (map (shown_as project []) rows) values → K rows) → IfOk out (λ w. map cells (listed w) ≡ map (drop first) values)
-          → IsReadIn schema g old new out (λ w trees. Stored cells places (listed w) (trees tree) × K (trees tree))
+          → IsRead g old new out (λ w trees. Stored cells places (listed w) (trees tree) × K (trees tree))
       read_also K out listed cells places first each values same also done = record {
-        rows = λ clean has.
-            let it = answer clean has in
+        rows = λ more clean has.
+            let it = answer more clean has in
             let values_are = subst (IsPermutation (map (shown_as project []) ((state g old).now.trees tree))) (sym same) it.1 in
             IfOk-weaker out _ _ (λ w e. (it.0, (read_rows cells places first project (listed w) ((state g old).now.trees tree) values each values_are e, also _ values_are))) done;
         kept = query_keeps items r ok err;
@@ -124,7 +125,7 @@ module _ {S : Type 0} (schema : Schema) (g : Ghosts S) (old new : Held S) (sql :
       }
 
       pub read_ends : {W X : Type 0} (out : Result W Error) (listed : W → List X) (cells : X → Row) (places : List ℕ) (first : ℕ) → ((row : Row) → drop first (shown_as project [] row) ≡ map (column row) places)
-          → (values : List Row) → values ≡ items shown → IfOk out (λ w. map cells (listed w) ≡ map (drop first) values) → IsReadIn schema g old new out (λ w trees. Stored cells places (listed w) (trees tree))
+          → (values : List Row) → values ≡ items shown → IfOk out (λ w. map cells (listed w) ≡ map (drop first) values) → IsRead g old new out (λ w trees. Stored cells places (listed w) (trees tree))
       read_ends out listed cells places first each values same done =
           let it = read_also (λ _. Unit {0}) out listed cells places first each values same (λ _ _. tt) done in
-          record { rows = λ clean has. IfOk-weaker out _ _ (λ w e. (e.0, e.1.0)) (it.rows clean has); kept = it.kept; survives = it.survives }
+          record { rows = λ more clean has. IfOk-weaker out _ _ (λ w e. (e.0, e.1.0)) (it.rows more clean has); kept = it.kept; survives = it.survives }

@@ -3,7 +3,6 @@ use Rattle.std.proofs.Common.{◌≡◌, inl, inr, ℕ, List, false, Result, Ok,
 use Rattle.std.proofs.lemmas.Bool.{cases_Bool}
 use Rattle.sqlite_value.specs.Order.{Row}
 use Rattle.sqlite_trees.specs.declared.store.Store.{Ghosts}
-use Rattle.sqlite_schema.specs.declared.schema.Schema.{Schema}
 use Rattle.sqlite.specs.declared.error.Error.{Error}
 use Rattle.sqlite.specs.declared.error.Error.TheVariants.{SqliteFailure}
 use Rattle.sqlite.specs.declared.error.ErrorCode.TheVariants.{TransactionState}
@@ -11,7 +10,8 @@ use Rattle.sqlite.specs.Held.{Held, state}
 use Rattle.sqlite.specs.State.{State, HasCleanDisk, KeepsCommit, Survives, Executes, ExecutesInside}
 use Rattle.sqlite.proofs.InsideLemmas.{inside_keeps}
 use Rattle.store_tables.specs.Tables.{Tables, HoldsIn}
-use Rattle.store_tables.specs.Steps.{IsStepIn}
+use Rattle.store_tables.specs.Schema.{MoreTables, store_with}
+use Rattle.store_tables.specs.Steps.{IsStep}
 
 pub keeps_itself : (s : State) → KeepsCommit s s
 keeps_itself s = record { was_open = λ h. h; committed = λ _. refl }
@@ -26,13 +26,14 @@ module _ {S : Type 0} (g : Ghosts S) (old new : Held S) (sql : List ℕ) (params
     | inr outside ↦ subst (λ h. KeepsCommit (state g old) (state g h)) (sym (ended outside).1) (keeps_itself (state g old))
   ]
 
-  pub fails : (schema : Schema) (makes : Tables → Tables) (e : Error) → IsStepIn {A = Unit {0}} schema g old new (Err e) makes
-  fails schema makes e = record { done = λ _ _. tt; kept = keeps; survives = survives }
+  pub fails : (makes : Tables → Tables) (e : Error) → IsStep {A = Unit {0}} g old new (Err e) makes
+  fails makes e = record { done = λ _ _. tt; kept = keeps; survives = survives }
 
-  pub finishes : (schema : Schema) (makes : Tables → Tables) (count : ℕ) → r ≡ Ok count → ((t : Tables) → HoldsIn schema (state g old).now t → Executes sql params (state g old) (state g new) (Ok count) → HoldsIn schema (state g new).now (makes t))
-      → IsStepIn {A = Unit {0}} schema g old new (Ok tt) makes
-  finishes schema makes count is does = record {
-    done = λ clean inside. let ran = subst (ExecutesInside 0 sql params (state g old) (state g new)) is (runs clean inside) in record { shown = ran.1; holds = λ t h. does t h ran.0 };
+  pub finishes : (makes : Tables → Tables) (count : ℕ) → r ≡ Ok count
+      → ((more : MoreTables) (t : Tables) → HoldsIn (store_with more) (state g old).now t → Executes sql params (state g old) (state g new) (Ok count) → HoldsIn (store_with more) (state g new).now (makes t))
+      → IsStep {A = Unit {0}} g old new (Ok tt) makes
+  finishes makes count is does = record {
+    done = λ clean inside. let ran = subst (ExecutesInside 0 sql params (state g old) (state g new)) is (runs clean inside) in record { shown = ran.1; holds = λ more t h. does more t h ran.0 };
     kept = keeps;
     survives = survives;
   }

@@ -1,7 +1,6 @@
 -- What the steps of a transaction leave.
 use Rattle.std.specs.Prelude.{◌≡◌, true, Result, OnOk, IfOk, IsTrue}
 use Rattle.sqlite_trees.specs.declared.store.Store.{Ghosts}
-use Rattle.sqlite_schema.specs.declared.schema.Schema.{Schema}
 use Rattle.sqlite_trees.specs.Tree.{Trees}
 use Rattle.sqlite.specs.declared.error.Error.{Error}
 use Rattle.sqlite.specs.Effect.{Database}
@@ -10,22 +9,18 @@ use Rattle.sqlite.specs.State.{State, HasCleanDisk, IsUnchanged, KeepsCommit, Sh
 use Rattle.store_tables.specs.Schema.{MoreTables, store_with}
 use Rattle.store_tables.specs.Tables.{Tables, HoldsIn}
 
--- A statement inside a transaction is done, where these tables are listed: nothing is committed, and it makes this of those
--- of a store.
-pub record IsDoneIn (listed : Schema) (old new : State) (makes : Tables → Tables) : Type 0 where
+-- A statement inside a transaction is done: nothing is committed, and it makes this of the tables of a store, whatever
+-- tables are listed after them.
+pub record IsDone (old new : State) (makes : Tables → Tables) : Type 0 where
   pub shown : Shows old new new.now old.committed true
-  pub holds : (t : Tables) → HoldsIn listed old.now t → HoldsIn listed new.now (makes t)
+  pub holds : (more : MoreTables) (t : Tables) → HoldsIn (store_with more) old.now t → HoldsIn (store_with more) new.now (makes t)
 
 -- A statement inside a transaction: at `Ok` it is done, and otherwise it was not done or the transaction is rolled
 -- back. A crash leaves no more than before.
-pub record IsStepIn {S A : Type 0} (listed : Schema) (g : Ghosts S) (old new : Held S) (result : Result A Error) (makes : Tables → Tables) : Type 0 where
-  pub done : HasCleanDisk (state g new) → IsTrue (state g old).in_transaction → OnOk result (IsDoneIn listed (state g old) (state g new) makes)
+pub record IsStep {S A : Type 0} (g : Ghosts S) (old new : Held S) (result : Result A Error) (makes : Tables → Tables) : Type 0 where
+  pub done : HasCleanDisk (state g new) → IsTrue (state g old).in_transaction → OnOk result (IsDone (state g old) (state g new) makes)
   pub kept : HasCleanDisk (state g new) → KeepsCommit (state g old) (state g new)
   pub survives : Survives (state g old) (state g new) (λ _. ⊥)
-
--- whatever tables are listed after those of a store
-abbrev pub IsStep : {S A : Type 0} (g : Ghosts S) (old new : Held S) (result : Result A Error) (makes : Tables → Tables) → Type 0
-IsStep g old new result makes = (more : MoreTables) → IsStepIn (store_with more) g old new result makes
 
 -- The same for a statement that makes tables: from a database with Before it makes one with After.
 pub record IsMade {S A : Type 0} (g : Ghosts S) (old new : Held S) (result : Result A Error) (Before After : Database → Type 0) : Type 0 where
@@ -34,14 +29,10 @@ pub record IsMade {S A : Type 0} (g : Ghosts S) (old new : Held S) (result : Res
   pub kept : HasCleanDisk (state g new) → KeepsCommit (state g old) (state g new)
   pub survives : Survives (state g old) (state g new) (λ _. ⊥)
 
--- A query inside a transaction: where the database has the tables that are listed, at `Ok` the answer has Rows of its
--- trees, and nothing has changed.
-pub record IsReadIn {S A : Type 0} (listed : Schema) (g : Ghosts S) (old new : Held S) (result : Result A Error) (Rows : A → Trees → Type 0) : Type 0 where
-  pub rows : HasCleanDisk (state g new) → (state g old).now.schema ≡ listed
+-- A query inside a transaction: where the database has the tables of a store, whatever tables are listed after them, at
+-- `Ok` the answer has Rows of its trees, and nothing has changed.
+pub record IsRead {S A : Type 0} (g : Ghosts S) (old new : Held S) (result : Result A Error) (Rows : A → Trees → Type 0) : Type 0 where
+  pub rows : (more : MoreTables) → HasCleanDisk (state g new) → (state g old).now.schema ≡ store_with more
       → IfOk result (λ answer. IsUnchanged (state g old) (state g new) × Rows answer (state g old).now.trees)
   pub kept : HasCleanDisk (state g new) → IsTrue (state g old).in_transaction → KeepsCommit (state g old) (state g new)
   pub survives : Survives (state g old) (state g new) (λ _. ⊥)
-
--- whatever tables are listed after those of a store
-abbrev pub IsRead : {S A : Type 0} (g : Ghosts S) (old new : Held S) (result : Result A Error) (Rows : A → Trees → Type 0) → Type 0
-IsRead g old new result Rows = (more : MoreTables) → IsReadIn (store_with more) g old new result Rows

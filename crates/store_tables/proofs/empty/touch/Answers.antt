@@ -1,6 +1,5 @@
 use Rattle.std.proofs.Common.{[]}
 use Rattle.sqlite.specs.Held.{state}
-use Rattle.store_tables.specs.Schema.{store_with}
 use Rattle.store_tables.proofs.StepLemmas.{finishes}
 use Rattle.store_tables.proofs.TouchLemmas.{touch}
 use Rattle.store_tables.proofs.empty.touch.Goals as goal
@@ -9,5 +8,5 @@ pub returns-clause-step : goal.returns-clause-step
 returns-clause-step g c =
     let old = c.args.tx.now.conn.now in
     let new = c.execute.new.self.conn.now in
-    λ more. finishes g.S.Store old new _ _ c.execute.result c.execute.ensures.ended c.execute.ensures.runs c.execute.ensures.survives (store_with more) (λ t. t)
-    c.in_ok-execute.field-0 c.in_ok-execute.was (λ t h ran. touch more (state g.S.Store old) (state g.S.Store new) t _ h ran)
+    finishes g.S.Store old new _ _ c.execute.result c.execute.ensures.ended c.execute.ensures.runs c.execute.ensures.survives (λ t. t)
+    c.in_ok-execute.field-0 c.in_ok-execute.was (λ more t h ran. touch more (state g.S.Store old) (state g.S.Store new) t _ h ran)

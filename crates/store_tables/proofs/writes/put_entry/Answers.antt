@@ -1,6 +1,5 @@
 use Rattle.sqlite.specs.Held.{state}
 use Rattle.std.proofs.Common.{[], pos}
-use Rattle.store_tables.specs.Schema.{store_with}
 use Rattle.store_tables.specs.declared.rows.EntryRow.{EntryRow}
 use Rattle.store_tables.specs.Tables.{with_entry}
 use Rattle.store_tables.proofs.StepLemmas.{finishes}
@@ -12,5 +11,5 @@ returns-clause-step g c =
     let old = c.args.tx.now.conn.now in
     let new = c.execute.new.self.conn.now in
     let row : EntryRow = record { n = pos c.args.n; path = c.args.path.now; mode = pos c.args.mode; digest = c.args.digest.now } in
-    λ more. finishes g.S.Store old new _ _ c.execute.result c.execute.ensures.ended (rw (c.params-to_sql.ensures, c.params-to_sql-2.ensures, c.params-to_sql-3.ensures, c.params-to_sql-4.ensures) at c.execute.ensures.runs) c.execute.ensures.survives (store_with more) (with_entry row)
-    c.in_ok-execute.field-0 c.in_ok-execute.was (λ t h ran. put_entry more (state g.S.Store old) (state g.S.Store new) t row _ h ran)
+    finishes g.S.Store old new _ _ c.execute.result c.execute.ensures.ended (rw (c.params-to_sql.ensures, c.params-to_sql-2.ensures, c.params-to_sql-3.ensures, c.params-to_sql-4.ensures) at c.execute.ensures.runs) c.execute.ensures.survives (with_entry row)
+    c.in_ok-execute.field-0 c.in_ok-execute.was (λ more t h ran. put_entry more (state g.S.Store old) (state g.S.Store new) t row _ h ran)

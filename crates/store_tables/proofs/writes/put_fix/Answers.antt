@@ -1,6 +1,5 @@
 use Rattle.std.proofs.Common.{[]}
 use Rattle.sqlite.specs.Held.{state}
-use Rattle.store_tables.specs.Schema.{store_with}
 use Rattle.store_tables.specs.Tables.{with_fix, fix_row}
 use Rattle.store_tables.proofs.StepLemmas.{finishes}
 use Rattle.store_tables.proofs.TableLemmas.{put_fix, fix_params}
@@ -11,5 +10,5 @@ returns-clause-step g c =
     let old = c.args.tx.now.conn.now in
     let new = c.execute.new.self.conn.now in
     let row = fix_row c.args.path.now c.args.now in
-    λ more. finishes g.S.Store old new _ _ c.execute.result c.execute.ensures.ended (rw (c.params-to_sql.ensures, c.params-to_sql-2.ensures, c.params-to_sql-3.ensures, fix_params c.args.path.now c.args.now c.is_none.result c.is_none.ensures) at c.execute.ensures.runs)
-    c.execute.ensures.survives (store_with more) (with_fix row) c.in_ok-execute.field-0 c.in_ok-execute.was (λ t h ran. put_fix more (state g.S.Store old) (state g.S.Store new) t row _ h ran)
+    finishes g.S.Store old new _ _ c.execute.result c.execute.ensures.ended (rw (c.params-to_sql.ensures, c.params-to_sql-2.ensures, c.params-to_sql-3.ensures, fix_params c.args.path.now c.args.now c.is_none.result c.is_none.ensures) at c.execute.ensures.runs)
+    c.execute.ensures.survives (with_fix row) c.in_ok-execute.field-0 c.in_ok-execute.was (λ more t h ran. put_fix more (state g.S.Store old) (state g.S.Store new) t row _ h ran)

@@ -1,6 +1,5 @@
 use Rattle.std.proofs.Common.{[]}
 use Rattle.sqlite.specs.Held.{state}
-use Rattle.store_tables.specs.Schema.{store_with}
 use Rattle.store_tables.specs.Tables.{without_staged}
 use Rattle.store_tables.proofs.StepLemmas.{finishes}
 use Rattle.store_tables.proofs.TableLemmas.{take_staged}
@@ -10,5 +9,5 @@ pub returns-clause-step : goal.returns-clause-step
 returns-clause-step g c =
     let old = c.args.tx.now.conn.now in
     let new = c.execute.new.self.conn.now in
-    λ more. finishes g.S.Store old new _ _ c.execute.result c.execute.ensures.ended (rw (c.params-to_sql.ensures) at c.execute.ensures.runs) c.execute.ensures.survives (store_with more) (without_staged c.args.path.now)
-    c.in_ok-execute.field-0 c.in_ok-execute.was (λ t h ran. take_staged more (state g.S.Store old) (state g.S.Store new) t c.args.path.now _ h ran)
+    finishes g.S.Store old new _ _ c.execute.result c.execute.ensures.ended (rw (c.params-to_sql.ensures) at c.execute.ensures.runs) c.execute.ensures.survives (without_staged c.args.path.now)
+    c.in_ok-execute.field-0 c.in_ok-execute.was (λ more t h ran. take_staged more (state g.S.Store old) (state g.S.Store new) t c.args.path.now _ h ran)
