@@ -12,6 +12,7 @@ use Rattle.sqlite.specs.Held.{Held, state}
 use Rattle.sqlite.specs.State.{State, HasCleanDisk, Survives}
 use Rattle.sqlite.proofs.InsideLemmas.{keeps_then}
 use Rattle.sqlite.proofs.StateLemmas.{survives_then}
+use Rattle.store_tables.specs.Schema.{no_more}
 use Rattle.store_tables.specs.Steps.{IsMade, IsStep, IsDone}
 use Rattle.store_tables.specs.Tables.{Tables, Holds, with_schema}
 use Rattle.repo_store.specs.Calls.{Commits, IsCall, Rests}
@@ -19,7 +20,7 @@ use Rattle.repo_store.specs.Calls.{Commits, IsCall, Rests}
 -- a statement on the tables, as a step from one content to the next
 pub step_as_made : {S A : Type 0} (g : Ghosts S) (old new : Held S) (r : Result A Error) (t : Tables) (makes : Tables → Tables) → IsStep g old new r makes → IsMade g old new r (λ db. Holds db t) (λ db. Holds db (makes t))
 step_as_made g old new r t makes h = record {
-  done = λ clean inside. on_ok_weaker r (λ (d : IsDone (state g old) (state g new) makes). (d.shown, d.holds t)) (h.done clean inside);
+  done = λ clean inside. on_ok_weaker r (λ (d : IsDone (state g old) (state g new) makes). (d.shown, d.holds no_more t)) (h.done clean inside);
   kept = h.kept;
   survives = h.survives;
 }
@@ -65,7 +66,7 @@ module _ {S A : Type 0} (g : Ghosts S) (a b c : Held S) (r : Result A Error) (fi
   both_done (Err e) p q = tt
   both_done (Ok x) p q = record {
     shown = record { was_open = p.shown.was_open; is_open = q.shown.is_open; now_is = refl; committed_is = q.shown.committed_is ∙ p.shown.committed_is; mode = q.shown.mode };
-    holds = λ t h. q.holds (first t) (p.holds t h);
+    holds = λ more t h. q.holds more (first t) (p.holds more t h);
   }
 
   -- two statements in turn

@@ -9,7 +9,7 @@ use Rattle.sqlite.specs.State.{HasCleanDisk, IsUnchanged, IsRolledBack, KeepsCom
 use Rattle.sqlite.proofs.InsideLemmas.{keeps_then}
 use Rattle.sqlite.proofs.StateLemmas.{survives_then}
 use Rattle.store_tables.specs.declared.rows.MetaRow.{MetaRow}
-use Rattle.store_tables.specs.Schema.{store_schema}
+use Rattle.store_tables.specs.Schema.{no_more, store_schema}
 use Rattle.store_tables.specs.Steps.{IsRead}
 use Rattle.store_tables.specs.Tables.{Holds, Stored, meta_cells}
 use Rattle.repo_store.specs.declared.fault.StoreFault.{StoreFault}
@@ -59,7 +59,7 @@ meta_fails g a b e Rows fault one why = record { found = λ clean ours live. ref
 module _ {S X : Type 0} (g : Ghosts S) (a b : Held S) (meta : X) (listed : X → List MetaRow) (one : IsRead g a b (Ok meta) (MetaShown listed)) where
   pub unversioned : (listed meta ≡ version_row ∷ [] → ⊥) → AreListed g a b (Err NotAStore)
   unversioned other = record {
-    found = λ clean ours live. inr (record { schema = ours; rows = listed meta; stored = (one.rows clean ours).1; other = other });
+    found = λ clean ours live. inr (record { schema = ours; rows = listed meta; stored = (one.rows no_more clean ours).1; other = other });
     was_open = λ clean ours. tt;
     kept = λ clean ours inside. one.kept clean inside;
     survives = one.survives;
@@ -75,7 +75,7 @@ module _ {S X : Type 0} (g : Ghosts S) (a b : Held S) (meta : X) (listed : X →
     all_kept : (HasCleanDisk (state g c) → (state g b).now.schema ≡ store_schema → IsTrue (state g b).in_transaction → KeepsCommit (state g b) (state g c))
         → HasCleanDisk (state g c) → (state g a).now.schema ≡ store_schema → IsTrue (state g a).in_transaction → KeepsCommit (state g a) (state g c)
     all_kept kept clean ours inside =
-        let first = one.rows (clean_before clean) ours in
+        let first = one.rows no_more (clean_before clean) ours in
         keeps_then (state g a) (state g b) (state g c) (unchanged_kept (state g a) (state g b) first.0) (kept clean (still_ours first.0 ours) (first.0.0.mode ∙ inside))
 
     along : Survives (state g a) (state g c) (λ _. ⊥)
@@ -86,11 +86,11 @@ module _ {S X : Type 0} (g : Ghosts S) (a b : Held S) (meta : X) (listed : X →
 
   pub listed_all : (c : Held S) (rows : StoreRows) (r : Result Mirror StoreFault) → listed meta ≡ version_row ∷ [] → AreRead g b c (Ok rows) AreShown
       → IfOk r (λ lists. IsSame (rows_in rows) (tables_of lists.kept.repo lists.kept.contents)) → IfErr r (IsDamage (¬ IsWhole (rows_in rows))) → AreListed g a c r
-  listed_all c rows r versioned two same broken = record { found = λ clean ours live. decide r (holds clean ours live) same broken; was_open = λ clean ours. open_at r (one.rows (clean_before c two.survives clean) ours).0.0.was_open; kept = all_kept c two.survives two.kept; survives = along c two.survives }
+  listed_all c rows r versioned two same broken = record { found = λ clean ours live. decide r (holds clean ours live) same broken; was_open = λ clean ours. open_at r (one.rows no_more (clean_before c two.survives clean) ours).0.0.was_open; kept = all_kept c two.survives two.kept; survives = along c two.survives }
     where
       holds : HasCleanDisk (state g c) → (state g a).now.schema ≡ store_schema → (IsTrue (state g a).is_open → IsDatabase (state g a).now) → Holds (state g a).now (rows_in rows)
       holds clean ours live =
-          let first = one.rows (clean_before c two.survives clean) ours in
+          let first = one.rows no_more (clean_before c two.survives clean) ours in
           let second = two.rows clean (still_ours c two.survives first.0 ours) in
           let shown = subst (λ (db : Database). AreShown rows db.trees) first.0.0.now_is second.1 in
           record {

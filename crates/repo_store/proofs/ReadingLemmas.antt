@@ -8,7 +8,7 @@ use Rattle.sqlite.specs.Held.{Held, state}
 use Rattle.sqlite.specs.State.{State, HasCleanDisk, IsUnchanged, KeepsCommit, Survives}
 use Rattle.sqlite.proofs.InsideLemmas.{keeps_then}
 use Rattle.sqlite.proofs.StateLemmas.{survives_then}
-use Rattle.store_tables.specs.Schema.{store_schema}
+use Rattle.store_tables.specs.Schema.{no_more, store_schema}
 use Rattle.store_tables.specs.Steps.{IsRead}
 use Rattle.repo_store.specs.Opens.{AreRead}
 
@@ -28,7 +28,7 @@ pub record Reached {S : Type 0} (g : Ghosts S) (a b : Held S) (P : Trees → Typ
   pub survives : Survives (state g a) (state g b) (λ _. ⊥)
 
 pub first_read : {S X : Type 0} (g : Ghosts S) (a b : Held S) (x : X) (Rows : X → Trees → Type 0) → IsRead g a b (Ok x) Rows → Reached g a b (Rows x)
-first_read g a b x Rows one = record { same = λ clean ours. one.rows clean ours; survives = one.survives }
+first_read g a b x Rows one = record { same = λ clean ours. one.rows no_more clean ours; survives = one.survives }
 
 module _ {S : Type 0} (g : Ghosts S) (a b c : Held S) (P : Trees → Type 0) (so_far : Reached g a b P) where
   clean_before : Survives (state g b) (state g c) (λ _. ⊥) → HasCleanDisk (state g c) → HasCleanDisk (state g b)
@@ -44,7 +44,7 @@ module _ {S : Type 0} (g : Ghosts S) (a b c : Held S) (P : Trees → Type 0) (so
   next_read x Rows two = record {
     same = λ clean ours.
         let one = so_far.same (clean_before two.survives clean) ours in
-        let more = two.rows clean (still_ours one.0 ours) in
+        let more = two.rows no_more clean (still_ours one.0 ours) in
         (unchanged_then (state g a) (state g b) (state g c) one.0 more.0, (one.1, subst (λ (db : Database). Rows x db.trees) one.0.0.now_is more.1));
     survives = along two.survives;
   }

@@ -11,8 +11,9 @@ use Rattle.store_tables.specs.declared.rows.BlobRow.{BlobRow}
 use Rattle.store_tables.specs.declared.rows.StagedRow.{StagedRow}
 use Rattle.store_tables.specs.declared.rows.FixRow.{FixRow}
 use Rattle.store_tables.specs.declared.rows.EntryRow.{EntryRow}
+use Rattle.sqlite_schema.specs.declared.schema.Schema.{Schema}
 use Rattle.store_tables.specs.Steps.{IsStep, IsDone}
-use Rattle.store_tables.specs.Tables.{Tables, Holds, Stored, meta_cells, blob_cells, staged_cells, fix_cells, commit_cells, entry_cells, answer_cells}
+use Rattle.store_tables.specs.Tables.{Tables, HoldsIn, Stored, meta_cells, blob_cells, staged_cells, fix_cells, commit_cells, entry_cells, answer_cells}
 pub use Rattle.repo_store.specs.Loaded.{IsSame}
 
 pub same_itself : (t : Tables) → IsSame t t
@@ -73,7 +74,7 @@ same_staged t staged same = record {
 restored : {X : Type 0} (cells : X → Row) (places : List ℕ) (xs ys : List X) (rows : List Row) → IsPermutation xs ys → Stored cells places xs rows → Stored cells places ys rows
 restored cells places xs ys rows same stored = IsPermutation-trans _ _ _ (IsPermutation-map cells ys xs (IsPermutation-sym xs ys same)) stored
 
-pub holds_same : (db : Database) (t u : Tables) → IsSame t u → Holds db t → Holds db u
+pub holds_same : {listed : Schema} (db : Database) (t u : Tables) → IsSame t u → HoldsIn listed db t → HoldsIn listed db u
 holds_same db t u same h = record {
   schema = h.schema;
   sound = h.sound;
@@ -92,7 +93,7 @@ holds_same db t u same h = record {
 -- a step, told by rows in another order
 pub step_same : {S A : Type 0} (g : Ghosts S) (old new : Held S) (r : Result A Error) (first second : Tables → Tables) → ((t : Tables) → IsSame (first t) (second t)) → IsStep g old new r first → IsStep g old new r second
 step_same g old new r first second same h = record {
-  done = λ clean inside. on_ok_weaker r (λ (d : IsDone (state g old) (state g new) first). record { shown = d.shown; holds = λ t before. holds_same (state g new).now (first t) (second t) (same t) (d.holds t before) }) (h.done clean inside);
+  done = λ clean inside. on_ok_weaker r (λ (d : IsDone (state g old) (state g new) first). record { shown = d.shown; holds = λ more t before. holds_same (state g new).now (first t) (second t) (same t) (d.holds more t before) }) (h.done clean inside);
   kept = h.kept;
   survives = h.survives;
 }

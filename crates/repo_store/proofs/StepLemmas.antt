@@ -1,7 +1,7 @@
 -- One row more, at a step of a loop.
 use Rattle.store_tables.specs.declared.rows.StagedRow.{StagedRow}
-use Rattle.std.proofs.Common.{◌≡◌, ℕ, ◌+◌, ◌<◌, List, [], ◌∷◌, ◌++◌, map, length, take, get_or, Ok, IsPermutation, sym, ap, subst, subst₂, ◌∙◌, append_assoc, append-nil}
-use Rattle.std.proofs.lemmas.List.{take_more, map-append}
+use Rattle.std.proofs.Common.{◌≡◌, ℕ, ◌+◌, ◌<◌, ◌≤◌, List, [], ◌∷◌, ◌++◌, map, length, take, get_or, Ok, IsPermutation, sym, ap, subst, subst₂, ◌∙◌, append_assoc, append-nil}
+use Rattle.std.proofs.lemmas.List.{take_all, take_more, map-append}
 use Rattle.std.proofs.lemmas.List.Sorted.{IsPermutation-middle, IsPermutation-sym}
 use mathlib.Core.List.{map-map}
 use Rattle.sqlite_trees.specs.declared.store.Store.{Ghosts}
@@ -24,6 +24,10 @@ one_more {X} {Y} f xs i x rest within is =
     let e : map f (take (i + 1) xs) ++ rest ≡ map f (take i xs) ++ (f x ∷ rest) =
     ap (λ (l : List X). map f l ++ rest) (take_more xs i x within ∙ ap (λ (y : X). take i xs ++ (y ∷ [])) (sym is)) ∙ ap (λ (l : List Y). l ++ rest) (map-append f (take i xs) (x ∷ [])) ∙ append_assoc (map f (take i xs)) (f x ∷ []) rest in
     subst (IsPermutation (f x ∷ (map f (take i xs) ++ rest))) (sym e) (IsPermutation-sym _ _ (IsPermutation-middle (map f (take i xs)) (f x) rest))
+
+-- what was done for the first items was done for all, where there are no more
+pub done_for_all : {S X : Type 0} (g : Ghosts S) (old new : Held S) (makes : List X → Tables → Tables) (i : ℕ) (items : List X) → length items ≤ i → IsStep {A = Unit {0}} g old new (Ok tt) (makes (take i items)) → IsStep {A = Unit {0}} g old new (Ok tt) (makes items)
+done_for_all {S} {X} g old new makes i items over = subst (λ (l : List X). IsStep {A = Unit {0}} g old new (Ok tt) (makes l)) (take_all i items over)
 
 pub blob_more : {S : Type 0} (g : Ghosts S) (old mid new : Held S) (news : List (List ℕ)) (i : ℕ) (bytes : List ℕ) (row : BlobRow) → i < length news → bytes ≡ get_or news i bytes → row ≡ blob_row bytes
     → IsStep {A = Unit {0}} g old mid (Ok tt) (λ t. with_blobs (take i news) t) → IsStep {A = Unit {0}} g mid new (Ok tt) (with_blob row)

@@ -147,7 +147,7 @@ impl<S: Alter> Store<S> {
         ensures transaction { IsOneTransaction S.Store self.old self.new result (unstaging path.now self.old.kept) }
         ensures why { IfErr result (IsRefusal ⊥ ⊥ ⊥) }
     {
-        if let Err(error) = unstage_rows(&mut self.conn, path.as_str()) {
+        if let Err(error) = unstage_rows(&mut self.conn, path) {
             return Err(fault_of(error));
         }
         self.lists.unstage(path);

@@ -1,17 +1,12 @@
-use Rattle.std.proofs.Common.{◌≡◌, List, ℕ, Ok, Err, refl, sym, subst}
-use Rattle.store_tables.specs.Tables.{without_staged, without_fixes}
-use Rattle.repo_store.specs.Kept.{Kept, unstaging}
+use Rattle.std.proofs.Common.{Ok, Err, refl, subst}
+use Rattle.repo_store.specs.Kept.{unstaging}
 use Rattle.repo_store.specs.Changes.{Changes}
 use Rattle.repo_store.specs.Shown.{Shown, IsOneTransaction}
 use Rattle.repo_store.proofs.KeptLemmas.{unstaging_tables}
-use Rattle.repo_store.proofs.SameLemmas.{IsSame}
 use Rattle.repo_store.proofs.CompleteLemmas.{complete_unstaged}
 use Rattle.repo_store.proofs.RuleLemmas.{whole_unstaged}
 use Rattle.repo_store.proofs.StandLemmas.{tables_in, refused_stands, done_stands, refused_transaction, done_transaction}
 use Rattle.repo_store.proofs.store.Store.unstage.Goals as goal
-
-unstaged : (path text : List ℕ) (kept : Kept) → text ≡ path → IsSame (without_fixes (without_staged text (tables_in kept))) (tables_in (unstaging path kept))
-unstaged path text kept same = subst (λ (p : List ℕ). IsSame (without_fixes (without_staged p (tables_in kept))) (tables_in (unstaging path kept))) (sym same) (unstaging_tables path kept)
 
 pub invariant_of-self : goal.invariant_of-self
 invariant_of-self g c =
@@ -19,7 +14,7 @@ invariant_of-self g c =
     let kept = c.self.inside.lists.kept in
     let complete = complete_unstaged c.args.path.now kept c.self.invariant.complete in
     let whole = whole_unstaged kept c.self.invariant.whole c.args.path.now complete in
-    refused_stands g.S.Store c.self.inside.conn new kept (unstaging c.args.path.now kept) _ c.self.invariant (unstaged c.args.path.now c.as_str.result.now kept c.as_str.ensures.same) (g.met.S.Store.shut_if_dirty new.store) complete whole
+    refused_stands g.S.Store c.self.inside.conn new kept (unstaging c.args.path.now kept) _ c.self.invariant (unstaging_tables c.args.path.now kept) (g.met.S.Store.shut_if_dirty new.store) complete whole
     kept refl c.in-Err.error (c.in-Err.ensures (tables_in kept))
 
 pub invariant_of-self-2 : goal.invariant_of-self-2
@@ -28,7 +23,7 @@ invariant_of-self-2 g c =
     let kept = c.self.inside.lists.kept in
     let complete = complete_unstaged c.args.path.now kept c.self.invariant.complete in
     let whole = whole_unstaged kept c.self.invariant.whole c.args.path.now complete in
-    done_stands g.S.Store c.self.inside.conn new kept (unstaging c.args.path.now kept) _ c.self.invariant (unstaged c.args.path.now c.as_str.result.now kept c.as_str.ensures.same) (g.met.S.Store.shut_if_dirty new.store) complete whole
+    done_stands g.S.Store c.self.inside.conn new kept (unstaging c.args.path.now kept) _ c.self.invariant (unstaging_tables c.args.path.now kept) (g.met.S.Store.shut_if_dirty new.store) complete whole
     c.unstage.new.self.kept c.unstage.ensures c.in_default.field-0 (c.in_default.ensures (tables_in kept))
 
 pub returns-in-Err-clause-change : goal.returns-in-Err-clause-change
@@ -43,7 +38,7 @@ returns-in-Err-clause-transaction g c =
     let complete = complete_unstaged c.args.path.now kept c.self.invariant.complete in
     let whole = whole_unstaged kept c.self.invariant.whole c.args.path.now complete in
     subst (λ (s : Shown g.row.S.Denot). IsOneTransaction g.S.Store s (record { conn = new; kept = kept }) (Err c.fault_of.result) (unstaging c.args.path.now s.kept)) c.self.view_is
-    (refused_transaction g.S.Store c.self.inside.conn new kept (unstaging c.args.path.now kept) _ c.self.invariant (unstaged c.args.path.now c.as_str.result.now kept c.as_str.ensures.same) (g.met.S.Store.shut_if_dirty new.store) complete whole
+    (refused_transaction g.S.Store c.self.inside.conn new kept (unstaging c.args.path.now kept) _ c.self.invariant (unstaging_tables c.args.path.now kept) (g.met.S.Store.shut_if_dirty new.store) complete whole
     kept refl c.in-Err.error (c.in-Err.ensures (tables_in kept)) c.fault_of.result)
 
 pub returns-clause-change : goal.returns-clause-change
@@ -57,5 +52,5 @@ returns-clause-transaction g c =
     let complete = complete_unstaged c.args.path.now kept c.self.invariant.complete in
     let whole = whole_unstaged kept c.self.invariant.whole c.args.path.now complete in
     subst (λ (s : Shown g.row.S.Denot). IsOneTransaction g.S.Store s (record { conn = new; kept = c.unstage.new.self.kept }) (Ok tt) (unstaging c.args.path.now s.kept)) c.self.view_is
-    (done_transaction g.S.Store c.self.inside.conn new kept (unstaging c.args.path.now kept) _ c.self.invariant (unstaged c.args.path.now c.as_str.result.now kept c.as_str.ensures.same) (g.met.S.Store.shut_if_dirty new.store) complete whole
+    (done_transaction g.S.Store c.self.inside.conn new kept (unstaging c.args.path.now kept) _ c.self.invariant (unstaging_tables c.args.path.now kept) (g.met.S.Store.shut_if_dirty new.store) complete whole
     (g.met.S.Store.settled new.store) c.unstage.new.self.kept c.unstage.ensures c.in_default.field-0 (c.in_default.ensures (tables_in kept)) tt)
