@@ -14,7 +14,7 @@ use Rattle.hook_base.specs.declared.change.Change.{Change}
 use Rattle.hook_base.specs.Rising.{path_cmp}
 use Rattle.hook_base.specs.RisingLaws.{bytes_same}
 use Rattle.hook_base.specs.Trees.{IsRisingChanges, apply_at, apply_changes, put_before, put_file, put_row, remove_file, rewrite_file, with_bytes}
-use Rattle.repo_store.specs.Complete.{AreApart, HaveContents, HaveNewContents, IsAmong, IsComplete}
+use Rattle.repo_store.specs.Complete.{HaveDistinctDigests, HaveContents, HaveNewContents, IsAmong, IsComplete}
 use Rattle.repo_store.specs.Contents.{Collides, has_content, with_content, with_new, with_changes}
 use Rattle.repo_store.specs.Kept.{FixCollides, Kept, accepting, committing, keeping, setting, staging, unstaging}
 use Rattle.repo_store.specs.Limits.{Fits}
@@ -118,7 +118,7 @@ module _ (bytes : List ℕ) (contents : List (List ℕ)) (clear : ¬ Collides by
         differs = λ e. let there : has_content bytes contents ≡ true = list_any_at (bytes_eq bytes) contents i [] within (bytes_same bytes (get_or contents i []) (sym e)) in let never : true ≡ false = sym there ∙ absent in absurd (cc);
       })
 
-apart_pushed : (bytes : List ℕ) (contents : List (List ℕ)) → ¬ Collides bytes contents → has_content bytes contents ≡ false → AreApart contents → AreApart (contents ++ bytes ∷ [])
+apart_pushed : (bytes : List ℕ) (contents : List (List ℕ)) → ¬ Collides bytes contents → has_content bytes contents ≡ false → HaveDistinctDigests contents → HaveDistinctDigests (contents ++ bytes ∷ [])
 apart_pushed bytes contents clear absent apart i j i_in j_in same =
     let one = length-append contents (bytes ∷ []) in
     let last : get_or (contents ++ bytes ∷ []) (length contents) [] ≡ bytes = get_or-append_seam contents bytes [] [] in
@@ -140,15 +140,15 @@ apart_pushed bytes contents clear absent apart i j i_in j_in same =
           ]
     ]
 
-apart_with : (bytes : List ℕ) (contents : List (List ℕ)) → ¬ Collides bytes contents → AreApart contents → AreApart (with_content bytes contents)
+apart_with : (bytes : List ℕ) (contents : List (List ℕ)) → ¬ Collides bytes contents → HaveDistinctDigests contents → HaveDistinctDigests (with_content bytes contents)
 apart_with bytes contents clear apart =
-    elim (has_content bytes contents) as (λ b. has_content bytes contents ≡ b → AreApart (if b then contents else contents ++ bytes ∷ [])) [ true ↦ λ e. apart | false ↦ λ e. apart_pushed bytes contents clear e apart ] refl
+    elim (has_content bytes contents) as (λ b. has_content bytes contents ≡ b → HaveDistinctDigests (if b then contents else contents ++ bytes ∷ [])) [ true ↦ λ e. apart | false ↦ λ e. apart_pushed bytes contents clear e apart ] refl
 
-apart_new : (now : Option (List ℕ)) (contents : List (List ℕ)) → ¬ MatchOption now ⊥ (λ bytes. Collides bytes contents) → AreApart contents → AreApart (with_new now contents)
+apart_new : (now : Option (List ℕ)) (contents : List (List ℕ)) → ¬ MatchOption now ⊥ (λ bytes. Collides bytes contents) → HaveDistinctDigests contents → HaveDistinctDigests (with_new now contents)
 apart_new None contents clear apart = apart
 apart_new (Some bytes) contents clear apart = apart_with bytes contents clear apart
 
-apart_all : (changes : List Change) (contents : List (List ℕ)) → ¬ FixCollides changes contents → AreApart contents → AreApart (with_changes changes contents)
+apart_all : (changes : List Change) (contents : List (List ℕ)) → ¬ FixCollides changes contents → HaveDistinctDigests contents → HaveDistinctDigests (with_changes changes contents)
 apart_all [] contents clear apart = apart
 apart_all (change ∷ changes) contents clear apart =
     apart_all changes (with_new change.now contents) (λ later. clear (record { at = suc later.at; change = later.change; is = later.is; collides = later.collides }))

@@ -12,7 +12,7 @@ use lib.Seq.{get_or-append_seam}
 use lib.ListN.{get_or-append}
 use Rattle.sha2.specs.Sha256.{sha256}
 use Rattle.hook_base.specs.RisingLaws.{bytes_same, bytes_differ}
-use Rattle.repo_store.specs.Complete.{AreApart}
+use Rattle.repo_store.specs.Complete.{HaveDistinctDigests}
 use Rattle.repo_store.specs.Contents.{Collides, has_digest, has_content, with_content, IsIndexed}
 
 never : {X : Type 0} {x : X} → ◌≡◌ {A = Option X} None (Some x) → ⊥
@@ -56,7 +56,7 @@ module _ {S : Type 0} (m : HashMap (List ℕ) ℕ S) (contents : List (List ℕ)
       cc)
 
   -- no two of the contents stand under one digest
-  pub index_apart : AreApart contents
+  pub index_apart : HaveDistinctDigests contents
   index_apart i j i_in j_in same = same_some (sym (index.listed i i_in) ∙ ap (get bytes_eq m) same ∙ index.listed j j_in)
 
   -- the contents at the place of a digest are the only ones under it

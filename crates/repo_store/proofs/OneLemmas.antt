@@ -27,7 +27,7 @@ use Rattle.store_tables.specs.declared.rows.EntryRow.{EntryRow}
 use Rattle.store_tables.specs.declared.rows.FixRow.{FixRow}
 use Rattle.store_tables.specs.declared.rows.StagedRow.{StagedRow}
 use Rattle.store_tables.specs.Tables.{Holds, with_schema}
-use Rattle.repo_store.specs.Complete.{AreAlike, AreApart, HaveContents, HaveNewContents, IsAmong, IsComplete}
+use Rattle.repo_store.specs.Complete.{AreAlike, HaveDistinctDigests, HaveContents, HaveNewContents, IsAmong, IsComplete}
 use Rattle.repo_store.specs.Kept.{Kept}
 use Rattle.repo_store.specs.Loaded.{IsSame}
 use Rattle.repo_store.specs.Repository.{Commit}
@@ -110,7 +110,7 @@ same_contents a b same =
     subst (λ (l : List (List ℕ)). IsPermutation l b) (bytes_back a)
     (subst (IsPermutation (map (λ (row : BlobRow). row.bytes) (map blob_row a))) (bytes_back b) (IsPermutation-map (λ (row : BlobRow). row.bytes) (map blob_row a) (map blob_row b) same))
 
-module _ (a b : List (List ℕ)) (same : IsPermutation a b) (apart : AreApart b) where
+module _ (a b : List (List ℕ)) (same : IsPermutation a b) (apart : HaveDistinctDigests b) where
   -- one digest stands for the same bytes among both
   same_bytes : (x y : List ℕ) → IsAmong a x → IsAmong b y → sha256 x ≡ sha256 y → x ≡ y
   same_bytes x y x_in y_in digests =
@@ -216,7 +216,7 @@ Rise history = AllByRecursion (λ (commit : Commit). IsRising commit.tree) histo
 abbrev Have : List (List ℕ) → List Commit → Type 0
 Have contents history = AllByRecursion (λ (commit : Commit). HaveContents contents commit.tree) history
 
-module _ (a b : List (List ℕ)) (same : IsPermutation a b) (apart : AreApart b) where
+module _ (a b : List (List ℕ)) (same : IsPermutation a b) (apart : HaveDistinctDigests b) where
   same_history : (n : ℕ) (g h : List Commit) → commit_rows n g ≡ commit_rows n h → IsPermutation (entry_rows n g) (entry_rows n h) → Rise g → Rise h → Have a g → Have b h → g ≡ h
   same_history n [] [] rows entries up also g_in h_in = refl
   same_history n [] (d ∷ h) rows entries up also g_in h_in = absurd (let count = ap length rows in omega arith)

@@ -66,7 +66,7 @@ module _ {S A : Type 0} (g : Ghosts S) (old new : Held S) (kept after : Kept) (t
   done_stands now same x call = subst (Stands g new) (sym same) (stands_on x call)
 
   pub refused_transaction : {B E : Type 0} (now : Kept) → now ≡ kept → (e : Error) → Calls {A = A} g old new kept t (Err e) → (fault : E) → IsOneTransaction {A = B} g (record { conn = old; kept = kept }) (record { conn = new; kept = now }) (Err fault) after
-  refused_transaction now same e call fault = record { stands = refused_stands now same e call; crash = crash_leaves (Err e) call; durable = λ _. tt }
+  refused_transaction now same e call fault = record { stands = refused_stands now same e call; crash = crash_leaves (Err e) call; durable = tt }
 
   pub done_transaction : {B E : Type 0} → ((trees : Trees) → IsTrue (state g new).is_open → (state g new).may_leave trees → trees ≡ (state g new).committed.trees) → (now : Kept) → now ≡ after → (x : A) → Calls {A = A} g old new kept t (Ok x) → (y : B)
       → IsOneTransaction {E = E} g (record { conn = old; kept = kept }) (record { conn = new; kept = now }) (Ok y) after
@@ -91,13 +91,3 @@ made_stands g old new now x call bare dirty is =
 pub made_survives : (old new : State) → Survives old new (λ trees. Holds (with_schema trees) (tables_of empty [])) → Survives old new (Leaves (record { repo = empty; contents = [] }))
 made_survives old new survives =
     survives_weaker old new (λ trees. Holds (with_schema trees) (tables_of empty [])) (Leaves (record { repo = empty; contents = [] })) (λ _ trees h. record { holds = h; complete = complete_empty; whole = whole_empty }) survives
-
--- nothing is done to the connection
-pub survives_itself : (s : State) (Commits : Trees → Type 0) → Survives s s Commits
-survives_itself s Commits = record { clean = omega arith; shield = λ h. h; counts = omega arith; limit = refl; closes = λ _ h. inl h; crash = λ _ trees h. inl h }
-
-pub idle_transaction : {S B E : Type 0} (g : Ghosts S) (conn : Held S) (kept after now : Kept) → Stands g conn kept → now ≡ kept → (fault : E) → IsOneTransaction {A = B} g (record { conn = conn; kept = kept }) (record { conn = conn; kept = now }) (Err fault) after
-idle_transaction g conn kept after now stands same fault = record { stands = subst (Stands g conn) (sym same) stands; crash = survives_itself (state g conn) (Leaves after); durable = λ _. tt }
-
-pub idle_stands : {S : Type 0} (g : Ghosts S) (conn : Held S) (kept now : Kept) → now ≡ kept → Stands g conn kept → Stands g conn now
-idle_stands g conn kept now same stands = subst (Stands g conn) (sym same) stands

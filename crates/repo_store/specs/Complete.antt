@@ -21,8 +21,8 @@ abbrev pub HaveNewContents : List (List ℕ) → List Change → Type 0
 HaveNewContents contents changes = AllByRecursion (λ (change : Change). MatchOption change.now (Unit {0}) (IsAmong contents)) changes
 
 -- no two of the contents stand under one digest
-abbrev pub AreApart : List (List ℕ) → Type 0
-AreApart contents = (i j : ℕ) → i < length contents → j < length contents → sha256 (slice_index_or contents i []) ≡ sha256 (slice_index_or contents j []) → i ≡ j
+abbrev pub HaveDistinctDigests : List (List ℕ) → Type 0
+HaveDistinctDigests contents = (i j : ℕ) → i < length contents → j < length contents → sha256 (slice_index_or contents i []) ≡ sha256 (slice_index_or contents j []) → i ≡ j
 
 -- The repository is sound, and the contents of each of its files are kept, under a digest of their own.
 pub record IsComplete (kept : Kept) : Type 0 where
@@ -30,7 +30,7 @@ pub record IsComplete (kept : Kept) : Type 0 where
   pub staged : HaveContents kept.contents kept.repo.staged
   pub fixes : HaveNewContents kept.contents kept.repo.fixes
   pub trees : AllByRecursion (λ (commit : Commit). HaveContents kept.contents commit.tree) kept.repo.history
-  pub apart : AreApart kept.contents
+  pub apart : HaveDistinctDigests kept.contents
 
 -- the same repository, and the same contents in some order
 pub record AreAlike (a b : Kept) : Type 0 where

@@ -35,9 +35,13 @@ pub record Leaves (kept : Kept) (trees : Trees) : Type 0 where
   pub complete : IsComplete kept
   pub whole : IsWhole (tables_of kept.repo kept.contents)
 
+-- on a clean disk, a crash can leave nothing but this
+abbrev pub LeavesOnly : {S : Type 0} (g : Ghosts S) (conn : Held S) (kept : Kept) → Type 0
+LeavesOnly g conn kept = HasCleanDisk (state g conn) → (trees : Trees) → (state g conn).may_leave trees → Leaves kept trees
+
 -- A call that makes of a store what is kept after it is one transaction: what the store shows then, at a refusal too, is
 -- what its tables hold. A crash leaves what it could leave before, or all of it; once the call has answered `Ok`, all of it.
 pub record IsOneTransaction {S A E : Type 0} (g : Ghosts S) (old new : Shown S) (result : Result A E) (after : Kept) : Type 0 where
   pub stands : Stands g new.conn new.kept
   pub crash : Survives (state g old.conn) (state g new.conn) (Leaves after)
-  pub durable : HasCleanDisk (state g new.conn) → OnOk result ((trees : Trees) → (state g new.conn).may_leave trees → Leaves after trees)
+  pub durable : OnOk result (LeavesOnly g new.conn after)

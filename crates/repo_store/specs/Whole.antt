@@ -10,7 +10,7 @@ use Rattle.store_tables.specs.declared.rows.FixRow.{FixRow}
 use Rattle.store_tables.specs.declared.rows.CommitRow.{CommitRow}
 use Rattle.store_tables.specs.declared.rows.EntryRow.{EntryRow}
 use Rattle.store_tables.specs.Tables.{Tables}
-use Rattle.repo_store.specs.Limits.{IsSmall}
+use Rattle.repo_store.specs.Limits.{IsSmall, commit_limit, file_limit, path_limit}
 use Rattle.repo_store.specs.Rows.{version_row}
 
 -- ---- single rows
@@ -84,23 +84,21 @@ abbrev pub number_in : CommitRow → ℤ
 number_in row = row.n
 
 -- the bytes of the paths together
-abbrev pub path_bytes : List StagedRow → ℕ
-path_bytes rows = sum_by (λ (row : StagedRow). length row.path) rows
+abbrev pub staged_path_bytes : List StagedRow → ℕ
+staged_path_bytes rows = sum_by (λ (row : StagedRow). length row.path) rows
 
 pub record AreStagedRows (blobs : List BlobRow) (rows : List StagedRow) : Type 0 where
   -- each is a file
   pub files : AllByRecursion (IsStagedRow blobs) rows
-  -- there are at most 100,000
-  pub files_fit : length rows ≤ 100000
-  -- their paths have at most 8 MiB together
-  pub paths_fit : path_bytes rows ≤ 8388608
+  -- they are no more than a staged tree may have
+  pub files_fit : length rows ≤ file_limit
+  pub paths_fit : staged_path_bytes rows ≤ path_limit
 
 pub record AreCommitRows (rows : List CommitRow) : Type 0 where
   -- they are numbered from 1 on
   pub numbered : IsPermutation (map number_in rows) (numbers_from 1 rows)
-  -- there are at most 100,000
-  pub few : length rows ≤ 100000
-  -- the message of each is at most 16 MiB
+  pub few : length rows ≤ commit_limit
+  -- the message of each is within its limit
   pub messages_small : AllByRecursion (λ (row : CommitRow). IsSmall row.message) rows
 
 -- The rows are those of a store.

@@ -17,7 +17,7 @@ use std::marker::Model;
 use store_tables::BlobRow;
 
 /// The most bytes that contents may have.
-const CONTENT_LIMIT: usize = 16_777_216;
+pub const CONTENT_LIMIT: usize = 16_777_216;
 
 /// Contents, each kept once and found by its digest. Contracts see the list of them, the oldest first.
 #[derive(Debug, Drop)]

@@ -6,13 +6,13 @@ ghost use Rattle.repo_store.specs.Kept.{FixCollides, HasLarge, accepting, commit
 ghost use Rattle.repo_store.specs.Lists.{commit_of, file_of, fix_of, repository_of};
 ghost use Rattle.repo_store.specs.Contents.{Collides, with_changes, with_new};
 ghost use Rattle.repo_store.specs.Faults.{IsRefusal};
-ghost use Rattle.repo_store.specs.Limits.{Fits, IsSmall};
+ghost use Rattle.repo_store.specs.Limits.{Fits, IsSmall, commit_limit, file_limit};
 ghost use Rattle.repo_store.specs.Log.{log_from};
 ghost use Rattle.repo_store.specs.Repository.{Commit, commit_at, empty, last_tree, staged_changes, with_staged};
 ghost use Rattle.repo_store.specs.Sound.{IsSound};
 
 use crate::content::Content;
-use crate::contents::Contents;
+use crate::contents::{CONTENT_LIMIT, Contents};
 use crate::files::{commit_with, has_path, keep_others, may_put, put_file, with_fixes};
 use crate::held::{HeldCommit, HeldFile, HeldFix};
 use crate::trees::{changes_of, log_of, tree_of};
@@ -150,7 +150,11 @@ impl Lists {
         ensures path { IsRepoPath path.now }
         ensures utf8 { IsUtf8 path.now }
     {
-        if !may_put(self.staged.as_slice(), path) {
+        let fits = may_put(self.staged.as_slice(), path);
+        if bytes.len() > CONTENT_LIMIT {
+            return Err(StoreFault::TooLarge);
+        }
+        if !fits {
             return Err(StoreFault::TooMany);
         }
         let Ok(path) = path.clone() else {
@@ -190,9 +194,9 @@ impl Lists {
     pub fn prepare_commit(&mut self, message: &[u8]) -> Result<HeldCommit, StoreFault>
         ensures commit { IfOk result (λ commit. commit_of commit ≡ record { message = message.now; tree = self.old.kept.repo.staged }) }
         ensures room { OnOk result (self.new.has_room ≡ true) }
-        ensures within { OnOk result (IsSmall message.now × (length self.old.kept.repo.history < 100000)) }
+        ensures within { OnOk result (IsSmall message.now × (length self.old.kept.repo.history < commit_limit)) }
         ensures same { self.new.kept ≡ self.old.kept }
-        ensures why { IfErr result (IsRefusal (¬ IsSmall message.now) (100000 ≤ length self.old.kept.repo.history) ⊥) }
+        ensures why { IfErr result (IsRefusal (¬ IsSmall message.now) (commit_limit ≤ length self.old.kept.repo.history) ⊥) }
     {
         if message.len() > MESSAGE_LIMIT {
             return Err(StoreFault::TooLarge);
@@ -213,7 +217,7 @@ impl Lists {
     pub fn commit(&mut self, commit: HeldCommit)
         requires next { commit_of commit ≡ record { message = commit.message; tree = self.old.kept.repo.staged } }
         requires room { self.old.has_room ≡ true }
-        requires few { length self.old.kept.repo.history < 100000 }
+        requires few { length self.old.kept.repo.history < commit_limit }
         ensures { self.new.kept ≡ committing commit.message self.old.kept }
     {
         let _done = self.history.push(commit);
@@ -283,7 +287,7 @@ impl Lists {
         requires { IsRisingChanges changes.now }
         ensures fixes { IfOk result (λ fixes. map fix_of fixes.items ≡ staged_changes changes.now self.old.kept.repo.staged) }
         ensures rising { IfOk result (λ fixes. IsRisingChanges (map fix_of fixes.items)) }
-        ensures few { IfOk result (λ fixes. length (map fix_of fixes.items) ≤ 100000) }
+        ensures few { IfOk result (λ fixes. length (map fix_of fixes.items) ≤ file_limit) }
         ensures kept { OnOk result (self.new.kept ≡ record self.old.kept { contents = with_changes (staged_changes changes.now self.old.kept.repo.staged) self.old.kept.contents }) }
         ensures same { OnErr result (self.new.kept ≡ self.old.kept) }
         ensures within { OnOk result (¬ HasLarge (staged_changes changes.now self.old.kept.repo.staged)) }
@@ -303,7 +307,7 @@ impl Lists {
     /// Sets the fixes.
     pub fn set_fixes(&mut self, fixes: Vec<HeldFix>)
         requires rising { IsRisingChanges (map fix_of fixes.items) }
-        requires few { length (map fix_of fixes.items) ≤ 100000 }
+        requires few { length (map fix_of fixes.items) ≤ file_limit }
         ensures { self.new.kept ≡ record self.old.kept { repo = record self.old.kept.repo { fixes = map fix_of fixes.items } } }
     {
         self.fixes = fixes;

@@ -3,7 +3,6 @@ ghost use Rattle.sha2.specs.Sha256.{sha256};
 ghost use Rattle.hook_base.specs.Paths.{message_path};
 ghost use Rattle.hook_base.specs.Trees.{IsRisingChanges, put_file};
 ghost use Rattle.store_tables.specs.Schema.{no_schema};
-ghost use Rattle.sqlite_trees.specs.Tree.{Trees};
 ghost use Rattle.sqlite.specs.Held.{state};
 ghost use Rattle.sqlite.specs.State.{HasCleanDisk, Survives};
 ghost use Rattle.store_tables.specs.Tables.{Holds};
@@ -13,13 +12,12 @@ ghost use Rattle.repo_store.specs.Complete.{AreAlike};
 ghost use Rattle.repo_store.specs.Contents.{Collides};
 ghost use Rattle.repo_store.specs.Faults.{IsRefusal};
 ghost use Rattle.repo_store.specs.Kept.{FixCollides, HasLarge, Kept, accepting, committing, keeping, setting, staging, unstaging};
-ghost use Rattle.repo_store.specs.Limits.{Fits, IsSmall};
+ghost use Rattle.repo_store.specs.Limits.{Fits, IsSmall, commit_limit};
 ghost use Rattle.repo_store.specs.Log.{log_from};
 ghost use Rattle.repo_store.specs.Repository.{Commit, commit_at, empty, last_tree, staged_changes};
 ghost use Rattle.repo_store.specs.Rows.{tables_of};
-ghost use Rattle.repo_store.specs.Shown.{IsOneTransaction, Leaves, Stands};
+ghost use Rattle.repo_store.specs.Shown.{IsOneTransaction, Leaves, LeavesOnly, Stands};
 ghost use Rattle.repo_store.specs.Unfit.{IsUnfit};
-ghost use Rattle.repo_store.specs.Whole.{IsWhole};
 
 use crate::accept::accept_rows;
 use crate::blobs::keep_rows;
@@ -73,7 +71,7 @@ impl<S: Alter> Store<S> {
         ensures outside { IfErr result (λ e. e.1.in_transaction ≡ false) }
         ensures crash_made { IfOk result (λ store. Survives (state S.Store conn) (state S.Store store.conn) (Leaves (record { repo = empty; contents = [] }))) }
         ensures crash_refused { IfErr result (λ e. Survives (state S.Store conn) (state S.Store e.1) (Leaves (record { repo = empty; contents = [] }))) }
-        ensures durable { IfOk result (λ store. HasCleanDisk (state S.Store store.conn) → (trees : Trees) → (state S.Store store.conn).may_leave trees → Leaves (record { repo = empty; contents = [] }) trees) }
+        ensures durable { IfOk result (λ store. LeavesOnly S.Store store.conn (record { repo = empty; contents = [] })) }
     {
         let mut conn = conn;
         if !has_no_tables(&conn) {
@@ -98,14 +96,13 @@ impl<S: Alter> Store<S> {
         ensures stands { IfOk result (λ store. Stands S.Store store.conn store.kept) }
         ensures holds { IfOk result (λ store. IsTrue (state S.Store store.conn).is_open → Holds (state S.Store conn).committed (tables_of store.kept.repo store.kept.contents)) }
         ensures again { IfOk result (λ store. IsTrue (state S.Store store.conn).is_open → (kept : Kept) → Leaves kept (state S.Store conn).committed.trees → AreAlike store.kept kept) }
-        ensures whole { IfOk result (λ store. IsWhole (tables_of store.kept.repo store.kept.contents)) }
         ensures same { IfOk result (λ store. Rests (state S.Store conn) (state S.Store store.conn)) }
         ensures refused { IfErr result (λ e. Rests (state S.Store conn) (state S.Store e.1)) }
         ensures outside { IfErr result (λ e. e.1.in_transaction ≡ false) }
         ensures why { IfErr result (λ e. HasCleanDisk (state S.Store e.1) → IsUnfit (state S.Store conn).now e.0) }
         ensures crash_opened { IfOk result (λ store. Survives (state S.Store conn) (state S.Store store.conn) (λ _. ⊥)) }
         ensures crash_refused { IfErr result (λ e. Survives (state S.Store conn) (state S.Store e.1) (λ _. ⊥)) }
-        ensures durable { IfOk result (λ store. HasCleanDisk (state S.Store store.conn) → (trees : Trees) → (state S.Store store.conn).may_leave trees → Leaves store.kept trees) }
+        ensures durable { IfOk result (λ store. LeavesOnly S.Store store.conn store.kept) }
     {
         let mut conn = conn;
         if !has_tables(&conn) {
@@ -205,8 +202,8 @@ impl<S: Alter> Store<S> {
         ensures change { Changes self.old.kept self.new.kept result (committing message.now self.old.kept) }
         ensures transaction { IsOneTransaction S.Store self.old self.new result (committing message.now self.old.kept) }
         ensures number { IfOk result (λ n. n ≡ length self.old.kept.repo.history + 1) }
-        ensures within { OnOk result (IsSmall message.now × (length self.old.kept.repo.history < 100000)) }
-        ensures why { IfErr result (IsRefusal (¬ IsSmall message.now) (100000 ≤ length self.old.kept.repo.history) ⊥) }
+        ensures within { OnOk result (IsSmall message.now × (length self.old.kept.repo.history < commit_limit)) }
+        ensures why { IfErr result (IsRefusal (¬ IsSmall message.now) (commit_limit ≤ length self.old.kept.repo.history) ⊥) }
     {
         let commit = match self.lists.prepare_commit(message) {
             Ok(commit) => commit,

@@ -1,5 +1,6 @@
 ghost use Rattle.std.specs.Prelude.{◌≡◌, ◌≤◌, length, map, IfOk};
 ghost use Rattle.hook_base.specs.Trees.{IsRising};
+ghost use Rattle.repo_store.specs.Limits.{commit_limit};
 ghost use Rattle.repo_store.specs.Lists.{commit_of, file_of, fix_of};
 ghost use Rattle.repo_store.specs.Log.{log_from};
 
@@ -54,7 +55,7 @@ pub fn changes_of(alloc: Global, fixes: &[HeldFix]) -> Result<Vec<Change>, OutOf
 
 /// The log of the commits, which are numbered from 1 on.
 pub fn log_of(alloc: Global, history: &[HeldCommit]) -> Result<Vec<LogEntry>, OutOfMemory>
-    requires { length history.now ≤ 100000 }
+    requires { length history.now ≤ commit_limit }
     ensures { IfOk result (λ log. log.items ≡ log_from 1 (map commit_of history.now)) }
 {
     let mut log = Vec::new(alloc);

@@ -1,3 +1,5 @@
+//! One query for each table. A contract says which rows are answered; that they come in the order that is asked for is
+//! shown by a test.
 ghost use Rattle.std.specs.Prelude.{◌≡◌, [], ◌∷◌, true};
 ghost use Rattle.sqlite_rules.specs.Edit.{have_rowids};
 ghost use Rattle.store_tables.specs.Steps.{IsRead};
@@ -9,7 +11,7 @@ use crate::rows::{AnswerRow, BlobRow, CommitRow, EntryRow, FixRow, MetaRow, Stag
 use sqlite::{Alter, Error, Transaction};
 use std::alloc::Global;
 
-/// Every number that the store keeps about itself, in the order of their names.
+/// Every number that the store keeps about itself, asked for in the order of their names.
 pub fn read_meta<S: Alter>(
     alloc: Global,
     tx: &mut Transaction<'_, S>,
@@ -21,7 +23,7 @@ pub fn read_meta<S: Alter>(
     decoded(alloc, shown, 0)
 }
 
-/// All contents, in the order of their digests.
+/// All contents, asked for in the order of their digests.
 pub fn read_blobs<S: Alter>(
     alloc: Global,
     tx: &mut Transaction<'_, S>,
@@ -33,7 +35,7 @@ pub fn read_blobs<S: Alter>(
     decoded(alloc, shown, 0)
 }
 
-/// All commits, in the order of their numbers.
+/// All commits, asked for in the order of their numbers.
 pub fn read_commits<S: Alter>(
     alloc: Global,
     tx: &mut Transaction<'_, S>,
@@ -45,7 +47,7 @@ pub fn read_commits<S: Alter>(
     decoded(alloc, shown, 0)
 }
 
-/// The files of all commits, in the order of the commits' numbers and the paths.
+/// The files of all commits, asked for in the order of the commits' numbers and the paths.
 pub fn read_entries<S: Alter>(
     alloc: Global,
     tx: &mut Transaction<'_, S>,
@@ -60,7 +62,7 @@ pub fn read_entries<S: Alter>(
     decoded(alloc, shown, 0)
 }
 
-/// The staged files, in the order of their paths.
+/// The staged files, asked for in the order of their paths.
 pub fn read_staged<S: Alter>(
     alloc: Global,
     tx: &mut Transaction<'_, S>,
@@ -79,7 +81,7 @@ pub fn read_staged<S: Alter>(
     decoded(alloc, shown, 1)
 }
 
-/// The fixes, in the order of their paths.
+/// The fixes, asked for in the order of their paths.
 pub fn read_fixes<S: Alter>(
     alloc: Global,
     tx: &mut Transaction<'_, S>,
@@ -95,7 +97,7 @@ pub fn read_fixes<S: Alter>(
     decoded(alloc, shown, 1)
 }
 
-/// The remembered answers, in the order of their keys.
+/// The remembered answers, asked for in the order of their keys.
 pub fn read_answers<S: Alter>(
     alloc: Global,
     tx: &mut Transaction<'_, S>,

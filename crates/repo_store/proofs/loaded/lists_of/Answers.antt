@@ -2,7 +2,7 @@ use Rattle.std.proofs.Common.{List, map, length, IsPermutation, vec_len, sym, su
 use Rattle.std.specs.List.{AllByRecursion}
 use Rattle.std.proofs.lemmas.Bool.{eqb-true}
 use Rattle.repo_store.specs.declared.held.HeldFile.{HeldFile}
-use Rattle.repo_store.specs.Complete.{AreApart, IsComplete}
+use Rattle.repo_store.specs.Complete.{HaveDistinctDigests, IsComplete}
 use Rattle.repo_store.specs.Lists.{commit_of, file_of}
 use Rattle.repo_store.specs.Rows.{blob_row, entry_rows, staged_row}
 use Rattle.repo_store.specs.Whole.{AreStagedRows, IsEntryRow, IsFixRow}
@@ -27,7 +27,7 @@ returns-in-Ok-commits_of-clause-complete c =
     let sound =
     lists_sound c.in-Ok-commits_of.history.items staged c.in-Ok-fixes_of.fixes.items blobs c.as_slice-3.result.now c.args.rows.commits.items c.in-Ok-staged_of.ensures.rising c.in-Ok-staged_of.ensures.fits
     c.in-Ok-fixes_of.ensures.rising c.in-Ok-fixes_of.ensures.fixes fixes c.in-Ok-commits_of.ensures.rising c.in-Ok-commits_of.ensures.commits c.in-Ok-commits_of.ensures.whole.0 in
-    let apart = subst AreApart c.contents.view_is (index_apart c.contents.inside.places c.contents.inside.items.items c.contents.invariant) in
+    let apart = subst HaveDistinctDigests c.contents.view_is (index_apart c.contents.inside.places c.contents.inside.items.items c.contents.invariant) in
     subst IsComplete (sym c.of.ensures) (record { sound = sound; staged = c.in-Ok-staged_of.ensures.among; fixes = c.in-Ok-fixes_of.ensures.among; trees = c.in-Ok-commits_of.ensures.among; apart = apart })
 
 pub returns-in-Ok-commits_of-clause-same : goal.returns-in-Ok-commits_of-clause-same
