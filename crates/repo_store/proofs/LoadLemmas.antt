@@ -184,15 +184,15 @@ entry_moves n (suc k) f (commit ∷ history) within =
     let front = IsPermutation-middle (map (entry_row n) commit.tree) (entry_row ((n + 1) + k) f) (entry_rows (n + 1) history) in
     subst (λ (m : ℕ). IsPermutation (map (entry_row n) commit.tree ++ entry_rows (n + 1) (with_file k f history)) (entry_row m f ∷ (map (entry_row n) commit.tree ++ entry_rows (n + 1) history))) number (IsPermutation-trans _ _ _ moved front)
 
-pub entered_more : (old now new : List Commit) (rows : List EntryRow) (i k : ℕ) (f : File) (row : EntryRow) → i < length rows → row ≡ get_or rows i row → k < length now → AreEntered old now (take i rows) → new ≡ with_file k f now → AllByRecursion Rises new
-    → row.n ≡ pos (k + 1) → staged_row f ≡ record { path = row.path; mode = row.mode; digest = row.digest } → AreEntered old new (take (i + 1) rows)
-entered_more old now new rows i k f row within is inside so_far added rising number file =
+pub entered_more : (old now new : List Commit) (rows : List EntryRow) (k : ℕ) (f : File) (row : EntryRow) → k < length now → AreEntered old now rows → new ≡ with_file k f now → AllByRecursion Rises new → row.n ≡ pos (k + 1)
+    → staged_row f ≡ record { path = row.path; mode = row.mode; digest = row.digest } → AreEntered old new (rows ++ row ∷ [])
+entered_more old now new rows k f row inside so_far added rising number file =
     let one : entry_row (1 + k) f ≡ row = ap₂ (λ (n : ℤ) (x : _). record { n = n; path = x.path; mode = x.mode; digest = x.digest }) (ap pos (let e : 1 + k ≡ k + 1 = omega arith in e) ∙ sym number) file in
-    let moves = IsPermutation-trans _ _ _ (entry_moves 1 k f now inside) (subst (λ (r : EntryRow). IsPermutation (entry_row (1 + k) f ∷ entry_rows 1 now) (r ∷ take i rows)) one (IsPermutation-cons (entry_row (1 + k) f) (entry_rows 1 now) (take i rows) so_far.entries)) in
-    let last = IsPermutation-trans _ _ _ moves (IsPermutation-sym _ _ (IsPermutation-to_front (take i rows) row)) in
+    let moves = IsPermutation-trans _ _ _ (entry_moves 1 k f now inside) (subst (λ (r : EntryRow). IsPermutation (entry_row (1 + k) f ∷ entry_rows 1 now) (r ∷ rows)) one (IsPermutation-cons (entry_row (1 + k) f) (entry_rows 1 now) rows so_far.entries)) in
+    let last = IsPermutation-trans _ _ _ moves (IsPermutation-sym _ _ (IsPermutation-to_front rows row)) in
     record {
       commits = ap (commit_rows 1) added ∙ same_commits 1 k f now ∙ so_far.commits;
-      entries = subst (λ (l : List EntryRow). IsPermutation (entry_rows 1 new) l) (sym (front_more rows i row within is)) (subst (λ (l : List Commit). IsPermutation (entry_rows 1 l) (take i rows ++ row ∷ [])) (sym added) last);
+      entries = subst (λ (l : List Commit). IsPermutation (entry_rows 1 l) (rows ++ row ∷ [])) (sym added) last;
       rising = rising;
     }
 

@@ -345,13 +345,13 @@ fn add_entries(
     alloc: Global,
     contents: &Contents,
     history: &mut Vec<HeldCommit>,
-    rows: &[EntryRow],
+    rows: Vec<EntryRow>,
 ) -> Result<(), StoreFault>
     requires { AreBare (map commit_of history.old.items) }
-    ensures entered { OnOk result (AreEntered (map commit_of history.old.items) (map commit_of history.new.items) rows.now) }
+    ensures entered { OnOk result (AreEntered (map commit_of history.old.items) (map commit_of history.new.items) rows.items) }
     ensures among { OnOk result (AllByRecursion (λ (commit : Commit). HaveContents contents.now commit.tree) (map commit_of history.new.items)) }
-    ensures whole { OnOk result (AllByRecursion (IsEntryRow (map blob_row contents.now) (length history.old.items)) rows.now) }
-    ensures broken { IfErr result (IsDamage (¬ AllByRecursion (IsEntryRow (map blob_row contents.now) (length history.old.items)) rows.now)) }
+    ensures whole { OnOk result (AllByRecursion (IsEntryRow (map blob_row contents.now) (length history.old.items)) rows.items) }
+    ensures broken { IfErr result (IsDamage (¬ AllByRecursion (IsEntryRow (map blob_row contents.now) (length history.old.items)) rows.items)) }
 {
     'rows: for row in rows {
         let Some(place) = place_of(row.n, history.len()) else {
@@ -380,14 +380,14 @@ fn commits_of(
     alloc: Global,
     contents: &Contents,
     commits: Vec<CommitRow>,
-    entries: &[EntryRow],
+    entries: Vec<EntryRow>,
 ) -> Result<Vec<HeldCommit>, StoreFault>
     ensures commits { IfOk result (λ history. commit_rows 1 (map commit_of history.items) ≡ commits.items) }
-    ensures entries { IfOk result (λ history. IsPermutation (entry_rows 1 (map commit_of history.items)) entries.now) }
+    ensures entries { IfOk result (λ history. IsPermutation (entry_rows 1 (map commit_of history.items)) entries.items) }
     ensures rising { IfOk result (λ history. AllByRecursion (λ (commit : Commit). IsRising commit.tree) (map commit_of history.items)) }
     ensures among { IfOk result (λ history. AllByRecursion (λ (commit : Commit). HaveContents contents.now commit.tree) (map commit_of history.items)) }
-    ensures whole { OnOk result (AreCommitRows commits.items × AllByRecursion (IsEntryRow (map blob_row contents.now) (length commits.items)) entries.now) }
-    ensures broken { IfErr result (IsDamage (¬ (AreCommitRows commits.items × AllByRecursion (IsEntryRow (map blob_row contents.now) (length commits.items)) entries.now))) }
+    ensures whole { OnOk result (AreCommitRows commits.items × AllByRecursion (IsEntryRow (map blob_row contents.now) (length commits.items)) entries.items) }
+    ensures broken { IfErr result (IsDamage (¬ (AreCommitRows commits.items × AllByRecursion (IsEntryRow (map blob_row contents.now) (length commits.items)) entries.items))) }
 {
     match history_of(alloc, commits) {
         Ok(history) => {
@@ -431,7 +431,7 @@ pub(crate) fn lists_of(alloc: Global, rows: StoreRows) -> Result<Lists, StoreFau
         Ok(fixes) => fixes,
         Err(fault) => return Err(fault),
     };
-    match commits_of(alloc, &contents, commits, entries.as_slice()) {
+    match commits_of(alloc, &contents, commits, entries) {
         Ok(history) => Ok(Lists::of(contents, history, staged, fixes)),
         Err(fault) => Err(fault),
     }

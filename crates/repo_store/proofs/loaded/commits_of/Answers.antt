@@ -7,8 +7,8 @@ use Rattle.repo_store.proofs.loaded.commits_of.Goals as goal
 
 pub returns-in-Ok-add_entries-clause-whole : goal.returns-in-Ok-add_entries-clause-whole
 returns-in-Ok-add_entries-clause-whole c =
-    (c.in-Ok.ensures.whole, subst (λ (n : ℕ). AllByRecursion (IsEntryRow (map blob_row c.args.contents.now) n) c.args.entries.now) (history_length c.in-Ok.history.items c.args.commits.items c.in-Ok.ensures.commits) c.in-Ok-add_entries.ensures.whole)
+    (c.in-Ok.ensures.whole, subst (λ (n : ℕ). AllByRecursion (IsEntryRow (map blob_row c.args.contents.now) n) c.args.entries.items) (history_length c.in-Ok.history.items c.args.commits.items c.in-Ok.ensures.commits) c.in-Ok-add_entries.ensures.whole)
 
 pub returns-in-Err-add_entries-clause-broken : goal.returns-in-Err-add_entries-clause-broken
 returns-in-Err-add_entries-clause-broken c =
-    damage_of _ _ c.in-Err-add_entries.fault (λ breaks h. breaks (subst (λ (n : ℕ). AllByRecursion (IsEntryRow (map blob_row c.args.contents.now) n) c.args.entries.now) (sym (history_length c.in-Ok.history.items c.args.commits.items c.in-Ok.ensures.commits)) h.1)) c.in-Err-add_entries.ensures.broken
+    damage_of _ _ c.in-Err-add_entries.fault (λ breaks h. breaks (subst (λ (n : ℕ). AllByRecursion (IsEntryRow (map blob_row c.args.contents.now) n) c.args.entries.items) (sym (history_length c.in-Ok.history.items c.args.commits.items c.in-Ok.ensures.commits)) h.1)) c.in-Err-add_entries.ensures.broken

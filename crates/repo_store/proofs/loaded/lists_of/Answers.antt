@@ -1,11 +1,11 @@
-use Rattle.std.proofs.Common.{List, map, length, IsPermutation, vec_len, sym, subst, ◌∙◌, arith}
+use Rattle.std.proofs.Common.{List, map, vec_len, sym, subst, ◌∙◌, arith}
 use Rattle.std.specs.List.{AllByRecursion}
 use Rattle.std.proofs.lemmas.Bool.{eqb-true}
 use Rattle.repo_store.specs.declared.held.HeldFile.{HeldFile}
 use Rattle.repo_store.specs.Complete.{HaveDistinctDigests, IsComplete}
-use Rattle.repo_store.specs.Lists.{commit_of, file_of}
-use Rattle.repo_store.specs.Rows.{blob_row, entry_rows, staged_row}
-use Rattle.repo_store.specs.Whole.{AreStagedRows, IsEntryRow, IsFixRow}
+use Rattle.repo_store.specs.Lists.{file_of}
+use Rattle.repo_store.specs.Rows.{blob_row, staged_row}
+use Rattle.repo_store.specs.Whole.{AreStagedRows, IsFixRow}
 use Rattle.repo_store.proofs.IndexLemmas.{index_apart}
 use Rattle.repo_store.proofs.LoadLemmas.{lists_same, lists_sound, lists_whole, none_there}
 use Rattle.repo_store.proofs.loaded.lists_of.Goals as goal
@@ -35,7 +35,7 @@ returns-in-Ok-commits_of-clause-same c =
     let rows = c.args.rows in
     let none = none_there rows.answers.items (let empty = eqb-true (vec_len rows.answers) 0 (sym c.is_empty.ensures ∙ c.if-not-is_empty.false) in let long = rows.answers.ok.0 in omega arith) in
     lists_same rows c.in-Ok.contents c.in-Ok-commits_of.history.items c.in-Ok-staged_of.staged.items c.in-Ok-fixes_of.fixes.items c.of.result.kept c.in-Ok.ensures.contents (c.in-Ok-staged_of.ensures.files ∙ c.as_slice.ensures.value)
-    (c.in-Ok-fixes_of.ensures.fixes ∙ c.as_slice-3.ensures.value) c.in-Ok-commits_of.ensures.commits (subst (IsPermutation (entry_rows 1 (map commit_of c.in-Ok-commits_of.history.items))) c.as_slice-4.ensures.value c.in-Ok-commits_of.ensures.entries) none c.of.ensures
+    (c.in-Ok-fixes_of.ensures.fixes ∙ c.as_slice-3.ensures.value) c.in-Ok-commits_of.ensures.commits c.in-Ok-commits_of.ensures.entries none c.of.ensures
 
 pub returns-in-Ok-commits_of-clause-whole : goal.returns-in-Ok-commits_of-clause-whole
 returns-in-Ok-commits_of-clause-whole c =
@@ -46,4 +46,4 @@ returns-in-Ok-commits_of-clause-whole c =
     let fixes = subst (λ (l : List HeldFile). AllByRecursion (IsFixRow blobs (map staged_row (map file_of l))) c.as_slice-3.result.now) c.as_slice-2.ensures.value c.in-Ok-fixes_of.ensures.whole in
     lists_whole rows blobs (map staged_row (map file_of c.in-Ok-staged_of.staged.items)) c.in-Ok.ensures.contents (c.in-Ok-staged_of.ensures.files ∙ c.as_slice.ensures.value) c.in-Ok.ensures.whole files
     (subst (AllByRecursion (IsFixRow blobs (map staged_row (map file_of c.in-Ok-staged_of.staged.items)))) c.as_slice-3.ensures.value fixes) c.in-Ok-commits_of.ensures.whole.0
-    (subst (AllByRecursion (IsEntryRow blobs (length rows.commits.items))) c.as_slice-4.ensures.value c.in-Ok-commits_of.ensures.whole.1) none
+    c.in-Ok-commits_of.ensures.whole.1 none
