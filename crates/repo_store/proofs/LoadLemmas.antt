@@ -61,10 +61,10 @@ module _ {X : Type 0} (xs : List X) (i : ℕ) (x : X) (within : i < length xs) (
   pub not_all : (P : X → Type 0) → (P x → ⊥) → AllByRecursion P xs → ⊥
   not_all P breaks all = breaks (subst P (sym is) (all_at P xs i x within all))
 
-  -- one row more stands in the lists
-  pub rows_more : {Y : Type 0} (row : Y → X) (held now : List Y) (one : Y) → map row held ≡ take i xs → now ≡ held ++ one ∷ [] → row one ≡ x → map row now ≡ take (i + 1) xs
-  rows_more row held now one same added this =
-      ap (map row) added ∙ map-append row held (one ∷ []) ∙ ap (λ (l : List X). l ++ row one ∷ []) same ∙ ap (λ (y : X). take i xs ++ y ∷ []) this ∙ sym front_more
+-- one row more stands in the lists
+pub rows_more : {X Y : Type 0} (row : Y → X) (rows : List X) (x : X) (held now : List Y) (one : Y) → map row held ≡ rows → now ≡ held ++ one ∷ [] → row one ≡ x → map row now ≡ rows ++ x ∷ []
+rows_more {X} row rows x held now one same added this =
+    ap (map row) added ∙ map-append row held (one ∷ []) ∙ ap (λ (l : List X). l ++ row one ∷ []) same ∙ ap (λ (y : X). rows ++ y ∷ []) this
 
 -- ---- what comes last
 

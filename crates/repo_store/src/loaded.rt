@@ -84,13 +84,13 @@ fn add_file(files: &mut Vec<HeldFile>, file: HeldFile) -> Result<(), StoreFault>
 fn files_of(
     alloc: Global,
     contents: &Contents,
-    rows: &[StagedRow],
+    rows: Vec<StagedRow>,
 ) -> Result<Vec<HeldFile>, StoreFault>
-    ensures files { IfOk result (λ files. map staged_row (map file_of files.items) ≡ rows.now) }
+    ensures files { IfOk result (λ files. map staged_row (map file_of files.items) ≡ rows.items) }
     ensures rising { IfOk result (λ files. IsRising (map file_of files.items)) }
     ensures among { IfOk result (λ files. HaveContents contents.now (map file_of files.items)) }
-    ensures whole { OnOk result (AllByRecursion (IsStagedRow (map blob_row contents.now)) rows.now) }
-    ensures broken { IfErr result (IsDamage (¬ AllByRecursion (IsStagedRow (map blob_row contents.now)) rows.now)) }
+    ensures whole { OnOk result (AllByRecursion (IsStagedRow (map blob_row contents.now)) rows.items) }
+    ensures broken { IfErr result (IsDamage (¬ AllByRecursion (IsStagedRow (map blob_row contents.now)) rows.items)) }
 {
     let mut files = Vec::new(alloc);
     'rows: for row in rows {
@@ -116,14 +116,14 @@ fn files_of(
 fn staged_of(
     alloc: Global,
     contents: &Contents,
-    rows: &[StagedRow],
+    rows: Vec<StagedRow>,
 ) -> Result<Vec<HeldFile>, StoreFault>
-    ensures files { IfOk result (λ files. map staged_row (map file_of files.items) ≡ rows.now) }
+    ensures files { IfOk result (λ files. map staged_row (map file_of files.items) ≡ rows.items) }
     ensures rising { IfOk result (λ files. IsRising (map file_of files.items)) }
     ensures fits { IfOk result (λ files. Fits (map file_of files.items)) }
     ensures among { IfOk result (λ files. HaveContents contents.now (map file_of files.items)) }
-    ensures whole { OnOk result (AreStagedRows (map blob_row contents.now) rows.now) }
-    ensures broken { IfErr result (IsDamage (¬ AreStagedRows (map blob_row contents.now) rows.now)) }
+    ensures whole { OnOk result (AreStagedRows (map blob_row contents.now) rows.items) }
+    ensures broken { IfErr result (IsDamage (¬ AreStagedRows (map blob_row contents.now) rows.items)) }
 {
     match files_of(alloc, contents, rows) {
         Ok(files) => {
@@ -423,7 +423,7 @@ pub(crate) fn lists_of(alloc: Global, rows: StoreRows) -> Result<Lists, StoreFau
         Ok(contents) => contents,
         Err(fault) => return Err(fault),
     };
-    let staged = match staged_of(alloc, &contents, staged.as_slice()) {
+    let staged = match staged_of(alloc, &contents, staged) {
         Ok(staged) => staged,
         Err(fault) => return Err(fault),
     };
