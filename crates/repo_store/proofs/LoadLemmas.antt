@@ -44,22 +44,8 @@ pub all_pushed : {X : Type 0} (P : X → Type 0) (xs : List X) (x : X) → AllBy
 all_pushed P [] x all one = (one, tt)
 all_pushed P (y ∷ xs) x all one = (all.0, all_pushed P xs x all.1 one)
 
-pub all_at : {X : Type 0} (P : X → Type 0) (xs : List X) (i : ℕ) (d : X) → i < length xs → AllByRecursion P xs → P (get_or xs i d)
-all_at P [] i d within all = absurd (omega arith)
-all_at P (x ∷ xs) zero d within all = all.0
-all_at P (x ∷ xs) (suc i) d within all = all_at P xs i d (omega arith) all.1
-
-module _ {X : Type 0} (xs : List X) (i : ℕ) (x : X) (within : i < length xs) (is : x ≡ get_or xs i x) where
-  pub front_more : take (i + 1) xs ≡ take i xs ++ x ∷ []
-  front_more = take_more xs i x within ∙ ap (λ (y : X). take i xs ++ y ∷ []) (sym is)
-
-  -- one row more obeys the rule
-  pub all_more : (P : X → Type 0) → AllByRecursion P (take i xs) → P x → AllByRecursion P (take (i + 1) xs)
-  all_more P all one = subst (AllByRecursion P) (sym front_more) (all_pushed P (take i xs) x all one)
-
-  -- one row breaks it
-  pub not_all : (P : X → Type 0) → (P x → ⊥) → AllByRecursion P xs → ⊥
-  not_all P breaks all = breaks (subst P (sym is) (all_at P xs i x within all))
+front_more : {X : Type 0} (xs : List X) (i : ℕ) (x : X) → i < length xs → x ≡ get_or xs i x → take (i + 1) xs ≡ take i xs ++ x ∷ []
+front_more {X} xs i x within is = take_more xs i x within ∙ ap (λ (y : X). take i xs ++ y ∷ []) (sym is)
 
 -- one row more stands in the lists
 pub rows_more : {X Y : Type 0} (row : Y → X) (rows : List X) (x : X) (held now : List Y) (one : Y) → map row held ≡ rows → now ≡ held ++ one ∷ [] → row one ≡ x → map row now ≡ rows ++ x ∷ []
@@ -112,10 +98,6 @@ damage_of P Q OutOfMemory f h = tt
 damage_of P Q Collision f h = h
 damage_of P Q TooLarge f h = h
 damage_of P Q TooMany f h = h
-
--- a row that breaks its rule
-pub damage_row : {X : Type 0} (P : X → Type 0) (xs : List X) (i : ℕ) (x : X) (fault : StoreFault) → i < length xs → x ≡ get_or xs i x → IsDamage (¬ P x) fault → IsDamage (¬ AllByRecursion P xs) fault
-damage_row P xs i x fault within is = damage_of (¬ P x) (¬ AllByRecursion P xs) fault (λ breaks. not_all xs i x within is P breaks)
 
 pub file_moved : (blobs : List BlobRow) (p q : List ℕ) (mode : ℤ) (d e : List ℕ) → p ≡ q → d ≡ e → IsFileRow blobs p mode d → IsFileRow blobs q mode e
 file_moved blobs p q mode d e path digest h = subst (λ (x : List ℕ). IsFileRow blobs x mode e) path (subst (λ (x : List ℕ). IsFileRow blobs p mode x) digest h)

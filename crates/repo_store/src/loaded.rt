@@ -220,18 +220,18 @@ fn fixes_of(
     alloc: Global,
     contents: &Contents,
     staged: &[HeldFile],
-    rows: &[FixRow],
+    rows: Vec<FixRow>,
 ) -> Result<Vec<HeldFix>, StoreFault>
     requires { IsRising (map file_of staged.now) }
-    ensures fixes { IfOk result (λ fixes. map fix_row (map fix_of fixes.items) ≡ rows.now) }
+    ensures fixes { IfOk result (λ fixes. map fix_row (map fix_of fixes.items) ≡ rows.items) }
     ensures rising { IfOk result (λ fixes. IsRisingChanges (map fix_of fixes.items)) }
     ensures among { IfOk result (λ fixes. HaveNewContents contents.now (map fix_of fixes.items)) }
-    ensures whole { OnOk result (AllByRecursion (IsFixRow (map blob_row contents.now) (map staged_row (map file_of staged.now))) rows.now) }
-    ensures broken { IfErr result (IsDamage (¬ AllByRecursion (IsFixRow (map blob_row contents.now) (map staged_row (map file_of staged.now))) rows.now)) }
+    ensures whole { OnOk result (AllByRecursion (IsFixRow (map blob_row contents.now) (map staged_row (map file_of staged.now))) rows.items) }
+    ensures broken { IfErr result (IsDamage (¬ AllByRecursion (IsFixRow (map blob_row contents.now) (map staged_row (map file_of staged.now))) rows.items)) }
 {
     let mut fixes = Vec::new(alloc);
     'rows: for row in rows {
-        match held_fix(alloc, contents, staged, row) {
+        match held_fix(alloc, contents, staged, &row) {
             Ok(fix) => {
                 if let Err(fault) = add_fix(&mut fixes, fix) {
                     return Err(fault);
@@ -427,7 +427,7 @@ pub(crate) fn lists_of(alloc: Global, rows: StoreRows) -> Result<Lists, StoreFau
         Ok(staged) => staged,
         Err(fault) => return Err(fault),
     };
-    let fixes = match fixes_of(alloc, &contents, staged.as_slice(), fixes.as_slice()) {
+    let fixes = match fixes_of(alloc, &contents, staged.as_slice(), fixes) {
         Ok(fixes) => fixes,
         Err(fault) => return Err(fault),
     };

@@ -2,9 +2,9 @@ use Rattle.std.proofs.Common.{map}
 use Rattle.repo_store.specs.Lists.{file_of}
 use Rattle.repo_store.specs.Rows.{blob_row, staged_row}
 use Rattle.repo_store.specs.Whole.{IsFixRow}
-use Rattle.repo_store.proofs.LoadLemmas.{damage_row}
+use Rattle.repo_store.proofs.LoadLemmas.{damage_middle}
 use Rattle.repo_store.proofs.loaded.fixes_of.Goals as goal
 
 pub returns-in-Err-clause-broken : goal.returns-in-Err-clause-broken
 returns-in-Err-clause-broken c =
-    damage_row (IsFixRow (map blob_row c.args.contents.now) (map staged_row (map file_of c.args.staged.now))) c.args.rows.now c.rows.row-index c.row-item.result c.in-Err.fault c.rows-test.true c.row-item.is c.in-Err.ensures.broken
+    damage_middle (IsFixRow (map blob_row c.args.contents.now) (map staged_row (map file_of c.args.staged.now))) c.rows.yielded c.in-Some.row _ _ c.args.rows.items c.in-Err.fault c.rows.invariant.left (c.in-Some.ensures.steps.0) c.in-Err.ensures.broken

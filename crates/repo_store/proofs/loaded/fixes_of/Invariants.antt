@@ -1,5 +1,6 @@
-use Rattle.std.proofs.Common.{◌≡◌, map, take}
+use Rattle.std.proofs.Common.{◌≡◌, ◌++◌, map}
 use Rattle.std.specs.List.{AllByRecursion}
+use Rattle.std.specs.Vec.Iter.{into_iter_items}
 use Rattle.hook_base.specs.Trees.{IsRisingChanges}
 use Rattle.repo_store.specs.Complete.{HaveNewContents}
 use Rattle.repo_store.specs.Lists.{file_of, fix_of}
@@ -8,4 +9,4 @@ use Rattle.repo_store.specs.Whole.{IsFixRow}
 use Rattle.repo_store.proofs.loaded.fixes_of.Given as goal
 
 abbrev pub invariant-rows : goal.invariant-rows
-invariant-rows l = record { fixes : map fix_row (map fix_of l.fixes.items) ≡ take l.row-index l.rows; rising : IsRisingChanges (map fix_of l.fixes.items); among : HaveNewContents l.contents (map fix_of l.fixes.items); whole : AllByRecursion (IsFixRow (map blob_row l.contents) (map staged_row (map file_of l.staged))) (take l.row-index l.rows) }
+invariant-rows l = record { left : l.yielded ++ into_iter_items l.row-iterator ≡ l.fn.rows.items; fixes : map fix_row (map fix_of l.fixes.items) ≡ l.yielded; rising : IsRisingChanges (map fix_of l.fixes.items); among : HaveNewContents l.contents (map fix_of l.fixes.items); whole : AllByRecursion (IsFixRow (map blob_row l.contents) (map staged_row (map file_of l.staged))) l.yielded }

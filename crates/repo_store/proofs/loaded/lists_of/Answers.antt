@@ -15,17 +15,18 @@ of-requires c =
     let rows = c.args.rows in
     let staged = c.in-Ok-staged_of.staged.items in
     let blobs = map blob_row c.in-Ok.contents in
-    let fixes = subst (λ (l : List HeldFile). AllByRecursion (IsFixRow blobs (map staged_row (map file_of l))) c.as_slice-2.result.now) c.as_slice.ensures.value c.in-Ok-fixes_of.ensures.whole in
-    lists_sound c.in-Ok-commits_of.history.items staged c.in-Ok-fixes_of.fixes.items blobs c.as_slice-2.result.now rows.commits.items c.in-Ok-staged_of.ensures.rising c.in-Ok-staged_of.ensures.fits
+    let fixes = subst (λ (l : List HeldFile). AllByRecursion (IsFixRow blobs (map staged_row (map file_of l))) rows.fixes.items) c.as_slice.ensures.value c.in-Ok-fixes_of.ensures.whole in
+    lists_sound c.in-Ok-commits_of.history.items staged c.in-Ok-fixes_of.fixes.items blobs rows.fixes.items rows.commits.items c.in-Ok-staged_of.ensures.rising c.in-Ok-staged_of.ensures.fits
     c.in-Ok-fixes_of.ensures.rising c.in-Ok-fixes_of.ensures.fixes fixes c.in-Ok-commits_of.ensures.rising c.in-Ok-commits_of.ensures.commits c.in-Ok-commits_of.ensures.whole.0
 
 pub returns-in-Ok-commits_of-clause-complete : goal.returns-in-Ok-commits_of-clause-complete
 returns-in-Ok-commits_of-clause-complete c =
+    let rows = c.args.rows in
     let staged = c.in-Ok-staged_of.staged.items in
     let blobs = map blob_row c.in-Ok.contents in
-    let fixes = subst (λ (l : List HeldFile). AllByRecursion (IsFixRow blobs (map staged_row (map file_of l))) c.as_slice-2.result.now) c.as_slice.ensures.value c.in-Ok-fixes_of.ensures.whole in
+    let fixes = subst (λ (l : List HeldFile). AllByRecursion (IsFixRow blobs (map staged_row (map file_of l))) rows.fixes.items) c.as_slice.ensures.value c.in-Ok-fixes_of.ensures.whole in
     let sound =
-    lists_sound c.in-Ok-commits_of.history.items staged c.in-Ok-fixes_of.fixes.items blobs c.as_slice-2.result.now c.args.rows.commits.items c.in-Ok-staged_of.ensures.rising c.in-Ok-staged_of.ensures.fits
+    lists_sound c.in-Ok-commits_of.history.items staged c.in-Ok-fixes_of.fixes.items blobs rows.fixes.items rows.commits.items c.in-Ok-staged_of.ensures.rising c.in-Ok-staged_of.ensures.fits
     c.in-Ok-fixes_of.ensures.rising c.in-Ok-fixes_of.ensures.fixes fixes c.in-Ok-commits_of.ensures.rising c.in-Ok-commits_of.ensures.commits c.in-Ok-commits_of.ensures.whole.0 in
     let apart = subst HaveDistinctDigests c.contents.view_is (index_apart c.contents.inside.places c.contents.inside.items.items c.contents.invariant) in
     subst IsComplete (sym c.of.ensures) (record { sound = sound; staged = c.in-Ok-staged_of.ensures.among; fixes = c.in-Ok-fixes_of.ensures.among; trees = c.in-Ok-commits_of.ensures.among; apart = apart })
@@ -35,14 +36,13 @@ returns-in-Ok-commits_of-clause-same c =
     let rows = c.args.rows in
     let none = none_there rows.answers.items (let empty = eqb-true (vec_len rows.answers) 0 (sym c.is_empty.ensures ∙ c.if-not-is_empty.false) in let long = rows.answers.ok.0 in omega arith) in
     lists_same rows c.in-Ok.contents c.in-Ok-commits_of.history.items c.in-Ok-staged_of.staged.items c.in-Ok-fixes_of.fixes.items c.of.result.kept c.in-Ok.ensures.contents c.in-Ok-staged_of.ensures.files
-    (c.in-Ok-fixes_of.ensures.fixes ∙ c.as_slice-2.ensures.value) c.in-Ok-commits_of.ensures.commits c.in-Ok-commits_of.ensures.entries none c.of.ensures
+    c.in-Ok-fixes_of.ensures.fixes c.in-Ok-commits_of.ensures.commits c.in-Ok-commits_of.ensures.entries none c.of.ensures
 
 pub returns-in-Ok-commits_of-clause-whole : goal.returns-in-Ok-commits_of-clause-whole
 returns-in-Ok-commits_of-clause-whole c =
     let rows = c.args.rows in
     let blobs = map blob_row c.in-Ok.contents in
     let none = none_there rows.answers.items (let empty = eqb-true (vec_len rows.answers) 0 (sym c.is_empty.ensures ∙ c.if-not-is_empty.false) in let long = rows.answers.ok.0 in omega arith) in
-    let fixes = subst (λ (l : List HeldFile). AllByRecursion (IsFixRow blobs (map staged_row (map file_of l))) c.as_slice-2.result.now) c.as_slice.ensures.value c.in-Ok-fixes_of.ensures.whole in
+    let fixes = subst (λ (l : List HeldFile). AllByRecursion (IsFixRow blobs (map staged_row (map file_of l))) rows.fixes.items) c.as_slice.ensures.value c.in-Ok-fixes_of.ensures.whole in
     lists_whole rows blobs (map staged_row (map file_of c.in-Ok-staged_of.staged.items)) c.in-Ok.ensures.contents c.in-Ok-staged_of.ensures.files c.in-Ok.ensures.whole c.in-Ok-staged_of.ensures.whole
-    (subst (AllByRecursion (IsFixRow blobs (map staged_row (map file_of c.in-Ok-staged_of.staged.items)))) c.as_slice-2.ensures.value fixes) c.in-Ok-commits_of.ensures.whole.0
-    c.in-Ok-commits_of.ensures.whole.1 none
+    fixes c.in-Ok-commits_of.ensures.whole.0 c.in-Ok-commits_of.ensures.whole.1 none
