@@ -1,17 +1,18 @@
 use sqlite::ErrorCode;
 use thiserror::Error;
 
-/// Why a call on a store is refused. What the store shows, and the tables, are as before the call; a fault of the disk may
-/// have shut the connection.
+/// Why a call on a store is refused. What the store shows is as before the call, and so are the tables while the connection
+/// is open. Where a fault of the disk has shut it, and after a crash, the file holds what stood before or all of the change.
 #[derive(Debug, Drop, Error)]
 pub enum StoreFault {
-    /// The database has no store in it, or one of another version.
+    /// The database that is opened has no store in it, or one of another version.
     #[error("the database holds no store of this version")]
     NotAStore,
-    /// The tables hold what no store holds.
+    /// The tables of the database that is opened hold what no store holds.
     #[error("the store is damaged")]
     Damaged,
-    /// The database refused. Nothing is said of when this comes.
+    /// The database refused; or a store is made where there are tables, indexes or views already. Nothing is said of when
+    /// this comes.
     #[error("{0}")]
     Sql(sqlite::Error),
     /// Memory was refused.
