@@ -1,57 +1,81 @@
+//! The rows of the tables, as they are read. The ranges are those of a store that isn't damaged; a row that is read may be
+//! out of them.
+
 use hook_base::Bytes;
 
 /// A number that the store keeps about itself, as the version of its tables.
 #[derive(Debug, Drop)]
 pub struct MetaRow {
+    /// In UTF-8: `version`, so far.
     pub name: Bytes,
+    /// The version: 1.
     pub value: i64,
 }
 
 /// Contents, under the digest of them.
 #[derive(Debug, Drop)]
 pub struct BlobRow {
+    /// SHA-256 of the bytes, 32 bytes.
     pub digest: Bytes,
+    /// At most 16 MiB.
     pub bytes: Bytes,
 }
 
-/// A staged file: mode 0 is plain, 1 executable.
+/// A staged file.
 #[derive(Debug, Drop)]
 pub struct StagedRow {
+    /// In UTF-8, at most 4,096 bytes.
     pub path: Bytes,
+    /// 0 is plain, 1 executable.
     pub mode: i64,
+    /// SHA-256 of its contents, which `blobs` has.
     pub digest: Bytes,
 }
 
-/// A fix: `gone` is 1 with no digest, or 0 with one.
+/// A fix of a staged file.
 #[derive(Debug, Drop)]
 pub struct FixRow {
+    /// In UTF-8, at most 4,096 bytes.
     pub path: Bytes,
+    /// 1 where the file is gone, with no digest; else 0, with one.
     pub gone: i64,
+    /// SHA-256 of the new contents, which `blobs` has.
     pub digest: Option<Bytes>,
 }
 
 /// A commit, by its number.
 #[derive(Debug, Drop)]
 pub struct CommitRow {
+    /// From 1 to 100,000.
     pub n: i64,
+    /// At most 16 MiB.
     pub message: Bytes,
 }
 
-/// A file of the commit `n`.
+/// A file of a commit.
 #[derive(Debug, Drop)]
 pub struct EntryRow {
+    /// The number of the commit, from 1 on.
     pub n: i64,
+    /// In UTF-8, at most 4,096 bytes.
     pub path: Bytes,
+    /// 0 is plain, 1 executable.
     pub mode: i64,
+    /// SHA-256 of its contents, which `blobs` has.
     pub digest: Bytes,
 }
 
-/// A remembered answer. `words`, `seen`, `output` and `changes` are digests of contents.
+/// A remembered answer of a child, of which a store has none so far. `blobs` has the contents of its four digests.
 #[derive(Debug, Drop)]
 pub struct AnswerRow {
+    /// The digest of the words of its command.
     pub words: Bytes,
+    /// The digest of the files that it saw.
     pub seen: Bytes,
+    /// The digest of what it wrote.
     pub output: Bytes,
+    /// The digest of what became of its files.
     pub changes: Bytes,
+    /// Its exit code, from 0 to 255.
     pub status: i64,
 }
