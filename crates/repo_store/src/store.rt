@@ -1,4 +1,4 @@
-ghost use Rattle.std.specs.Prelude.{◌≡◌, ◌≢◌, ◌+◌, ◌<◌, ◌≤◌, [], false, length, option_map, IfOk, IfErr, OnOk, IsTrue};
+ghost use Rattle.std.specs.Prelude.{◌≡◌, ◌≢◌, ◌+◌, ◌<◌, ◌≤◌, [], false, length, option_map, IfOk, IfErr, OnOk, MatchResult, IsTrue};
 ghost use Rattle.sha2.specs.Sha256.{sha256};
 ghost use Rattle.hook_base.specs.Paths.{message_path};
 ghost use Rattle.hook_base.specs.Trees.{IsRisingChanges, put_file};
@@ -36,7 +36,8 @@ use std::alloc::Global;
 use std::marker::Model;
 
 /// A repository in a database: its commits, the staged files and the fixes. Each call that changes it is one transaction:
-/// it is done whole or not at all, whatever stops it. The calls that read are answered from memory.
+/// it is done whole or not at all, whatever stops it. `StoreFault` says what a refused one leaves in the tables. The calls
+/// that read are answered from memory.
 #[derive(Drop)]
 pub struct Store<S: Alter> {
     conn: Connection<S>,
@@ -57,7 +58,8 @@ impl<S: Alter> Model for Store<S> {
 
 impl<S: Alter> Store<S> {
     /// Makes an empty store in a database that has no tables. A database that has tables, indexes or views is refused as
-    /// `Sql`. A refusal gives the connection back, with the tables as before where it is still open.
+    /// `Sql` and given back as it was. Any refusal gives the connection back, with the tables as before where it is still
+    /// open. The connection is outside a transaction.
     pub fn create(
         alloc: Global,
         conn: Connection<S>,
@@ -65,6 +67,7 @@ impl<S: Alter> Store<S> {
         requires { conn.in_transaction ≡ false }
         ensures made { IfOk result (λ store. store.kept ≡ record { repo = empty; contents = [] }) }
         ensures stands { IfOk result (λ store. Stands S.Store store.conn store.kept) }
+        ensures occupied { IsTrue (state S.Store conn).is_open → (state S.Store conn).now.schema ≢ no_schema → MatchResult result (λ _. ⊥) (λ e. e.1 ≡ conn) }
         ensures was_bare { IfOk result (λ _. IsTrue (state S.Store conn).is_open → (state S.Store conn).now.schema ≡ no_schema) }
         ensures why { IfErr result (λ e. IsRefusal ⊥ ⊥ ⊥ e.0) }
         ensures refused { IfErr result (λ e. Rests (state S.Store conn) (state S.Store e.1)) }
@@ -90,7 +93,7 @@ impl<S: Alter> Store<S> {
     /// Opens the store that a database holds, and changes nothing. After a crash it is the repository that the crash
     /// left. Refused are a database that hasn't exactly the tables of a store, or whose `meta` holds anything but the
     /// one row of version 1 (`NotAStore`), and tables whose rows break a rule of a store (`Damaged`). A refusal gives
-    /// the connection back, with the tables as before where it is still open.
+    /// the connection back, with the tables as before where it is still open. The connection is outside a transaction.
     pub fn open(alloc: Global, conn: Connection<S>) -> Result<Store<S>, (StoreFault, Connection<S>)>
         requires { conn.in_transaction ≡ false }
         ensures stands { IfOk result (λ store. Stands S.Store store.conn store.kept) }
@@ -114,9 +117,10 @@ impl<S: Alter> Store<S> {
         }
     }
 
-    /// Stages a file, in place of the one at its path, and forgets the fixes. Refused are contents of more than 16 MiB
-    /// (`TooLarge`), a staged tree of more than 100,000 files or 8 MiB of paths (`TooMany`), and contents whose digest
-    /// is that of others (`Collision`); a refusal leaves the store as it was.
+    /// Stages a file, in place of the one at its path, and forgets the fixes. The path is any but that of the commit's
+    /// message. Refused are contents of more than 16 MiB (`TooLarge`), a staged tree of more than 100,000 files or 8 MiB
+    /// of paths (`TooMany`), and contents whose digest is that of others (`Collision`); a refusal leaves what the store
+    /// shows as it was.
     pub fn stage(&mut self, path: &RepoPath, mode: Mode, bytes: &[u8]) -> Result<(), StoreFault>
         requires { path.now ≢ message_path }
         ensures change { Changes self.old.kept self.new.kept result (staging path.now (record { mode = mode; bytes = bytes.now }) self.old.kept) }
@@ -138,7 +142,8 @@ impl<S: Alter> Store<S> {
         Ok(())
     }
 
-    /// Takes a path out of the staged files, if it is there, and forgets the fixes. A refusal leaves the store as it was.
+    /// Takes a path out of the staged files, if it is there, and forgets the fixes. A refusal leaves what the store shows
+    /// as it was.
     pub fn unstage(&mut self, path: &RepoPath) -> Result<(), StoreFault>
         ensures change { Changes self.old.kept self.new.kept result (unstaging path.now self.old.kept) }
         ensures transaction { IsOneTransaction S.Store self.old self.new result (unstaging path.now self.old.kept) }
@@ -151,9 +156,9 @@ impl<S: Alter> Store<S> {
         Ok(())
     }
 
-    /// Sets the fixes to those of the changes that are of staged files; the others are dropped unread. Refused are fixes
-    /// with contents of more than 16 MiB (`TooLarge`), and those whose digest is that of others (`Collision`); a refusal
-    /// leaves the store as it was.
+    /// Sets the fixes to those of the changes that are of staged files; the others are dropped unread. The paths of the
+    /// changes rise. Refused are fixes with contents of more than 16 MiB (`TooLarge`), and those whose digest is that of
+    /// others (`Collision`); a refusal leaves what the store shows as it was.
     pub fn set_fixes(&mut self, changes: &[Change]) -> Result<(), StoreFault>
         requires { IsRisingChanges changes.now }
         ensures change { Changes self.old.kept self.new.kept result (setting changes.now self.old.kept) }
@@ -175,8 +180,8 @@ impl<S: Alter> Store<S> {
         Ok(())
     }
 
-    /// Applies the fixes to the staged files, forgets them, and answers how many there were. A refusal leaves the store as
-    /// it was.
+    /// Applies the fixes to the staged files, forgets them, and answers how many there were. A refusal leaves what the
+    /// store shows as it was.
     pub fn accept(&mut self) -> Result<u32, StoreFault>
         ensures change { Changes self.old.kept self.new.kept result (accepting self.old.kept) }
         ensures transaction { IsOneTransaction S.Store self.old self.new result (accepting self.old.kept) }
@@ -196,8 +201,8 @@ impl<S: Alter> Store<S> {
     }
 
     /// Adds a commit of the staged files, forgets the fixes, and answers the commit's number, from 1 on. Refused are a
-    /// message of more than 16 MiB (`TooLarge`) and more than 100,000 commits (`TooMany`); a refusal leaves the store as
-    /// it was.
+    /// message of more than 16 MiB (`TooLarge`) and more than 100,000 commits (`TooMany`); a refusal leaves what the
+    /// store shows as it was.
     pub fn commit(&mut self, message: &[u8]) -> Result<u32, StoreFault>
         ensures change { Changes self.old.kept self.new.kept result (committing message.now self.old.kept) }
         ensures transaction { IsOneTransaction S.Store self.old self.new result (committing message.now self.old.kept) }
@@ -218,7 +223,7 @@ impl<S: Alter> Store<S> {
     }
 
     /// Keeps contents, and answers their digest. Refused are contents of more than 16 MiB (`TooLarge`), and those whose
-    /// digest is that of others (`Collision`); a refusal leaves the store as it was.
+    /// digest is that of others (`Collision`); a refusal leaves what the store shows as it was.
     pub fn blob_put(&mut self, bytes: &[u8]) -> Result<Digest, StoreFault>
         ensures change { Changes self.old.kept self.new.kept result (keeping bytes.now self.old.kept) }
         ensures transaction { IsOneTransaction S.Store self.old self.new result (keeping bytes.now self.old.kept) }

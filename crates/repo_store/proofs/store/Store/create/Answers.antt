@@ -16,6 +16,12 @@ pub returns-in-Ok-clause-stands : goal.returns-in-Ok-clause-stands
 returns-in-Ok-clause-stands g c =
     made_stands g.S.Store c.args.conn c.make.new.conn c.new.result.kept c.in-Ok.field-0 c.in-Ok.ensures (c.if-not-has_no_tables.ensures.bare refl) (g.met.S.Store.shut_if_dirty c.make.new.conn.store) c.new.ensures
 
+pub returns-in-Ok-clause-occupied : goal.returns-in-Ok-clause-occupied
+returns-in-Ok-clause-occupied g c was_open other = other (c.if-not-has_no_tables.ensures.bare refl was_open).schema_is
+
+pub returns-in-Err-clause-occupied : goal.returns-in-Err-clause-occupied
+returns-in-Err-clause-occupied g c was_open other = absurd (other (c.if-not-has_no_tables.ensures.bare refl was_open).schema_is)
+
 pub returns-in-Ok-clause-crash_made : goal.returns-in-Ok-clause-crash_made
 returns-in-Ok-clause-crash_made g c = made_survives (state g.S.Store c.args.conn) (state g.S.Store c.make.new.conn) (c.make.ensures.survives (c.if-not-has_no_tables.ensures.bare refl))
 
