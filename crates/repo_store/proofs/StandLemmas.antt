@@ -1,5 +1,5 @@
 -- What a call leaves of a store, from what it makes of the tables.
-use Rattle.std.proofs.Common.{◌≡◌, inl, false, [], Result, Ok, Err, IsTrue, refl, sym, subst, arith}
+use Rattle.std.proofs.Common.{◌≡◌, false, [], Result, Ok, Err, IsTrue, sym, subst}
 use Rattle.sqlite_trees.specs.declared.store.Store.{Ghosts}
 use Rattle.sqlite_trees.specs.Tree.{Trees}
 use Rattle.sqlite.specs.declared.error.Error.{Error}

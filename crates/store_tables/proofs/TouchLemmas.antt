@@ -1,5 +1,5 @@
 -- The empty statement.
-use Rattle.std.proofs.Common.{ℕ, List, [], Ok, refl, sym, subst}
+use Rattle.std.proofs.Common.{ℕ, [], Ok, refl, sym, subst}
 use Rattle.sqlite_schema.specs.declared.schema.Schema.{Schema}
 use Rattle.sqlite_schema.specs.declared.command.Command.TheVariants.{Nothing}
 use Rattle.sqlite_tied.specs.Compute.{everything}

@@ -1,4 +1,4 @@
-use Rattle.std.proofs.Common.{[], Ok, Err}
+use Rattle.std.proofs.Common.{Ok, Err}
 use Rattle.std.proofs.lemmas.Result.{err_from_is_err_and}
 use Rattle.store_tables.specs.Schema.{no_more}
 use Rattle.store_tables.specs.Tables.{IsBare, IsEmptyStore, first_tables}

@@ -1,4 +1,3 @@
-use Rattle.std.proofs.Common.{[]}
 use Rattle.sqlite.specs.Held.{state}
 use Rattle.store_tables.specs.Tables.{without_fixes}
 use Rattle.store_tables.proofs.StepLemmas.{finishes}

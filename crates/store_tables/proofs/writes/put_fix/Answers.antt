@@ -1,4 +1,3 @@
-use Rattle.std.proofs.Common.{[]}
 use Rattle.sqlite.specs.Held.{state}
 use Rattle.store_tables.specs.Tables.{with_fix, fix_row}
 use Rattle.store_tables.proofs.StepLemmas.{finishes}

@@ -1,5 +1,5 @@
 use Rattle.sqlite.specs.Held.{state}
-use Rattle.std.proofs.Common.{[], pos}
+use Rattle.std.proofs.Common.{pos}
 use Rattle.store_tables.specs.declared.rows.MetaRow.{MetaRow}
 use Rattle.store_tables.specs.Tables.{with_meta}
 use Rattle.store_tables.proofs.StepLemmas.{finishes}
