@@ -9,6 +9,8 @@ fn fill<S: Alter>(tx: &mut Transaction<'_, S>) -> Result<(), Error> {
     put_meta(tx, "version", 1)?;
     put_blob(tx, b"one", b"1")?;
     put_blob(tx, b"two", b"2")?;
+    put_blob(tx, b"three", b"3")?;
+    put_blob(tx, b"four", b"4")?;
     put_staged(tx, "b.txt", 1, b"two")?;
     put_staged(tx, "a.txt", 0, b"one")?;
     put_commit(tx, 1, b"first\n")
@@ -18,7 +20,7 @@ fn fill_more<S: Alter>(tx: &mut Transaction<'_, S>) -> Result<(), Error> {
     put_entry(tx, 1, "a.txt", 0, b"one")?;
     put_fix(tx, "a.txt", Some(b"two"))?;
     put_fix(tx, "b.txt", None)?;
-    put_answer(tx, b"one", b"two", b"one", b"two", 3)
+    put_answer(tx, b"one", b"two", b"three", b"four", 3)
 }
 
 fn empty_some<S: Alter>(tx: &mut Transaction<'_, S>) -> Result<(), Error> {
@@ -37,9 +39,17 @@ fn read_first<S: Alter>(
     assert_eq!(rt; meta[0].name.as_slice(), b"version".as_slice());
     assert_eq!(rt; meta[0].value, 1);
     let blobs = read_blobs(alloc, tx)?;
-    assert_eq!(rt; blobs.len(), 2);
-    assert_eq!(rt; blobs[0].digest.as_slice(), b"one".as_slice());
-    assert_eq!(rt; blobs[1].bytes.as_slice(), b"2".as_slice());
+    assert_eq!(rt; blobs.len(), 4);
+    let wanted: [(&[u8], &[u8]); 4] = [
+        (b"four", b"4"),
+        (b"one", b"1"),
+        (b"three", b"3"),
+        (b"two", b"2"),
+    ];
+    for (blob, (digest, bytes)) in blobs.iter().zip(wanted) {
+        assert_eq!(rt; blob.digest.as_slice(), digest);
+        assert_eq!(rt; blob.bytes.as_slice(), bytes);
+    }
     Ok(())
 }
 
@@ -54,8 +64,58 @@ fn read_tree<S: Alter>(
     assert_eq!(rt; commits[0].message.as_slice(), b"first\n".as_slice());
     let entries = read_entries(alloc, tx)?;
     assert_eq!(rt; entries.len(), 1);
+    assert_eq!(rt; entries[0].n, 1);
     assert_eq!(rt; entries[0].path.as_slice(), b"a.txt".as_slice());
     assert_eq!(rt; entries[0].mode, 0);
+    assert_eq!(rt; entries[0].digest.as_slice(), b"one".as_slice());
+    Ok(())
+}
+
+fn read_staged_files<S: Alter>(
+    rt: &impl Abort,
+    alloc: Global,
+    tx: &mut Transaction<'_, S>,
+) -> Result<(), Error> {
+    let staged = read_staged(alloc, tx)?;
+    assert_eq!(rt; staged.len(), 2);
+    assert_eq!(rt; staged[0].path.as_slice(), b"a.txt".as_slice());
+    assert_eq!(rt; staged[0].mode, 0);
+    assert_eq!(rt; staged[0].digest.as_slice(), b"one".as_slice());
+    assert_eq!(rt; staged[1].path.as_slice(), b"b.txt".as_slice());
+    assert_eq!(rt; staged[1].mode, 1);
+    assert_eq!(rt; staged[1].digest.as_slice(), b"two".as_slice());
+    Ok(())
+}
+
+fn read_both_fixes<S: Alter>(
+    rt: &impl Abort,
+    alloc: Global,
+    tx: &mut Transaction<'_, S>,
+) -> Result<(), Error> {
+    let fixes = read_fixes(alloc, tx)?;
+    assert_eq!(rt; fixes.len(), 2);
+    assert_eq!(rt; fixes[0].path.as_slice(), b"a.txt".as_slice());
+    assert_eq!(rt; fixes[0].gone, 0);
+    let digest = fixes[0].digest.as_ref().map(|digest| digest.as_slice());
+    assert_eq!(rt; digest, Some(b"two".as_slice()));
+    assert_eq!(rt; fixes[1].path.as_slice(), b"b.txt".as_slice());
+    assert_eq!(rt; fixes[1].gone, 1);
+    assert!(rt; fixes[1].digest.is_none());
+    Ok(())
+}
+
+fn read_one_answer<S: Alter>(
+    rt: &impl Abort,
+    alloc: Global,
+    tx: &mut Transaction<'_, S>,
+) -> Result<(), Error> {
+    let answers = read_answers(alloc, tx)?;
+    assert_eq!(rt; answers.len(), 1);
+    assert_eq!(rt; answers[0].words.as_slice(), b"one".as_slice());
+    assert_eq!(rt; answers[0].seen.as_slice(), b"two".as_slice());
+    assert_eq!(rt; answers[0].output.as_slice(), b"three".as_slice());
+    assert_eq!(rt; answers[0].changes.as_slice(), b"four".as_slice());
+    assert_eq!(rt; answers[0].status, 3);
     Ok(())
 }
 
@@ -77,10 +137,9 @@ fn rows_come_back_in_the_order_of_their_keys(rt: HostRuntime) -> Result<(), Fail
     fill_more(&mut tx)?;
     read_first(&rt, rt.alloc(), &mut tx)?;
     read_tree(&rt, rt.alloc(), &mut tx)?;
-    let staged = read_staged(rt.alloc(), &mut tx)?;
-    assert_eq!(rt; staged.len(), 2);
-    assert_eq!(rt; staged[0].path.as_slice(), b"a.txt".as_slice());
-    assert_eq!(rt; staged[1].mode, 1);
+    read_staged_files(&rt, rt.alloc(), &mut tx)?;
+    read_both_fixes(&rt, rt.alloc(), &mut tx)?;
+    read_one_answer(&rt, rt.alloc(), &mut tx)?;
     Ok(())
 }
 
@@ -93,5 +152,8 @@ fn rows_that_are_taken_out_are_gone(rt: HostRuntime) -> Result<(), Fail> {
     assert_eq!(rt; counts(rt.alloc(), &mut tx)?, (2, 2, 1));
     empty_some(&mut tx)?;
     assert_eq!(rt; counts(rt.alloc(), &mut tx)?, (1, 0, 0));
+    let staged = read_staged(rt.alloc(), &mut tx)?;
+    assert_eq!(rt; staged.len(), 1);
+    assert_eq!(rt; staged[0].path.as_slice(), b"a.txt".as_slice());
     Ok(())
 }
