@@ -32,9 +32,13 @@ pub(crate) fn play_call<S: Alter>(
         Call::Commit(message) => commit(alloc, store, message),
         Call::Blob(text) => keep(alloc, store, read_text(alloc, text)?.as_slice()),
         Call::BlobOf(size) => keep(alloc, store, contents_of(alloc, size, 0, 0)?.as_slice()),
-        Call::Staged | Call::Head | Call::TreeOf(_) | Call::Fixes | Call::Log | Call::Weigh => {
-            show(alloc, store, call)
-        }
+        Call::Staged
+        | Call::Head
+        | Call::TreeOf(_)
+        | Call::Trees
+        | Call::Fixes
+        | Call::Log
+        | Call::Weigh => show(alloc, store, call),
     }
 }
 
@@ -43,16 +47,31 @@ fn show<S: Alter>(alloc: Global, store: &Store<S>, call: Call<'_>) -> Result<Ans
     let mut answer = Answer::ok(alloc)?;
     match call {
         Call::Head => answer.add_tree(&store.head()?)?,
-        Call::TreeOf(number) => match store.tree_of(number)? {
-            None => answer.add(b"none")?,
-            Some(tree) => answer.add_tree(&tree)?,
-        },
+        Call::TreeOf(number) => add_tree_of(store, number, &mut answer)?,
+        Call::Trees => add_trees(alloc, store, &mut answer)?,
         Call::Fixes => answer.add_fixes(store.fixes()?.as_slice())?,
         Call::Log => answer.add_log(alloc, store.log()?.as_slice())?,
         Call::Weigh => weigh(alloc, store, &mut answer)?,
         _ => answer.add_tree(&store.staged()?)?,
     }
     Ok(answer)
+}
+
+/// Adds the files of a commit, or `none`.
+fn add_tree_of<S: Alter>(store: &Store<S>, number: u32, answer: &mut Answer) -> Result<(), Stop> {
+    match store.tree_of(number)? {
+        None => answer.add(b"none"),
+        Some(tree) => answer.add_tree(&tree),
+    }
+}
+
+/// Adds the number of each commit, and its files after it.
+fn add_trees<S: Alter>(alloc: Global, store: &Store<S>, answer: &mut Answer) -> Result<(), Stop> {
+    for commit in store.log()?.as_slice() {
+        answer.show(alloc, commit.number)?;
+        add_tree_of(store, commit.number, answer)?;
+    }
+    Ok(())
 }
 
 fn weigh<S: Alter>(alloc: Global, store: &Store<S>, answer: &mut Answer) -> Result<(), Stop> {

@@ -46,6 +46,8 @@ pub(crate) enum Call<'a> {
     Fixes,
     Log,
     TreeOf(u32),
+    /// The files of every commit.
+    Trees,
     /// How many files are staged, and their bytes.
     Weigh,
     /// Stages so many files of one size, whose contents the seed sets apart.
@@ -82,6 +84,7 @@ fn read_call(line: &str) -> Option<Call<'_>> {
         "head" => Some(Call::Head),
         "fixes" => Some(Call::Fixes),
         "log" => Some(Call::Log),
+        "trees" => Some(Call::Trees),
         "weigh" => Some(Call::Weigh),
         _ => {
             let (word, rest) = line.split_once(' ')?;

@@ -5,7 +5,7 @@ use crate::bulk::contents_of;
 use crate::calls::{answered, play_call};
 use crate::command::{Call, Command};
 use crate::stop::Stop;
-use crate::tables::{insert_contents, read_tables};
+use crate::tables::{Counts, insert_contents, read_tables};
 use hook_base::Change;
 use repo_store::{Store, StoreFault};
 use sqlite::{Alter, Connection, Error, ErrorCode, File, FileStore};
@@ -114,11 +114,16 @@ fn connect(rt: &HostRuntime, name: &str) -> Result<Answer, Stop> {
 
 fn show_tables(rt: &HostRuntime, name: &str) -> Result<Answer, Stop> {
     let alloc = rt.alloc();
-    let counted = match Connection::open(rt, name) {
+    let read = match Connection::open(rt, name) {
         Ok(mut conn) => read_tables(alloc, &mut conn),
         Err(error) => Err(error),
     };
-    match counted {
+    counted(alloc, read)
+}
+
+/// The answer to a reading of the tables.
+pub(crate) fn counted(alloc: Global, read: Result<Counts, Error>) -> Result<Answer, Stop> {
+    match read {
         Ok(counts) => {
             let mut answer = Answer::ok(alloc)?;
             answer.show(alloc, counts.rows)?;

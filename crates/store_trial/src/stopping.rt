@@ -4,11 +4,12 @@
 use crate::answer::Answer;
 use crate::calls::play_call;
 use crate::command::{Call, Command};
-use crate::place::{begun_in, fault_of};
+use crate::place::{begun_in, counted, fault_of};
 use crate::stop::Stop;
+use crate::tables::read_tables;
 use hook_base::Change;
 use repo_store::Store;
-use sqlite::{Connection, FileStore, Files, Options};
+use sqlite::{Connection, Error, FileStore, Files, Options};
 use sqlite_disk::{Crash, Fuse, Memory};
 use std::alloc::Global;
 
@@ -53,23 +54,45 @@ impl StoppingPlace {
             Command::Create => self.begin(alloc, true),
             Command::Open => self.begin(alloc, false),
             Command::Crash => self.crash(alloc),
+            Command::ReadTables => self.show_tables(alloc),
             Command::Call(call) => self.call(alloc, call),
-            Command::Close | Command::Connect | Command::ReadTables | Command::InsertAlone(_) =>
-                Err(Stop::BadLine),
+            Command::Close | Command::Connect | Command::InsertAlone(_) => Err(Stop::BadLine),
         }
     }
 
     fn begin(&mut self, alloc: Global, is_new: bool) -> Result<Answer, Stop> {
+        match self.connect(alloc)? {
+            Ok(conn) => self.begin_in(alloc, conn, is_new),
+            Err(error) => Answer::refused(alloc, &fault_of(error)),
+        }
+    }
+
+    /// Opens the database of the files. Where it is refused, the files are there for the next line.
+    fn connect(
+        &mut self,
+        alloc: Global,
+    ) -> Result<Result<Connection<FileStore<StoppingFile>>, Error>, Stop> {
         let files = self.files.take().ok_or(Stop::BadLine)?;
         if !files.may_be_used() {
             return Err(Stop::BadLine);
         }
         match Connection::open_files(alloc, files, options()) {
-            Ok(conn) => self.begin_in(alloc, conn, is_new),
+            Ok(conn) => Ok(Ok(conn)),
             Err((error, left)) => {
                 self.files = Some(left.into_files());
-                Answer::refused(alloc, &fault_of(error))
+                Ok(Err(error))
             }
+        }
+    }
+
+    fn show_tables(&mut self, alloc: Global) -> Result<Answer, Stop> {
+        match self.connect(alloc)? {
+            Ok(mut conn) => {
+                let read = read_tables(alloc, &mut conn);
+                self.files = Some(conn.into_store().close());
+                counted(alloc, read)
+            }
+            Err(error) => Answer::refused(alloc, &fault_of(error)),
         }
     }
 

@@ -1,5 +1,5 @@
 //! Reads and writes the tables of a database with no store, so that what a store costs can be told from what its
-//! database costs.
+//! database costs, and the rows that a store left can be counted.
 
 use sha2::{Digest as _, Sha256};
 use sqlite::{Alter, Connection, Error};
