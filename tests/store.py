@@ -4,9 +4,8 @@
 Usage: tests/store.py [PROGRAM]   (default: crates/store_trial/out/store_trial)
 
 A store is played by lines, each answered by a line of fields that tabs part. Beside it runs a model of a store, as a few
-dictionaries. The files are read, and damaged, by the program sqlite3, or, where there is none, by the same library in
-Python. A play is killed at random moments, each allocation of a play is refused in turn (tests/refuse_allocation.c), and
-a disk in memory stops at each of its operations in turn.
+dictionaries. The files are read, and damaged, by the program sqlite3. A play is killed at random moments, each allocation
+of a play is refused in turn (tests/refuse_allocation.c), and a disk in memory stops at each of its operations in turn.
 """
 import copy
 import hashlib
@@ -14,16 +13,18 @@ import os
 import random
 import shutil
 import signal
-import sqlite3
 import subprocess
 import sys
 import tempfile
+import time
 from concurrent.futures import ThreadPoolExecutor
 
 HERE = os.path.dirname(os.path.abspath(__file__))
 PROGRAM = os.path.abspath(sys.argv[1] if len(sys.argv) > 1 else os.path.join(HERE, "..", "crates/store_trial/out/store_trial"))
-SQLITE = shutil.which("sqlite3")
-SHOWN = ["staged", "head", "log", "fixes"]
+SQLITE = shutil.which("sqlite3") or sys.exit("tests/store.py: there is no sqlite3 to read the files with")
+SHOWN = ["staged", "head", "log", "fixes", "trees"]
+# What a store shows that has a.txt staged, with the contents 1, and nothing else.
+ONE_STAGED = ["ok\tplain\ta.txt\t1", "ok", "ok", "ok", "ok"]
 SCHEMA = [
     "CREATE TABLE answers (words BLOB NOT NULL REFERENCES blobs, seen BLOB NOT NULL REFERENCES blobs, output BLOB NOT NULL REFERENCES blobs, changes BLOB NOT NULL REFERENCES blobs, status INTEGER NOT NULL, PRIMARY KEY (words, seen)) STRICT",
     "CREATE TABLE blobs (digest BLOB PRIMARY KEY, bytes BLOB NOT NULL) STRICT",
@@ -193,6 +194,9 @@ class Model:
         at = int(number)
         return self.tree_line(self.store["history"][at - 1][1]) if 0 < at <= len(self.store["history"]) else "ok\tnone"
 
+    def trees(self):
+        return "".join(["ok"] + [f"\t{at + 1}{self.files_of(tree)}" for at, (_, tree) in enumerate(self.store["history"])])
+
     def log(self):
         return "".join(["ok"] + [f"\t{at + 1}\t{message}" for at, (message, _) in enumerate(self.store["history"])])
 
@@ -201,8 +205,12 @@ class Model:
         return "".join(["ok"] + [f"\t{path}\tgone" if now is None else f"\t{path}\tnow\t{now}" for path, now in rows])
 
     @staticmethod
+    def files_of(tree):
+        return "".join(f"\t{mode}\t{path}\t{content}" for path, (mode, content) in sorted(tree.items()))
+
+    @staticmethod
     def tree_line(tree):
-        return "".join(["ok"] + [f"\t{mode}\t{path}\t{content}" for path, (mode, content) in sorted(tree.items())])
+        return "ok" + Model.files_of(tree)
 
     def shown(self):
         """All that an open store shows, or none where there is no store."""
@@ -235,18 +243,9 @@ def random_play(seed, length):
 
 def ask(path, text):
     """What sqlite3 answers to SQL on a file: lines, whose columns bars part."""
-    if SQLITE:
-        done = subprocess.run([SQLITE, "-batch", path, text], capture_output=True, timeout=60)
-        check(done.returncode == 0, f"sqlite3 refuses {text!r}: {done.stderr!r}")
-        return done.stdout.decode().splitlines()
-    held = sqlite3.connect(path, isolation_level=None)
-    try:
-        rows = []
-        for statement in text.split(";"):
-            rows += held.execute(statement).fetchall()
-        return ["|".join("" if value is None else str(value) for value in row) for row in rows]
-    finally:
-        held.close()
+    done = subprocess.run([SQLITE, "-batch", path, text], capture_output=True, timeout=60)
+    check(done.returncode == 0, f"sqlite3 refuses {text!r}: {done.stderr!r}")
+    return done.stdout.decode().splitlines()
 
 
 def rows_of(path):
@@ -288,9 +287,8 @@ def check_file(path, store):
     """The file is a sound database of the documented tables, and has the rows of the store."""
     schema = ask(path, "SELECT sql FROM sqlite_schema WHERE sql IS NOT NULL ORDER BY name")
     check(schema == SCHEMA, f"the schema is {schema!r}")
-    if SQLITE:
-        printed = sorted(ask(path, ".schema"))
-        check(printed == [line + ";" for line in SCHEMA], f"sqlite3 prints the schema {printed!r}")
+    printed = sorted(ask(path, ".schema"))
+    check(printed == [line + ";" for line in SCHEMA], f"sqlite3 prints the schema {printed!r}")
     check(ask(path, "PRAGMA integrity_check") == ["ok"], "integrity_check finds faults")
     check(ask(path, "PRAGMA foreign_key_check") == [], "foreign_key_check finds faults")
     found, wanted = rows_of(path), rows_of_model(store)
@@ -344,7 +342,7 @@ def refuses_bad_lines(folder):
         path = os.path.join(folder, f"{at}.db")
         given, status, said = run(path, ["create", "stage plain a.txt 1", line])
         check((given, status, said) == (["ok", "ok"], 2, "store_trial: this line can't be played\n"), f"{line!r}: {given!r} {status} {said!r}")
-        check(shown(path) == ["ok\tplain\ta.txt\t1", "ok", "ok", "ok"], f"{line!r} leaves {shown(path)!r}")
+        check(shown(path) == ONE_STAGED, f"{line!r} leaves {shown(path)!r}")
     for words in ([], ["log", "x"], ["disk", "1"], ["log", "1", "2"]):
         check(subprocess.run([PROGRAM, *words], capture_output=True, stdin=subprocess.DEVNULL).returncode == 2, f"the words {words!r} aren't refused")
 
@@ -360,7 +358,7 @@ def refuses_a_second_store(folder):
 
 FILLING = ["create", "stage plain a.txt 1", "stage plain b.txt 2", "commit m\\n", "commit n\\n", "fix a.txt 2", "set", "close"]
 ONE, TWO = digest_of("1"), digest_of("2")
-NOT_A_STORE, DAMAGED, SQL = "refused\t1\tNotAStore\t", "refused\t2\tDamaged\t", "refused\t3\tSql\t"
+NOT_A_STORE, DAMAGED, SQL, TOO_MANY = "refused\t1\tNotAStore\t", "refused\t2\tDamaged\t", "refused\t3\tSql\t", "refused\t7\tTooMany\t"
 # What is done to the file of FILLING, how it is refused then, and what takes it back.
 PLANTS = [
     ("no version", "DELETE FROM meta", NOT_A_STORE, "INSERT INTO meta VALUES ('version', 1)"),
@@ -403,7 +401,8 @@ PLANTS = [
 def refuses_planted_files(folder):
     whole = os.path.join(folder, "whole.db")
     answers(whole, FILLING)
-    before = shown(whole)
+    before = model_of(FILLING).shown()
+    check(shown(whole) == before, f"opened again it shows {shown(whole)!r}, wanted {before!r}")
     for at, (name, text, refusal, repair) in enumerate(PLANTS):
         path = os.path.join(folder, f"{at}.db")
         shutil.copyfile(whole, path)
@@ -467,7 +466,7 @@ def refuses_what_is_too_large(folder):
     given = answers(path, ["create", "stage plain a.txt 1", "blob-of 16777217", "stage-many 1 16777217 0", "commit " + "m" * 16777217,
                            "fix a.txt " + "1" * 16777217, "set", *SHOWN])
     check(given[2:5] == [too_large] * 3 and given[6:7] == [too_large], f"answered {[line[:80] for line in given]!r}")
-    check(given[7:] == ["ok\tplain\ta.txt\t1", "ok", "ok", "ok"], "a refusal changed the store")
+    check(given[7:] == ONE_STAGED, "a refusal changed the store")
     given = answers(path, ["open", "blob-of 16777216", "stage-many 1 16777216 0", "weigh", "commit " + "m" * 16777216, "close"])
     digest = hashlib.sha256(b"0 0 ".ljust(16777216, b".")).hexdigest()
     check(given == ["ok", f"ok\t{digest}", "ok", "ok\t2\t16777217", "ok\t1", "ok"], f"16 MiB: answered {[line[:80] for line in given]!r}")
@@ -476,7 +475,6 @@ def refuses_what_is_too_large(folder):
 
 def refuses_more_files_than_a_tree_may_have(folder):
     """At each limit of a staged tree one more file is refused, and another content of a file is not."""
-    too_many = "refused\t7\tTooMany\t"
     limits = [("2048", "printf('%04096d', n)", f"{2:04096d}", "a"), ("100000", "'d/' || n", "d/2", "d/x")]
     for at, (count, path_of, there, new) in enumerate(limits):
         path = os.path.join(folder, f"{at}.db")
@@ -484,8 +482,33 @@ def refuses_more_files_than_a_tree_may_have(folder):
         ask(path, f"WITH RECURSIVE c(n) AS (SELECT 1 UNION ALL SELECT n + 1 FROM c WHERE n < {count}) "
             f"INSERT INTO staged SELECT {path_of}, 0, x'{ONE}' FROM c")
         given = answers(path, ["open", f"stage plain {there} 2", f"stage plain {new} 2", "weigh", f"unstage {there}", f"stage plain {new} 2", "close"])
-        check(given[2].startswith(too_many), f"{count} files: answered {given[2]!r}")
+        check(given[2].startswith(TOO_MANY), f"{count} files: answered {given[2]!r}")
         check(given[:2] + given[3:] == ["ok", "ok", f"ok\t{count}\t{count}", "ok", "ok", "ok"], f"{count} files: answered {given!r}")
+
+
+def refuses_more_commits_than_a_store_may_have(folder):
+    """The 100,000th commit is taken, one more is refused and leaves the store as it was, and its file can be opened."""
+    path, model = os.path.join(folder, "store.db"), model_of(["create", "stage plain a.txt 1"])
+    answers(path, ["create", "stage plain a.txt 1", "close"])
+    ask(path, "WITH RECURSIVE c(n) AS (SELECT 1 UNION ALL SELECT n + 1 FROM c WHERE n < 99999) INSERT INTO commits SELECT n, x'6d' FROM c")
+    model.store["history"] = [("m", {})] * 99999
+    last = ["commit n", "fix a.txt 2", "set"]
+    given = answers(path, ["open", *last, "commit o", *SHOWN, "close"])
+    check(given[1:4] == [model.play(line) for line in last], f"the 100,000th commit: answered {given[1:4]!r}")
+    check(given[4].startswith(TOO_MANY), f"one more commit: answered {given[4]!r}")
+    check(given[5:-1] == model.shown(), "the refusal of a commit changed what is shown")
+    check(shown(path) == model.shown(), "opened again, a store of 100,000 commits isn't the same")
+    check_file(path, model.store)
+
+
+def answered_until_killed(path, lines, seconds):
+    """How many lines of a play are answered that is killed after so many seconds."""
+    child = subprocess.Popen([PROGRAM, path], stdin=subprocess.PIPE, stdout=subprocess.PIPE)
+    try:
+        child.communicate("".join(line + "\n" for line in lines).encode(), timeout=seconds)
+    except subprocess.TimeoutExpired:
+        child.send_signal(signal.SIGKILL)
+    return len(child.communicate()[0].splitlines())
 
 
 def is_left_whole_by_a_kill(folder):
@@ -493,23 +516,24 @@ def is_left_whole_by_a_kill(folder):
     and in its rows, in which contents stand that no file has."""
     chance = random.Random(1)
     lines = random_play(7, 600)
-    states, model = [(None, None)], Model()
+    start = time.monotonic()
+    answers(os.path.join(folder, "whole.db"), lines)
+    whole = time.monotonic() - start
+    states, model, in_play = [(None, None)], Model(), 0
     for line in lines:
         model.play(line)
         states.append((model.shown(), rows_of_model(model.store)))
     for number in range(40):
         path = os.path.join(folder, f"{number}.db")
-        child = subprocess.Popen([PROGRAM, path], stdin=subprocess.PIPE, stdout=subprocess.PIPE)
-        try:
-            child.communicate("".join(line + "\n" for line in lines).encode(), timeout=chance.uniform(0.002, 0.5))
-        except subprocess.TimeoutExpired:
-            child.send_signal(signal.SIGKILL)
-        answered = len(child.communicate()[0].splitlines())
+        answered = answered_until_killed(path, lines, chance.uniform(0.002, whole))
         opened = answers(path, ["open", *SHOWN])
         found = opened[1:] if opened[0] == "ok" else None
         check(found is not None or opened[0].startswith(NOT_A_STORE), f"kill {number}: {opened[0]!r}")
         state = (found, rows_of(path) if found else None)
         check(state in states[answered:answered + 2], f"kill {number} after {answered} answers: it is {state!r}")
+        in_play += 0 < answered < len(lines)
+    check(in_play > 0, "no kill came in mid-play")
+    print(f"kills: {in_play} of 40 came in mid-play")
 
 
 # ---- memory that is refused
@@ -591,28 +615,62 @@ STOPPED_PLAY = ["create", "stage plain a.txt 1", "stage executable tools/run 2",
                 "unstage a.txt", "fix-gone tools/run", "set", "stage plain tools/run 5", "commit n\\n"]
 
 
-def play_stopped(which, number):
-    """Plays up to the call at which the disk stops, crashes, and opens the store again. Answers whether a call was stopped."""
-    first, status, _ = run_words([which, str(number)], STOPPED_PLAY)
-    check(status == 0 and len(first) == len(STOPPED_PLAY), f"{which} {number}: status {status} after {len(first)} answers")
-    model, count = Model(), 0
-    for line, answer in zip(STOPPED_PLAY, first):
+def model_before_the_stop(which, number, given):
+    """The model after the calls before the first that was refused, and their number."""
+    model = Model()
+    for count, (line, answer) in enumerate(zip(STOPPED_PLAY, given)):
         after = copy.deepcopy(model)
         if answer != after.play(line):
             check(answer.startswith(SQL), f"{which} {number}: {line!r} is answered {answer!r}")
-            break
-        model, count = after, count + 1
-    before = model.shown()
-    model.play(STOPPED_PLAY[min(count, len(STOPPED_PLAY) - 1)])
-    played = STOPPED_PLAY[:count + 1]
-    given, status, _ = run_words([which, str(number)], [*played, *(SHOWN if before else []), "crash", "open", *SHOWN])
-    check(status == 0 and given[:len(played)] == first[:len(played)], f"{which} {number}: played again it answers {given!r}, status {status}")
-    shown, crashed, opened, found = given[len(played):-6], given[-6], given[-5], given[-4:]
-    check(crashed == "ok", f"{which} {number}: the crash is answered {crashed!r}")
-    check(before is None or shown == before, f"{which} {number}: a refused call left {shown!r} in place of {before!r}")
+            return model, count
+        model = after
+    return model, len(STOPPED_PLAY)
+
+
+def counts_of(store):
+    """The answer to read-tables: the rows of a store's tables but for the contents, the contents, and that none of them
+    stands under another's digest."""
+    rows = rows_of_model(store)
+    count = sum(len(rows[table]) for table in ("meta", "staged", "fixes", "commits", "entries"))
+    return f"ok\t{count}\t{len(rows['blobs'])}\t0"
+
+
+def state_of(model):
+    """What a store shows and how many rows it has, or none where there is no store."""
+    return None if model.store is None else [*model.shown(), counts_of(model.store)]
+
+
+def state_after_the_stop(which, number, answered, before):
+    """What a store shows, and how many rows it has, that is opened after a crash, and crashes again before its rows are
+    counted. Until the first crash it has to show what it showed before the call that was stopped."""
+    played = STOPPED_PLAY[:len(answered)]
+    lines = [*played, *(SHOWN if before else []), "crash", "open", *SHOWN, "crash", "read-tables"]
+    given, status, _ = run_words([which, str(number)], lines)
+    check(status == 0 and len(given) == len(lines) and given[:len(played)] == answered, f"{which} {number}: played again it answers {given!r}, status {status}")
+    shown = given[len(played):-len(SHOWN) - 4]
+    crashed, opened, *found, crashed_again, counts = given[-len(SHOWN) - 4:]
+    check(crashed == crashed_again == "ok", f"{which} {number}: the crashes are answered {crashed!r} and {crashed_again!r}")
+    check(before is None or shown == before[:-1], f"{which} {number}: a refused call left {shown!r} in place of {before!r}")
     check(opened == "ok" or opened.startswith(NOT_A_STORE), f"{which} {number}: opened again: {opened!r}")
-    found = found if opened == "ok" else None
-    check(found == before or (count < len(STOPPED_PLAY) and found == model.shown()), f"{which} {number}: {found!r} is neither {before!r} nor {model.shown()!r}")
+    if opened == "ok":
+        return [*found, counts]
+    made, _, _ = run_words([which, str(number)], [*played, "crash", "create"])
+    check(made[-1:] == ["ok"], f"{which} {number}: where there is no store, none can be made: {made[-1:]!r}")
+    return None
+
+
+def play_stopped(which, number):
+    """Plays up to the call at which the disk stops, crashes, and opens the store again. Answers whether a call was stopped."""
+    given, status, _ = run_words([which, str(number)], STOPPED_PLAY)
+    check(status == 0 and len(given) == len(STOPPED_PLAY), f"{which} {number}: status {status} after {len(given)} answers")
+    model, count = model_before_the_stop(which, number, given)
+    before = state_of(model)
+    states = [before]
+    if count < len(STOPPED_PLAY):
+        model.play(STOPPED_PLAY[count])
+        states.append(state_of(model))
+    found = state_after_the_stop(which, number, given[:count + 1], before)
+    check(found in states, f"{which} {number}: {found!r} is none of {states!r}")
     return count < len(STOPPED_PLAY)
 
 
@@ -632,8 +690,8 @@ def is_left_before_or_after_a_call_by_a_stop(_folder):
 
 CASES = [plays_the_story, keeps_each_content_once, plays_as_the_model, refuses_bad_lines, refuses_a_second_store, refuses_planted_files,
          refuses_files_that_hold_no_store, refuses_files_with_other_tables, refuses_what_is_too_large,
-         refuses_more_files_than_a_tree_may_have, is_left_whole_by_a_kill, is_left_before_or_after_a_call_by_a_stop,
-         refuses_for_want_of_memory]
+         refuses_more_files_than_a_tree_may_have, refuses_more_commits_than_a_store_may_have, is_left_whole_by_a_kill,
+         is_left_before_or_after_a_call_by_a_stop, refuses_for_want_of_memory]
 
 
 def main():
