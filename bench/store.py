@@ -5,9 +5,10 @@ Usage: bench/store.py [PROGRAM]   (default: crates/store_trial/out/store_trial)
 
 Stagings are each a transaction of their own. Opening is timed after 1, 10 and 100 commits of 1,000 files of 400 bytes, once
 with the same contents in each commit and once with other contents in each, and beside it what the database alone takes:
-to open the file, and to open it, read each table once and hash the contents. The first staging after an opening is timed
-apart from the next 100: it pays for what opening freed, since the C library's malloc joins small free blocks at the
-next request for a large one. Each time is wall time in milliseconds, the least of several runs where nothing is written.
+to open the file, and to open it, read each table once and hash the contents. The other calls are timed after each of those
+openings, since they are to cost the same whatever the history. The first staging is timed apart from the next 100: it pays
+for what opening freed, since the C library's malloc joins small free blocks at the next request for a large one. Each time
+is wall time in milliseconds, the least of several runs where nothing is written, or where each writes to a copy.
 The peak memory is of the whole process, beside the contents held, and beside it what the database alone takes: to put
 contents into their table, and to open a file and read its tables.
 """
@@ -38,6 +39,29 @@ READ = [
     "SELECT n, message FROM commits ORDER BY n",
     "SELECT n, path, mode, digest FROM entries ORDER BY n, path",
     "SELECT words, seen, output, changes, status FROM answers ORDER BY words, seen",
+]
+
+
+def contents_of(size, seed, at):
+    return f"{seed} {at} ".encode().ljust(size, b".")[:size]
+
+
+def new_contents(seed, count):
+    """So many texts that no history has."""
+    return [contents_of(SIZE, NEW + seed, at).decode() for at in range(count)]
+
+
+# What is timed after each opening, in turn in one play, and its lines. Calls that change staged files take others of them.
+CALLS = [
+    ("the first staging", [f"stage-many 1 {SIZE} {NEW}"]),
+    ("the next 100", [f"stage-many 100 {SIZE} {NEW + 1}"]),
+    ("100 unstagings", [f"unstage many/{at:06}" for at in range(100, 200)]),
+    ("10 times a fix set and accepted", [line for at, text in enumerate(new_contents(2, 10), 200)
+                                         for line in (f"fix many/{at:06} {text}", "set", "accept")]),
+    ("10 commits of the staged files", ["commit m"] * 10),
+    ("100 contents kept", [f"blob {text}" for text in new_contents(3, 100)]),
+    ("the staged files, read 10 times", ["staged"] * 10),
+    ("the files of HEAD, read 10 times", ["head"] * 10),
 ]
 
 
@@ -79,10 +103,6 @@ def played(path, lines):
     play = Play(path)
     times = [play.ask(line) for line in lines]
     return times, play.end()
-
-
-def contents_of(size, seed, at):
-    return f"{seed} {at} ".encode().ljust(size, b".")[:size]
 
 
 def by_sqlite(path, text):
@@ -190,8 +210,19 @@ def least_of_line(path, line, runs=5):
     return min(times[0] for times, _ in all_runs), min(peak for _, peak in all_runs)
 
 
+def least_of_calls(path, runs=5):
+    """The least milliseconds of each of CALLS, over copies of a closed store."""
+    all_runs = []
+    for _ in range(runs):
+        play = Play(copy(path, path + ".more"))
+        play.ask("open")
+        all_runs.append([sum(play.ask(line) for line in lines) for _, lines in CALLS])
+        play.end()
+    return [min(times) for times in zip(*all_runs)]
+
+
 def time_opening(folder, are_same):
-    firsts, stagings = [], []
+    calls = []
     for commits in (1, 10, 100):
         path = os.path.join(folder, f"{commits}{are_same}.db")
         held = make_history(path, commits, are_same)
@@ -205,12 +236,10 @@ def time_opening(folder, are_same):
         print(f"{'':44} {alone:9.2f} ms of it to open the database alone, {read:.2f} ms to open, read and hash: ratio {ours / read:.2f}")
         print(f"{'':44} {os.path.getsize(path) / 1e6:9.1f} MB of file, {held:.1f} MB of contents")
         tell_peak(peak, held * 1e6, [("to open the database alone", alone_peak), ("and read it", read_peak)])
-        lines = ["open", f"stage-many 1 {SIZE} {NEW}", f"stage-many 100 {SIZE} {NEW + 1}"]
-        runs = [played(copy(path, path + ".more"), lines)[0] for _ in range(5)]
-        firsts.append(min(times[1] for times in runs))
-        stagings.append(min(times[2] for times in runs))
-    for what, times in (("the first staging", firsts), ("the next 100", stagings)):
-        print(f"{what} after 1, 10 and 100 commits: {', '.join(f'{each:.1f}' for each in times)} ms; ratio of the last to the first {times[-1] / times[0]:.2f}")
+        calls.append(least_of_calls(path))
+    for (what, _), times in zip(CALLS, zip(*calls)):
+        print(f"{what} after 1, 10 and 100 commits: {', '.join(f'{each:.1f}' for each in times)} ms; "
+              f"ratio of the last to the first {times[-1] / times[0]:.2f}, aim 1")
 
 
 def main():
