@@ -3,39 +3,56 @@
 use super::kept::new_store;
 use super::steps::Answer::Done;
 use super::steps::Step::{self, Fix, FixGone, Stage, Unstage};
-use super::steps::play;
+use super::steps::{change_of, play};
+use hook_base::Change;
 use hook_base::Mode::Plain;
 use std::alloc::Global;
 use std::process::Abort;
 use std::test::Fail;
 
-/// Calls on a store that has `a.txt` staged, and how many fixes it has then.
-struct Case(&'static [Step], usize);
+/// What a store keeps as a fix: a path, and the new contents where the file isn't gone.
+struct Kept(&'static str, Option<&'static [u8]>);
+
+/// Calls on a store that has `a.txt` staged, and the fixes that it has then.
+struct Case(&'static [Step], &'static [Kept]);
 
 const CASES: &[Case] = &[
-    Case(&[Fix("a.txt", b"2")], 1),
-    Case(&[FixGone("a.txt")], 1),
-    Case(&[Fix("b.txt", b"2")], 0),
-    Case(&[FixGone("b.txt")], 0),
-    Case(&[Fix("a.txt", b"2"), Stage("b.txt", Plain, b"2")], 0),
-    Case(&[Fix("a.txt", b"2"), Stage("a.txt", Plain, b"1")], 0),
-    Case(&[Fix("a.txt", b"2"), Unstage("b.txt")], 0),
-    Case(&[Fix("a.txt", b"2"), Fix("b.txt", b"2")], 0),
+    Case(&[Fix("a.txt", b"2")], &[Kept("a.txt", Some(b"2"))]),
+    Case(&[FixGone("a.txt")], &[Kept("a.txt", None)]),
+    Case(&[Fix("b.txt", b"2")], &[]),
+    Case(&[FixGone("b.txt")], &[]),
+    Case(&[Fix("a.txt", b"2"), Stage("b.txt", Plain, b"2")], &[]),
+    Case(&[Fix("a.txt", b"2"), Stage("a.txt", Plain, b"1")], &[]),
+    Case(&[Fix("a.txt", b"2"), Unstage("b.txt")], &[]),
+    Case(&[Fix("a.txt", b"2"), Fix("b.txt", b"2")], &[]),
+    Case(
+        &[Fix("a.txt", b"2"), Fix("a.txt", b"3")],
+        &[Kept("a.txt", Some(b"3"))],
+    ),
 ];
 
-fn count_after(rt: &impl Abort, alloc: Global, steps: &[Step]) -> Result<usize, Fail> {
+fn fixes_after(rt: &impl Abort, alloc: Global, steps: &[Step]) -> Result<Vec<Change>, Fail> {
     let mut store = new_store(alloc)?;
     let staged = play(alloc, &mut store, Stage("a.txt", Plain, b"1"))?;
     assert_eq!(rt; staged, Done(0));
     for step in steps {
         assert_eq!(rt; play(alloc, &mut store, *step)?, Done(0), "at {step:?}");
     }
-    Ok(store.fixes()?.len())
+    Ok(store.fixes()?)
+}
+
+fn changes_of(alloc: Global, kept: &[Kept]) -> Result<Vec<Change>, Fail> {
+    let mut changes = Vec::new(alloc);
+    for Kept(path, now) in kept {
+        changes.push(change_of(alloc, path, *now)?)?;
+    }
+    Ok(changes)
 }
 
 fn check_cases(rt: &impl Abort, alloc: Global, cases: &[Case]) -> Result<(), Fail> {
-    for Case(steps, count) in cases {
-        assert_eq!(rt; count_after(rt, alloc, steps)?, *count, "at {steps:?}");
+    for Case(steps, kept) in cases {
+        let wanted = changes_of(alloc, kept)?;
+        assert_eq!(rt; fixes_after(rt, alloc, steps)?, wanted, "at {steps:?}");
     }
     Ok(())
 }

@@ -1,6 +1,7 @@
 //! Stores in memory, and what is seen of a store.
 
 use crate::{Store, StoreFault};
+use hook_base::Tree;
 use sqlite::{Alter, Connection, MemStore};
 use std::alloc::Global;
 use std::test::Fail;
@@ -43,11 +44,21 @@ pub fn store_over<S: Alter + Drop>(alloc: Global, conn: Connection<S>) -> Result
     }
 }
 
+/// The files of each commit, the oldest first.
+fn trees_of<S: Alter>(alloc: Global, store: &Store<S>) -> Result<Vec<Option<Tree>>, Fail> {
+    let mut trees = Vec::new(alloc);
+    for commit in store.log()?.as_slice() {
+        trees.push(store.tree_of(commit.number)?)?;
+    }
+    Ok(trees)
+}
+
 /// All that is seen of a store, as a text.
 pub fn seen<S: Alter>(alloc: Global, store: &Store<S>) -> Result<String, Fail> {
     let staged = store.staged()?;
     let head = store.head()?;
     let fixes = store.fixes()?;
     let log = store.log()?;
-    Ok(format!(in alloc; "{staged:?} {head:?} {fixes:?} {log:?}")?)
+    let trees = trees_of(alloc, store)?;
+    Ok(format!(in alloc; "{staged:?} {head:?} {fixes:?} {log:?} {trees:?}")?)
 }

@@ -58,18 +58,24 @@ pub fn stage<S: Alter>(
     Ok(answer_of(store.stage(&path, mode, bytes)))
 }
 
+/// The change of a file to these contents, or to none.
+pub fn change_of(alloc: Global, text: &str, now: Option<&[u8]>) -> Result<Change, Fail> {
+    let path = path_of(alloc, text)?;
+    let now = match now {
+        None => None,
+        Some(bytes) => Some(Bytes::copy_of(alloc, bytes)?),
+    };
+    Ok(Change { path, now })
+}
+
 pub fn set_one<S: Alter>(
     alloc: Global,
     store: &mut Store<S>,
     text: &str,
     now: Option<&[u8]>,
 ) -> Result<Answer, Fail> {
-    let path = path_of(alloc, text)?;
-    let now = match now {
-        None => None,
-        Some(bytes) => Some(Bytes::copy_of(alloc, bytes)?),
-    };
-    Ok(answer_of(store.set_fixes(&[Change { path, now }])))
+    let change = change_of(alloc, text, now)?;
+    Ok(answer_of(store.set_fixes(&[change])))
 }
 
 pub fn unstage<S: Alter>(alloc: Global, store: &mut Store<S>, text: &str) -> Result<Answer, Fail> {

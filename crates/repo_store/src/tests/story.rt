@@ -45,10 +45,18 @@ fn play_all<S: Alter>(
     Ok(())
 }
 
-/// The bytes at a path of a tree are these.
-fn has(rt: &impl Abort, alloc: Global, tree: &Tree, text: &str, bytes: &[u8]) -> Result<(), Fail> {
+/// A tree has a file of this mode and these bytes.
+fn has(
+    rt: &impl Abort,
+    alloc: Global,
+    tree: &Tree,
+    text: &str,
+    mode: Mode,
+    bytes: &[u8],
+) -> Result<(), Fail> {
     let path = path_of(alloc, text)?;
     let entry = tree.get(&path).ok_or("no file")?;
+    assert_eq!(rt; entry.mode, mode);
     assert_eq!(rt; entry.bytes.as_slice(), bytes);
     Ok(())
 }
@@ -57,7 +65,8 @@ fn shows_the_story<S: Alter>(rt: &impl Abort, alloc: Global, store: &Store<S>) -
     assert!(rt; store.staged()?.is_empty());
     assert_eq!(rt; store.fixes()?.len(), 0);
     let first = store.tree_of(1)?.ok_or("no commit")?;
-    has(rt, alloc, &first, "a.txt", b"2")?;
+    assert_eq!(rt; first.len(), 1);
+    has(rt, alloc, &first, "a.txt", Plain, b"2")?;
     assert!(rt; first == store.head()?);
     Ok(())
 }
@@ -93,5 +102,8 @@ fn a_store_that_is_opened_again_is_the_same(rt: HostRuntime) -> Result<(), Fail>
     let store = store_over(alloc, store.into_connection())?;
     assert_eq!(rt; seen(alloc, &store)?, before);
     assert!(rt; store.head()?.is_empty());
-    has(&rt, alloc, &store.staged()?, "tools/run", b"#!/bin/sh\n")
+    let staged = store.staged()?;
+    assert_eq!(rt; staged.len(), 2);
+    has(&rt, alloc, &staged, "b.txt", Plain, b"2")?;
+    has(&rt, alloc, &staged, "tools/run", Executable, b"#!/bin/sh\n")
 }
