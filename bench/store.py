@@ -6,9 +6,8 @@ Usage: bench/store.py [PROGRAM]   (default: crates/store_trial/out/store_trial)
 Stagings are each a transaction of their own. Opening is timed after 1, 10 and 100 commits of 1,000 files of 400 bytes, once
 with the same contents in each commit and once with other contents in each, and beside it what the database alone takes:
 to open the file, and to open it, read each table once and hash the contents. The other calls are timed after each of those
-openings, since they are to cost the same whatever the history. The first staging is timed apart from the next 100: it pays
-for what opening freed, since the C library's malloc joins small free blocks at the next request for a large one. Each time
-is wall time in milliseconds, the least of several runs where nothing is written, or where each writes to a copy.
+openings, since they are to cost the same whatever the history. The first staging is timed apart from the next 100, so that
+one shows what opening leaves for it to do. Each time is wall time in milliseconds, the least of several runs where nothing is written, or where each writes to a copy.
 The peak memory is of the whole process, beside the contents held, and beside it what the database alone takes: to put
 contents into their table, and to open a file and read its tables.
 """
@@ -62,6 +61,7 @@ CALLS = [
     ("100 contents kept", [f"blob {text}" for text in new_contents(3, 100)]),
     ("the staged files, read 10 times", ["staged"] * 10),
     ("the files of HEAD, read 10 times", ["head"] * 10),
+    ("the files of commit 1, read 10 times", ["tree 1"] * 10),
 ]
 
 
@@ -222,6 +222,7 @@ def least_of_calls(path, runs=5):
 
 
 def time_opening(folder, are_same):
+    contents = "the same" if are_same else "other"
     calls = []
     for commits in (1, 10, 100):
         path = os.path.join(folder, f"{commits}{are_same}.db")
@@ -231,14 +232,14 @@ def time_opening(folder, are_same):
         read, read_peak = least_of_line(path, "read-tables")
         beside = min(by_sqlite(path, ";\n".join(READ) + ";\n") for _ in range(5))
         checked = min(by_sqlite(path, "PRAGMA integrity_check; PRAGMA foreign_key_check;\n" + ";\n".join(READ) + ";\n") for _ in range(5))
-        show(f"opening {commits} commits of {FILES} files, {'the same' if are_same else 'other'} contents", ours, beside, "sqlite3, rows read  ")
+        show(f"opening {commits} commits of {FILES} files, {contents} contents", ours, beside, "sqlite3, rows read  ")
         show("", ours, checked, "and the file checked")
         print(f"{'':44} {alone:9.2f} ms of it to open the database alone, {read:.2f} ms to open, read and hash: ratio {ours / read:.2f}")
         print(f"{'':44} {os.path.getsize(path) / 1e6:9.1f} MB of file, {held:.1f} MB of contents")
         tell_peak(peak, held * 1e6, [("to open the database alone", alone_peak), ("and read it", read_peak)])
         calls.append(least_of_calls(path))
     for (what, _), times in zip(CALLS, zip(*calls)):
-        print(f"{what} after 1, 10 and 100 commits: {', '.join(f'{each:.1f}' for each in times)} ms; "
+        print(f"{what} after 1, 10 and 100 commits of {contents} contents: {', '.join(f'{each:.1f}' for each in times)} ms; "
               f"ratio of the last to the first {times[-1] / times[0]:.2f}, aim 1")
 
 

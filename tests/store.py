@@ -358,7 +358,8 @@ def refuses_a_second_store(folder):
 
 FILLING = ["create", "stage plain a.txt 1", "stage plain b.txt 2", "commit m\\n", "commit n\\n", "fix a.txt 2", "set", "close"]
 ONE, TWO = digest_of("1"), digest_of("2")
-NOT_A_STORE, DAMAGED, SQL, TOO_MANY = "refused\t1\tNotAStore\t", "refused\t2\tDamaged\t", "refused\t3\tSql\t", "refused\t7\tTooMany\t"
+NOT_A_STORE, DAMAGED, SQL = "refused\t1\tNotAStore\t", "refused\t2\tDamaged\t", "refused\t3\tSql\t"
+TOO_LARGE, TOO_MANY = "refused\t6\tTooLarge\tcontents or a message of more than 16 MiB", "refused\t7\tTooMany\t"
 # What is done to the file of FILLING, how it is refused then, and what takes it back.
 PLANTS = [
     ("no version", "DELETE FROM meta", NOT_A_STORE, "INSERT INTO meta VALUES ('version', 1)"),
@@ -424,6 +425,7 @@ OTHER_TABLES = [
     ("no version that can be read", "DROP TABLE meta"),
     ("a table more", "CREATE TABLE notes (text TEXT) STRICT"),
     ("an index more", "CREATE INDEX modes ON staged (mode)"),
+    ("a view more", "CREATE VIEW paths AS SELECT path FROM staged"),
     ("a table less", "DROP TABLE answers"),
     ("another table of that name", "DROP TABLE answers; CREATE TABLE answers (words BLOB NOT NULL) STRICT"),
 ]
@@ -462,10 +464,9 @@ def refuses_files_that_hold_no_store(folder):
 
 def refuses_what_is_too_large(folder):
     path = os.path.join(folder, "store.db")
-    too_large = "refused\t6\tTooLarge\tcontents or a message of more than 16 MiB"
     given = answers(path, ["create", "stage plain a.txt 1", "blob-of 16777217", "stage-many 1 16777217 0", "commit " + "m" * 16777217,
                            "fix a.txt " + "1" * 16777217, "set", *SHOWN])
-    check(given[2:5] == [too_large] * 3 and given[6:7] == [too_large], f"answered {[line[:80] for line in given]!r}")
+    check(given[2:5] == [TOO_LARGE] * 3 and given[6:7] == [TOO_LARGE], f"answered {[line[:80] for line in given]!r}")
     check(given[7:] == ONE_STAGED, "a refusal changed the store")
     given = answers(path, ["open", "blob-of 16777216", "stage-many 1 16777216 0", "weigh", "commit " + "m" * 16777216, "close"])
     digest = hashlib.sha256(b"0 0 ".ljust(16777216, b".")).hexdigest()
@@ -481,9 +482,11 @@ def refuses_more_files_than_a_tree_may_have(folder):
         answers(path, ["create", "blob 1", "close"])
         ask(path, f"WITH RECURSIVE c(n) AS (SELECT 1 UNION ALL SELECT n + 1 FROM c WHERE n < {count}) "
             f"INSERT INTO staged SELECT {path_of}, 0, x'{ONE}' FROM c")
-        given = answers(path, ["open", f"stage plain {there} 2", f"stage plain {new} 2", "weigh", f"unstage {there}", f"stage plain {new} 2", "close"])
+        given = answers(path, ["open", f"stage plain {there} 2", f"stage plain {new} 2", "stage-many 1 16777217 0", "weigh", f"unstage {there}",
+                               f"stage plain {new} 2", "close"])
         check(given[2].startswith(TOO_MANY), f"{count} files: answered {given[2]!r}")
-        check(given[:2] + given[3:] == ["ok", "ok", f"ok\t{count}\t{count}", "ok", "ok", "ok"], f"{count} files: answered {given!r}")
+        check(given[3] == TOO_LARGE, f"{count} files, and contents too large: answered {given[3]!r}")
+        check(given[:2] + given[4:] == ["ok", "ok", f"ok\t{count}\t{count}", "ok", "ok", "ok"], f"{count} files: answered {given!r}")
 
 
 def refuses_more_commits_than_a_store_may_have(folder):
@@ -523,8 +526,8 @@ def is_left_whole_by_a_kill(folder):
     and in its rows, in which contents stand that no file has."""
     chance = random.Random(1)
     lines = random_play(7, 600)
-    # The least of three, so that a busy moment doesn't put the kills after the play's end.
-    whole = min(seconds_of(os.path.join(folder, f"whole{at}.db"), lines) for at in range(3))
+    # The least of three, so that a busy moment doesn't put the kills after the play's end; and a second at most.
+    whole = min(1.0, *(seconds_of(os.path.join(folder, f"whole{at}.db"), lines) for at in range(3)))
     states, model, in_play = [(None, None)], Model(), 0
     for line in lines:
         model.play(line)
