@@ -7,9 +7,9 @@ Stagings are each a transaction of their own. Opening is timed after 1, 10 and 1
 with the same contents in each commit and once with other contents in each, and beside it what the database alone takes:
 to open the file, and to open it, read each table once and hash the contents. The other calls are timed after each of those
 openings, since they are to cost the same whatever the history. The first staging is timed apart from the next 100, so that
-one shows what opening leaves for it to do. Each time is wall time in milliseconds, the least of several runs where nothing is written, or where each writes to a copy.
-The peak memory is of the whole process, beside the contents held, and beside it what the database alone takes: to put
-contents into their table, and to open a file and read its tables.
+one sees what opening leaves for it to do. Each time is wall time in milliseconds, the least of several runs where nothing
+is written, or where each writes to a copy. The peak memory is of the whole process, beside the contents held, and beside it
+what the database alone takes: to put contents into their table, and to open a file and read its tables.
 """
 import hashlib
 import os
