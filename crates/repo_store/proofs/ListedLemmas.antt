@@ -53,9 +53,6 @@ damage_unfit db broken TooMany f h = h
 abbrev pub MetaShown : {X : Type 0} → (X → List MetaRow) → X → Trees → Type 0
 MetaShown listed rows trees = Stored meta_cells (1 ∷ 2 ∷ []) (listed rows) (trees 0)
 
-pub meta_fails : {S X : Type 0} (g : Ghosts S) (a b : Held S) (e : Error) (Rows : X → Trees → Type 0) (fault : StoreFault) → IsRead {A = X} g a b (Err e) Rows → IsRefusal ⊥ ⊥ ⊥ fault → AreListed g a b (Err fault)
-meta_fails g a b e Rows fault one why = record { found = λ clean ours live. refused_unfit (state g a).now fault why; was_open = λ clean ours. tt; kept = λ clean ours inside. one.kept clean inside; survives = one.survives }
-
 module _ {S X : Type 0} (g : Ghosts S) (a b : Held S) (meta : X) (listed : X → List MetaRow) (one : IsRead g a b (Ok meta) (MetaShown listed)) where
   pub unversioned : (listed meta ≡ version_row ∷ [] → ⊥) → AreListed g a b (Err NotAStore)
   unversioned other = record {

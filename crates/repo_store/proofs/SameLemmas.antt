@@ -97,7 +97,3 @@ step_same g old new r first second same h = record {
   kept = h.kept;
   survives = h.survives;
 }
-
--- a step that failed, of another kind
-pub step_failed : {S A B : Type 0} (g : Ghosts S) (old new : Held S) (r : Result A Error) (e : Error) (first second : Tables → Tables) → IsStep g old new r first → IsStep {A = B} g old new (Err e) second
-step_failed g old new r e first second h = record { done = λ _ _. tt; kept = h.kept; survives = h.survives }

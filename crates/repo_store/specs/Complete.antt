@@ -24,7 +24,7 @@ HaveNewContents contents changes = AllByRecursion (λ (change : Change). MatchOp
 abbrev pub HaveDistinctDigests : List (List ℕ) → Type 0
 HaveDistinctDigests contents = (i j : ℕ) → i < length contents → j < length contents → sha256 (slice_index_or contents i []) ≡ sha256 (slice_index_or contents j []) → i ≡ j
 
--- The repository is sound, and the contents of each of its files are kept, under a digest of their own.
+-- The repository is sound, and the contents of each of its files and fixes are kept, under a digest of their own.
 pub record IsComplete (kept : Kept) : Type 0 where
   pub sound : IsSound kept.repo
   pub staged : HaveContents kept.contents kept.repo.staged

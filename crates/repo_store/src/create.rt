@@ -1,4 +1,4 @@
-ghost use Rattle.std.specs.Prelude.{◌≡◌, ◌∷◌, [], false, IsTrue};
+ghost use Rattle.std.specs.Prelude.{◌≡◌, [], false, IsTrue};
 ghost use Rattle.store_tables.specs.Schema.{no_schema};
 ghost use Rattle.store_tables.specs.Steps.{IsMade};
 ghost use Rattle.store_tables.specs.Tables.{IsBare, Holds};

@@ -11,7 +11,7 @@ pub enum StoreFault {
     /// The tables of the database that is opened hold what no store holds.
     #[error("the store is damaged")]
     Damaged,
-    /// The database refused; or a store is made where there are tables, indexes or views already. Nothing is said of when
+    /// The database refused; or a store is made where there are tables, indexes or views already. No contract says when
     /// this comes.
     #[error("{0}")]
     Sql(sqlite::Error),

@@ -150,6 +150,7 @@ impl Lists {
         ensures path { IsRepoPath path.now }
         ensures utf8 { IsUtf8 path.now }
     {
+        // The size of the contents goes before the number of the files.
         let fits = may_put(self.staged.as_slice(), path);
         if bytes.len() > CONTENT_LIMIT {
             return Err(StoreFault::TooLarge);

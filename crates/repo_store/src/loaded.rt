@@ -1,4 +1,4 @@
-ghost use Rattle.std.specs.Prelude.{◌≡◌, ◌+◌, ◌<◌, ◌≤◌, ◌^◌, ◌∷◌, [], ◌++◌, map, pos, length, true, IsTrue, IsPermutation, IfOk, IfErr, IfSome, IfNone, OnOk, OnErr, MatchOption};
+ghost use Rattle.std.specs.Prelude.{◌≡◌, ◌+◌, ◌<◌, ◌≤◌, ◌^◌, ◌∷◌, [], ◌++◌, map, pos, length, true, IsTrue, IsPermutation, IfOk, IfErr, IfSome, IfNone, OnOk, MatchOption};
 ghost use Rattle.std.specs.List.{AllByRecursion};
 ghost use Rattle.store_tables.specs.Rowids.{IsBelow, IsRising as IsRisingNumbers};
 ghost use Rattle.hook_base.specs.declared.change.Change.{Change};

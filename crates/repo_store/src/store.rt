@@ -59,7 +59,7 @@ impl<S: Alter> Model for Store<S> {
 impl<S: Alter> Store<S> {
     /// Makes an empty store in a database that has no tables. A database that has tables, indexes or views is refused as
     /// `Sql` and given back as it was. Any refusal gives the connection back, with the tables as before where it is still
-    /// open. The connection is outside a transaction.
+    /// open. The connection must be outside a transaction.
     pub fn create(
         alloc: Global,
         conn: Connection<S>,
@@ -93,7 +93,8 @@ impl<S: Alter> Store<S> {
     /// Opens the store that a database holds, and changes nothing. After a crash it is the repository that the crash
     /// left. Refused are a database that hasn't exactly the tables of a store, or whose `meta` holds anything but the
     /// one row of version 1 (`NotAStore`), and tables whose rows break a rule of a store (`Damaged`). A refusal gives
-    /// the connection back, with the tables as before where it is still open. The connection is outside a transaction.
+    /// the connection back, with the tables as before where it is still open. The connection must be outside a
+    /// transaction.
     pub fn open(alloc: Global, conn: Connection<S>) -> Result<Store<S>, (StoreFault, Connection<S>)>
         requires { conn.in_transaction ≡ false }
         ensures stands { IfOk result (λ store. Stands S.Store store.conn store.kept) }
@@ -117,7 +118,7 @@ impl<S: Alter> Store<S> {
         }
     }
 
-    /// Stages a file, in place of the one at its path, and forgets the fixes. The path is any but that of the commit's
+    /// Stages a file, in place of the one at its path, and forgets the fixes. The path must not be that of the commit's
     /// message. Refused are contents of more than 16 MiB (`TooLarge`), a staged tree of more than 100,000 files or 8 MiB
     /// of paths (`TooMany`), and contents whose digest is that of others (`Collision`); a refusal leaves what the store
     /// shows as it was.
@@ -157,7 +158,7 @@ impl<S: Alter> Store<S> {
     }
 
     /// Sets the fixes to those of the changes that are of staged files; the others are dropped unread. The paths of the
-    /// changes rise. Refused are fixes with contents of more than 16 MiB (`TooLarge`), and those whose digest is that of
+    /// changes must rise. Refused are fixes with contents of more than 16 MiB (`TooLarge`), and those whose digest is that of
     /// others (`Collision`); a refusal leaves what the store shows as it was.
     pub fn set_fixes(&mut self, changes: &[Change]) -> Result<(), StoreFault>
         requires { IsRisingChanges changes.now }

@@ -11,14 +11,14 @@ use std::process::Abort;
 use std::test::Fail;
 
 /// What a store keeps as a fix: a path, and the new contents where the file isn't gone.
-struct Kept(&'static str, Option<&'static [u8]>);
+struct KeptFix(&'static str, Option<&'static [u8]>);
 
 /// Calls on a store that has `a.txt` staged, and the fixes that it has then.
-struct Case(&'static [Step], &'static [Kept]);
+struct Case(&'static [Step], &'static [KeptFix]);
 
 const CASES: &[Case] = &[
-    Case(&[Fix("a.txt", b"2")], &[Kept("a.txt", Some(b"2"))]),
-    Case(&[FixGone("a.txt")], &[Kept("a.txt", None)]),
+    Case(&[Fix("a.txt", b"2")], &[KeptFix("a.txt", Some(b"2"))]),
+    Case(&[FixGone("a.txt")], &[KeptFix("a.txt", None)]),
     Case(&[Fix("b.txt", b"2")], &[]),
     Case(&[FixGone("b.txt")], &[]),
     Case(&[Fix("a.txt", b"2"), Stage("b.txt", Plain, b"2")], &[]),
@@ -27,7 +27,7 @@ const CASES: &[Case] = &[
     Case(&[Fix("a.txt", b"2"), Fix("b.txt", b"2")], &[]),
     Case(
         &[Fix("a.txt", b"2"), Fix("a.txt", b"3")],
-        &[Kept("a.txt", Some(b"3"))],
+        &[KeptFix("a.txt", Some(b"3"))],
     ),
 ];
 
@@ -41,9 +41,9 @@ fn fixes_after(rt: &impl Abort, alloc: Global, steps: &[Step]) -> Result<Vec<Cha
     Ok(store.fixes()?)
 }
 
-fn changes_of(alloc: Global, kept: &[Kept]) -> Result<Vec<Change>, Fail> {
+fn changes_of(alloc: Global, kept: &[KeptFix]) -> Result<Vec<Change>, Fail> {
     let mut changes = Vec::new(alloc);
-    for Kept(path, now) in kept {
+    for KeptFix(path, now) in kept {
         changes.push(change_of(alloc, path, *now)?)?;
     }
     Ok(changes)
