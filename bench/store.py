@@ -210,22 +210,31 @@ def least_of_line(path, line, runs=5):
     return min(times[0] for times, _ in all_runs), min(peak for _, peak in all_runs)
 
 
-def least_of_calls(path, runs=5):
-    """The least milliseconds of each of CALLS, over copies of a closed store."""
-    all_runs = []
-    for _ in range(runs):
-        play = Play(copy(path, path + ".more"))
-        play.ask("open")
-        all_runs.append([sum(play.ask(line) for line in lines) for _, lines in CALLS])
-        play.end()
-    return [min(times) for times in zip(*all_runs)]
+def times_of_calls(path):
+    """The milliseconds of each of CALLS, over a copy of a closed store, which the disk has written before."""
+    play = Play(copy(path, path + ".more"))
+    os.sync()
+    play.ask("open")
+    times = [sum(play.ask(line) for line in lines) for _, lines in CALLS]
+    play.end()
+    return times
+
+
+def time_calls(paths, contents, rounds=9):
+    """The stores take turns, so that a slow moment of the machine falls on none of them alone."""
+    all_rounds = [[times_of_calls(path) for path in paths] for _ in range(rounds)]
+    for at, (what, _) in enumerate(CALLS):
+        times = [min(each[place][at] for each in all_rounds) for place in range(len(paths))]
+        print(f"{what} after 1, 10 and 100 commits of {contents} contents: {', '.join(f'{each:.1f}' for each in times)} ms; "
+              f"ratio of the last to the first {times[-1] / times[0]:.2f}, aim 1")
 
 
 def time_opening(folder, are_same):
     contents = "the same" if are_same else "other"
-    calls = []
+    paths = []
     for commits in (1, 10, 100):
         path = os.path.join(folder, f"{commits}{are_same}.db")
+        paths.append(path)
         held = make_history(path, commits, are_same)
         ours, peak = least_of_line(path, "open")
         alone, alone_peak = least_of_line(path, "connect")
@@ -237,10 +246,7 @@ def time_opening(folder, are_same):
         print(f"{'':44} {alone:9.2f} ms of it to open the database alone, {read:.2f} ms to open, read and hash: ratio {ours / read:.2f}")
         print(f"{'':44} {os.path.getsize(path) / 1e6:9.1f} MB of file, {held:.1f} MB of contents")
         tell_peak(peak, held * 1e6, [("to open the database alone", alone_peak), ("and read it", read_peak)])
-        calls.append(least_of_calls(path))
-    for (what, _), times in zip(CALLS, zip(*calls)):
-        print(f"{what} after 1, 10 and 100 commits of {contents} contents: {', '.join(f'{each:.1f}' for each in times)} ms; "
-              f"ratio of the last to the first {times[-1] / times[0]:.2f}, aim 1")
+    time_calls(paths, contents)
 
 
 def main():
