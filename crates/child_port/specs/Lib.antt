@@ -1,4 +1,4 @@
-pub mod AlikeLaws
+pub mod AlikeLemmas
 pub mod Outcomes
 pub mod Tables
 pub mod Telling

@@ -2,7 +2,7 @@
 use Rattle.std.proofs.Common.{◌≡◌, ℕ, zero, suc, ◌<◌, List, [], ◌∷◌, length, get_or, arith, sym, subst}
 use Rattle.hook_base.specs.declared.file.File.{File}
 use Rattle.hook_base.specs.Rising.{IsBelow, IsBelowAll}
-use Rattle.hook_base.specs.RisingLaws.{IsBelow-trans, below_all_later}
+use Rattle.hook_base.specs.RisingLemmas.{IsBelow-trans, below_all_later}
 use Rattle.hook_base.specs.Trees.{IsRising, path_of}
 use Rattle.hook_base.specs.Places.{IsAt, IsGap}
 

@@ -1,8 +1,8 @@
-pub mod AlikeLaws
+pub mod AlikeLemmas
 pub mod Paths
 pub mod PathFaults
 pub mod Places
 pub mod Rising
-pub mod RisingLaws
-pub mod TreeLaws
+pub mod RisingLemmas
+pub mod TreeLemmas
 pub mod Trees

@@ -109,7 +109,7 @@ impl Clone for Changes {
 impl PartialEq for Changes {
     ghost use Rattle.std.specs.Prelude.{◌≡◌, ◌↔◌, IsTrue};
     ghost use Rattle.std.specs.Cmp.Lexicographic.{pointwise, pointwise_decides};
-    ghost use Rattle.hook_base.specs.AlikeLaws.{change_decides, per_from_decides};
+    ghost use Rattle.hook_base.specs.AlikeLemmas.{change_decides, per_from_decides};
 
     ghost eq = { pointwise ⟦<Change as PartialEq>⟧.eq };
 
@@ -125,7 +125,7 @@ impl PartialEq for Changes {
 
 impl Eq for Changes {
     ghost use Rattle.std.specs.Cmp.Lexicographic.{pointwise, pointwise_decides};
-    ghost use Rattle.hook_base.specs.AlikeLaws.{equiv_from_decides, change_decides};
+    ghost use Rattle.hook_base.specs.AlikeLemmas.{equiv_from_decides, change_decides};
 
     ghost laws = { equiv_from_decides (pointwise ⟦<Change as PartialEq>⟧.eq) (pointwise_decides change_decides) };
 }

@@ -122,7 +122,7 @@ impl Tree {
 impl PartialEq for Tree {
     ghost use Rattle.std.specs.Prelude.{◌≡◌, ◌↔◌, IsTrue};
     ghost use Rattle.std.specs.Cmp.Lexicographic.{pointwise, pointwise_decides};
-    ghost use Rattle.hook_base.specs.AlikeLaws.{file_decides, per_from_decides};
+    ghost use Rattle.hook_base.specs.AlikeLemmas.{file_decides, per_from_decides};
 
     ghost eq = { pointwise ⟦<File as PartialEq>⟧.eq };
 
@@ -138,7 +138,7 @@ impl PartialEq for Tree {
 
 impl Eq for Tree {
     ghost use Rattle.std.specs.Cmp.Lexicographic.{pointwise, pointwise_decides};
-    ghost use Rattle.hook_base.specs.AlikeLaws.{equiv_from_decides, file_decides};
+    ghost use Rattle.hook_base.specs.AlikeLemmas.{equiv_from_decides, file_decides};
 
     ghost laws = { equiv_from_decides (pointwise ⟦<File as PartialEq>⟧.eq) (pointwise_decides file_decides) };
 }

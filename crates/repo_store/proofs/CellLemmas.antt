@@ -6,7 +6,7 @@ use Rattle.std.specs.Str.{bytes_eq}
 use Rattle.std.proofs.lemmas.List.Folds.{list_any_at}
 use Rattle.sha2.specs.Sha256.{sha256}
 use Rattle.sha2.proofs.Facts256.{length-sha256}
-use Rattle.hook_base.specs.RisingLaws.{bytes_same, bytes_differ}
+use Rattle.hook_base.specs.RisingLemmas.{bytes_same, bytes_differ}
 use Rattle.repo_store.specs.Complete.{IsAmong}
 use Rattle.repo_store.specs.Contents.{has_digest}
 use Rattle.repo_store.specs.Rows.{blob_row}

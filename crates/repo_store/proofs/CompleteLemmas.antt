@@ -12,7 +12,7 @@ use Rattle.hook_base.specs.declared.file.File.{File}
 use Rattle.hook_base.specs.declared.file.FileEntry.{FileEntry}
 use Rattle.hook_base.specs.declared.change.Change.{Change}
 use Rattle.hook_base.specs.Rising.{path_cmp}
-use Rattle.hook_base.specs.RisingLaws.{bytes_same}
+use Rattle.hook_base.specs.RisingLemmas.{bytes_same}
 use Rattle.hook_base.specs.Trees.{IsRisingChanges, apply_at, apply_changes, put_before, put_file, put_row, remove_file, rewrite_file, with_bytes}
 use Rattle.repo_store.specs.Complete.{HaveDistinctDigests, HaveContents, HaveNewContents, IsAmong, IsComplete}
 use Rattle.repo_store.specs.Contents.{Collides, has_content, with_content, with_new, with_changes}

@@ -11,7 +11,7 @@ use Rattle.std.proofs.lemmas.List.Folds.{list_any_at, Any-from_list_any, list_an
 use lib.Seq.{get_or-append_seam}
 use lib.ListN.{get_or-append}
 use Rattle.sha2.specs.Sha256.{sha256}
-use Rattle.hook_base.specs.RisingLaws.{bytes_same, bytes_differ}
+use Rattle.hook_base.specs.RisingLemmas.{bytes_same, bytes_differ}
 use Rattle.repo_store.specs.Complete.{HaveDistinctDigests}
 use Rattle.repo_store.specs.Contents.{Collides, has_digest, has_content, with_content, IsIndexed}
 

@@ -7,9 +7,9 @@ use lib.Seq.{take-length, take-append_seam}
 use lib.ListN.{take-append-drop}
 use Rattle.hook_base.specs.declared.file.File.{File}
 use Rattle.hook_base.specs.Rising.{IsBelowAll}
-use Rattle.hook_base.specs.RisingLaws.{path_cases, path_itself, bytes_same, above_differs, greater_from_below, below_all_later}
+use Rattle.hook_base.specs.RisingLemmas.{path_cases, path_itself, bytes_same, above_differs, greater_from_below, below_all_later}
 use Rattle.hook_base.specs.Trees.{IsRising, path_of, put_row, remove_file, apply_changes}
-use Rattle.hook_base.specs.TreeLaws.{remove_file-later}
+use Rattle.hook_base.specs.TreeLemmas.{remove_file-later}
 use Rattle.store_tables.specs.declared.rows.StagedRow.{StagedRow}
 use Rattle.store_tables.specs.declared.rows.CommitRow.{CommitRow}
 use Rattle.store_tables.specs.declared.rows.EntryRow.{EntryRow}

@@ -12,7 +12,7 @@ use Rattle.std.proofs.lemmas.List.Sorted.{IsPermutation-refl, IsPermutation-cons
 use lib.ListN.{get_or-map}
 use Rattle.hook_base.specs.declared.file.File.{File}
 use Rattle.hook_base.specs.Rising.{IsBelow, IsBelowAll, IsRisingBy}
-use Rattle.hook_base.specs.RisingLaws.{IsBelow-trans}
+use Rattle.hook_base.specs.RisingLemmas.{IsBelow-trans}
 use Rattle.hook_base.specs.Trees.{IsRising, IsRisingChanges, entry_of}
 use Rattle.hook_base.specs.declared.change.Change.{Change}
 use Rattle.sqlite_keyed.proofs.SortLemmas.{sorted_unique}

@@ -19,7 +19,7 @@ use Rattle.hook_base.specs.declared.file.Mode.{Mode}
 use Rattle.hook_base.specs.declared.file.Mode.TheVariants.{Plain, Executable}
 use Rattle.hook_base.specs.declared.change.Change.{Change}
 use Rattle.hook_base.specs.Rising.{path_cmp, IsBelow, IsBelowAll, IsRisingBy}
-use Rattle.hook_base.specs.RisingLaws.{IsBelow-trans, below_not_same}
+use Rattle.hook_base.specs.RisingLemmas.{IsBelow-trans, below_not_same}
 use Rattle.hook_base.specs.Trees.{IsRising, path_of}
 use Rattle.store_tables.specs.declared.rows.BlobRow.{BlobRow}
 use Rattle.store_tables.specs.declared.rows.CommitRow.{CommitRow}

@@ -19,10 +19,10 @@ use lib.Dec.{leb}
 use Rattle.hook_base.specs.declared.file.File.{File}
 use Rattle.hook_base.specs.declared.file.Mode.TheVariants.{Plain}
 use Rattle.hook_base.specs.Rising.{IsBelowAll, IsRisingBy, path_cmp}
-use Rattle.hook_base.specs.RisingLaws.{below_from_greater, greater_from_below, path_tied, path_itself, rising_pair}
+use Rattle.hook_base.specs.RisingLemmas.{below_from_greater, greater_from_below, path_tied, path_itself, rising_pair}
 use Rattle.hook_base.specs.Places.{IsAt, IsGap}
 use Rattle.hook_base.specs.Trees.{IsRising, path_of, put_row, remove_file, entry_of, rewrite_file, with_bytes, apply_at, apply_change, apply_changes}
-use Rattle.hook_base.specs.TreeLaws.{put_row-at, put_row-gap, gap_within, entry_of-at, entry_of-gap, rewrite_file-at, remove_file-at, rewrite_file-gap, remove_file-gap, apply_changes-append}
+use Rattle.hook_base.specs.TreeLemmas.{put_row-at, put_row-gap, gap_within, entry_of-at, entry_of-gap, rewrite_file-at, remove_file-at, rewrite_file-gap, remove_file-gap, apply_changes-append}
 use Rattle.hook_base.proofs.PlaceLemmas.{found}
 use Rattle.repo_store.specs.declared.held.HeldFile.{HeldFile}
 use Rattle.repo_store.specs.Limits.{Fits, path_bytes}

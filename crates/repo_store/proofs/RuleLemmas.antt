@@ -14,7 +14,7 @@ use Rattle.hook_base.specs.declared.file.Mode.{Mode}
 use Rattle.hook_base.specs.declared.file.Mode.TheVariants.{Plain, Executable}
 use Rattle.hook_base.specs.declared.change.Change.{Change}
 use Rattle.hook_base.specs.Rising.{path_cmp}
-use Rattle.hook_base.specs.RisingLaws.{bytes_same}
+use Rattle.hook_base.specs.RisingLemmas.{bytes_same}
 use Rattle.hook_base.specs.Trees.{apply_at, apply_changes, entry_of, put_before, put_row, remove_file, rewrite_file, with_bytes}
 use Rattle.store_tables.specs.declared.rows.BlobRow.{BlobRow}
 use Rattle.store_tables.specs.declared.rows.CommitRow.{CommitRow}

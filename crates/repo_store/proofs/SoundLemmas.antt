@@ -3,11 +3,11 @@ use Rattle.std.proofs.Common.{ℕ, ◌<◌, List, [], ◌∷◌, ◌++◌, lengt
 use Rattle.std.specs.List.{AllByRecursion}
 use Rattle.hook_base.specs.declared.file.FileEntry.{FileEntry}
 use Rattle.hook_base.specs.Trees.{IsRising, IsRisingChanges, path_of, entry_of, put_file}
-use Rattle.hook_base.specs.TreeLaws.{IsRising-put_row, IsRising-remove_file, entry_of-rest, entry_of-later, IsRising-apply_changes}
+use Rattle.hook_base.specs.TreeLemmas.{IsRising-put_row, IsRising-remove_file, entry_of-rest, entry_of-later, IsRising-apply_changes}
 use Rattle.hook_base.specs.declared.file.File.{File}
 use Rattle.hook_base.specs.declared.change.Change.{Change}
 use Rattle.hook_base.specs.Rising.{IsBelowAll}
-use Rattle.hook_base.specs.RisingLaws.{path_cases, below_all_later, IsRisingBy-filter}
+use Rattle.hook_base.specs.RisingLemmas.{path_cases, below_all_later, IsRisingBy-filter}
 use Rattle.repo_store.specs.Limits.{Fits}
 use Rattle.repo_store.specs.Repository.{Commit, Repository, empty, with_staged, without_staged, with_new_commit, staged_changes, accepted}
 use Rattle.repo_store.specs.Sound.{IsSound}

@@ -6,7 +6,7 @@ use Rattle.std.proofs.lemmas.Option.{slice_get_read}
 use lib.ListN.{get_or-map}
 use Rattle.hook_base.specs.declared.file.File.{File}
 use Rattle.hook_base.specs.Rising.{IsBelow, IsBelowAll}
-use Rattle.hook_base.specs.RisingLaws.{greater_from_below}
+use Rattle.hook_base.specs.RisingLemmas.{greater_from_below}
 use Rattle.hook_base.specs.Trees.{IsRising, path_of, put_row}
 use Rattle.repo_store.specs.declared.held.HeldFile.{HeldFile}
 use Rattle.repo_store.specs.declared.held.HeldCommit.{HeldCommit}

@@ -1,7 +1,7 @@
 use Rattle.std.proofs.Common.{◌≡◌, ◌<◌, ◌+◌, ◌-◌, ℕ, suc, length, get_or, arith, subst, ◌∙◌, refl}
 use Rattle.hook_base.specs.declared.change.Change.{Change}
 use Rattle.hook_base.specs.Rising.{IsBelow}
-use Rattle.hook_base.specs.RisingLaws.{rising_pair, rising_from_next}
+use Rattle.hook_base.specs.RisingLemmas.{rising_pair, rising_from_next}
 use Rattle.hook_base.proofs.changes.are_rising.Goals as goal
 
 pub returns-in_default : goal.returns-in_default

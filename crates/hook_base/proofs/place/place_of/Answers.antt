@@ -1,6 +1,6 @@
 use Rattle.std.proofs.Common.{◌≡◌, ◌+◌, ◌-◌, ◌/◌, ◌<◌, length, get_or, arith, sym, subst, ℕ, suc}
 use Rattle.hook_base.specs.Rising.{IsBelow}
-use Rattle.hook_base.specs.RisingLaws.{below_from_greater, path_tied}
+use Rattle.hook_base.specs.RisingLemmas.{below_from_greater, path_tied}
 use Rattle.hook_base.proofs.PlaceLemmas.{UpTo, From, From-length, up_to, from_on, found, gap}
 use Rattle.hook_base.proofs.place.place_of.Goals as goal
 

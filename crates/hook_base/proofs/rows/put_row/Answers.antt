@@ -2,7 +2,7 @@ use Rattle.std.proofs.Common.{◌∙◌, List, sym, subst, arith}
 use Rattle.hook_base.specs.declared.file.File.{File}
 use Rattle.hook_base.specs.Places.{IsAt, IsGap}
 use Rattle.hook_base.specs.Trees.{IsRising}
-use Rattle.hook_base.specs.TreeLaws.{at_within, gap_within, put_row-at, put_row-gap, IsRising-put_row}
+use Rattle.hook_base.specs.TreeLemmas.{at_within, gap_within, put_row-at, put_row-gap, IsRising-put_row}
 use Rattle.hook_base.proofs.rows.put_row.Goals as goal
 
 pub index_mut-requires : goal.index_mut-requires

@@ -2,7 +2,7 @@ use Rattle.std.proofs.Common.{◌∙◌, List, ap, sym, subst, arith, is_some}
 use Rattle.hook_base.specs.declared.file.File.{File}
 use Rattle.hook_base.specs.Places.{IsAt, IsGap}
 use Rattle.hook_base.specs.Trees.{IsRising}
-use Rattle.hook_base.specs.TreeLaws.{at_within, entry_of-at, entry_of-gap, remove_file-at, remove_file-gap, IsRising-remove_file}
+use Rattle.hook_base.specs.TreeLemmas.{at_within, entry_of-at, entry_of-gap, remove_file-at, remove_file-gap, IsRising-remove_file}
 use Rattle.hook_base.proofs.rows.remove_row.Goals as goal
 
 pub remove-requires : goal.remove-requires

@@ -2,7 +2,7 @@ use Rattle.std.proofs.Common.{◌∙◌, List, ap, sym, subst, arith, set}
 use Rattle.hook_base.specs.declared.file.File.{File}
 use Rattle.hook_base.specs.Places.{IsAt, IsGap}
 use Rattle.hook_base.specs.Trees.{IsRising, with_bytes}
-use Rattle.hook_base.specs.TreeLaws.{at_within, rewrite_file-at, rewrite_file-gap, IsRising-rewrite_file}
+use Rattle.hook_base.specs.TreeLemmas.{at_within, rewrite_file-at, rewrite_file-gap, IsRising-rewrite_file}
 use Rattle.hook_base.proofs.rows.rewrite_row.Goals as goal
 
 pub index_mut-row-requires : goal.index_mut-row-requires

@@ -1,7 +1,7 @@
 use Rattle.std.proofs.Common.{List, ℕ, Option, map, sym, ap, subst, ◌∙◌, arith}
 use Rattle.std.proofs.lemmas.List.{length-map}
 use Rattle.hook_base.specs.Places.{IsAt, IsGap}
-use Rattle.hook_base.specs.TreeLaws.{at_within}
+use Rattle.hook_base.specs.TreeLemmas.{at_within}
 use Rattle.hook_base.specs.Trees.{apply_at, rewrite_file}
 use Rattle.repo_store.specs.declared.held.HeldFile.{HeldFile}
 use Rattle.repo_store.specs.Lists.{file_of}

@@ -1,7 +1,7 @@
 use Rattle.std.proofs.Common.{map, ap, subst, ◌∙◌, List, arith}
 use Rattle.std.proofs.lemmas.List.{length-map}
 use Rattle.hook_base.specs.Places.{IsAt, IsGap}
-use Rattle.hook_base.specs.TreeLaws.{at_within, gap_within}
+use Rattle.hook_base.specs.TreeLemmas.{at_within, gap_within}
 use Rattle.repo_store.specs.declared.held.HeldFile.{HeldFile}
 use Rattle.repo_store.specs.Lists.{file_of}
 use Rattle.repo_store.proofs.PlaceLemmas.{held_set, held_insert, made_room}

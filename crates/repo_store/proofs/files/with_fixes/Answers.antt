@@ -1,7 +1,7 @@
 use Rattle.std.proofs.Common.{List, map, take, sym, subst, ◌∙◌}
 use Rattle.hook_base.specs.declared.file.File.{File}
 use Rattle.hook_base.specs.Trees.{IsRising}
-use Rattle.hook_base.specs.TreeLaws.{IsRising-apply_changes}
+use Rattle.hook_base.specs.TreeLemmas.{IsRising-apply_changes}
 use Rattle.repo_store.specs.Lists.{file_of, fix_of}
 use Rattle.repo_store.proofs.PlaceLemmas.{applied_more}
 use Rattle.repo_store.proofs.files.with_fixes.Goals as goal

@@ -1,7 +1,7 @@
 use Rattle.std.proofs.Common.{◌≡◌, sym, subst, arith}
 use Rattle.std.proofs.lemmas.Grind.{common_steps}
 use Rattle.hook_base.specs.Trees.{IsRisingChanges, changes_between}
-use Rattle.hook_base.specs.TreeLaws.{IsRisingChanges-changes_between}
+use Rattle.hook_base.specs.TreeLemmas.{IsRisingChanges-changes_between}
 use Rattle.hook_base.proofs.changes.Changes.between.Goals as goal
 
 pub invariant_of-result : goal.invariant_of-result

@@ -1,4 +1,4 @@
-use Rattle.hook_base.specs.AlikeLaws.{change_decides, lists_same}
+use Rattle.hook_base.specs.AlikeLemmas.{change_decides, lists_same}
 use Rattle.hook_base.proofs.changes.ChangesPartialEq.eq.Goals as goal
 
 pub returns-clause-same : goal.returns-clause-same

@@ -1,7 +1,7 @@
 use Rattle.std.proofs.Common.{◌∙◌, List, ap, sym, subst, arith, get_or, Some}
 use Rattle.hook_base.specs.declared.file.File.{File}
 use Rattle.hook_base.specs.Places.{IsAt, IsGap}
-use Rattle.hook_base.specs.TreeLaws.{at_within, entry_of-at, entry_of-gap}
+use Rattle.hook_base.specs.TreeLemmas.{at_within, entry_of-at, entry_of-gap}
 use Rattle.hook_base.proofs.tree.Tree.get.Goals as goal
 
 pub index-requires : goal.index-requires

@@ -1,4 +1,4 @@
-use Rattle.hook_base.specs.AlikeLaws.{file_decides, lists_same}
+use Rattle.hook_base.specs.AlikeLemmas.{file_decides, lists_same}
 use Rattle.hook_base.proofs.tree.TreePartialEq.eq.Goals as goal
 
 pub returns-clause-same : goal.returns-clause-same

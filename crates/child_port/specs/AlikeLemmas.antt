@@ -12,7 +12,7 @@ use Rattle.child_port.specs.declared.fault.Fault.TheVariants.{NotStarted, WaitFa
 use Rattle.child_port.specs.contracts.answer.AnswerPartialEq.TheImpl as answer_eq
 use Rattle.child_port.specs.contracts.answer.OutcomePartialEq.TheImpl as outcome_eq
 use Rattle.child_port.specs.contracts.fault.FaultPartialEq.TheImpl as fault_eq
-use Rattle.hook_base.specs.AlikeLaws.{and_decides, same_decides, change_decides}
+use Rattle.hook_base.specs.AlikeLemmas.{and_decides, same_decides, change_decides}
 use Rattle.hook_base.specs.declared.change.Change.{Change}
 
 abbrev answer_of : ℕ → List ℕ → List Change → Answer

@@ -8,7 +8,7 @@ use Rattle.hook_base.specs.declared.change.Change.{Change}
 use Rattle.hook_base.specs.declared.file.File.{File}
 use Rattle.hook_base.specs.declared.file.FileEntry.{FileEntry}
 use Rattle.hook_base.specs.Rising.{IsBelow, IsBelowAll, path_cmp}
-use Rattle.hook_base.specs.RisingLaws.{below_all_later, below_all_filter, greater_from_below, path_itself, below_differs, above_differs, bytes_same, path_cases}
+use Rattle.hook_base.specs.RisingLemmas.{below_all_later, below_all_filter, greater_from_below, path_itself, below_differs, above_differs, bytes_same, path_cases}
 use Rattle.hook_base.specs.Trees.{IsPartOf, IsRising, IsRisingChanges, change_to, changes_between, path_of, entry_of, remove_file, put_before, put_row, with_bytes, rewrite_file, apply_at, apply_changes}
 use Rattle.hook_base.specs.Places.{IsAt, IsGap}
 
