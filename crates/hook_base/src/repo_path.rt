@@ -27,10 +27,11 @@ impl Model for RepoPath {
 }
 
 impl RepoPath {
-    /// Takes a text as a path, or says why it is none.
+    /// Takes a text as a path. Refused is a text that is none, with the first fault in the order of [`PathFault`], and a
+    /// legal path where memory is refused: `OutOfMemory` is never said of a text that is no path.
     pub fn read(alloc: Global, text: &str) -> Result<RepoPath, PathFault>
         ensures taken { IfOk result (λ path. (path ≡ text.now) × (path_fault text.now ≡ None)) }
-        ensures refused { IfErr result (λ fault. (fault ≡ PathFault.OutOfMemory) ⊎ (path_fault text.now ≡ Some fault)) }
+        ensures refused { IfErr result (λ fault. ((fault ≡ PathFault.OutOfMemory) × (path_fault text.now ≡ None)) ⊎ (path_fault text.now ≡ Some fault)) }
     {
         if let Some(fault) = fault_of(text) {
             return Err(fault);
