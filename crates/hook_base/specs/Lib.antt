@@ -1,4 +1,5 @@
 pub mod AlikeLemmas
+pub mod Limits
 pub mod Paths
 pub mod PathFaults
 pub mod Places

@@ -2,6 +2,7 @@
 use Rattle.std.specs.Prelude.{◌≡◌, ◌⊎◌, ℕ, Bool, false, ◌==◌, nat_eq, ◌||◌, nat_lt, if◌then◌else◌, List, [], ◌∷◌, length, Option, None, Some, codes}
 use Rattle.std.specs.List.{slice_split, list_any, starts_with}
 use Rattle.std.specs.Str.{bytes_eq}
+use Rattle.hook_base.specs.Limits.{most_path_bytes}
 use Rattle.hook_base.specs.declared.path_fault.PathFault.{PathFault}
 use Rattle.hook_base.specs.declared.path_fault.PathFault.TheVariants.{Empty, Absolute, DotPart, EmptyPart, TooLong, ControlByte, UnderGit}
 
@@ -34,7 +35,7 @@ begins_with_slash (byte ∷ bytes) = is_slash byte
 unfoldable pub path_fault : List ℕ → Option PathFault
 path_fault path =
     if is_empty_part path then Some Empty else
-    (if nat_lt 4096 (length path) then Some TooLong else
+    (if nat_lt most_path_bytes (length path) then Some TooLong else
     (if list_any is_control_byte path then Some ControlByte else
     (if begins_with_slash path then Some Absolute else
     (if list_any is_empty_part (parts_of path) then Some EmptyPart else

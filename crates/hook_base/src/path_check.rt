@@ -2,10 +2,7 @@ ghost use Rattle.std.specs.Prelude.{◌≡◌};
 ghost use Rattle.std.specs.List.{list_any};
 ghost use Rattle.hook_base.specs.Paths.{begins_with_slash, is_control_byte, is_dot_part, is_empty_part, is_under_git, parts_of, path_fault};
 
-use crate::PathFault;
-
-/// The greatest length of a path, in bytes.
-const MOST_BYTES: usize = 4096;
+use crate::{MOST_PATH_BYTES, PathFault};
 
 /// The first reason why a text is no path inside a repository.
 #[tactic(auto, unfolding(crate::specs::Paths::path_fault))]
@@ -15,7 +12,7 @@ pub fn fault_of(text: &str) -> Option<PathFault>
     if text.is_empty() {
         return Some(PathFault::Empty);
     }
-    if text.len() > MOST_BYTES {
+    if text.len() > MOST_PATH_BYTES {
         return Some(PathFault::TooLong);
     }
     if has_control_byte(text.as_bytes()) {
