@@ -1,4 +1,6 @@
 pub mod AlikeLemmas
+pub mod Limits
 pub mod Outcomes
 pub mod Tables
 pub mod Telling
+pub mod TellingLemmas

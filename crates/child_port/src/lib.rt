@@ -7,6 +7,8 @@
 mod answer;
 mod children;
 mod fault;
+pub mod laws;
+mod limits;
 mod table;
 mod table_outcome;
 mod table_row;
@@ -14,6 +16,7 @@ mod table_row;
 pub use answer::{Answer, Outcome};
 pub use children::Children;
 pub use fault::Fault;
+pub use limits::MOST_OUTPUT_BYTES;
 pub use table::TableChildren;
 pub use table_row::TableRow;
 
