@@ -1,3 +1,4 @@
+//! Bytes of their own, as a list.
 ghost use Rattle.std.specs.Prelude.{◌≡◌, ◌↔◌, [], length, IfOk, IsTrue};
 
 use crate::OutOfMemory;
@@ -28,7 +29,7 @@ impl Bytes {
         }
     }
 
-    /// A copy of the bytes.
+    /// A copy of the bytes, or `OutOfMemory` where memory is refused.
     pub fn copy_of(alloc: Global, bytes: &[u8]) -> Result<Self, OutOfMemory>
         ensures { IfOk result (λ copy. copy ≡ bytes.now) }
     {
@@ -57,7 +58,7 @@ impl Bytes {
         self.bytes.as_slice()
     }
 
-    /// The same bytes, as a `Vec`.
+    /// The same bytes, as a `Vec`. It takes no memory.
     pub fn into_vec(self) -> Vec<u8>
         ensures { result.items ≡ self }
     {

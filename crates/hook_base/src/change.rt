@@ -1,3 +1,4 @@
+//! One change of a file, and copies of changes.
 ghost use Rattle.std.specs.Prelude.{◌≡◌, IfOk};
 
 use crate::{Bytes, OutOfMemory, RepoPath};
@@ -12,8 +13,8 @@ pub struct Change {
     pub now: Option<Bytes>,
 }
 
-/// The same changes.
-pub fn copy_changes(alloc: Global, changes: &[Change]) -> Result<Vec<Change>, OutOfMemory>
+/// The same changes, or `OutOfMemory` where memory is refused.
+pub(crate) fn copy_changes(alloc: Global, changes: &[Change]) -> Result<Vec<Change>, OutOfMemory>
     ensures { IfOk result (λ copy. copy.items ≡ changes.now) }
 {
     Ok(changes.to_vec(alloc)?)

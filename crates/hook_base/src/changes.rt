@@ -1,3 +1,4 @@
+//! The changes of a tree, in the order of their paths.
 ghost use Rattle.std.specs.Prelude.{◌≡◌, ◌↔◌, [], length, option_to_list, IfOk, IfErr, IsTrue};
 ghost use Rattle.std.specs.Option.{option_copied};
 ghost use Rattle.hook_base.specs.Trees.{IsRising, IsRisingChanges, change_to, changes_between};
@@ -37,7 +38,7 @@ impl Changes {
         }
     }
 
-    /// What became of the rows, which rise, in `after`.
+    /// What became of the rows in `after`, or `OutOfMemory` where memory is refused.
     pub(crate) fn between(rows: &Vec<File>, after: &Tree) -> Result<Changes, OutOfMemory>
         requires { IsRising rows.now.items }
         ensures { IfOk result (λ changes. changes ≡ changes_between rows.now.items after.now) }
@@ -51,7 +52,8 @@ impl Changes {
         Ok(Changes { changes })
     }
 
-    /// Takes changes whose paths rise, each before the next, and gives others back.
+    /// Takes changes whose paths rise, each before the next. Others are given back as they were, as are those that name a
+    /// path twice. It takes no memory.
     pub fn from_rising(changes: Vec<Change>) -> Result<Changes, Vec<Change>>
         ensures taken { IfOk result (λ made. (made ≡ changes.items) × IsRisingChanges changes.items) }
         ensures given_back { IfErr result (λ back. (back.items ≡ changes.items) × ¬ IsRisingChanges changes.items) }
@@ -63,7 +65,7 @@ impl Changes {
         }
     }
 
-    /// The same changes, as a `Vec`.
+    /// The same changes, as a `Vec`. It takes no memory.
     pub fn into_vec(self) -> Vec<Change>
         ensures { result.items ≡ self }
     {
@@ -130,7 +132,7 @@ impl Eq for Changes {
     ghost laws = { equiv_from_decides (pointwise ⟦<Change as PartialEq>⟧.eq) (pointwise_decides change_decides) };
 }
 
-/// What became of a row, where `after` is what stands at its path now.
+// What became of a row, where `after` is what stands at its path now.
 fn change_to(row: &File, after: Option<&FileEntry>) -> Result<Option<Change>, OutOfMemory>
     ensures { IfOk result (λ change. option_to_list change ≡ change_to row.now (option_copied after.entry)) }
 {
@@ -143,7 +145,7 @@ fn change_to(row: &File, after: Option<&FileEntry>) -> Result<Option<Change>, Ou
     Ok(Some(Change { path, now }))
 }
 
-/// Whether each path comes before the next.
+// Whether each path comes before the next.
 fn are_rising(changes: &[Change]) -> bool
     ensures { IsTrue result ↔ IsRisingChanges changes.now }
 {

@@ -1,3 +1,4 @@
+//! Items of any type, as a list.
 ghost use Rattle.std.specs.Prelude.{◌≡◌, ◌↔◌, [], length, IsTrue};
 
 use std::alloc::{AllocError, Global};
@@ -42,7 +43,7 @@ impl<T> Items<T> {
         self.items.is_empty()
     }
 
-    /// The same items, as a `Vec`.
+    /// The same items, as a `Vec`. It takes no memory.
     pub fn into_vec(self) -> Vec<T>
         ensures { result.items ≡ self }
     {

@@ -20,7 +20,6 @@ mod repo_path;
 mod rows;
 mod text;
 mod tree;
-mod words;
 
 pub use bytes::Bytes;
 pub use change::Change;
@@ -31,9 +30,8 @@ pub use limits::{MOST_FILE_BYTES, MOST_PATH_BYTES};
 pub use memory::OutOfMemory;
 pub use path_fault::PathFault;
 pub use repo_path::RepoPath;
-pub use text::Text;
+pub use text::{Text, copy_texts};
 pub use tree::Tree;
-pub use words::copy_texts;
 
 #[cfg(test)]
 mod tests;

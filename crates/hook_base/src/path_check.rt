@@ -1,12 +1,13 @@
+//! Whether a text is a path inside a repository: one test a rule.
 ghost use Rattle.std.specs.Prelude.{◌≡◌};
 ghost use Rattle.std.specs.List.{list_any};
 ghost use Rattle.hook_base.specs.Paths.{begins_with_slash, is_control_byte, is_dot_part, is_empty_part, is_under_git, parts_of, path_fault};
 
 use crate::{MOST_PATH_BYTES, PathFault};
 
-/// The first reason why a text is no path inside a repository.
+/// The first reason, in the order of `PathFault`, why a text is no path inside a repository. It is never `OutOfMemory`.
 #[tactic(auto, unfolding(crate::specs::Paths::path_fault))]
-pub fn fault_of(text: &str) -> Option<PathFault>
+pub(crate) fn fault_of(text: &str) -> Option<PathFault>
     ensures { result ≡ path_fault text.now }
 {
     if text.is_empty() {

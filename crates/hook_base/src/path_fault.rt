@@ -1,12 +1,14 @@
+//! The reasons why a text is not taken as a path.
 ghost use Rattle.std.specs.Prelude.{◌≡◌};
 ghost use Rattle.hook_base.specs.PathFaults.{number_of};
 ghost use Rattle.hook_base.specs.declared.path_fault.PathFault.TheVariants.{OutOfMemory};
 
+use crate::MOST_PATH_BYTES;
 use std::alloc::{AllocError, AllocFailed};
 use thiserror::Error;
 
-/// Why a text is no path inside a repository. Of several reasons the first in this order is named: `Empty`, `TooLong`,
-/// `ControlByte`, `Absolute`, `EmptyPart`, `DotPart`, `UnderGit`.
+/// Why a text isn't taken as a path inside a repository. Of several reasons the first in this order is named: `Empty`,
+/// `TooLong`, `ControlByte`, `Absolute`, `EmptyPart`, `DotPart`, `UnderGit`, `OutOfMemory`.
 #[derive(Clone, Copy, Debug, PartialEq, Eq, Error)]
 pub enum PathFault {
     /// The text has no bytes.
@@ -21,8 +23,8 @@ pub enum PathFault {
     /// A part between slashes has no bytes.
     #[error("the path has an empty part")]
     EmptyPart,
-    /// The text has more than 4,096 bytes.
-    #[error("the path has more than 4096 bytes")]
+    /// The text has more than [`MOST_PATH_BYTES`](crate::MOST_PATH_BYTES) bytes, which are 4,096.
+    #[error("the path has more than {} bytes", MOST_PATH_BYTES)]
     TooLong,
     /// A byte is under 32, or is 127.
     #[error("the path has a control byte")]
@@ -30,7 +32,7 @@ pub enum PathFault {
     /// The first part is `.git`.
     #[error("the path lies under .git")]
     UnderGit,
-    /// Memory was refused. Nothing is said of the text.
+    /// Memory was refused. The text is a path.
     #[error("out of memory")]
     OutOfMemory,
 }

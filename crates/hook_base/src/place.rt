@@ -1,3 +1,4 @@
+//! Where a path's row stands in rows that rise.
 ghost use Rattle.hook_base.specs.Trees.{IsRising};
 ghost use Rattle.hook_base.specs.Places.{IsPlace};
 
@@ -6,7 +7,7 @@ use std::cmp::Ordering;
 
 /// Where a path stands in a list of rows.
 #[derive(Clone, Copy)]
-pub enum Place {
+pub(crate) enum Place {
     /// The row of this index has the path.
     At(usize),
     /// No row has the path: its place is before the row of this index.
@@ -14,7 +15,7 @@ pub enum Place {
 }
 
 /// Where a path stands in rows that rise, by halves.
-pub fn place_of(rows: &[File], path: &RepoPath) -> Place
+pub(crate) fn place_of(rows: &[File], path: &RepoPath) -> Place
     requires { IsRising rows.now }
     ensures { IsPlace path.now rows.now result }
 {

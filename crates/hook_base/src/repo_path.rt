@@ -1,3 +1,4 @@
+//! Paths inside a repository.
 ghost use Rattle.std.specs.Prelude.{◌≡◌, ◌⊎◌, None, Some, IfOk, IfErr};
 ghost use Rattle.hook_base.specs.Paths.{IsRepoPath, path_fault, message_path};
 
@@ -8,7 +9,8 @@ use std::cmp::Ordering;
 use std::marker::Model;
 
 /// A path of a file inside a repository: parts between slashes, none of them empty, `.` or `..`, none of the bytes a
-/// control byte, the first part not `.git`; or the path of the message of a commit. Contracts see the list of its bytes.
+/// control byte, the first part not `.git`, at most [`MOST_PATH_BYTES`](crate::MOST_PATH_BYTES) bytes; or the path of the
+/// message of a commit. Paths are ordered by their bytes. Contracts see the list of these.
 #[derive(Debug, Drop)]
 pub struct RepoPath {
     text: String,
@@ -40,7 +42,7 @@ impl RepoPath {
         Ok(RepoPath { text })
     }
 
-    /// The path of the message of a commit, `.git/COMMIT_EDITMSG`.
+    /// The path of the message of a commit, `.git/COMMIT_EDITMSG`, or `OutOfMemory` where memory is refused.
     pub fn message(alloc: Global) -> Result<RepoPath, OutOfMemory>
         ensures { IfOk result (λ path. path ≡ message_path) }
     {

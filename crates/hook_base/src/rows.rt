@@ -6,7 +6,7 @@ use crate::place::{Place, place_of};
 use crate::{Bytes, Change, File, OutOfMemory, RepoPath};
 
 /// Puts a row in place of the one of its path, or adds it. A refusal leaves the rows as they were.
-pub fn put_row(rows: &mut Vec<File>, row: File) -> Result<(), OutOfMemory>
+pub(crate) fn put_row(rows: &mut Vec<File>, row: File) -> Result<(), OutOfMemory>
     requires { IsRising rows.old.items }
     ensures put { OnOk result (rows.new.items ≡ put_row row rows.old.items) }
     ensures kept { OnErr result (rows.new.items ≡ rows.old.items) }
@@ -20,7 +20,7 @@ pub fn put_row(rows: &mut Vec<File>, row: File) -> Result<(), OutOfMemory>
 }
 
 /// Removes the row of a path. Answers whether there was one.
-pub fn remove_row(rows: &mut Vec<File>, path: &RepoPath) -> bool
+pub(crate) fn remove_row(rows: &mut Vec<File>, path: &RepoPath) -> bool
     requires { IsRising rows.old.items }
     ensures found { result ≡ is_some (entry_of path.now rows.old.items) }
     ensures removed { rows.new.items ≡ remove_file path.now rows.old.items }
@@ -36,7 +36,7 @@ pub fn remove_row(rows: &mut Vec<File>, path: &RepoPath) -> bool
 }
 
 /// Puts other bytes into the row of a path, if there is one.
-pub fn rewrite_row(rows: &mut Vec<File>, path: &RepoPath, bytes: Bytes)
+pub(crate) fn rewrite_row(rows: &mut Vec<File>, path: &RepoPath, bytes: Bytes)
     requires { IsRising rows.old.items }
     ensures rewritten { rows.new.items ≡ rewrite_file path.now bytes rows.old.items }
     ensures rising { IsRising rows.new.items }
@@ -47,15 +47,15 @@ pub fn rewrite_row(rows: &mut Vec<File>, path: &RepoPath, bytes: Bytes)
     }
 }
 
-/// The same rows.
-pub fn copy_rows(rows: &Vec<File>) -> Result<Vec<File>, OutOfMemory>
+/// The same rows, or `OutOfMemory` where memory is refused.
+pub(crate) fn copy_rows(rows: &Vec<File>) -> Result<Vec<File>, OutOfMemory>
     ensures { IfOk result (λ copy. copy.items ≡ rows.now.items) }
 {
     Ok(rows.clone()?)
 }
 
 /// Applies one change.
-pub fn apply_to_row(rows: &mut Vec<File>, change: Change)
+pub(crate) fn apply_to_row(rows: &mut Vec<File>, change: Change)
     requires { IsRising rows.old.items }
     ensures applied { rows.new.items ≡ apply_change change rows.old.items }
     ensures rising { IsRising rows.new.items }
@@ -70,7 +70,7 @@ pub fn apply_to_row(rows: &mut Vec<File>, change: Change)
 }
 
 /// Applies changes, each to what the earlier ones left.
-pub fn apply_to_rows(rows: &mut Vec<File>, mut changes: Vec<Change>)
+pub(crate) fn apply_to_rows(rows: &mut Vec<File>, mut changes: Vec<Change>)
     requires { IsRising rows.old.items }
     ensures applied { rows.new.items ≡ apply_changes changes.items rows.old.items }
     ensures rising { IsRising rows.new.items }

@@ -1,6 +1,7 @@
+//! Texts of their own, as lists of bytes.
 ghost use Rattle.std.specs.Prelude.{◌≡◌, ◌↔◌, [], length, string_bytes, IfOk, IsTrue};
 
-use crate::OutOfMemory;
+use crate::{Items, OutOfMemory};
 use std::alloc::{AllocError, Global};
 use std::marker::Model;
 
@@ -20,7 +21,7 @@ impl Model for Text {
 }
 
 impl Text {
-    /// A copy of the text.
+    /// A copy of the text, or `OutOfMemory` where memory is refused.
     pub fn copy_of(alloc: Global, text: &str) -> Result<Self, OutOfMemory>
         ensures { IfOk result (λ copy. copy ≡ text.now) }
     {
@@ -49,7 +50,7 @@ impl Text {
         self.text.as_str()
     }
 
-    /// The same text, as a `String`.
+    /// The same text, as a `String`. It takes no memory.
     pub fn into_string(self) -> String
         ensures { string_bytes result ≡ self }
     {
@@ -98,4 +99,12 @@ impl Eq for Text {
     ghost use Rattle.std.specs.Cmp.Lexicographic.{nat_list_eq_equiv};
 
     ghost laws = { nat_list_eq_equiv };
+}
+
+/// The same texts, or `OutOfMemory` where memory is refused.
+pub fn copy_texts(alloc: Global, texts: &[Text]) -> Result<Items<Text>, OutOfMemory>
+    ensures { IfOk result (λ copy. copy ≡ texts.now) }
+{
+    let texts = texts.to_vec(alloc)?;
+    Ok(Items::from(texts))
 }

@@ -1,3 +1,4 @@
+//! The files of one moment.
 ghost use Rattle.std.specs.Prelude.{◌≡◌, ◌↔◌, ◌<◌, [], length, is_some, slice_get, IfOk, OnOk, OnErr, IsTrue};
 ghost use Rattle.std.specs.Option.{option_copied};
 ghost use Rattle.hook_base.specs.Trees.{IsRising, entry_of, put_file, remove_file, apply_changes, changes_between};
@@ -53,7 +54,7 @@ impl Tree {
         self.rows.is_empty()
     }
 
-    /// The file at a place in the order of the paths, counted from 0.
+    /// The file at an index in the order of the paths, counted from 0.
     pub fn entry(&self, index: usize) -> &File
         requires { index < length self.now }
         ensures row { slice_get self.now index ≡ Some result.now }
@@ -62,7 +63,7 @@ impl Tree {
         &self.rows[index]
     }
 
-    /// What stands at a path.
+    /// What stands at a path, or `None` where nothing does.
     pub fn get(&self, path: &RepoPath) -> Option<&FileEntry>
         ensures { option_copied result ≡ entry_of path.now self.now }
     {
@@ -72,7 +73,8 @@ impl Tree {
         }
     }
 
-    /// Puts a file in place of the one at its path, or adds it. A refusal leaves the tree as it was.
+    /// Puts a file in place of the one at its path, or adds it: its mode and its bytes are the new ones. `OutOfMemory`
+    /// where memory is refused, which leaves the tree as it was.
     pub fn put(&mut self, path: RepoPath, entry: FileEntry) -> Result<(), OutOfMemory>
         ensures put { OnOk result (self.new ≡ put_file path entry self.old) }
         ensures kept { OnErr result (self.new ≡ self.old) }
@@ -90,7 +92,7 @@ impl Tree {
         remove_row(&mut self.rows, path)
     }
 
-    /// The same files, in memory of their own.
+    /// The same files, in memory of their own, or `OutOfMemory` where that is refused.
     pub fn copy(&self) -> Result<Tree, OutOfMemory>
         ensures { IfOk result (λ copy. copy ≡ self.now) }
     {
@@ -99,7 +101,7 @@ impl Tree {
     }
 
     /// What became of the files of this tree in `after`: their bytes where they differ, or that they are gone. Modes
-    /// don't count, and neither do files that only `after` holds.
+    /// don't count, and neither do files that only `after` holds. `OutOfMemory` where memory is refused.
     pub fn changes_to(&self, after: &Tree) -> Result<Changes, OutOfMemory>
         ensures { IfOk result (λ changes. changes ≡ changes_between self.now after.now) }
     {
@@ -107,7 +109,7 @@ impl Tree {
     }
 
     /// Applies changes, each to what the earlier ones left. Modes stay, and a change of a path that the tree lacks has
-    /// no effect. A refusal leaves the tree as it was.
+    /// no effect. `OutOfMemory` where memory is refused, which leaves the tree as it was.
     pub fn apply(&mut self, changes: &[Change]) -> Result<(), OutOfMemory>
         ensures applied { OnOk result (self.new ≡ apply_changes changes.now self.old) }
         ensures kept { OnErr result (self.new ≡ self.old) }
