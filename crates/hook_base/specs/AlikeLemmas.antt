@@ -1,4 +1,4 @@
--- What `==` says of files and changes: that they are the same.
+-- Lemmas: `==` of files and of changes says that they are the same.
 use Rattle.std.specs.Prelude.{◌≡◌, ℕ, Bool, IsTrue, ◌&&◌, List, Option, None, Some, refl}
 use Rattle.std.specs.Bool.{Decides}
 use Rattle.std.specs.Cmp.{IsPartialEquivalence, IsEquivalence, both_ways, equiv}

@@ -1,4 +1,4 @@
--- Facts on the order of paths, and on lists that are in it.
+-- Lemmas on the order of paths, and on lists that are in it.
 use Rattle.std.specs.Prelude.{◌≡◌, ◌⊎◌, ℕ, zero, suc, ◌<◌, length, Bool, true, false, List, [], ◌∷◌, filter, if◌then◌else◌, refl}
 use Rattle.std.specs.declared.cmp.Ordering.TheVariants.{Less, Equal, Greater}
 use Rattle.std.specs.Ordering.{is_eq, ordering_reverse}

@@ -1,4 +1,4 @@
--- Facts on trees: what each edit does at a path's place, that edits keep the order, and that a tree is fixed by its
+-- Lemmas on trees: what each edit does at a path's place, that edits keep the order, and that a tree is fixed by its
 -- look-ups.
 use Rattle.std.specs.Prelude.{◌≡◌, ℕ, zero, suc, ◌<◌, Bool, true, false, if◌then◌else◌, List, [], ◌∷◌, ◌++◌, length, filter, Option, None, Some, refl, insert, remove}
 use Rattle.std.proofs.Common.{ap, sym, ◌∙◌, inl, inr, subst, get_or, set, arith}

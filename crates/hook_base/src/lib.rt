@@ -1,8 +1,12 @@
 //! Paths, trees of files and the changes between them, and the small collections that contracts see as lists.
 //!
-//! `RepoPath` is a path inside a repository, `Tree` the files of one moment in the order of their paths, and `Changes`
-//! what a program did to the files of a tree. Their contracts cite `specs/Paths.antt`, `specs/Rising.antt` and
-//! `specs/Trees.antt`.
+//! `RepoPath` is a path inside a repository (`PathFault` says why a text is none), `Tree` the files of one moment in the
+//! order of their paths (`File`, `FileEntry`, `Mode`), and `Changes` what a program did to the files of a tree (`Change`).
+//! `Bytes`, `Text` and `Items` own what contracts see as lists, and `OutOfMemory` is the refusal of memory.
+//!
+//! The contracts cite `specs/Paths.antt`, `specs/PathFaults.antt`, `specs/Rising.antt`, `specs/Trees.antt` and
+//! `specs/Limits.antt`; `specs/Places.antt` serves private functions alone. [`laws`] says that the limits of the code are
+//! those of the definitions.
 #![tactic(auto)]
 
 mod bytes;

@@ -1,8 +1,9 @@
 use crate::{
-    Bytes, Change, Changes, FileEntry, Items, Mode, OutOfMemory, PathFault, RepoPath, Text, Tree,
-    copy_texts,
+    Bytes, Change, Changes, FileEntry, Items, MOST_PATH_BYTES, Mode, OutOfMemory, PathFault,
+    RepoPath, Text, Tree, copy_texts,
 };
-use std::alloc::{AllocError, Global};
+use std::alloc::Global;
+use std::process::Abort;
 use std::test::Fail;
 
 fn file(tree: &mut Tree, alloc: Global, path: &str, mode: Mode, bytes: &[u8]) -> Result<(), Fail> {
@@ -10,6 +11,13 @@ fn file(tree: &mut Tree, alloc: Global, path: &str, mode: Mode, bytes: &[u8]) ->
     let bytes = Bytes::copy_of(alloc, bytes)?;
     tree.put(path, FileEntry { mode, bytes })?;
     Ok(())
+}
+
+fn expect_fault(rt: &impl Abort, alloc: Global, text: &str, want: PathFault) {
+    match RepoPath::read(alloc, text) {
+        Ok(_) => assert!(rt; false, "{text:?} was read"),
+        Err(fault) => assert_eq!(rt; fault, want, "at {text:?}"),
+    }
 }
 
 fn change(alloc: Global, path: &str, now: Option<&[u8]>) -> Result<Change, Fail> {
@@ -24,28 +32,64 @@ fn change(alloc: Global, path: &str, now: Option<&[u8]>) -> Result<Change, Fail>
 #[test]
 fn texts_that_are_no_paths_are_refused(rt: HostRuntime) -> Result<(), Fail> {
     let table = [
-        ("", PathFault::Empty, 1),
-        ("/a", PathFault::Absolute, 2),
-        ("a/../b", PathFault::DotPart, 3),
-        ("./a", PathFault::DotPart, 3),
-        ("a//b", PathFault::EmptyPart, 4),
-        ("a/", PathFault::EmptyPart, 4),
-        ("a\tb", PathFault::ControlByte, 6),
-        ("/a\u{7f}", PathFault::ControlByte, 6),
-        ("a//..", PathFault::EmptyPart, 4),
-        (".git/../x", PathFault::DotPart, 3),
-        (".git/x", PathFault::UnderGit, 7),
-        (".git", PathFault::UnderGit, 7),
+        ("", PathFault::Empty),
+        ("/a", PathFault::Absolute),
+        ("/", PathFault::Absolute),
+        ("a/../b", PathFault::DotPart),
+        ("./a", PathFault::DotPart),
+        ("a//b", PathFault::EmptyPart),
+        ("a/", PathFault::EmptyPart),
+        ("a\tb", PathFault::ControlByte),
+        ("a\u{7f}", PathFault::ControlByte),
+        (".git/x", PathFault::UnderGit),
+        (".git", PathFault::UnderGit),
     ];
-    for (text, want, number) in table {
-        match RepoPath::read(rt.alloc(), text) {
-            Ok(_) => assert!(rt; false, "{text:?} was read"),
-            Err(fault) => {
-                assert_eq!(rt; fault, want, "at {text:?}");
-                assert_eq!(rt; fault.number(), number, "at {text:?}");
-            }
-        }
+    for (text, want) in table {
+        expect_fault(&rt, rt.alloc(), text, want);
     }
+    Ok(())
+}
+
+#[test]
+fn of_two_faults_the_first_in_order_is_named(rt: HostRuntime) -> Result<(), Fail> {
+    let mut long = String::new(rt.alloc());
+    for _ in 0..MOST_PATH_BYTES {
+        long.push('a')?;
+    }
+    long.push('\t')?;
+    expect_fault(&rt, rt.alloc(), long.as_str(), PathFault::TooLong);
+    let table = [
+        ("/\t", PathFault::ControlByte),
+        ("//a", PathFault::Absolute),
+        ("a//..", PathFault::EmptyPart),
+        (".git/../x", PathFault::DotPart),
+    ];
+    for (text, want) in table {
+        expect_fault(&rt, rt.alloc(), text, want);
+    }
+    Ok(())
+}
+
+#[test]
+fn each_refusal_has_its_number_and_its_words(rt: HostRuntime) -> Result<(), Fail> {
+    let table = [
+        (PathFault::Empty, 1, "the path is empty"),
+        (PathFault::Absolute, 2, "the path begins with a slash"),
+        (PathFault::DotPart, 3, "the path has a part . or .."),
+        (PathFault::EmptyPart, 4, "the path has an empty part"),
+        (PathFault::TooLong, 5, "the path has more than 4096 bytes"),
+        (PathFault::ControlByte, 6, "the path has a control byte"),
+        (PathFault::UnderGit, 7, "the path lies under .git"),
+        (PathFault::OutOfMemory, 8, "out of memory"),
+    ];
+    for (fault, number, words) in table {
+        assert_eq!(rt; fault.number(), number, "{fault:?}");
+        let shown = format!(in rt.alloc(); "{fault}")?;
+        assert_eq!(rt; shown.as_str(), words);
+    }
+    let refused = OutOfMemory;
+    let shown = format!(in rt.alloc(); "{refused}")?;
+    assert_eq!(rt; shown.as_str(), "out of memory");
     Ok(())
 }
 
@@ -61,16 +105,13 @@ fn texts_that_are_paths_are_read(rt: HostRuntime) -> Result<(), Fail> {
 #[test]
 fn a_path_has_at_most_4096_bytes(rt: HostRuntime) -> Result<(), Fail> {
     let mut text = String::new(rt.alloc());
-    for _ in 0..4096 {
+    for _ in 0..MOST_PATH_BYTES {
         text.push('a')?;
     }
     let path = RepoPath::read(rt.alloc(), text.as_str())?;
     assert_eq!(rt; path.as_str().len(), 4096);
     text.push('a')?;
-    match RepoPath::read(rt.alloc(), text.as_str()) {
-        Ok(_) => assert!(rt; false, "4,097 bytes were read"),
-        Err(fault) => assert_eq!(rt; fault, PathFault::TooLong),
-    }
+    expect_fault(&rt, rt.alloc(), text.as_str(), PathFault::TooLong);
     Ok(())
 }
 
@@ -102,6 +143,32 @@ fn changes_lead_from_one_tree_to_the_other(rt: HostRuntime) -> Result<(), Fail> 
     before.apply(changes.as_slice())?;
     assert!(rt; before == after);
     assert_eq!(rt; before.len(), 1);
+    Ok(())
+}
+
+#[test]
+fn put_takes_the_new_mode_and_a_change_keeps_the_old(rt: HostRuntime) -> Result<(), Fail> {
+    let mut tree = Tree::new(rt.alloc());
+    file(&mut tree, rt.alloc(), "a", Mode::Plain, b"1")?;
+    let mut run = Tree::new(rt.alloc());
+    file(&mut run, rt.alloc(), "a", Mode::Executable, b"1")?;
+    assert!(rt;
+        tree.changes_to(&run)?.is_empty(),
+        "a mode alone is no change"
+    );
+    file(&mut tree, rt.alloc(), "a", Mode::Executable, b"1")?;
+    assert!(rt; tree == run);
+    let changes = vec![in rt.alloc();
+        change(rt.alloc(), "a", Some(b"2"))?,
+        change(rt.alloc(), "a", Some(b"3"))?,
+        change(rt.alloc(), "b", Some(b"4"))?,
+    ]?;
+    tree.apply(changes.as_slice())?;
+    file(&mut run, rt.alloc(), "a", Mode::Executable, b"3")?;
+    assert!(rt;
+        tree == run,
+        "the last of two changes stands, and no file is added"
+    );
     Ok(())
 }
 
