@@ -1,7 +1,8 @@
-pub mod Joins
-pub mod KnownBytes
-pub mod Lines
-pub mod Runs
-pub mod Selections
-pub mod Trims
-pub mod Values
+pub mod JoinLemmas
+pub mod KnownBytesLemmas
+pub mod LineLemmas
+pub mod ReadingLemmas
+pub mod RunLemmas
+pub mod SelectionLemmas
+pub mod TrimLemmas
+pub mod ValueLemmas

@@ -5,11 +5,11 @@ use Rattle.std.specs.Fmt.{decimal}
 use Rattle.unicode_width.specs.Width.{str_width}
 use Rattle.child_port.specs.declared.fault.Fault.{Fault}
 use Rattle.child_port.specs.declared.fault.Fault.TheVariants.{NotStarted, WaitFailed, Signal, OutputTooLong, ScratchFailed}
-use Rattle.hook_cli.specs.declared.report_text.result.Ending.{Ending}
-use Rattle.hook_cli.specs.declared.report_text.result.Ending.TheVariants.{SkippedAsked, SkippedNoFiles, Ran}
-use Rattle.hook_cli.specs.declared.report_text.result.HookResult.{HookResult}
-use Rattle.hook_cli.specs.declared.report_text.result.LineFault.{LineFault}
-use Rattle.hook_cli.specs.declared.report_text.result.LineFault.TheVariants.{Child, Misfit}
+use Rattle.hook_cli.specs.declared.report_text.hook_result.Ending.{Ending}
+use Rattle.hook_cli.specs.declared.report_text.hook_result.Ending.TheVariants.{SkippedAsked, SkippedNoFiles, Ran}
+use Rattle.hook_cli.specs.declared.report_text.hook_result.HookResult.{HookResult}
+use Rattle.hook_cli.specs.declared.report_text.hook_result.LineFault.{LineFault}
+use Rattle.hook_cli.specs.declared.report_text.hook_result.LineFault.TheVariants.{Child, Misfit}
 
 -- the columns that a text takes in a terminal
 abbrev pub width_of : List ℕ → ℕ

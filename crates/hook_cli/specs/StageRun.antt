@@ -13,9 +13,9 @@ use Rattle.hook_config.specs.declared.configuration.Language.{Language}
 use Rattle.hook_config.specs.declared.configuration.Language.TheVariants.{Fail}
 use Rattle.hook_config.specs.declared.stage.Stage.{Stage}
 use Rattle.hook_config.specs.Stages.{has_stage}
-use Rattle.hook_cli.specs.declared.report_text.result.Ending.{Ending}
-use Rattle.hook_cli.specs.declared.report_text.result.Ending.TheVariants.{SkippedAsked, SkippedNoFiles, Ran}
-use Rattle.hook_cli.specs.declared.report_text.result.HookResult.{HookResult}
+use Rattle.hook_cli.specs.declared.report_text.hook_result.Ending.{Ending}
+use Rattle.hook_cli.specs.declared.report_text.hook_result.Ending.TheVariants.{SkippedAsked, SkippedNoFiles, Ran}
+use Rattle.hook_cli.specs.declared.report_text.hook_result.HookResult.{HookResult}
 use Rattle.hook_cli.specs.FailAnswer.{fail_answer}
 use Rattle.hook_cli.specs.Report.{is_empty, is_failed}
 

@@ -8,15 +8,16 @@
 mod builtin_hooks;
 mod check;
 mod command_line;
+mod configuration_bytes;
+mod configuration_run;
 mod hook_run;
-mod reading;
 mod report_text;
 #[cfg(test)]
 mod tests;
-mod trial;
 mod try_fault;
 
 pub use check::check_text;
 pub use command_line::{Line, line_of};
-pub use trial::try_over;
+pub use configuration_bytes::MOST_CONFIGURATION_BYTES;
+pub use configuration_run::try_over;
 pub use try_fault::TryFault;

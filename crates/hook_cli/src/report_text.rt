@@ -5,24 +5,25 @@
 ghost use Rattle.std.specs.Prelude.{◌≡◌, ◌+◌, ◌≤◌, ◌++◌, IfOk, OnOk, All, length, map};
 ghost use Rattle.std.specs.List.{flat_map};
 ghost use Rattle.hook_cli.specs.Report.{columns_of, details_of, first_line, hook_text, is_failed, width_of};
+ghost use Rattle.hook_cli.specs.TryOver.{most_bytes};
 
 mod first_line;
+mod hook_result;
 mod lines;
-mod result;
 mod trim;
 
 use first_line::push_first_line;
 use hook_base::OutOfMemory;
+pub use hook_result::{Ending, HookResult, LineFault};
 pub use lines::{push, push_line};
 use lines::{push_ending_lines, push_id_line};
-pub use result::{Ending, HookResult, LineFault};
 use std::alloc::Global;
 use unicode_width::UnicodeWidthStr;
 
 /// The columns of a report, from the names of all hooks that its run goes through: 80, or as many as the widest name
 /// needs.
 pub fn columns(names: &[&str]) -> usize
-    requires { All (λ name. length name.now ≤ 1048576) names.now }
+    requires { All (λ name. length name.now ≤ most_bytes) names.now }
     ensures { result ≡ columns_of (map (λ name. name.now) names.now) }
 {
     let mut widest = 0;

@@ -1,9 +1,11 @@
 mod checks;
+mod reading;
+mod refusals;
 mod reports;
 mod stages;
-mod streams;
 mod texts;
 mod words;
+mod writing;
 
 use crate::{TryFault, try_over};
 use child_port::TableChildren;
@@ -11,6 +13,18 @@ use hook_base::{Bytes, FileEntry, Items, Mode, RepoPath, Tree};
 use std::alloc::Global;
 use std::io::{Read, Write};
 use std::test::Fail;
+
+/// A configuration of one hook, `names`.
+const NAMES: &str =
+    "repos:\n- repo: local\n  hooks:\n  - id: names\n    name: Check names\n    language: fail\n    entry: no such names\n";
+
+/// What a run of it writes where there are no files.
+const SKIPPED: &str =
+    "Check names..........................................(no files to check)Skipped\n";
+
+/// What a run of it writes over the file `bad.txt`.
+const FAILED: &str =
+    "Check names..............................................................Failed\n- hook id: names\n- exit code: 1\n\nno such names\n\nbad.txt\n\n";
 
 /// A reader that gives a few bytes a call, and an error at one call.
 #[derive(Drop)]
@@ -106,8 +120,8 @@ fn tree_of(alloc: Global, paths: &[&str]) -> Result<Tree, Fail> {
 /// The answer of a run over the tree, which needs no child.
 fn tried(
     alloc: Global,
-    reader: &mut Pieces,
-    writer: &mut Kept,
+    reader: &mut impl Read,
+    writer: &mut impl Write,
     tree: &Tree,
 ) -> Result<bool, TryFault> {
     let mut children = TableChildren::new(Items::from(Vec::new(alloc)));

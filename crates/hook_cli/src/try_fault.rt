@@ -25,7 +25,7 @@ pub enum TryFault {
 
 impl TryFault {
     ghost use Rattle.std.specs.Prelude.{◌≡◌};
-    ghost use Rattle.hook_cli.specs.TryOver.{name_of, number_of};
+    ghost use Rattle.hook_cli.specs.TryFaults.{name_of, number_of};
 
     /// The refusal's number, from 1 to 5.
     pub fn number(&self) -> u8
@@ -78,7 +78,7 @@ impl From<AllocError> for TryFault {
 
 /// Want of memory while the configuration was read is want of memory of the run.
 impl From<ConfigFault> for TryFault {
-    ghost use Rattle.hook_cli.specs.TryOver.{IsTryFaultOf};
+    ghost use Rattle.hook_cli.specs.TryFaults.{IsTryFaultOf};
 
     ghost from_gives = { IsTryFaultOf };
 

@@ -21,7 +21,7 @@ fn without_blanks_before(bytes: &[u8]) -> &[u8]
     rest
 }
 
-#[tactic(auto, using(crate::proofs::Trims::last_is_blank, crate::proofs::Trims::last_is_text))]
+#[tactic(auto, using(crate::proofs::TrimLemmas::last_is_blank, crate::proofs::TrimLemmas::last_is_text))]
 fn without_blanks_after(bytes: &[u8]) -> &[u8]
     ensures { result.now ≡ without_blanks_after bytes.now }
 {

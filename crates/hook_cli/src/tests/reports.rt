@@ -1,4 +1,6 @@
-use super::{Kept, Pieces, tree_of, tried};
+//! The report of a whole run, and whether it passed.
+
+use super::{FAILED, Kept, NAMES, Pieces, SKIPPED, tree_of, tried};
 use std::alloc::Global;
 use std::process::Abort;
 use std::test::Fail;
@@ -9,15 +11,6 @@ struct Case {
     passed: bool,
     report: &'static str,
 }
-
-const NAMES: &str =
-    "repos:\n- repo: local\n  hooks:\n  - id: names\n    name: Check names\n    language: fail\n    entry: no such names\n";
-
-const SKIPPED: &str =
-    "Check names..........................................(no files to check)Skipped\n";
-
-const FAILED: &str =
-    "Check names..............................................................Failed\n- hook id: names\n- exit code: 1\n\nno such names\n\nbad.txt\n\n";
 
 const CASES: &[Case] = &[
     // There is no hook.

@@ -1,6 +1,6 @@
 //! A run goes through the hooks of its stage alone.
 
-use super::{Kept, Pieces, tree_of, tried};
+use super::{FAILED, Kept, Pieces, tree_of, tried};
 use std::alloc::Global;
 use std::process::Abort;
 use std::test::Fail;
@@ -10,9 +10,6 @@ const REPOSITORY: &str = "repos:\n- repo: local\n  hooks:\n";
 
 const HOOK: &str =
     "  - id: names\n    name: Check names\n    language: fail\n    entry: no such names\n";
-
-const FAILED: &str =
-    "Check names..............................................................Failed\n- hook id: names\n- exit code: 1\n\nno such names\n\nbad.txt\n\n";
 
 /// A name of 60 columns, more than fit 80 columns with the dots.
 const WIDE: &str = "    name: 123456789012345678901234567890123456789012345678901234567890\n";

@@ -1,4 +1,4 @@
-use Rattle.hook_cli.proofs.Joins.{joined-after}
+use Rattle.hook_cli.proofs.JoinLemmas.{joined-after}
 use Rattle.hook_cli.proofs.builtin_hooks.push_joined.Goals as goal
 
 pub returns : goal.returns

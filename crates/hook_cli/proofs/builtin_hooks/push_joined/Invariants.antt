@@ -1,6 +1,6 @@
 use Rattle.std.proofs.Common.{◌≡◌, ◌++◌, map, take}
 use Rattle.std.specs.List.{flat_map}
-use Rattle.hook_cli.proofs.Joins.{next_name}
+use Rattle.hook_cli.proofs.JoinLemmas.{next_name}
 use Rattle.hook_cli.proofs.builtin_hooks.push_joined.Given as goal
 
 abbrev pub invariant-loop-name : goal.invariant-loop-name

@@ -1,6 +1,6 @@
 use Rattle.std.proofs.Common.{◌∙◌, ◌++◌, ap}
 use Rattle.hook_cli.specs.CheckText.{ignored_line}
-use Rattle.hook_cli.proofs.Lines.{written-more}
+use Rattle.hook_cli.proofs.LineLemmas.{written-more}
 use Rattle.hook_cli.proofs.check.push_ignored_lines.Goals as goal
 
 pub loop-key-preserved : goal.loop-key-preserved

@@ -3,7 +3,7 @@ use Rattle.clap.specs.declared.parser.ArgMatches.TheViews.{out-ArgMatches, out-S
 use Rattle.clap.specs.Words.{found_of, rows_of}
 use Rattle.std.specs.Box.{box_value}
 use Rattle.hook_cli.specs.declared.command_line.Line.TheVariants.{Try}
-use Rattle.hook_cli.proofs.Values.{line_from}
+use Rattle.hook_cli.proofs.ValueLemmas.{line_from}
 use Rattle.hook_cli.proofs.command_line.line_of.Goals as goal
 
 pub returns-clause-line : goal.returns-clause-line

@@ -1,6 +1,6 @@
 use Rattle.std.proofs.Common.{◌≡◌, ◌++◌, drop}
 use Rattle.hook_cli.specs.StageRun.{hooks_of_stage}
-use Rattle.hook_cli.proofs.Runs.{hooks_behind}
+use Rattle.hook_cli.proofs.RunLemmas.{hooks_behind}
 use Rattle.hook_cli.proofs.hook_run.hooks_of_stage.Given as goal
 
 abbrev pub invariant-loop-hook : goal.invariant-loop-hook

@@ -1,5 +1,5 @@
 use Rattle.std.proofs.Common.{◌<◌, arith, length}
-use Rattle.hook_cli.proofs.Selections.{paths-more}
+use Rattle.hook_cli.proofs.SelectionLemmas.{paths-more}
 use Rattle.hook_cli.proofs.hook_run.paths_of.Goals as goal
 
 pub loop-place-preserved : goal.loop-place-preserved

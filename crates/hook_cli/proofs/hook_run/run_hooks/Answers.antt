@@ -1,7 +1,7 @@
 use Rattle.std.proofs.Common.{◌∙◌, ap, sym, refl}
 use Rattle.hook_cli.specs.TryOver.{ask_for_all}
-use Rattle.hook_cli.proofs.Runs.{continues-more, hooks_behind, run-ended, run-stopped}
-use Rattle.hook_cli.proofs.Selections.{selected-all, texts}
+use Rattle.hook_cli.proofs.RunLemmas.{continues-more, hooks_behind, run-ended, run-stopped}
+use Rattle.hook_cli.proofs.SelectionLemmas.{selected-all, texts}
 use Rattle.hook_cli.proofs.hook_run.run_hooks.Goals as goal
 
 pub returns-then-is_last : goal.returns-then-is_last

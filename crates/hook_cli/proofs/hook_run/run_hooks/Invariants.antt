@@ -1,6 +1,6 @@
 use Rattle.std.proofs.Common.{drop}
 use Rattle.hook_cli.specs.TryOver.{ask_for_all}
-use Rattle.hook_cli.proofs.Runs.{Continues, hooks_behind}
+use Rattle.hook_cli.proofs.RunLemmas.{Continues, hooks_behind}
 use Rattle.hook_cli.proofs.hook_run.run_hooks.Given as goal
 
 abbrev pub invariant-loop-hook : goal.invariant-loop-hook

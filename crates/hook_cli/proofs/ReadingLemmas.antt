@@ -1,0 +1,47 @@
+-- What was read is a configuration, and more bytes than a configuration may have are none.
+use Rattle.std.proofs.Common.{◌≡◌, arith, inl, inr, lt-ltb, ℕ, ◌+◌, ◌<◌, List, length, Option, None, Some}
+use Rattle.yaml_lines.specs.Characters.{characters_of}
+use Rattle.yaml_lines.specs.Lines.{places_of_bytes}
+use Rattle.yaml_profile.specs.Text.{meaning_of}
+use Rattle.hook_config.specs.Configuration.{configuration_of}
+use Rattle.hook_config.specs.declared.configuration.Config.{Config}
+use Rattle.hook_cli.specs.Reading.{ReadsToLimit}
+use Rattle.hook_cli.specs.TryOver.{IsRefusedBy, ReadsConfiguration, most_bytes}
+use Rattle.hook_cli.specs.declared.try_fault.TryFault.{TryFault}
+use Rattle.hook_cli.specs.declared.try_fault.TryFault.TheVariants.{Write}
+
+characters_of-long : (bytes : List ℕ) → most_bytes < length bytes → characters_of bytes ≡ None
+unfolding characters_of
+characters_of-long bytes long = rw (lt-ltb most_bytes (length bytes) long)
+
+places_of_bytes-long : (bytes : List ℕ) → most_bytes < length bytes → places_of_bytes bytes ≡ None
+unfolding places_of_bytes
+places_of_bytes-long bytes long = rw (characters_of-long bytes long)
+
+meaning_of-long : (bytes : List ℕ) → most_bytes < length bytes → meaning_of bytes ≡ None
+unfolding meaning_of
+meaning_of-long bytes long = rw (places_of_bytes-long bytes long)
+
+configuration_of-long : (bytes : List ℕ) → most_bytes < length bytes → configuration_of bytes ≡ None
+unfolding configuration_of
+configuration_of-long bytes long = rw (meaning_of-long bytes long)
+
+some_and_none : (config : Config) (meant : Option Config) → meant ≡ Some config → meant ≡ None → ⊥
+some_and_none config meant some none = cc
+
+pub read-configuration : (given left : Option (List ℕ)) (bytes : List ℕ) (config : Config) → ReadsToLimit given left bytes
+    → configuration_of bytes ≡ Some config → ReadsConfiguration given left config
+read-configuration given left bytes config was meant = record {
+  bytes = bytes;
+  read = was.read;
+  ended = elim was.ended [
+    | inl ended ↦ ended
+    | inr long ↦ absurd (some_and_none config (configuration_of bytes) meant (configuration_of-long bytes (omega arith)))
+  ];
+  meant = meant;
+}
+
+-- Write is refused after a configuration was read
+pub refused-write : (given left : Option (List ℕ)) (calls calls_after : ℕ) (config : Config) (fault : TryFault) → fault ≡ Write
+    → ReadsConfiguration given left config → IsRefusedBy given left calls calls_after fault
+refused-write given left calls calls_after config fault is read = rw is (config, read)

@@ -1,0 +1,38 @@
+use Rattle.std.proofs.Common.{◌∙◌, ap, sym, subst, List, ℕ, arith}
+use Rattle.std.proofs.lemmas.Result.{err_from_is_err_and}
+use Rattle.std.specs.Io.KnownBytes.{Appends}
+use Rattle.hook_config.specs.Configuration.{configuration_of}
+use Rattle.hook_cli.specs.StageRun.{no_parts}
+use Rattle.hook_cli.proofs.ReadingLemmas.{read-configuration, refused-write}
+use Rattle.hook_cli.proofs.RunLemmas.{counted-none, told-none}
+use Rattle.hook_cli.proofs.configuration_run.try_over.Goals as goal
+
+pub returns-clause-tried : goal.returns-clause-tried
+returns-clause-tried g c =
+    let report = c.in_ok-report.ensures in
+    let meant = ap configuration_of (sym c.as_slice.ensures.value) ∙ c.in_ok-config.ensures in
+    record {
+      config = c.in_ok-config.config;
+      trace = no_parts report.0;
+      results = report.0;
+      read = read-configuration (g.R.Read.remaining c.args.reader.now) (g.R.Read.remaining c.read_bytes.new.reader) c.in_ok-bytes.bytes.items
+          c.in_ok-config.config c.in_ok-bytes.ensures.read meant;
+      run = report.1;
+      told = told-none (g.C.Children.tells c.args.children.now) report.0;
+      called = omega arith;
+      counted = counted-none (g.C.Children.fault_count c.args.children.now) report.0;
+      verdict = report.3;
+      written = subst (λ (bytes : List ℕ). Appends (g.W.Write.contents c.args.writer.now) (g.W.Write.contents c.write_report.new.writer) bytes)
+          (c.as_slice-2.ensures.value ∙ report.2) c.in_ok-write_report.ensures.ok;
+    }
+
+pub returns-in_err-write_report-clause-refused : goal.returns-in_err-write_report-clause-refused
+returns-in_err-write_report-clause-refused g c =
+    let refusal = c.from_residual-in_err-write_report in
+    let p = err_from_is_err_and refusal.result refusal.ensures.1 in
+    let meant = ap configuration_of (sym c.as_slice.ensures.value) ∙ c.in_ok-config.ensures in
+    let read = read-configuration (g.R.Read.remaining c.args.reader.now) (g.R.Read.remaining c.read_bytes.new.reader) c.in_ok-bytes.bytes.items
+    c.in_ok-config.config c.in_ok-bytes.ensures.read meant in
+    rw (p.1, p.2)
+    (refused-write _ _ (g.C.Children.call_count c.args.children.now) (g.C.Children.call_count c.args.children.now) c.in_ok-config.config
+    c.in_err-write_report.field-0.0 c.in_err-write_report.ensures.err read)
