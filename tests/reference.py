@@ -91,28 +91,25 @@ def value_of(crate, name):
 def wrong_limits(reference):
     section = reference.partition("\n## Limits\n")[2]
     rows = {row[0]: row[1] for rows in tables(section) for row in rows[2:]}
-    left, values = dict(rows), set()
-    for row, words in UNNAMED:
-        if words not in left.get(row, ""):
-            yield f"the row {row!r} doesn't say {words!r}"
-        left[row] = left.get(row, "").replace(words, "", 1)
-        values.update(re.findall(r"\d[\d,]*\d", words))
+    told = [*UNNAMED]
     for row, words, crate, name, more in LIMITS:
         value = value_of(crate, name)
         if value is None:
             yield f"{crate}/specs has not one definition {name} = NUMBER"
             continue
-        said = words.format(f"{value + more:,}")
-        if said not in left.get(row, ""):
-            yield f"{name} of {crate} is {value:,}, but the row {row!r} doesn't say {said!r}"
-        elif (mib := re.match(r"(\d+) MiB", said)) and int(mib[1]) << 20 != value:
+        told.append((row, words.format(f"{value + more:,}")))
+        if (mib := re.match(r"(\d+) MiB", words)) and int(mib[1]) << 20 != value:
             yield f"{name} of {crate} is {value:,}, which isn't {mib[0]}"
-        left[row] = left.get(row, "").replace(said, "", 1)
-        values.add(f"{value + more:,}")
-    for row, words in left.items():
+    for row, words in told:
+        if words not in rows.get(row, ""):
+            yield f"the row {row!r} doesn't say {words!r}"
+    for row, words in rows.items():
+        for _, part in (it for it in told if it[0] == row):
+            words = words.replace(part, "", 1)
         if re.search(r"\d", words):
             yield f"the row {row!r} has a number that is no limit: {words!r}"
-    for number in sorted({*re.findall(r"(?<![\d,])\d{1,3}(?:,\d{3})+", reference)} - values):
+    limits = {number for _, words in told for number in re.findall(r"\d[\d,]*", words)}
+    for number in sorted({*re.findall(r"(?<![\d,])\d{1,3}(?:,\d{3})+", reference)} - limits):
         yield f"{number} is none of the limits"
 
 
