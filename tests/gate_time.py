@@ -77,12 +77,14 @@ class Watch:
     def look(self):
         found = processes()
         for process, (_, began, took) in found.items():
-            above, work = process, None
-            while above in found and above != self.top:
-                work = self.work_at(above, found[above][1]) or work
-                above = found[above][0]
-            if above == self.top and work:
-                self.took[process, began] = work, took
+            chain = [process]
+            while chain[-1] in found and chain[-1] != self.top:
+                chain.append(found[chain[-1]][0])
+            if chain.pop() == self.top:
+                # What a command starts works for the same as the command.
+                works = [self.work_at(each, found[each][1]) for each in chain]
+                if known := [work for work in works if work]:
+                    self.took[process, began] = known[-1], took
 
     def work_at(self, process, began):
         """What the process works for. It is asked anew until it is known, since a command begins as what starts it."""
