@@ -1,7 +1,7 @@
 #!/usr/bin/env python3
 """Runs the sessions of tests/sessions/ with the built program and compares every byte that it prints.
 
-Usage: tests/sessions.py [PROGRAM]   (default: crates/hookhost/out/hookhost)
+Usage: tests/sessions.py [PROGRAM [CASE]]   (default: crates/hookhost/out/hookhost, all cases; CASE: part of their names)
 
 A session file holds cases. `== NAME` begins a case, in an empty folder. Within it:
   -- file PATH      the lines that follow are the file's content
@@ -13,7 +13,7 @@ A session file holds cases. `== NAME` begins a case, in an empty folder. Within 
   -- stdin PATH     the file's content is
   -- run WORD ..    runs `hookhost WORD ..`, the words cut as a shell cuts them
   -- stdout, -- stderr   what that command printed there, to the byte (nothing where left out)
-  -- shown in PATH  what it printed on standard output stands in that file of the repository, to the byte
+  -- shown in PATH  what it printed stands in that file of the repository, to the byte
   -- stderr contains TEXT   a part of what it printed there
   -- status N       its exit status (0 where left out)
   -- output FILE    its standard output goes to this file, as /dev/full, and isn't compared
@@ -28,6 +28,7 @@ import tempfile
 HERE = os.path.dirname(os.path.abspath(__file__))
 TOP = os.path.dirname(HERE)
 PROGRAM = os.path.abspath(sys.argv[1] if len(sys.argv) > 1 else os.path.join(TOP, "crates/hookhost/out/hookhost"))
+CASE = sys.argv[2] if len(sys.argv) > 2 else ""
 
 
 def cases_of(path):
@@ -91,7 +92,7 @@ def run(command):
         return f"status {done.returncode}, wanted {command['status']}; printed {(done.stdout or b'')[:300]!r} {done.stderr[:300]!r}"
     if done.stdout is not None and done.stdout != command["stdout"]:
         return f"printed {done.stdout[:600]!r}, wanted {command['stdout'][:600]!r}"
-    if command["shown"] and done.stdout not in content(os.path.join(TOP, command["shown"])):
+    if command["shown"] and (done.stdout or b"") + done.stderr not in content(os.path.join(TOP, command["shown"])):
         return f"what it printed isn't in {command['shown']}"
     if command["part"] is not None:
         return None if command["part"] in done.stderr else f"{command['part']!r} isn't in {done.stderr[:600]!r}"
@@ -129,6 +130,8 @@ def main():
     folder = os.path.join(HERE, "sessions")
     for name in sorted(os.listdir(folder)):
         for case, steps in cases_of(os.path.join(folder, name)):
+            if CASE not in case:
+                continue
             with tempfile.TemporaryDirectory() as place:
                 os.chdir(place)
                 wrong = play(steps)

@@ -1,0 +1,166 @@
+#!/usr/bin/env python3
+"""Runs the parts of the gate in turn, up to the first that fails, and prints what each said last and where the processor
+minutes went.
+
+Usage: tests/gate_time.py PART..   Each PART is a command in one word, as 'rt ci'.
+
+A part's whole time is what the system counts for it and for all that it started. Where it runs the checker, the processes
+below it are looked at twice a second, and their time goes to the crate that their command line or folder names: to its
+proofs, to its tests (their proofs, build and run), to its must-fail edits, or to its program (built and run). What a
+process took after the last look at it, and what names no crate, is the part's own.
+"""
+import os
+import re
+import shlex
+import signal
+import subprocess
+import sys
+import threading
+import time
+from collections import defaultdict
+
+# What the whole gate may take, in processor minutes. An issue that adds to the repository says what it adds to this.
+BUDGET = 130
+PAUSE = 0.5
+TICKS = os.sysconf("SC_CLK_TCK")
+PHASES = ["proofs", "tests", "edits", "program"]
+
+
+def processes():
+    """Each process that runs: its parent, when it began, and the seconds of processor time that it took by itself."""
+    found = {}
+    for name in filter(str.isdigit, os.listdir("/proc")):
+        try:
+            with open(f"/proc/{name}/stat", "rb") as file:
+                fields = file.read().rpartition(b")")[2].split()
+        except OSError:
+            continue
+        found[int(name)] = int(fields[1]), fields[19], (int(fields[11]) + int(fields[12])) / TICKS
+    return found
+
+
+def work_of(process):
+    """The crate and the phase that a process works for, by its command line and its folder, or None."""
+    try:
+        folder = os.readlink(f"/proc/{process}/cwd")
+        with open(f"/proc/{process}/cmdline", "rb") as file:
+            words = file.read().decode(errors="replace").split("\0")
+    except OSError:
+        return None
+    line = " ".join(words)
+    if ran := re.search(r"/rt-run-\w+/bin/(\w+?)(_tests)?(?: |$)", line):
+        return ran[1], "tests" if ran[2] else "program"
+    if checked := re.search(r"--crate-name (\w+)", line):
+        if "/rt-edit-" in folder:
+            return checked[1], "edits"
+        return checked[1], "tests" if "--test" in words else "program" if "--crate-checked" in words else "proofs"
+    if linked := re.search(r"/crates/(\w+)$", folder):
+        return linked[1], "tests" if f"{linked[1]}_tests" in line else "program"
+    if laid_out := re.search(r"/rattle fmt .*?/crates/(\w+)/", line):
+        return laid_out[1], "proofs"
+    return None
+
+
+class Watch:
+    """The processor time of all processes below one, by what they work for."""
+
+    def __init__(self, top):
+        self.top, self.works, self.took, self.is_over = top, {}, {}, False
+        self.thread = threading.Thread(target=self.run)
+        self.thread.start()
+
+    def run(self):
+        while not self.is_over:
+            self.look()
+            time.sleep(PAUSE)
+
+    def look(self):
+        found = processes()
+        for process, (_, began, took) in found.items():
+            chain = [process]
+            while chain[-1] in found and chain[-1] != self.top:
+                chain.append(found[chain[-1]][0])
+            if chain.pop() == self.top:
+                # What a command starts works for the same as the command.
+                works = [self.work_at(each, found[each][1]) for each in chain]
+                if known := [work for work in works if work]:
+                    self.took[process, began] = known[-1], took
+
+    def work_at(self, process, began):
+        """What the process works for. It is asked anew until it is known, since a command begins as what starts it."""
+        if not self.works.get((process, began)):
+            self.works[process, began] = work_of(process)
+        return self.works[process, began]
+
+    def end(self):
+        """The seconds by crate and phase."""
+        self.is_over = True
+        self.thread.join()
+        sums = defaultdict(float)
+        for work, took in self.took.values():
+            sums[work] += took
+        return sums
+
+
+class Part:
+    """A part of the gate: its command, and once it ran its status, its last line, and its seconds of processor time."""
+
+    def __init__(self, name):
+        self.name, self.status, self.said, self.seconds, self.by_work = name, None, "", 0.0, {}
+
+    def run(self):
+        print(f"gate: {self.name}", flush=True)
+        with subprocess.Popen(shlex.split(self.name), stdin=subprocess.DEVNULL, stdout=subprocess.PIPE, stderr=subprocess.STDOUT) as command:
+            watch = Watch(command.pid)
+            try:
+                for line in command.stdout:
+                    sys.stdout.buffer.write(line)
+                    sys.stdout.flush()
+                    self.said = line.decode(errors="replace").strip() or self.said
+                _, status, used = os.wait4(command.pid, 0)
+                command.returncode = os.waitstatus_to_exitcode(status)
+            finally:
+                if command.returncode is None:
+                    command.terminate()
+                self.by_work = watch.end()
+        self.status, self.seconds = command.returncode, used.ru_utime + used.ru_stime
+
+
+def show_times(parts):
+    """The processor minutes as a table, a line for each crate and for each part."""
+    sums = defaultdict(float)
+    for part in parts:
+        for work, took in part.by_work.items():
+            sums[work] += took
+    print(f"gate: {'processor minutes':28}" + "".join(f"{each:>9}" for each in [*PHASES, "sum"]))
+    for crate in sorted({crate for crate, _ in sums}, key=lambda it: -sum(sums[it, phase] for phase in PHASES)):
+        row = [sums[crate, phase] / 60 for phase in PHASES]
+        print(f"gate:   {crate:26}" + "".join(f"{each:9.1f}" for each in [*row, sum(row)]))
+    row = [sum(sums[it] for it in sums if it[1] == phase) / 60 for phase in PHASES]
+    print(f"gate:   {'all crates':26}" + "".join(f"{each:9.1f}" for each in [*row, sum(row)]))
+    for part in parts:
+        own = max(part.seconds - sum(part.by_work.values()), 0) / 60
+        print(f"gate:   {part.name + (', the rest' if part.by_work else ''):62}{own:9.1f}")
+
+
+def main():
+    signal.signal(signal.SIGTERM, lambda number, _: sys.exit(128 + number))
+    parts, start = [Part(name) for name in sys.argv[1:]], time.monotonic()
+    for part in parts:
+        part.run()
+        if part.status:
+            break
+    ran = [part for part in parts if part.status is not None]
+    show_times(ran)
+    for part in ran:
+        print(f"gate: {part.name}: {'FAILED with status ' + str(part.status) if part.status else 'passed'}: {part.said}")
+    for part in parts[len(ran):]:
+        print(f"gate: {part.name}: not run")
+    took = sum(part.seconds for part in ran) / 60
+    is_well = bool(parts) and all(part.status == 0 for part in parts)
+    print(f"gate: {'passed' if is_well else 'FAILED'}: {took:.1f} processor minutes of at most {BUDGET}{', OVER THE BUDGET' if took > BUDGET else ''}, "
+          f"in {(time.monotonic() - start) / 60:.1f} minutes on {len(os.sched_getaffinity(0))} processors")
+    sys.exit(0 if is_well else 1)
+
+
+main()

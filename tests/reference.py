@@ -1,0 +1,126 @@
+#!/usr/bin/env python3
+"""Compares docs/REFERENCE.md with the code: each refusal's number and name, and each limit.
+
+Usage: tests/reference.py [FOLDER]   (default: the repository that this file stands in)
+
+An enum whose `number` tells its variants apart is a kind of refusal. Its variants' numbers and names (those of `name`, and
+where there is none the variants' own) have to be the rows of one table of the reference whose first column is `number`, and
+each such table has to be of one enum. A limit is a definition `NAME = NUMBER` in a crate's specs/; LIMITS says where the
+reference's table "Limits" names it, and every number of that table has to be a limit.
+"""
+import os
+import re
+import sys
+
+TOP = os.path.abspath(sys.argv[1] if len(sys.argv) > 1 else os.path.join(os.path.dirname(os.path.abspath(__file__)), ".."))
+# The row of the table, the words in it with {} for the number, and the limit: its crate, its name, and how much the words
+# say more than it.
+LIMITS = [
+    ("configuration", "1 MiB ({} bytes)", "yaml_lines", "most_bytes", 0),
+    ("configuration", "a node within at most {} others", "yaml_profile", "most_nodes", -1),
+    ("file, message", "16 MiB ({} bytes)", "repo_store", "content_limit", 0),
+    ("staged tree of a store", "{} files", "repo_store", "file_limit", 0),
+    ("staged tree of a store", "8 MiB ({} bytes) together", "repo_store", "path_limit", 0),
+    ("commits of a store", "{}", "repo_store", "commit_limit", 0),
+]
+# What the table says of limits that have no name in specs/ yet.
+UNNAMED = [("configuration", "500 hooks"), ("path", "4,096 bytes")]
+
+
+def read(*path):
+    with open(os.path.join(TOP, *path), encoding="utf-8") as file:
+        return file.read()
+
+
+def sources(part, ending):
+    """The texts of a crate's files, or of all crates', by their paths."""
+    for folder, _, names in os.walk(os.path.join(TOP, part)):
+        for name in sorted(names):
+            if name.endswith(ending) and "/out/" not in folder:
+                yield os.path.relpath(os.path.join(folder, name), TOP), read(folder, name)
+
+
+def arms(body, function, value):
+    """What the arms of a method's match give, by the variant."""
+    found = re.search(rf"\n    (?:pub(?:\(crate\))? )?fn {function}\(&self\).*?\n    \}}\n", body, re.DOTALL)
+    return dict(re.findall(rf"\w+::(\w+)(?:\([^)]*\)| \{{[^}}]*\}})? => {value},", found[0])) if found else {}
+
+
+def refusals_of_code():
+    """The numbers and names of each kind of refusal, by the enum."""
+    found = {}
+    for _, text in sources("crates", ".rt"):
+        for enum, body in re.findall(r"\nimpl (\w+) \{(.*?\n)\}\n", text, re.DOTALL):
+            numbers, names = arms(body, "number", r"(\d+)"), arms(body, "name", r'"(\w+)"')
+            if numbers and re.search(rf"\npub enum {enum} ", text):
+                found[enum] = {int(number): names.get(variant, variant) for variant, number in numbers.items()}
+    return found
+
+
+def tables(text):
+    """The tables of a Markdown text, each a list of rows of cells."""
+    for block in re.findall(r"(?:^\|.*\n?)+", text, re.MULTILINE):
+        yield [[cell.strip() for cell in re.split(r"(?<!\\)\|", row.strip().strip("|"))] for row in block.splitlines()]
+
+
+def wrong_refusals(reference):
+    """How the numbered tables differ from the enums, each table beside the enum that it shares most names with."""
+    left = refusals_of_code()
+    for rows in (rows for rows in tables(reference) if rows[0][0] == "number"):
+        told = {int(row[0]): row[1] for row in rows[2:]}
+        if len(told) < len(rows) - 2:
+            yield f"the table with {rows[2][1]} has a number twice"
+        enum = max(left, key=lambda it: len({*left[it].values()} & {*told.values()}), default=None)
+        if enum is None:
+            yield f"no enum is left for the table with {rows[2][1]}"
+            continue
+        code = left.pop(enum)
+        for number in sorted({*told, *code}):
+            if told.get(number) != code.get(number):
+                yield f"{enum}: {number} is {code.get(number, 'nothing')} in the code, and {told.get(number, 'nothing')} in the reference"
+    for enum in left:
+        yield f"{enum}: the reference has no table of its numbers"
+
+
+def value_of(crate, name):
+    """A limit, from the one definition of this name in the crate's specs/."""
+    found = [it for _, text in sources(f"crates/{crate}/specs", ".antt") for it in re.findall(rf"^{name} = ([\d_]+)$", text, re.MULTILINE)]
+    return int(found[0]) if len(found) == 1 else None
+
+
+def wrong_limits(reference):
+    section = reference.partition("\n## Limits\n")[2]
+    rows = {row[0]: row[1] for rows in tables(section) for row in rows[2:]}
+    told = [*UNNAMED]
+    for row, words, crate, name, more in LIMITS:
+        value = value_of(crate, name)
+        if value is None:
+            yield f"{crate}/specs has not one definition {name} = NUMBER"
+            continue
+        told.append((row, words.format(f"{value + more:,}")))
+        if (mib := re.match(r"(\d+) MiB", words)) and int(mib[1]) << 20 != value:
+            yield f"{name} of {crate} is {value:,}, which isn't {mib[0]}"
+    for row, words in told:
+        if words not in rows.get(row, ""):
+            yield f"the row {row!r} doesn't say {words!r}"
+    for row, words in rows.items():
+        for _, part in (it for it in told if it[0] == row):
+            words = words.replace(part, "", 1)
+        if re.search(r"\d", words):
+            yield f"the row {row!r} has a number that is no limit: {words!r}"
+    limits = {number for _, words in told for number in re.findall(r"\d[\d,]*", words)}
+    for number in sorted({*re.findall(r"(?<![\d,])\d{1,3}(?:,\d{3})+", reference)} - limits):
+        yield f"{number} is none of the limits"
+
+
+def main():
+    reference = read("docs", "REFERENCE.md")
+    wrong = [*wrong_refusals(reference), *wrong_limits(reference)]
+    for each in wrong:
+        print(f"FAILED docs/REFERENCE.md: {each}")
+    kinds = refusals_of_code()
+    print(f"reference: {sum(map(len, kinds.values()))} refusals of {len(kinds)} kinds and {len(LIMITS)} limits compared, {len(wrong)} differ")
+    sys.exit(1 if wrong or not kinds else 0)
+
+
+main()
