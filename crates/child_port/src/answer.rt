@@ -1,10 +1,11 @@
+//! What became of a child.
 use crate::Fault;
 use hook_base::{Bytes, Changes};
 
 /// What a completed child gave.
 #[derive(Clone, Debug, Drop, PartialEq, Eq)]
 pub struct Answer {
-    /// Its exit code.
+    /// Its exit code, from 0 to 255.
     pub status: u8,
     /// Its standard output, followed by its standard error.
     pub output: Bytes,

@@ -1,3 +1,4 @@
+//! The trait of whatever starts children.
 use crate::Outcome;
 use hook_base::{OutOfMemory, Text, Tree};
 
@@ -22,7 +23,7 @@ pub trait Children {
     ghost fault_count: { Self → ℕ };
 
     /// Runs the words as a child on the tree, and tells what became of it. The child is known by its words and by the
-    /// files of the tree that it has seen. A refusal counts as no call.
+    /// files of the tree that it has seen. `OutOfMemory` where memory is refused, which counts as no call.
     fn run(&mut self, words: &[Text], tree: &Tree, seen: &Tree) -> Result<Outcome, OutOfMemory>
         requires countable { call_count self.old < 2 ^ 64 - 1 }
         requires seen_of_tree { IsPartOf seen.now tree.now }

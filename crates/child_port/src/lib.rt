@@ -1,7 +1,8 @@
 //! The children that a run starts: what one answers, how it can fail, and the trait `Children` of whatever starts them.
 //!
 //! `Outcome` is what became of one child, `Answer` what a completed one gave, `Fault` how it failed. `TableChildren`
-//! answers by a table. The contracts cite `specs/Telling.antt` and `specs/Outcomes.antt`.
+//! answers by a table of `TableRow`s. The contracts cite `specs/Telling.antt`, `specs/Outcomes.antt`, `specs/Tables.antt`
+//! and `specs/Limits.antt`. [`laws`] says that the limit of the code is that of the definitions.
 #![tactic(auto)]
 
 mod answer;

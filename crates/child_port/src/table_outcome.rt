@@ -1,3 +1,4 @@
+//! What a table answers: a look-up by words and seen files.
 ghost use Rattle.std.specs.Prelude.{IfOk};
 ghost use Rattle.child_port.specs.Tables.{TableTells};
 
@@ -5,7 +6,12 @@ use crate::{Fault, Outcome, TableRow};
 use hook_base::{OutOfMemory, Text, Tree};
 
 /// What the first row of the words and the seen files answers; where there is none, the child isn't started.
-pub fn table_outcome(rows: &[TableRow], words: &[Text], seen: &Tree) -> Result<Outcome, OutOfMemory>
+/// `OutOfMemory` where memory is refused.
+pub(crate) fn table_outcome(
+    rows: &[TableRow],
+    words: &[Text],
+    seen: &Tree,
+) -> Result<Outcome, OutOfMemory>
     ensures { IfOk result (λ outcome. TableTells rows.now words.now seen.now outcome) }
 {
     'rows: for row in rows {

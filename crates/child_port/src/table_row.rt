@@ -1,3 +1,4 @@
+//! A row of a table of answers.
 use crate::Answer;
 use hook_base::{Items, Text, Tree};
 

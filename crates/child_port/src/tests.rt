@@ -58,7 +58,7 @@ fn a_table_answers_by_words_and_seen_files(rt: HostRuntime) -> Result<(), Fail> 
 }
 
 #[test]
-fn a_lacking_row_is_a_fault(rt: HostRuntime) -> Result<(), Fail> {
+fn a_child_without_a_row_is_a_fault_and_a_call(rt: HostRuntime) -> Result<(), Fail> {
     let mut children = TableChildren::new(Items::new(rt.alloc()));
     let asked = words(rt.alloc(), "trim")?;
     let seen = tree(rt.alloc(), "a.txt", b"x\n")?;
