@@ -89,7 +89,7 @@ def value_of(crate, name):
 
 
 def wrong_limits(reference):
-    section = reference.partition("\n## Limits\n")[2]
+    section = reference.partition("\n## Limits\n")[2].partition("\n## ")[0]
     rows = {row[0]: row[1] for rows in tables(section) for row in rows[2:]}
     told = [*UNNAMED]
     for row, words, crate, name, more in LIMITS:
