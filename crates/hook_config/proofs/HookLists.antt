@@ -6,24 +6,25 @@ use Rattle.yaml_lines.specs.Meaning.{Meaning}
 use Rattle.yaml_lines.specs.View.{view}
 use Rattle.yaml_lines.specs.declared.node.Node.{Node}
 use Rattle.hook_config.specs.Rows.{meanings_of_nodes}
+use Rattle.hook_config.specs.Limits.{most_hooks}
 use Rattle.hook_config.specs.Hooks.{joined, within_limit, after}
 use Rattle.hook_config.specs.declared.configuration.Hook.{Hook}
 
-within_limit-le : (hooks : List Hook) → length hooks ≤ 500 → within_limit hooks ≡ Some hooks
+within_limit-le : (hooks : List Hook) → length hooks ≤ most_hooks → within_limit hooks ≡ Some hooks
 within_limit-le hooks h = grind (arith, common_steps)
 
-le-within_limit : (hooks next : List Hook) → within_limit hooks ≡ Some next → (length hooks ≤ 500) × (hooks ≡ next)
+le-within_limit : (hooks next : List Hook) → within_limit hooks ≡ Some next → (length hooks ≤ most_hooks) × (hooks ≡ next)
 le-within_limit hooks next e = let p = cond_some _ _ _ e in (grind (arith, common_steps), p.1)
 
-beyond : (hooks : List Hook) → within_limit hooks ≡ None → 500 < length hooks
+beyond : (hooks : List Hook) → within_limit hooks ≡ None → most_hooks < length hooks
 beyond hooks e = grind (arith, common_steps)
 
-beyond-within_limit : (hooks : List Hook) → 500 < length hooks → within_limit hooks ≡ None
+beyond-within_limit : (hooks : List Hook) → most_hooks < length hooks → within_limit hooks ≡ None
 beyond-within_limit hooks h = grind (arith, common_steps)
 
 longer : (hooks more : List Hook) → within_limit hooks ≡ None → within_limit (hooks ++ more) ≡ None
 longer hooks more e =
-    let long : 500 < length hooks = beyond hooks e in
+    let long : most_hooks < length hooks = beyond hooks e in
     beyond-within_limit (hooks ++ more) (omega (arith, length-append {A = Hook}))
 
 after_more : (found rest : Option (List Hook)) (before next : List Hook) → after before found ≡ Some next
@@ -49,13 +50,13 @@ pub after_joined_refused : (f : Meaning → Option (List Hook)) (before : List H
 after_joined_refused f before m ms e = after_refused (f m) (joined f ms) before e
 
 -- nothing more was found
-pub after_nothing : (hooks : List Hook) → length hooks ≤ 500 → after hooks (Some []) ≡ Some hooks
+pub after_nothing : (hooks : List Hook) → length hooks ≤ most_hooks → after hooks (Some []) ≡ Some hooks
 after_nothing hooks h = ap within_limit (append-nil hooks) ∙ within_limit-le hooks h
 
-pub after_within : (found : Option (List Hook)) (before next : List Hook) → after before found ≡ Some next → length next ≤ 500
+pub after_within : (found : Option (List Hook)) (before next : List Hook) → after before found ≡ Some next → length next ≤ most_hooks
 after_within None before next e = cc
 after_within (Some ys) before next e = let p = le-within_limit (before ++ ys) next e in
-    let IsWithin : List Hook → Type 0 = λ hooks. length hooks ≤ 500 in subst IsWithin p.1 p.0
+    let IsWithin : List Hook → Type 0 = λ hooks. length hooks ≤ most_hooks in subst IsWithin p.1 p.0
 
 -- the list at an index is refused
 pub refused_at : (f : Meaning → Option (List Hook)) (before : List Hook) (xs : List Node) (i : ℕ) (x : Node) → i < length xs → x ≡ get_or xs i x

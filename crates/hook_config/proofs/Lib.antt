@@ -1,5 +1,6 @@
 pub mod HookFields
 pub mod Views
 pub mod HookLists
+pub mod KeyLists
 pub mod StageLists
 pub mod TextLists

@@ -3,24 +3,22 @@ use Rattle.std.specs.Prelude.{ℕ, List, false, if◌then◌else◌, Option, Som
 use Rattle.yaml_lines.specs.Meaning.{Meaning}
 use Rattle.yaml_profile.specs.Text.{meaning_of}
 use Rattle.hook_config.specs.Rows.{Row, has_key_among, table_of, list_of}
-use Rattle.hook_config.specs.Kinds.{truth_of, stages_of, required, or_default}
+use Rattle.hook_config.specs.Kinds.{truth_of, stages_of, required, or_default, given}
 use Rattle.hook_config.specs.Hooks.{hooks_of_repositories}
 use Rattle.hook_config.specs.Stages.{all_stages}
 use Rattle.hook_config.specs.UnknownKeys.{unknown_of_top}
 use Rattle.hook_config.specs.declared.configuration.Config.{Config}
-use Rattle.hook_config.specs.declared.known_keys.TheConstants.{REPOS, DEFAULT_STAGES, FAIL_FAST}
-use Rattle.hook_config.specs.KnownKeys.{later_top_keys}
+use Rattle.hook_config.specs.KnownKeys.{repos_key, default_stages_key, fail_fast_key, later_top_keys}
 
 -- none where a key stands that isn't served yet; the default stages hold for all hooks, wherever they stand
 unfoldable pub configuration_of_rows : List Row → Option Config
 configuration_of_rows rows =
     if has_key_among later_top_keys rows then None
-    else option_and_then (λ default.
-    option_and_then (λ fail_fast.
-    option_and_then (λ hooks. Some (record { hooks = hooks; fail_fast = fail_fast; unknown = unknown_of_top rows }))
-    (option_and_then (hooks_of_repositories default) (required list_of REPOS.now rows)))
-    (or_default truth_of false FAIL_FAST.now rows))
-    (or_default (stages_of all_stages) all_stages DEFAULT_STAGES.now rows)
+    else given (or_default (stages_of all_stages) all_stages default_stages_key rows) (λ default.
+    given (or_default truth_of false fail_fast_key rows) (λ fail_fast.
+    given (required list_of repos_key rows) (λ repositories.
+    given (hooks_of_repositories default repositories) (λ hooks.
+    Some (record { hooks = hooks; fail_fast = fail_fast; unknown = unknown_of_top rows })))))
 
 -- the configuration of a text's node
 unfoldable pub configuration_of_meaning : Meaning → Option Config

@@ -6,7 +6,8 @@ use Rattle.hook_config.specs.Kinds.{text_of, required}
 use Rattle.hook_config.specs.HookTable.{hook_of}
 use Rattle.hook_config.specs.declared.configuration.Hook.{Hook}
 use Rattle.hook_config.specs.declared.stage.Stages.{Stages}
-use Rattle.hook_config.specs.declared.known_keys.TheConstants.{REPO, HOOKS, LOCAL}
+use Rattle.hook_config.specs.KnownKeys.{repo_key, hooks_key, local_word}
+use Rattle.hook_config.specs.Limits.{most_hooks}
 
 -- the lists that f gives for each value, joined, or none where it gives none for one of them
 abbrev pub joined : {A B : Type 0} → (A → Option (List B)) → List A → Option (List B)
@@ -23,18 +24,18 @@ hooks_of_list default = joined (hook_alone default)
 
 abbrev pub hooks_of_named : Stages → List Row → List ℕ → Option (List Hook)
 hooks_of_named default rows repository =
-    if bytes_eq repository LOCAL.now then option_and_then (hooks_of_list default) (required list_of HOOKS.now rows) else None
+    if bytes_eq repository local_word then option_and_then (hooks_of_list default) (required list_of hooks_key rows) else None
 
 -- the hooks of a repository's table, where that repository is `local`
 abbrev pub hooks_of_rows : Stages → List Row → Option (List Hook)
-hooks_of_rows default rows = option_and_then (hooks_of_named default rows) (required text_of REPO.now rows)
+hooks_of_rows default rows = option_and_then (hooks_of_named default rows) (required text_of repo_key rows)
 
 abbrev pub hooks_of_repository : Stages → Meaning → Option (List Hook)
 hooks_of_repository default value = option_and_then (hooks_of_rows default) (table_of value)
 
--- at most 500 hooks
+-- the hooks, none where there are too many
 abbrev pub within_limit : List Hook → Option (List Hook)
-within_limit hooks = if nat_le (length hooks) 500 then Some hooks else None
+within_limit hooks = if nat_le (length hooks) most_hooks then Some hooks else None
 
 -- the hooks before with those that were found after them
 abbrev pub after : List Hook → Option (List Hook) → Option (List Hook)

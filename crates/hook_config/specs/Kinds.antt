@@ -7,12 +7,14 @@ use Rattle.hook_config.specs.declared.configuration.Language.{Language}
 use Rattle.hook_config.specs.declared.configuration.Language.TheVariants.{Fail}
 use Rattle.hook_config.specs.declared.stage.Stage.{Stage}
 use Rattle.hook_config.specs.declared.stage.Stages.{Stages}
-use Rattle.hook_config.specs.declared.known_keys.TheConstants.{FAIL}
-use Rattle.hook_config.specs.KnownKeys.{true_words, false_words}
+use Rattle.hook_config.specs.declared.config_fault.ConfigKind.{ConfigKind}
+use Rattle.hook_config.specs.declared.config_fault.ConfigKind.TheVariants.{BadLanguage, Unsupported}
+use Rattle.hook_config.specs.KnownKeys.{fail_word, later_languages, true_words, false_words}
+use Rattle.hook_config.specs.Limits.{most_text_bytes}
 
--- a text of at most 1,048,576 bytes, quoted or not
+-- a text that is no longer than a configuration, quoted or not
 abbrev pub text_of : Meaning → Option (List ℕ)
-text_of (text content quoted) = if nat_le (length content) 1048576 then Some content else None
+text_of (text content quoted) = if nat_le (length content) most_text_bytes then Some content else None
 text_of (list items) = None
 text_of (table rows) = None
 text_of empty = None
@@ -28,7 +30,7 @@ truth_of (table rows) = None
 truth_of empty = None
 
 abbrev pub language_of_word : List ℕ → Option Language
-language_of_word word = if bytes_eq word FAIL.now then Some Fail else None
+language_of_word word = if bytes_eq word fail_word then Some Fail else None
 
 -- a text that names a language that is served
 abbrev pub language_of : Meaning → Option Language
@@ -72,6 +74,10 @@ empty_texts_of value = option_and_then only_empty (texts_of value)
 
 -- ---- values at keys
 
+-- what follows from the value, or none where there is none
+abbrev pub given : {A B : Type 0} → Option A → (A → Option B) → Option B
+given value follows = option_and_then follows value
+
 -- the value that must stand at the key
 abbrev pub required : {A : Type 0} → (Meaning → Option A) → List ℕ → List Row → Option A
 required kind key rows = option_and_then kind (value_at key rows)
@@ -83,3 +89,9 @@ kind_or kind default (Some value) = kind value
 -- the value at the key, or the default where the key isn't there
 abbrev pub or_default : {A : Type 0} → (Meaning → Option A) → A → List ℕ → List Row → Option A
 or_default kind default key rows = kind_or kind default (value_at key rows)
+
+-- ---- for a contract of a private function alone
+
+-- why a word names no language that is served
+abbrev pub refusal_of_language : List ℕ → ConfigKind
+refusal_of_language word = if is_among later_languages word then Unsupported else BadLanguage

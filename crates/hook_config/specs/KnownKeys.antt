@@ -1,24 +1,137 @@
--- The lists of known keys and words, as lists of bytes.
-use Rattle.std.specs.Prelude.{ℕ, List, map}
-use Rattle.hook_config.specs.declared.known_keys.TheConstants.{TOP_KEYS, LATER_TOP_KEYS, REPOSITORY_KEYS, HOOK_KEYS, LATER_HOOK_KEYS, TRUE_WORDS, FALSE_WORDS}
+-- The words of a configuration: its keys (pre-commit.com, "Adding pre-commit plugins to your project" and "Creating new
+-- hooks"), its languages and its truths.
+use Rattle.std.specs.Prelude.{ℕ, List, [], ◌∷◌, codes}
 
+-- ---- the table at the top
+
+abbrev pub repos_key : List ℕ
+repos_key = codes "repos"
+
+abbrev pub default_stages_key : List ℕ
+default_stages_key = codes "default_stages"
+
+-- also a key of a hook
+abbrev pub fail_fast_key : List ℕ
+fail_fast_key = codes "fail_fast"
+
+-- those that are read, and those that are read and ignored
 abbrev pub top_keys : List (List ℕ)
-top_keys = map (λ key. key.now) TOP_KEYS
+top_keys =
+    repos_key
+    ∷ default_stages_key
+    ∷ fail_fast_key
+    ∷ codes "ci"
+    ∷ codes "default_install_hook_types"
+    ∷ codes "default_language_version"
+    ∷ codes "minimum_pre_commit_version"
+    ∷ []
 
+-- those that aren't served yet
 abbrev pub later_top_keys : List (List ℕ)
-later_top_keys = map (λ key. key.now) LATER_TOP_KEYS
+later_top_keys = codes "files" ∷ codes "exclude" ∷ []
+
+-- ---- a repository's table
+
+abbrev pub repo_key : List ℕ
+repo_key = codes "repo"
+
+abbrev pub hooks_key : List ℕ
+hooks_key = codes "hooks"
 
 abbrev pub repository_keys : List (List ℕ)
-repository_keys = map (λ key. key.now) REPOSITORY_KEYS
+repository_keys = repo_key ∷ hooks_key ∷ []
 
+-- the one repository that isn't fetched from elsewhere
+abbrev pub local_word : List ℕ
+local_word = codes "local"
+
+-- ---- a hook's table
+
+abbrev pub id_key : List ℕ
+id_key = codes "id"
+
+abbrev pub name_key : List ℕ
+name_key = codes "name"
+
+abbrev pub alias_key : List ℕ
+alias_key = codes "alias"
+
+abbrev pub language_key : List ℕ
+language_key = codes "language"
+
+abbrev pub entry_key : List ℕ
+entry_key = codes "entry"
+
+abbrev pub args_key : List ℕ
+args_key = codes "args"
+
+abbrev pub stages_key : List ℕ
+stages_key = codes "stages"
+
+abbrev pub always_run_key : List ℕ
+always_run_key = codes "always_run"
+
+abbrev pub verbose_key : List ℕ
+verbose_key = codes "verbose"
+
+abbrev pub pass_filenames_key : List ℕ
+pass_filenames_key = codes "pass_filenames"
+
+abbrev pub log_file_key : List ℕ
+log_file_key = codes "log_file"
+
+abbrev pub additional_dependencies_key : List ℕ
+additional_dependencies_key = codes "additional_dependencies"
+
+-- those that are read, and those that are read and ignored
 abbrev pub hook_keys : List (List ℕ)
-hook_keys = map (λ key. key.now) HOOK_KEYS
+hook_keys =
+    id_key
+    ∷ name_key
+    ∷ alias_key
+    ∷ language_key
+    ∷ entry_key
+    ∷ args_key
+    ∷ stages_key
+    ∷ always_run_key
+    ∷ verbose_key
+    ∷ pass_filenames_key
+    ∷ fail_fast_key
+    ∷ log_file_key
+    ∷ additional_dependencies_key
+    ∷ codes "language_version"
+    ∷ codes "minimum_pre_commit_version"
+    ∷ codes "require_serial"
+    ∷ codes "description"
+    ∷ []
 
+-- those that aren't served yet
 abbrev pub later_hook_keys : List (List ℕ)
-later_hook_keys = map (λ key. key.now) LATER_HOOK_KEYS
+later_hook_keys =
+    codes "files" ∷ codes "exclude" ∷ codes "types" ∷ codes "types_or" ∷ codes "exclude_types" ∷ []
+
+-- ---- languages
+
+abbrev pub fail_word : List ℕ
+fail_word = codes "fail"
+
+-- those that are known and not served yet
+abbrev pub later_languages : List (List ℕ)
+later_languages = codes "system" ∷ codes "script" ∷ codes "pygrep" ∷ []
+
+-- ---- truths: in lower case, with a capital first letter, and in upper case (YAML 1.1, "Boolean Language-Independent
+-- Type")
 
 abbrev pub true_words : List (List ℕ)
-true_words = map (λ word. word.now) TRUE_WORDS
+true_words =
+    codes "true" ∷ codes "True" ∷ codes "TRUE"
+    ∷ codes "yes" ∷ codes "Yes" ∷ codes "YES"
+    ∷ codes "on" ∷ codes "On" ∷ codes "ON"
+    ∷ []
 
 abbrev pub false_words : List (List ℕ)
-false_words = map (λ word. word.now) FALSE_WORDS
+false_words =
+    codes "false" ∷ codes "False" ∷ codes "FALSE"
+    ∷ codes "no" ∷ codes "No" ∷ codes "NO"
+    ∷ codes "off" ∷ codes "Off" ∷ codes "OFF"
+    ∷ []

@@ -4,6 +4,7 @@ pub mod HookTable
 pub mod Hooks
 pub mod Kinds
 pub mod KnownKeys
+pub mod Limits
 pub mod Refusals
 pub mod Rows
 pub mod Stages

@@ -11,23 +11,10 @@ use Rattle.yaml_lines.specs.declared.node.Node.{Node}
 abbrev pub Row : Type 0
 Row = List ℕ × Meaning
 
-abbrev pub row_of : String Global × Node → Row
-row_of member = (string_bytes member.0, view member.1)
-
-abbrev pub rows_of : List (String Global × Node) → List Row
-rows_of = map row_of
-
-abbrev pub meanings_of_nodes : List Node → List Meaning
-meanings_of_nodes = map view
-
 -- the value in the first row that has the key
 abbrev pub value_at : List ℕ → List Row → Option Meaning
 value_at key [] = None
 value_at key (row ∷ more) = if bytes_eq row.0 key then Some row.1 else value_at key more
-
--- the texts of a slice of words
-abbrev pub texts : List (Bor (List ℕ)) → List (List ℕ)
-texts = map (λ word. word.now)
 
 -- whether the word is one of these
 abbrev pub is_among : List (List ℕ) → List ℕ → Bool
@@ -48,3 +35,18 @@ list_of (text words quoted) = None
 list_of (list items) = Some (nodes items)
 list_of (table content) = None
 list_of empty = None
+
+-- ---- for contracts of private functions alone: what the code holds, as the lists above
+
+abbrev pub row_of : String Global × Node → Row
+row_of member = (string_bytes member.0, view member.1)
+
+abbrev pub rows_of : List (String Global × Node) → List Row
+rows_of = map row_of
+
+abbrev pub meanings_of_nodes : List Node → List Meaning
+meanings_of_nodes = map view
+
+-- the texts of a slice of words
+abbrev pub texts : List (Bor (List ℕ)) → List (List ℕ)
+texts = map (λ word. word.now)

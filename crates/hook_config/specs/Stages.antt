@@ -25,10 +25,6 @@ stage_names =
     ∷ (codes "manual", Manual)
     ∷ []
 
--- the rows of a slice
-abbrev pub stage_rows : List (Bor (List ℕ) × Stage) → List (List ℕ × Stage)
-stage_rows rows = map (λ (row : Bor (List ℕ) × Stage). (row.0.now, row.1)) rows
-
 -- the stage in the first row that has the word
 abbrev pub stage_in : List (List ℕ × Stage) → List ℕ → Option Stage
 stage_in [] word = None
@@ -92,3 +88,9 @@ with_stage Manual stages = record stages { manual = true }
 abbrev pub stages_among : List Stage → Stages
 stages_among [] = no_stages
 stages_among (stage ∷ stages) = with_stage stage (stages_among stages)
+
+-- ---- for a contract of a private function alone
+
+-- the rows of a slice
+abbrev pub stage_rows : List (Bor (List ℕ) × Stage) → List (List ℕ × Stage)
+stage_rows rows = map (λ (row : Bor (List ℕ) × Stage). (row.0.now, row.1)) rows

@@ -1,6 +1,9 @@
+//! Why bytes are no configuration, and where.
+
 ghost use Rattle.std.specs.Prelude.{◌≡◌};
 ghost use Rattle.hook_config.specs.Refusals.{number_of, name_of};
 
+use crate::limits::MAX_HOOKS;
 use hook_base::OutOfMemory;
 use std::alloc::{AllocError, AllocFailed};
 use thiserror::Error;
@@ -39,8 +42,8 @@ pub enum ConfigKind {
     /// A key or a language is known and not served, or a key is served only where its value is empty.
     #[error("a key or a language is not supported")]
     Unsupported,
-    /// There are more than 500 hooks.
-    #[error("there are more than 500 hooks")]
+    /// There are more than `MAX_HOOKS` hooks.
+    #[error("there are more than {most} hooks", most = MAX_HOOKS)]
     TooMany,
     /// Memory was refused.
     #[error("out of memory")]
@@ -115,6 +118,7 @@ impl ConfigKind {
 #[derive(Clone, Copy, Debug, PartialEq, Eq, Error)]
 #[error("{kind}")]
 pub struct ConfigFault {
+    /// What is wrong.
     pub kind: ConfigKind,
     /// For `Yaml` the line of the text, counted from 1. Else the hook's number, counted from 1 over all repositories,
     /// or 0 outside hooks.
@@ -137,7 +141,7 @@ impl ConfigFault {
     }
 }
 
-/// A fault outside hooks.
+// A fault outside hooks.
 impl From<ConfigKind> for ConfigFault {
     ghost use Rattle.std.specs.Prelude.{◌≡◌};
 
@@ -148,7 +152,7 @@ impl From<ConfigKind> for ConfigFault {
     }
 }
 
-/// A fault of the text, at its line. Want of memory is at no line.
+// A fault of the text, at its line. Want of memory is at no line.
 impl From<YamlFault> for ConfigFault {
     ghost use Rattle.std.specs.Prelude.{◌≡◌};
     ghost use Rattle.hook_config.specs.Refusals.{of_yaml};
@@ -166,7 +170,7 @@ impl From<YamlFault> for ConfigFault {
     }
 }
 
-/// Memory was refused.
+// Memory was refused.
 impl From<OutOfMemory> for ConfigFault {
     ghost use Rattle.std.specs.Prelude.{◌≡◌};
     ghost use Rattle.hook_config.specs.declared.config_fault.ConfigKind.TheVariants.{OutOfMemory};

@@ -1,10 +1,11 @@
-ghost use Rattle.std.specs.Prelude.{◌≡◌, ◌≢◌, ◌≤◌, ◌<◌, ◌↔◌, length, string_bytes, IsNone, IfSome, []};
+//! The texts of a configuration.
 
+ghost use Rattle.std.specs.Prelude.{◌≡◌, ◌≢◌, ◌≤◌, ◌<◌, ◌↔◌, length, string_bytes, IsNone, IfSome, []};
+ghost use Rattle.hook_config.specs.Limits.{most_text_bytes};
+
+use crate::limits::MAX_TEXT_BYTES;
 use std::alloc::{AllocError, Global};
 use std::marker::Model;
-
-/// The greatest number of bytes of a text of a configuration.
-pub const MAX_TEXT_BYTES: usize = 1_048_576;
 
 /// A text of a configuration, of at most `MAX_TEXT_BYTES` bytes. Contracts see it as the list of its bytes in UTF-8.
 #[derive(Debug, Drop)]
@@ -14,18 +15,19 @@ pub struct ConfigText {
 
 impl Model for ConfigText {
     ghost use Rattle.std.specs.Prelude.{List, ℕ, ◌≤◌, length, string_bytes};
+    ghost use Rattle.hook_config.specs.Limits.{most_text_bytes};
 
     ghost Value = { List ℕ };
 
     ghost view = { λ owned. string_bytes owned.text };
 
-    ghost invariant = { λ owned. length (string_bytes owned.text) ≤ 1048576 };
+    ghost invariant = { λ owned. length (string_bytes owned.text) ≤ most_text_bytes };
 }
 
 impl ConfigText {
     /// The text, or nothing where it is longer than `MAX_TEXT_BYTES`.
     pub fn new(text: String) -> Option<Self>
-        ensures long { IsNone result ↔ (1048576 < length (string_bytes text)) }
+        ensures long { IsNone result ↔ (most_text_bytes < length (string_bytes text)) }
         ensures same { IfSome result (λ owned. owned ≡ string_bytes text) }
     {
         if text.len() <= MAX_TEXT_BYTES {
@@ -47,7 +49,7 @@ impl ConfigText {
     /// The text, of at most `MAX_TEXT_BYTES` bytes.
     pub fn as_str(&self) -> &str
         ensures same { result.now ≡ self.now }
-        ensures within { length self.now ≤ 1048576 }
+        ensures within { length self.now ≤ most_text_bytes }
     {
         self.text.as_str()
     }

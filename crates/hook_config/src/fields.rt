@@ -2,7 +2,7 @@
 
 ghost use Rattle.std.specs.Prelude.{◌≡◌, option_map, []};
 ghost use Rattle.yaml_lines.specs.View.{view};
-ghost use Rattle.hook_config.specs.Gives.{GivesBy, GivesSurely};
+ghost use Rattle.hook_config.specs.Gives.{GivesValue, GivesSurely};
 ghost use Rattle.hook_config.specs.Kinds.{text_of, truth_of, language_of, texts_of, stages_of, empty_text_of, empty_texts_of, required, or_default};
 ghost use Rattle.hook_config.specs.Rows.{rows_of, meanings_of_nodes, value_at, has_key_among, texts, list_of};
 
@@ -17,7 +17,7 @@ use hook_base::Items;
 use std::alloc::Global;
 use yaml_profile::Node;
 
-/// The value in the first row that has the key.
+// The value in the first row that has the key.
 fn value_at<'a>(rows: &'a [(String, Node)], key: &str) -> Option<&'a Node>
     ensures { option_map (λ value. view value.now) result ≡ value_at key.now (rows_of rows.now) }
 {
@@ -54,7 +54,7 @@ pub(crate) fn required_text(
     rows: &[(String, Node)],
     key: &str,
 ) -> Result<ConfigText, ConfigKind>
-    ensures { GivesBy (λ owned. owned) result (required text_of key.now (rows_of rows.now)) }
+    ensures { GivesValue (λ owned. owned) result (required text_of key.now (rows_of rows.now)) }
 {
     text_of(alloc, required(rows, key)?)
 }
@@ -82,7 +82,7 @@ pub(crate) fn text_or_empty(
     rows: &[(String, Node)],
     key: &str,
 ) -> Result<ConfigText, ConfigKind>
-    ensures { GivesBy (λ owned. owned) result (or_default text_of [] key.now (rows_of rows.now)) }
+    ensures { GivesValue (λ owned. owned) result (or_default text_of [] key.now (rows_of rows.now)) }
 {
     match value_at(rows, key) {
         Some(value) => text_of(alloc, value),
@@ -110,7 +110,7 @@ pub(crate) fn texts_or_none(
     rows: &[(String, Node)],
     key: &str,
 ) -> Result<Items<ConfigText>, ConfigKind>
-    ensures { GivesBy (λ texts. texts) result (or_default texts_of [] key.now (rows_of rows.now)) }
+    ensures { GivesValue (λ texts. texts) result (or_default texts_of [] key.now (rows_of rows.now)) }
 {
     match value_at(rows, key) {
         Some(value) => texts_of(alloc, value),

@@ -1,15 +1,16 @@
 //! The kinds of a configuration's values. A value of another kind than its place wants is `Shape`.
 
-ghost use Rattle.std.specs.Prelude.{◌≡◌};
+ghost use Rattle.std.specs.Prelude.{◌≡◌, IfErr};
 ghost use Rattle.yaml_lines.specs.View.{view};
-ghost use Rattle.hook_config.specs.Gives.{GivesBy, GivesSurely};
-ghost use Rattle.hook_config.specs.Kinds.{text_of, truth_of, truth_of_word, language_of, language_of_word};
+ghost use Rattle.hook_config.specs.Gives.{GivesValue, GivesSurely};
+ghost use Rattle.hook_config.specs.Kinds.{text_of, truth_of, truth_of_word, language_of, language_of_word, refusal_of_language};
 ghost use Rattle.hook_config.specs.Rows.{Row, rows_of, meanings_of_nodes, table_of, list_of, is_among, texts};
 
 use crate::config_fault::ConfigKind;
-use crate::config_text::{ConfigText, MAX_TEXT_BYTES};
+use crate::config_text::ConfigText;
 use crate::configuration::Language;
 use crate::known_keys::{FAIL, FALSE_WORDS, LATER_LANGUAGES, TRUE_WORDS};
+use crate::limits::MAX_TEXT_BYTES;
 use std::alloc::Global;
 use yaml_profile::Node;
 
@@ -43,7 +44,7 @@ pub(crate) fn text_in<'a>(node: &'a Node) -> Result<&'a str, ConfigKind>
 
 /// The same text, as a text of the configuration.
 pub(crate) fn text_of(alloc: Global, node: &Node) -> Result<ConfigText, ConfigKind>
-    ensures { GivesBy (λ owned. owned) result (text_of (view node.now)) }
+    ensures { GivesValue (λ owned. owned) result (text_of (view node.now)) }
 {
     let text = String::from_str(alloc, text_in(node)?)?;
     ConfigText::new(text).ok_or(ConfigKind::Shape)
@@ -94,7 +95,8 @@ pub(crate) fn language_of(node: &Node) -> Result<Language, ConfigKind>
 }
 
 fn language_of_word(word: &str) -> Result<Language, ConfigKind>
-    ensures { GivesSurely (λ language. language) result (language_of_word word.now) }
+    ensures language { GivesSurely (λ language. language) result (language_of_word word.now) }
+    ensures refusal { IfErr result (λ kind. kind ≡ refusal_of_language word.now) }
 {
     if word == FAIL {
         Ok(Language::Fail)

@@ -1,44 +1,29 @@
-//! The keys of a configuration's three tables (pre-commit.com, "Adding pre-commit plugins to your project" and
-//! "Creating new hooks"). This is their one list: definitions and code read it. A key of the lists `LATER_..` is known
-//! and not served yet. The keys of the lists `TOP_KEYS` and `HOOK_KEYS` that have no name of their own are read and
-//! ignored, whatever their value. Any other key is ignored, and listed in `Config::unknown`.
+//! The words of a configuration: the keys of its three tables, its languages and its truths (pre-commit.com, "Adding
+//! pre-commit plugins to your project" and "Creating new hooks"). What each must be is written in
+//! `specs/KnownKeys.antt`: the contracts of what compares a key with one of these hold only where both are the same.
+//!
+//! A key of the lists `LATER_..` is known and not served yet. The keys of `TOP_KEYS` and `HOOK_KEYS` without a name of
+//! their own are read and ignored, whatever their value. Any other key is ignored, and listed in `Config::unknown`.
+//!
+//! To serve a key of a hook that comes later:
+//! 1. here and in `specs/KnownKeys.antt` give it a name, and take it from the later keys to those that are read;
+//! 2. give `Hook` a field, and `docs/REFERENCE.md` a row in its table of keys;
+//! 3. give it a line in `hook_table.rt`, in its place among the faults, one in `specs/HookTable.antt`, and in the proof
+//!    its lemma `no_..` in `proofs/HookFields.antt` and its place in `hook_of-all`, which names every field in order;
+//! 4. a value of a new kind has its definition in `specs/Kinds.antt` and its function in `kinds.rt` and `fields.rt`.
+//!
+//! To serve a language that comes later: take its word out of the later ones, here and in `specs/KnownKeys.antt`, and
+//! give it a name; give `Language` a variant, and `language_of_word` a case in `kinds.rt` and in `specs/Kinds.antt`.
 
-pub const REPOS: &str = "repos";
+// The table at the top.
 
-pub const DEFAULT_STAGES: &str = "default_stages";
+pub(crate) const REPOS: &str = "repos";
 
-pub const REPO: &str = "repo";
+pub(crate) const DEFAULT_STAGES: &str = "default_stages";
+// Also a key of a hook.
+pub(crate) const FAIL_FAST: &str = "fail_fast";
 
-pub const HOOKS: &str = "hooks";
-
-pub const ID: &str = "id";
-
-pub const NAME: &str = "name";
-
-pub const ALIAS: &str = "alias";
-
-pub const LANGUAGE: &str = "language";
-
-pub const ENTRY: &str = "entry";
-
-pub const ARGS: &str = "args";
-
-pub const STAGES: &str = "stages";
-
-pub const LOG_FILE: &str = "log_file";
-
-pub const ADDITIONAL_DEPENDENCIES: &str = "additional_dependencies";
-
-pub const ALWAYS_RUN: &str = "always_run";
-
-pub const VERBOSE: &str = "verbose";
-
-pub const PASS_FILENAMES: &str = "pass_filenames";
-
-pub const FAIL_FAST: &str = "fail_fast";
-
-/// The keys of the table at the top that are read.
-pub const TOP_KEYS: [&str; 7] = [
+pub(crate) const TOP_KEYS: [&str; 7] = [
     REPOS,
     DEFAULT_STAGES,
     FAIL_FAST,
@@ -48,13 +33,46 @@ pub const TOP_KEYS: [&str; 7] = [
     "minimum_pre_commit_version",
 ];
 
-pub const LATER_TOP_KEYS: [&str; 2] = ["files", "exclude"];
+pub(crate) const LATER_TOP_KEYS: [&str; 2] = ["files", "exclude"];
 
-/// The keys of a repository's table.
-pub const REPOSITORY_KEYS: [&str; 2] = [REPO, HOOKS];
+// A repository's table.
 
-/// The keys of a hook's table that are read.
-pub const HOOK_KEYS: [&str; 17] = [
+pub(crate) const REPO: &str = "repo";
+
+pub(crate) const HOOKS: &str = "hooks";
+
+pub(crate) const REPOSITORY_KEYS: [&str; 2] = [REPO, HOOKS];
+
+// The one repository that isn't fetched from elsewhere.
+pub(crate) const LOCAL: &str = "local";
+
+// A hook's table.
+
+pub(crate) const ID: &str = "id";
+
+pub(crate) const NAME: &str = "name";
+
+pub(crate) const ALIAS: &str = "alias";
+
+pub(crate) const LANGUAGE: &str = "language";
+
+pub(crate) const ENTRY: &str = "entry";
+
+pub(crate) const ARGS: &str = "args";
+
+pub(crate) const STAGES: &str = "stages";
+
+pub(crate) const ALWAYS_RUN: &str = "always_run";
+
+pub(crate) const VERBOSE: &str = "verbose";
+
+pub(crate) const PASS_FILENAMES: &str = "pass_filenames";
+
+pub(crate) const LOG_FILE: &str = "log_file";
+
+pub(crate) const ADDITIONAL_DEPENDENCIES: &str = "additional_dependencies";
+
+pub(crate) const HOOK_KEYS: [&str; 17] = [
     ID,
     NAME,
     ALIAS,
@@ -74,23 +92,26 @@ pub const HOOK_KEYS: [&str; 17] = [
     "description",
 ];
 
-pub const LATER_HOOK_KEYS: [&str; 5] = ["files", "exclude", "types", "types_or", "exclude_types"];
+pub(crate) const LATER_HOOK_KEYS: [&str; 5] = [
+    "files",
+    "exclude",
+    "types",
+    "types_or",
+    "exclude_types",
+];
 
-/// The one repository that isn't fetched from elsewhere.
-pub const LOCAL: &str = "local";
+// Languages.
 
-/// The spellings of a true value (YAML 1.1, "Boolean Language-Independent Type"): in lower case, in upper case or with
-/// a capital first letter.
-pub const TRUE_WORDS: [&str; 9] = [
+pub(crate) const FAIL: &str = "fail";
+
+pub(crate) const LATER_LANGUAGES: [&str; 3] = ["system", "script", "pygrep"];
+
+// Truths (YAML 1.1, "Boolean Language-Independent Type").
+
+pub(crate) const TRUE_WORDS: [&str; 9] = [
     "true", "True", "TRUE", "yes", "Yes", "YES", "on", "On", "ON",
 ];
 
-/// The spellings of a false value.
-pub const FALSE_WORDS: [&str; 9] = [
+pub(crate) const FALSE_WORDS: [&str; 9] = [
     "false", "False", "FALSE", "no", "No", "NO", "off", "Off", "OFF",
 ];
-
-/// The languages that are known and not served yet.
-pub const LATER_LANGUAGES: [&str; 3] = ["system", "script", "pygrep"];
-
-pub const FAIL: &str = "fail";

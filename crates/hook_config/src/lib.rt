@@ -1,7 +1,11 @@
 //! Reads the bytes of a `.pre-commit-config.yaml` to a `Config`, or says by a `ConfigFault` why they are none.
 //!
-//! `Config` holds `Hook`s, whose texts are `ConfigText`s and whose stages are `Stages`. What a configuration is stands in
-//! `specs/Configuration.antt`: `configuration_of` says which `Config` a text's bytes describe, if any.
+//! `Config` holds `Hook`s, whose texts are `ConfigText`s, whose stages are `Stages` and whose language is a `Language`.
+//! `ConfigWithNode` has the text's `Node` beside it. A `ConfigFault` is a `ConfigKind` and its place.
+//!
+//! The contracts cite `configuration_of` of `specs/Configuration.antt`, which says which `Config` a text's bytes describe,
+//! if any; `Gives`; the words of `specs/KnownKeys.antt` and `specs/Stages.antt`; the limits of `specs/Limits.antt`; and
+//! `number_of` and `name_of` of `specs/Refusals.antt`.
 #![tactic(auto)]
 
 mod config_fault;
@@ -11,6 +15,7 @@ mod fields;
 mod hook_table;
 mod kinds;
 mod known_keys;
+mod limits;
 mod reader;
 mod repositories;
 mod stage;
@@ -21,7 +26,8 @@ mod text_lists;
 mod unknown_keys;
 
 pub use config_fault::{ConfigFault, ConfigKind};
-pub use config_text::{ConfigText, MAX_TEXT_BYTES};
+pub use config_text::ConfigText;
 pub use configuration::{Config, Hook, Language};
+pub use limits::{MAX_HOOKS, MAX_TEXT_BYTES};
 pub use reader::{ConfigWithNode, read_config, read_config_with_node};
 pub use stage::{Stage, Stages};

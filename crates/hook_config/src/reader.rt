@@ -1,8 +1,10 @@
+//! The configuration of a text, from its bytes on.
+
 ghost use Rattle.std.specs.Prelude.{◌≡◌, Some, IfOk};
 ghost use Rattle.yaml_lines.specs.View.{view};
 ghost use Rattle.yaml_profile.specs.Text.{meaning_of};
 ghost use Rattle.hook_config.specs.Configuration.{configuration_of, configuration_of_meaning, configuration_of_rows};
-ghost use Rattle.hook_config.specs.Gives.{Gives, GivesSeen};
+ghost use Rattle.hook_config.specs.Gives.{Gives};
 ghost use Rattle.hook_config.specs.Rows.{rows_of};
 
 use crate::config_fault::{ConfigFault, ConfigKind};
@@ -22,11 +24,11 @@ use yaml_profile::{Node, read};
 /// A refusal is one of `ConfigKind`: `Yaml` where the bytes are no YAML of this profile; `Shape` where the text, or a
 /// repository or a hook, is no table, or a known key's value is of another kind; `MissingKey` where a required key isn't
 /// there; `BadStage`, `BadLanguage` and `RemoteRepo` for a stage, a language or a repository that isn't known;
-/// `Unsupported` for what is known and not served; `TooMany` for more than 500 hooks; `OutOfMemory` where memory was
-/// refused.
+/// `Unsupported` for what is known and not served; `TooMany` for more than `MAX_HOOKS` hooks; `OutOfMemory` where memory
+/// was refused.
 #[tactic(auto, unfolding(crate::specs::Configuration::configuration_of))]
 pub fn read_config(alloc: Global, bytes: &[u8]) -> Result<Config, ConfigFault>
-    ensures { Gives result (configuration_of bytes.now) }
+    ensures { Gives (λ config. config) result (configuration_of bytes.now) }
 {
     match read(alloc, bytes) {
         Ok(node) => config_of_node(alloc, &node),
@@ -37,15 +39,17 @@ pub fn read_config(alloc: Global, bytes: &[u8]) -> Result<Config, ConfigFault>
 /// A configuration with the node of the text that describes it.
 #[derive(Debug, Drop)]
 pub struct ConfigWithNode {
+    /// The configuration.
     pub config: Config,
+    /// What the whole text is, with what the configuration passes over.
     pub node: Node,
 }
 
-/// The configuration that [`read_config`] gives, refused for the same reasons, with the node that describes it. The node of
-/// a large text takes long to drop, so a program that ends next may keep it until then.
+/// The configuration that [`read_config`] gives, with the node that describes it. A refusal is the one that
+/// [`read_config`] gives. The node of a large text takes long to drop, so a program that ends next may keep it until then.
 #[tactic(auto, unfolding(crate::specs::Configuration::configuration_of))]
 pub fn read_config_with_node(alloc: Global, bytes: &[u8]) -> Result<ConfigWithNode, ConfigFault>
-    ensures config { GivesSeen (λ read. read.config) result (configuration_of bytes.now) }
+    ensures config { Gives (λ read. read.config) result (configuration_of bytes.now) }
     ensures node { IfOk result (λ read. meaning_of bytes.now ≡ Some (view read.node)) }
 {
     let node = read(alloc, bytes)?;
@@ -56,14 +60,14 @@ pub fn read_config_with_node(alloc: Global, bytes: &[u8]) -> Result<ConfigWithNo
 /// The configuration that a text's node describes.
 #[tactic(auto, unfolding(crate::specs::Configuration::configuration_of_meaning))]
 pub(crate) fn config_of_node(alloc: Global, node: &Node) -> Result<Config, ConfigFault>
-    ensures { Gives result (configuration_of_meaning (view node.now)) }
+    ensures { Gives (λ config. config) result (configuration_of_meaning (view node.now)) }
 {
     config_of_rows(alloc, table_of(node)?)
 }
 
 #[tactic(auto, unfolding(crate::specs::Configuration::configuration_of_rows))]
 fn config_of_rows(alloc: Global, rows: &[(String, Node)]) -> Result<Config, ConfigFault>
-    ensures { Gives result (configuration_of_rows (rows_of rows.now)) }
+    ensures { Gives (λ config. config) result (configuration_of_rows (rows_of rows.now)) }
 {
     if has_key_among(rows, &LATER_TOP_KEYS) {
         return Err(ConfigFault::from(ConfigKind::Unsupported));

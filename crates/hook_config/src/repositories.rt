@@ -2,8 +2,9 @@
 
 ghost use Rattle.std.specs.Prelude.{◌≤◌, length};
 ghost use Rattle.yaml_lines.specs.View.{view};
-ghost use Rattle.hook_config.specs.Gives.{GivesBy, GivesSeen};
+ghost use Rattle.hook_config.specs.Gives.{Gives, GivesValue};
 ghost use Rattle.hook_config.specs.Hooks.{after, hook_alone, hooks_of_list, hooks_of_repository, hooks_of_repositories};
+ghost use Rattle.hook_config.specs.Limits.{most_hooks};
 ghost use Rattle.hook_config.specs.Rows.{rows_of, meanings_of_nodes};
 
 use crate::config_fault::{ConfigFault, ConfigKind};
@@ -12,12 +13,10 @@ use crate::fields::{required, required_list};
 use crate::hook_table::hook_of;
 use crate::kinds::{table_of, text_in};
 use crate::known_keys::{HOOKS, LOCAL, REPO};
+use crate::limits::MAX_HOOKS;
 use crate::stage::Stages;
 use std::alloc::Global;
 use yaml_profile::Node;
-
-/// The greatest number of hooks of a configuration.
-pub const MAX_HOOKS: usize = 500;
 
 /// The hooks of all repositories. A hook that names no stage has the default ones.
 #[tactic(auto, using(crate::proofs::HookLists::finding))]
@@ -26,7 +25,7 @@ pub(crate) fn hooks_of_repositories(
     repositories: &[Node],
     default: Stages,
 ) -> Result<Vec<Hook>, ConfigFault>
-    ensures { GivesSeen (λ hooks. hooks.items) result (hooks_of_repositories default (meanings_of_nodes repositories.now)) }
+    ensures { Gives (λ hooks. hooks.items) result (hooks_of_repositories default (meanings_of_nodes repositories.now)) }
 {
     let mut hooks = Vec::new(alloc);
     for repository in repositories {
@@ -35,15 +34,15 @@ pub(crate) fn hooks_of_repositories(
     Ok(hooks)
 }
 
-/// Adds the hooks of one repository. Another repository than `local` is `RemoteRepo`, whatever its hooks are.
+// Adds the hooks of one repository. Another repository than `local` is `RemoteRepo`, whatever its hooks are.
 fn add_repository(
     alloc: Global,
     repository: &Node,
     default: Stages,
     hooks: &mut Vec<Hook>,
 ) -> Result<(), ConfigFault>
-    requires { length hooks.old.items ≤ 500 }
-    ensures { GivesSeen (λ _. hooks.new.items) result (after hooks.old.items (hooks_of_repository default (view repository.now))) }
+    requires { length hooks.old.items ≤ most_hooks }
+    ensures { Gives (λ _. hooks.new.items) result (after hooks.old.items (hooks_of_repository default (view repository.now))) }
 {
     let rows = table_of(repository)?;
     if text_in(required(rows, REPO)?)? != LOCAL {
@@ -52,7 +51,7 @@ fn add_repository(
     add_hooks(alloc, required_list(rows, HOOKS)?, default, hooks)
 }
 
-/// Adds the hooks of a list. A fault in one of them has its number, counted from 1 over all repositories.
+// Adds the hooks of a list. A fault in one of them has its number, counted from 1 over all repositories.
 #[tactic(auto, using(crate::proofs::HookLists::finding))]
 fn add_hooks(
     alloc: Global,
@@ -60,8 +59,8 @@ fn add_hooks(
     default: Stages,
     hooks: &mut Vec<Hook>,
 ) -> Result<(), ConfigFault>
-    requires { length hooks.old.items ≤ 500 }
-    ensures { GivesSeen (λ _. hooks.new.items) result (after hooks.old.items (hooks_of_list default (meanings_of_nodes tables.now))) }
+    requires { length hooks.old.items ≤ most_hooks }
+    ensures { Gives (λ _. hooks.new.items) result (after hooks.old.items (hooks_of_list default (meanings_of_nodes tables.now))) }
 {
     for table in tables {
         let number = hooks.len() as u64 + 1;
@@ -72,14 +71,14 @@ fn add_hooks(
     Ok(())
 }
 
-/// Adds the hook of one table, or answers `TooMany` where there are as many as there may be.
+// Adds the hook of one table, or answers `TooMany` where there are as many as there may be.
 fn add_hook(
     alloc: Global,
     table: &Node,
     default: Stages,
     hooks: &mut Vec<Hook>,
 ) -> Result<(), ConfigKind>
-    ensures { GivesBy (λ _. hooks.new.items) result (after hooks.old.items (hook_alone default (view table.now))) }
+    ensures { GivesValue (λ _. hooks.new.items) result (after hooks.old.items (hook_alone default (view table.now))) }
 {
     if hooks.len() >= MAX_HOOKS {
         return Err(ConfigKind::TooMany);

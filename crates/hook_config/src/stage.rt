@@ -1,4 +1,5 @@
-//! The stages of hooks, and sets of them.
+//! The stages of hooks, and sets of them. A new stage: its variant and its field here; its names in `STAGE_NAMES` and in
+//! `specs/Stages.antt`, where its case of `has_stage` and of `with_stage` stands too.
 
 ghost use Rattle.std.specs.Prelude.{◌≡◌};
 ghost use Rattle.hook_config.specs.Stages.{no_stages, all_stages, each_stage, with_stage, has_stage, stage_rows, stage_in, stage_of_word};
@@ -20,8 +21,8 @@ pub enum Stage {
     Manual,
 }
 
-/// The names of the stages. `commit`, `push` and `merge-commit` are those that older configurations use.
-pub const STAGE_NAMES: [(&str, Stage); 14] = [
+// The names of the stages. `commit`, `push` and `merge-commit` are those that older configurations use.
+const STAGE_NAMES: [(&str, Stage); 14] = [
     ("pre-commit", Stage::PreCommit),
     ("commit", Stage::PreCommit),
     ("pre-merge-commit", Stage::PreMergeCommit),
@@ -48,7 +49,7 @@ impl Stage {
     }
 }
 
-/// The stage in the first row that has the word.
+// The stage in the first row that has the word.
 fn stage_in(rows: &[(&str, Stage)], word: &str) -> Option<Stage>
     ensures { result ≡ stage_in (stage_rows rows.now) word.now }
 {

@@ -24,7 +24,7 @@ pub(crate) fn stages_of(node: &Node, default: Stages) -> Result<Stages, ConfigKi
     stages_among(items)
 }
 
-/// The set of the stages of the items.
+// The set of the stages of the items.
 #[tactic(auto, using(crate::proofs::StageLists::listing))]
 fn stages_among(items: &[Node]) -> Result<Stages, ConfigKind>
     ensures { GivesSurely (λ stages. stages) result (option_map stages_among (each stage_of (meanings_of_nodes items.now))) }

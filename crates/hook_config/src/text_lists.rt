@@ -2,7 +2,7 @@
 
 ghost use Rattle.std.specs.Prelude.{◌≡◌};
 ghost use Rattle.yaml_lines.specs.View.{view};
-ghost use Rattle.hook_config.specs.Gives.{GivesBy, GivesSurely};
+ghost use Rattle.hook_config.specs.Gives.{GivesValue, GivesSurely};
 ghost use Rattle.hook_config.specs.Kinds.{each, text_of, texts_of, empty_text_of, empty_texts_of};
 ghost use Rattle.hook_config.specs.Rows.{meanings_of_nodes};
 
@@ -15,14 +15,14 @@ use yaml_profile::Node;
 
 /// A list of texts. An item that is no text is `Shape`.
 pub(crate) fn texts_of(alloc: Global, node: &Node) -> Result<Items<ConfigText>, ConfigKind>
-    ensures { GivesBy (λ texts. texts) result (texts_of (view node.now)) }
+    ensures { GivesValue (λ texts. texts) result (texts_of (view node.now)) }
 {
     Ok(Items::from(texts_of_items(alloc, list_of(node)?)?))
 }
 
 #[tactic(auto, using(crate::proofs::TextLists::listing))]
 fn texts_of_items(alloc: Global, items: &[Node]) -> Result<Vec<ConfigText>, ConfigKind>
-    ensures { GivesBy (λ texts. texts.items) result (each text_of (meanings_of_nodes items.now)) }
+    ensures { GivesValue (λ texts. texts.items) result (each text_of (meanings_of_nodes items.now)) }
 {
     let mut texts = Vec::new(alloc);
     for item in items {
@@ -55,7 +55,7 @@ pub(crate) fn empty_texts_of(alloc: Global, node: &Node) -> Result<Items<ConfigT
     }
 }
 
-/// Why the items of a list aren't taken.
+// Why the items of a list aren't taken.
 fn kind_of_items(items: &[Node]) -> ConfigKind {
     if items.iter().all(|item| text_in(item).is_ok()) {
         ConfigKind::Unsupported

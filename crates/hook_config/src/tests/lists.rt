@@ -12,7 +12,7 @@ use std::process::Abort;
 use std::test::Fail;
 use yaml_profile::{Node, read};
 
-/// A hook's table with the keys that it must have.
+// A hook's table with the keys that it must have.
 const HOOK_TABLE: &str = "id: a\nname: A\nlanguage: fail\nentry: e\n";
 
 fn empty_list(alloc: Global) -> Node {
@@ -26,7 +26,7 @@ fn quoted(alloc: Global, text: &str) -> Result<Node, AllocError> {
     })
 }
 
-/// The table of the text with one more key behind the others.
+// The table of the text with one more key behind the others.
 fn table_with(alloc: Global, text: &str, key: &str, value: Node) -> Result<Node, Fail> {
     let mut node = read(alloc, text.as_bytes())?;
     if let Node::Table(rows) = &mut node {
@@ -35,13 +35,13 @@ fn table_with(alloc: Global, text: &str, key: &str, value: Node) -> Result<Node,
     Ok(node)
 }
 
-/// The hook of a table with one more key, which is run by default at `pre-push`.
+// The hook of a table with one more key, which is run by default at `pre-push`.
 fn hook_with(alloc: Global, key: &str, value: Node) -> Result<Result<Hook, ConfigKind>, Fail> {
     let node = table_with(alloc, HOOK_TABLE, key, value)?;
     Ok(hook_of(alloc, &node, Stages::none().with(Stage::PrePush)))
 }
 
-/// The configuration of a text with one more key at the top.
+// The configuration of a text with one more key at the top.
 fn config_with(
     alloc: Global,
     text: &str,
@@ -51,7 +51,7 @@ fn config_with(
     Ok(config_of_node(alloc, &table_with(alloc, text, key, value)?))
 }
 
-/// A text with one more key at the top has this outcome.
+// A text with one more key at the top has this outcome.
 fn expect_outcome(
     rt: &impl Abort,
     alloc: Global,
@@ -65,7 +65,7 @@ fn expect_outcome(
     Ok(())
 }
 
-/// A hook with these stages of its own is run at the stages of this line.
+// A hook with these stages of its own is run at the stages of this line.
 fn expect_hook_stages(
     rt: &impl Abort,
     alloc: Global,
@@ -78,7 +78,7 @@ fn expect_hook_stages(
     Ok(())
 }
 
-/// A hook is taken with one more key.
+// A hook is taken with one more key.
 fn expect_taken(rt: &impl Abort, alloc: Global, key: &str, value: Node) -> Result<(), Fail> {
     let hook = hook_with(alloc, key, value)??;
     assert_eq!(rt; hook.id.as_str(), "a");
@@ -99,7 +99,7 @@ fn no_repositories_are_no_hooks(rt: HostRuntime) -> Result<(), Fail> {
     expect_outcome(&rt, alloc, repositories, Node::Empty, "2 Shape at 0")
 }
 
-/// The only hook has all stages.
+// The only hook has all stages.
 fn expect_one_hook_at_all(rt: &impl Abort, config: &Config) {
     for hook in config.hooks.as_slice() {
         assert!(rt; hook.stages == Stages::all());
@@ -138,14 +138,14 @@ fn what_is_not_served_is_taken_where_it_is_empty(rt: HostRuntime) -> Result<(), 
     Ok(())
 }
 
-/// A hook has the alias that it gives in quotes.
+// A hook has the alias that it gives in quotes.
 fn expect_alias(rt: &impl Abort, alloc: Global, alias: &str) -> Result<(), Fail> {
     let hook = hook_with(alloc, "alias", quoted(alloc, alias)?)??;
     assert_eq!(rt; hook.alias.as_str(), alias);
     Ok(())
 }
 
-/// A hook whose key says true in quotes is refused.
+// A hook whose key says true in quotes is refused.
 fn expect_no_truth(rt: &impl Abort, alloc: Global, key: &str) -> Result<(), Fail> {
     let refused = hook_with(alloc, key, quoted(alloc, "true")?)?;
     assert!(rt; matches!(&refused, Err(ConfigKind::Shape)));

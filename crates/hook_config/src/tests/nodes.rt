@@ -9,7 +9,7 @@ use yaml_lines::Node;
 const TEXT: &str =
     "repos:\n- repo: local\n  hooks:\n  - {id: a, name: A, language: fail, entry: \"e\"}\n";
 
-/// The node as `Debug` shows it.
+// The node as `Debug` shows it.
 fn node_line(alloc: Global, node: &Node) -> Result<String, AllocError> {
     format!(in alloc; "{node:?}")
 }

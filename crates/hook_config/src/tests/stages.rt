@@ -8,7 +8,7 @@ use std::alloc::{AllocError, Global};
 use std::process::Abort;
 use std::test::Fail;
 
-/// All stages, in an order of their own, with their first names.
+// All stages, in an order of their own, with their first names.
 const EVERY: &[(Stage, &str)] = &[
     (Stage::PreCommit, "pre-commit"),
     (Stage::PreMergeCommit, "pre-merge-commit"),
@@ -23,7 +23,7 @@ const EVERY: &[(Stage, &str)] = &[
     (Stage::Manual, "manual"),
 ];
 
-/// The names of the stages, each with a blank behind it.
+// The names of the stages, each with a blank behind it.
 pub(super) fn stage_line(alloc: Global, stages: Stages) -> Result<String, AllocError> {
     let mut line = String::new(alloc);
     for (stage, name) in EVERY {
@@ -35,7 +35,7 @@ pub(super) fn stage_line(alloc: Global, stages: Stages) -> Result<String, AllocE
     Ok(line)
 }
 
-/// The stages of each hook, with bars between the hooks.
+// The stages of each hook, with bars between the hooks.
 fn stages_line(alloc: Global, config: &Config) -> Result<String, AllocError> {
     let mut line = String::new(alloc);
     for hook in config.hooks.as_slice() {
@@ -45,7 +45,7 @@ fn stages_line(alloc: Global, config: &Config) -> Result<String, AllocError> {
     Ok(line)
 }
 
-/// The line of a text's configuration.
+// The line of a text's configuration.
 fn stages_of_text(alloc: Global, text: &str) -> Result<String, Fail> {
     let config = read_config(alloc, text.as_bytes())?;
     let line = stages_line(alloc, &config)?;
@@ -58,7 +58,7 @@ fn expect_stages(rt: &impl Abort, alloc: Global, text: &str, expected: &str) -> 
     Ok(())
 }
 
-/// A hook has the stages of this line where it names one, and where the default stages do.
+// A hook has the stages of this line where it names one, and where the default stages do.
 fn expect_named(rt: &impl Abort, alloc: Global, name: &str, expected: &str) -> Result<(), Fail> {
     let text = format!(in alloc; "{ONE_HOOK}    stages:\n    - {name}\n")?;
     expect_stages(rt, alloc, text.as_str(), expected)?;
@@ -66,7 +66,7 @@ fn expect_named(rt: &impl Abort, alloc: Global, name: &str, expected: &str) -> R
     expect_stages(rt, alloc, text.as_str(), expected)
 }
 
-/// The word names the stage, which is one of all and of none.
+// The word names the stage, which is one of all and of none.
 fn expect_in_all(rt: &impl Abort, stage: Stage, name: &str) {
     assert!(rt; Stages::all().has(stage));
     assert!(rt; !Stages::none().has(stage));
@@ -87,7 +87,7 @@ fn each_stage_is_named(rt: HostRuntime) -> Result<(), Fail> {
     expect_each_named(&rt, rt.alloc(), EVERY)
 }
 
-/// Names that older configurations have, and the stages of the hook that has them.
+// Names that older configurations have, and the stages of the hook that has them.
 const OLDER: &[(&str, &str)] = &[
     ("commit", "pre-commit |"),
     ("merge-commit", "pre-merge-commit |"),
@@ -107,7 +107,7 @@ fn older_names_are_read_as_the_new_ones(rt: HostRuntime) -> Result<(), Fail> {
     expect_older(&rt, rt.alloc(), OLDER)
 }
 
-/// Words that name no stage.
+// Words that name no stage.
 const OTHER_WORDS: &[&str] = &[
     "Pre-commit",
     "pre-commit-",
@@ -144,7 +144,7 @@ fn a_list_of_stages_is_a_set(rt: HostRuntime) -> Result<(), Fail> {
 
 const DEFAULTS: &str = "default_stages:\n- push\n- manual\n";
 
-/// Two repositories of three hooks, of which the second has a stage of its own.
+// Two repositories of three hooks, of which the second has a stage of its own.
 fn three_hooks(alloc: Global) -> Result<String, AllocError> {
     let mut text = joined(alloc, START, PLAIN_HOOK)?;
     text.push_str(PLAIN_HOOK)?;

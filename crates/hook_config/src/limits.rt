@@ -1,0 +1,8 @@
+//! The limits of a configuration. Each stands in `specs/Limits.antt` too, and the contracts of what keeps it hold only
+//! where both are the same.
+
+/// The greatest number of hooks of a configuration.
+pub const MAX_HOOKS: usize = 500;
+
+/// The greatest number of bytes of a text of a configuration: a configuration has no more.
+pub const MAX_TEXT_BYTES: usize = 1_048_576;
