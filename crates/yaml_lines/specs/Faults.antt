@@ -1,5 +1,8 @@
 -- Faults, and what a call that reads some of a text promises by its answer.
-use Rattle.std.specs.Prelude.{◌≡◌, ◌≢◌, ℕ, Option, Some, None, Result, Ok, Err}
+use Rattle.std.specs.Prelude.{◌≡◌, ◌≢◌, ℕ, ◌+◌, ◌==◌, List, take, length, count_by, nat_lt, if◌then◌else◌, Option, Some, None, Result, Ok, Err}
+use Rattle.std.specs.Str.{is_utf8}
+use Rattle.std.specs.Str.Lossy.{utf8_valid_len}
+use Rattle.yaml_lines.specs.Characters.{most_bytes}
 use Rattle.yaml_lines.specs.declared.fault.YamlFault.{YamlFault}
 use Rattle.yaml_lines.specs.declared.fault.YamlKind.{YamlKind}
 use Rattle.yaml_lines.specs.declared.fault.YamlKind.TheVariants.{NotUtf8, TabIndent, Unsupported, Layout, Quote, DoubledKey, TooDeep, TooLarge, OutOfMemory}
@@ -32,3 +35,18 @@ GivesSurely see (Err _) meant = meant ≡ None
 abbrev pub GivesUpTo : {B : Type 0} → B → Option YamlFault → Option B → Type 0
 GivesUpTo read None meant = meant ≡ Some read
 GivesUpTo read (Some _) meant = meant ≡ None
+
+-- memory was refused, which is said of line 0
+abbrev pub want_of_memory : YamlFault
+want_of_memory = record { kind = OutOfMemory; line = 0 }
+
+-- the line, from 1, in which a byte stands behind these
+abbrev pub line_behind : List ℕ → ℕ
+line_behind bytes = count_by (λ byte. byte == 10) bytes + 1
+
+-- Why bytes are no text, and in which line: there are too many of them, which is said of line 1, or they aren't UTF-8,
+-- which is said of the line of the first byte that no character holds. None where they are a text.
+abbrev pub fault_of_bytes : List ℕ → Option YamlFault
+fault_of_bytes bytes =
+    if nat_lt most_bytes (length bytes) then Some (record { kind = TooLarge; line = 1 })
+    else (if is_utf8 bytes then None else Some (record { kind = NotUtf8; line = line_behind (take (utf8_valid_len bytes) bytes) }))

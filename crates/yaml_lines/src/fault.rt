@@ -60,6 +60,7 @@ impl YamlKind {
 #[derive(Clone, Copy, Debug, PartialEq, Eq, Error)]
 #[error("line {line}: {kind}")]
 pub struct YamlFault {
+    /// Why it can't be read.
     pub kind: YamlKind,
     /// The first line at which the text can't be read, from 1. It is 0 where memory was refused.
     pub line: usize,
@@ -69,7 +70,7 @@ impl From<AllocError> for YamlFault {
     ghost use Rattle.yaml_lines.specs.declared.fault.YamlKind.TheVariants.{OutOfMemory};
     ghost use Rattle.std.specs.Prelude.{◌≡◌};
 
-    ghost from_gives = { λ _ fault. fault.kind ≡ OutOfMemory };
+    ghost from_gives = { λ _ fault. (fault.kind ≡ OutOfMemory) × (fault.line ≡ 0) };
 
     fn from(_refused: AllocError) -> Self {
         YamlFault {
@@ -83,7 +84,7 @@ impl<T: Drop> From<AllocFailed<T>> for YamlFault {
     ghost use Rattle.yaml_lines.specs.declared.fault.YamlKind.TheVariants.{OutOfMemory};
     ghost use Rattle.std.specs.Prelude.{◌≡◌};
 
-    ghost from_gives = { λ _ fault. fault.kind ≡ OutOfMemory };
+    ghost from_gives = { λ _ fault. (fault.kind ≡ OutOfMemory) × (fault.line ≡ 0) };
 
     fn from(refused: AllocFailed<T>) -> Self {
         YamlFault::from(AllocError::from(refused))
