@@ -2,8 +2,10 @@ mod BlockSteps
 mod Contents
 mod Decoded
 mod Held
+mod LastValues
 mod KeyQuoting
 mod Left
+mod Literal
 mod QuotedSteps
 mod QuotedTrailing
 mod Quoting

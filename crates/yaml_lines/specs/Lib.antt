@@ -1,3 +1,4 @@
+pub mod BlockLaws
 pub mod BlockTexts
 pub mod Characters
 pub mod Entries
