@@ -1,5 +1,5 @@
 -- Faults, and what a call that reads some of a text promises by its answer.
-use Rattle.std.specs.Prelude.{◌≡◌, ◌≢◌, ℕ, ◌+◌, ◌==◌, List, take, length, count_by, nat_lt, if◌then◌else◌, Option, Some, None, Result, Ok, Err}
+use Rattle.std.specs.Prelude.{◌≡◌, ◌≢◌, ℕ, ◌+◌, ◌≤◌, ◌==◌, List, take, length, count_by, nat_lt, if◌then◌else◌, Option, Some, None, Result, Ok, Err}
 use Rattle.std.specs.Str.{is_utf8}
 use Rattle.std.specs.Str.Lossy.{utf8_valid_len}
 use Rattle.yaml_lines.specs.Characters.{most_bytes}
@@ -50,3 +50,13 @@ abbrev pub fault_of_bytes : List ℕ → Option YamlFault
 fault_of_bytes bytes =
     if nat_lt most_bytes (length bytes) then Some (record { kind = TooLarge; line = 1 })
     else (if is_utf8 bytes then None else Some (record { kind = NotUtf8; line = line_behind (take (utf8_valid_len bytes) bytes) }))
+
+-- a fault of the text itself stands in one of these lines
+abbrev pub StandsWithin : ℕ → ℕ → YamlFault → Type 0
+StandsWithin first last fault = fault.kind ≢ OutOfMemory → (first ≤ fault.line) × (fault.line ≤ last)
+
+-- a fault of the text itself, in one of so many lines
+pub record IsInLines (lines : ℕ) (fault : YamlFault) : Type 0 where
+  pub of_the_text : fault.kind ≢ OutOfMemory
+  pub from_the_first : 1 ≤ fault.line
+  pub to_the_last : fault.line ≤ lines
