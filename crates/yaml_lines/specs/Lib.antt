@@ -12,4 +12,4 @@ pub mod Quoted
 pub mod QuotingLaws
 pub mod Scalars
 pub mod View
-pub mod ViewLaws
+pub mod ViewLemmas

@@ -1,7 +1,7 @@
 use Rattle.std.proofs.Common.{◌≡◌, ◌∙◌, sym, ap, Some, Option, true, false, is_some, option_map, List, ℕ}
 use Rattle.yaml_lines.specs.Meaning.{Meaning, text}
 use Rattle.yaml_lines.specs.Plain.{begins_plain}
-use Rattle.yaml_lines.specs.ViewLaws.{view-Text}
+use Rattle.yaml_lines.specs.ViewLemmas.{view-Text}
 use Rattle.yaml_lines.proofs.Contents.{plain_of-not_plain, plain_of-colon, plain_of-plain}
 use Rattle.yaml_lines.proofs.text_scalar.plain_scalar.Goals as goal
 use Rattle.yaml_lines.proofs.text_scalar.plain_scalar.Goals.{then-not-begins_plain-via-then-not-begins_plain, then-not-begins_plain-via-else-not-begins_plain+then-is_some}
