@@ -1,6 +1,7 @@
 mod BlockSteps
 mod Contents
 mod Decoded
+mod FaultLines
 mod Held
 mod LastValues
 mod KeyQuoting

@@ -1,5 +1,5 @@
 -- Faults, and what a call that reads some of a text promises by its answer.
-use Rattle.std.specs.Prelude.{◌≡◌, ◌≢◌, ℕ, ◌+◌, ◌≤◌, ◌==◌, List, take, length, count_by, nat_lt, if◌then◌else◌, Option, Some, None, Result, Ok, Err}
+use Rattle.std.specs.Prelude.{◌≡◌, ◌≢◌, ℕ, Bool, true, false, ◌+◌, ◌≤◌, ◌==◌, List, take, length, count_by, nat_lt, if◌then◌else◌, Option, Some, None, Result, Ok, Err}
 use Rattle.std.specs.Str.{is_utf8}
 use Rattle.std.specs.Str.Lossy.{utf8_valid_len}
 use Rattle.yaml_lines.specs.Characters.{most_bytes}
@@ -39,6 +39,18 @@ GivesUpTo read (Some _) meant = meant ≡ None
 -- memory was refused, which is said of line 0
 abbrev pub want_of_memory : YamlFault
 want_of_memory = record { kind = OutOfMemory; line = 0 }
+
+abbrev pub is_memory : YamlKind → Bool
+is_memory OutOfMemory = true
+is_memory _ = false
+
+-- the line that a fault of this kind names which was found in that line
+abbrev pub line_at : YamlKind → ℕ → ℕ
+line_at kind line = if is_memory kind then 0 else line
+
+-- the fault names this line; want of memory names line 0
+abbrev pub StandsAt : ℕ → YamlFault → Type 0
+StandsAt line fault = fault.line ≡ line_at fault.kind line
 
 -- the line, from 1, in which a byte stands behind these
 abbrev pub line_behind : List ℕ → ℕ

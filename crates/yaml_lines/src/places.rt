@@ -47,7 +47,7 @@ fn bare<'a, 'b>(
     content: &'b [char],
     flow: FlowState,
 ) -> LeftLine<'a, 'b>
-    requires { indent + length content.now ≤ 2 ^ 32 }
+    requires { indent + length content.now ≤ most_bytes }
     ensures { result ≡ bare indent content.now flow }
 {
     LeftLine {
@@ -66,7 +66,7 @@ fn with_text<'a, 'b>(
     margin: Option<usize>,
     header: Header,
 ) -> Result<LeftLine<'a, 'b>, YamlFault>
-    requires content { indent + length content.now ≤ 2 ^ 32 }
+    requires content { indent + length content.now ≤ most_bytes }
     requires numbers { number + length later.now < 2 ^ 64 }
     ensures meant { GivesSurely (λ left. left) result (with_text indent content.now later.now margin header) }
     ensures place { IfErr result (StandsWithin number (number + length later.now)) }
@@ -97,7 +97,7 @@ fn with_value<'a, 'b>(
     later: &'a [RawLine<'b>],
     value: Option<LastValue<'b>>,
 ) -> Result<LeftLine<'a, 'b>, YamlFault>
-    requires content { indent + length content.now ≤ 2 ^ 32 }
+    requires content { indent + length content.now ≤ most_bytes }
     requires numbers { number + length later.now < 2 ^ 64 }
     ensures meant { GivesSurely (λ left. left) result (with_value indent content.now later.now value.entry) }
     ensures place { IfErr result (StandsWithin number (number + length later.now)) }
@@ -131,7 +131,7 @@ fn with_flow<'a, 'b>(
     content: &'b [char],
     later: &'a [RawLine<'b>],
 ) -> Result<LeftLine<'a, 'b>, YamlFault>
-    requires content { indent + length content.now ≤ 2 ^ 32 }
+    requires content { indent + length content.now ≤ most_bytes }
     requires numbers { number + length later.now < 2 ^ 64 }
     ensures meant { Gives (λ left. left) result (with_flow flow indent content.now later.now) }
     ensures place { IfErr result (StandsWithin number (number + length later.now)) }

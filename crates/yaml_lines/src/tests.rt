@@ -43,7 +43,7 @@ fn shown_lines(alloc: Global, bytes: &[u8]) -> Result<String, YamlFault> {
 fn shown_content(alloc: Global, text: &str) -> Result<String, YamlFault> {
     let content = characters(alloc, text.as_bytes())?;
     let mut out = String::new(alloc);
-    if is_item(content.as_slice()) {
+    if is_item(content.as_slice()) && content.len() < 100 {
         out.push_str("- ")?;
         let line = Line::new(7, 2, content.as_slice(), None);
         if let Some(rest) = after_dash(&line)? {
