@@ -4,7 +4,7 @@ use Rattle.std.specs.List.{list_any}
 use Rattle.std.specs.Prelude.{◌||◌}
 use Rattle.yaml_lines.specs.Meaning.{Meaning, nodes, rows, meanings_of, members_of}
 use Rattle.yaml_lines.specs.View.{view}
-use Rattle.yaml_lines.specs.ViewLaws.{view-List, view-Table}
+use Rattle.yaml_lines.specs.ViewLemmas.{view-List, view-Table}
 use Rattle.yaml_lines.specs.declared.node.Node.{Node, List as NodeList, Table}
 use Rattle.hook_config.specs.Rows.{Row, rows_of, meanings_of_nodes, list_of, table_of, is_among, texts}
 

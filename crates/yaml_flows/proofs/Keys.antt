@@ -8,7 +8,7 @@ use Rattle.std.proofs.lemmas.Slice.Eq.{bytes_eq-Decides}
 use Rattle.std.specs.BTreeSet.{BTreeSet, contains_text}
 use Rattle.std.specs.List.{list_any}
 use Rattle.std.specs.Str.{bytes_eq}
-use Rattle.yaml_lines.specs.ViewLaws.{member_view}
+use Rattle.yaml_lines.specs.View.{member_view}
 use Rattle.yaml_lines.specs.declared.node.Node.{Node}
 use Rattle.yaml_flows.specs.Keys.{Row, keys_differ}
 use Rattle.yaml_flows.specs.Views.{few, is_among, is_seen, seen_later}

@@ -1,7 +1,6 @@
 ghost use Rattle.std.specs.Prelude.{◌≡◌, ℕ, List, [], ◌∷◌, IfOk, if◌then◌else◌, true, string_bytes, length};
 ghost use Rattle.std.specs.BTreeSet.{contains_text};
-ghost use Rattle.yaml_lines.specs.View.{view};
-ghost use Rattle.yaml_lines.specs.ViewLaws.{member_view};
+ghost use Rattle.yaml_lines.specs.View.{view, member_view};
 ghost use Rattle.yaml_flows.specs.Faults.{Gives};
 ghost use Rattle.yaml_flows.specs.Flows as flows;
 ghost use Rattle.yaml_flows.specs.Views.{seen_by, fresh, is_seen, seen_later};

@@ -50,14 +50,14 @@ left_of-some flow text content later n tab i t =
     ∙ (ap (λ (cs : List ℕ). f (begins_with 9 cs) n cs) (sym i.behind) ∙ ap (λ (b : Bool). f b n content) t))
 
 -- the walk over dashes
-last_value-tests : (at : ℕ) (dash : Option ℕ) (c : ℕ) (cs : List ℕ) (a b : Bool) → is_blank c ≡ a → (eqb c 45 && blank_or_end cs) ≡ b
+pub last_value-tests : (at : ℕ) (dash : Option ℕ) (c : ℕ) (cs : List ℕ) (a b : Bool) → is_blank c ≡ a → (eqb c 45 && blank_or_end cs) ≡ b
     → last_value at dash (c ∷ cs) ≡ cond a (last_value (at + 1) dash cs) (cond b (last_value (at + 1) (Some at) cs) (value_at at dash (c ∷ cs) (entry_of (c ∷ cs))))
 unfolding last_value
 last_value-tests at dash c cs a b h k =
     let f : Bool → Bool → Option PlacedValue = λ a b. cond a (last_value (at + 1) dash cs) (cond b (last_value (at + 1) (Some at) cs) (value_at at dash (c ∷ cs) (entry_of (c ∷ cs)))) in
     ap (λ (x : Bool). f x (eqb c 45 && blank_or_end cs)) h ∙ ap (λ (x : Bool). f a x) k
 
-last_value-nil : (at : ℕ) (dash : Option ℕ) → last_value at dash [] ≡ None
+pub last_value-nil : (at : ℕ) (dash : Option ℕ) → last_value at dash [] ≡ None
 unfolding last_value
 last_value-nil at dash = refl
 

@@ -1,9 +1,12 @@
 mod BlockSteps
 mod Contents
 mod Decoded
+mod FaultLines
 mod Held
+mod LastValues
 mod KeyQuoting
 mod Left
+mod Literal
 mod QuotedSteps
 mod QuotedTrailing
 mod Quoting

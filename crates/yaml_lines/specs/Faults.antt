@@ -1,5 +1,8 @@
 -- Faults, and what a call that reads some of a text promises by its answer.
-use Rattle.std.specs.Prelude.{◌≡◌, ◌≢◌, ℕ, Option, Some, None, Result, Ok, Err}
+use Rattle.std.specs.Prelude.{◌≡◌, ◌≢◌, ℕ, Bool, true, false, ◌+◌, ◌≤◌, ◌==◌, List, take, length, count_by, nat_lt, if◌then◌else◌, Option, Some, None, Result, Ok, Err}
+use Rattle.std.specs.Str.{is_utf8}
+use Rattle.std.specs.Str.Lossy.{utf8_valid_len}
+use Rattle.yaml_lines.specs.Characters.{most_bytes}
 use Rattle.yaml_lines.specs.declared.fault.YamlFault.{YamlFault}
 use Rattle.yaml_lines.specs.declared.fault.YamlKind.{YamlKind}
 use Rattle.yaml_lines.specs.declared.fault.YamlKind.TheVariants.{NotUtf8, TabIndent, Unsupported, Layout, Quote, DoubledKey, TooDeep, TooLarge, OutOfMemory}
@@ -32,3 +35,40 @@ GivesSurely see (Err _) meant = meant ≡ None
 abbrev pub GivesUpTo : {B : Type 0} → B → Option YamlFault → Option B → Type 0
 GivesUpTo read None meant = meant ≡ Some read
 GivesUpTo read (Some _) meant = meant ≡ None
+
+-- memory was refused, which is said of line 0
+abbrev pub want_of_memory : YamlFault
+want_of_memory = record { kind = OutOfMemory; line = 0 }
+
+abbrev pub is_memory : YamlKind → Bool
+is_memory OutOfMemory = true
+is_memory _ = false
+
+-- the line that a fault of this kind names which was found in that line
+abbrev pub line_at : YamlKind → ℕ → ℕ
+line_at kind line = if is_memory kind then 0 else line
+
+-- the fault names this line; want of memory names line 0
+abbrev pub StandsAt : ℕ → YamlFault → Type 0
+StandsAt line fault = fault.line ≡ line_at fault.kind line
+
+-- the line, from 1, in which a byte stands behind these
+abbrev pub line_behind : List ℕ → ℕ
+line_behind bytes = count_by (λ byte. byte == 10) bytes + 1
+
+-- Why bytes are no text, and in which line: there are too many of them, which is said of line 1, or they aren't UTF-8,
+-- which is said of the line of the first byte that no character holds. None where they are a text.
+abbrev pub fault_of_bytes : List ℕ → Option YamlFault
+fault_of_bytes bytes =
+    if nat_lt most_bytes (length bytes) then Some (record { kind = TooLarge; line = 1 })
+    else (if is_utf8 bytes then None else Some (record { kind = NotUtf8; line = line_behind (take (utf8_valid_len bytes) bytes) }))
+
+-- a fault of the text itself stands in one of these lines
+abbrev pub StandsWithin : ℕ → ℕ → YamlFault → Type 0
+StandsWithin first last fault = fault.kind ≢ OutOfMemory → (first ≤ fault.line) × (fault.line ≤ last)
+
+-- a fault of the text itself, in one of so many lines
+pub record IsInLines (lines : ℕ) (fault : YamlFault) : Type 0 where
+  pub of_the_text : fault.kind ≢ OutOfMemory
+  pub from_the_first : 1 ≤ fault.line
+  pub to_the_last : fault.line ≤ lines

@@ -1,3 +1,4 @@
+pub mod BlockLaws
 pub mod BlockTexts
 pub mod Characters
 pub mod Entries
@@ -11,4 +12,4 @@ pub mod Quoted
 pub mod QuotingLaws
 pub mod Scalars
 pub mod View
-pub mod ViewLaws
+pub mod ViewLemmas

@@ -1,6 +1,6 @@
 -- What the law of comments and empty lines speaks of: which lines say nothing, and which begin a block text. (YAML 1.2.2,
 -- sections 6.6 "Comments" and 8.1 "Block Scalar Styles".)
-use Rattle.std.specs.Prelude.{Bool, false, not, ◌&&◌, ◌||◌, ◌==◌, List, drop, Option, Some, None}
+use Rattle.std.specs.Prelude.{ℕ, Bool, true, false, not, ◌&&◌, ◌||◌, ◌==◌, List, drop, Option, Some, None}
 use Rattle.std.specs.List.{filter, list_all}
 use Rattle.yaml_lines.specs.BlockTexts.{LineText, begins_block, spaces}
 use Rattle.yaml_lines.specs.Characters.{is_allowed, comment_or_end, trim_start}
@@ -25,3 +25,7 @@ begins_text line = is_block (last_value (spaces line) None (drop (spaces line) l
 -- neither `|` nor `>` stands on the line, so its last value begins with neither
 abbrev pub holds_no_bar : LineText → Bool
 holds_no_bar line = list_all (λ c. not (c == 124 || c == 62)) line.text
+
+-- the line with an end
+abbrev pub ended : List ℕ → LineText
+ended text = record { text = text; ended = true }

@@ -18,3 +18,7 @@ view_step Node-F.Empty = empty
 
 abbrev pub view : Node → Meaning
 view = fold-Node Meaning view_step
+
+-- a key with its value, as the meaning of a table has them
+abbrev pub member_view : String Global × Node → List ℕ × Meaning
+member_view member = (string_bytes member.0, view member.1)

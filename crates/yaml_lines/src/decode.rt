@@ -1,6 +1,9 @@
-ghost use Rattle.std.specs.Prelude.{◌≡◌, ◌≤◌, IfOk, length, vec_len, chars};
+//! From bytes to characters.
+//!
+//! The contracts cite `specs/Characters.antt` and `specs/Faults.antt`.
+ghost use Rattle.std.specs.Prelude.{◌≡◌, ◌⊎◌, ◌≤◌, IfOk, IfErr, Some, length, take, vec_len, chars};
 ghost use Rattle.yaml_lines.specs.Characters.{characters_of, most_bytes, without_mark};
-ghost use Rattle.yaml_lines.specs.Faults.{Gives};
+ghost use Rattle.yaml_lines.specs.Faults.{Gives, fault_of_bytes, line_behind, want_of_memory};
 
 use crate::{YamlFault, YamlKind};
 use std::alloc::{AllocError, Global};
@@ -8,11 +11,26 @@ use std::alloc::{AllocError, Global};
 /// The most bytes that a text may have, a byte order mark included.
 pub const MOST_BYTES: usize = 1_048_576;
 
-// The number of the line in which the bytes behind these stand.
+// The bytes before the one at `at`.
+fn before(bytes: &[u8], at: usize) -> &[u8]
+    requires { at ≤ length bytes.now }
+    ensures { result.now ≡ take at bytes.now }
+{
+    &bytes[..at]
+}
+
+// The line in which a byte stands behind these.
 fn line_behind(bytes: &[u8]) -> usize
     requires { length bytes.now ≤ most_bytes }
+    ensures { result ≡ line_behind bytes.now }
 {
-    bytes.iter().filter(|byte| **byte == b'\n').count() + 1
+    let mut line = 1;
+    for byte in bytes {
+        if *byte == b'\n' {
+            line += 1;
+        }
+    }
+    line
 }
 
 // The characters that the bytes are, each a character of its own.
@@ -44,11 +62,14 @@ fn without_mark(mut all: Vec<char>) -> Vec<char>
     all
 }
 
-/// The characters of the bytes, without a byte order mark at the start. More bytes than [`MOST_BYTES`] are `TooLarge`
-/// in line 1, bytes that aren't UTF-8 `NotUtf8` in the line of the first of them.
+/// The characters of the bytes, without a byte order mark at the start.
+///
+/// More bytes than [`MOST_BYTES`], and nothing else, are `TooLarge` in line 1. Others that aren't UTF-8 are `NotUtf8` in
+/// the line of the first byte that no character holds. `OutOfMemory`, in line 0, may come of any bytes.
 pub fn characters(alloc: Global, bytes: &[u8]) -> Result<Vec<char>, YamlFault>
     ensures meant { Gives (λ v. v.items) result (characters_of bytes.now) }
     ensures few { IfOk result (λ v. vec_len v ≤ most_bytes) }
+    ensures refused { IfErr result (λ fault. (fault ≡ want_of_memory) ⊎ (fault_of_bytes bytes.now ≡ Some fault)) }
 {
     if bytes.len() > MOST_BYTES {
         return Err(YamlFault {
@@ -61,7 +82,7 @@ pub fn characters(alloc: Global, bytes: &[u8]) -> Result<Vec<char>, YamlFault>
         Err(error) => {
             return Err(YamlFault {
                 kind: YamlKind::NotUtf8,
-                line: line_behind(&bytes[..error.valid_up_to()]),
+                line: line_behind(before(bytes, error.valid_up_to())),
             });
         }
     };

@@ -1,3 +1,6 @@
+//! Why a text can't be read, and where.
+//!
+//! The contracts cite `specs/Faults.antt`.
 ghost use Rattle.std.specs.Prelude.{◌≡◌};
 
 use std::alloc::{AllocError, AllocFailed};
@@ -60,16 +63,33 @@ impl YamlKind {
 #[derive(Clone, Copy, Debug, PartialEq, Eq, Error)]
 #[error("line {line}: {kind}")]
 pub struct YamlFault {
+    /// Why it can't be read.
     pub kind: YamlKind,
     /// The first line at which the text can't be read, from 1. It is 0 where memory was refused.
     pub line: usize,
+}
+
+impl YamlFault {
+    ghost use Rattle.std.specs.Prelude.{◌≡◌};
+    ghost use Rattle.yaml_lines.specs.Faults.{StandsAt};
+
+    // The fault of this kind, found in this line.
+    pub(crate) fn at(kind: YamlKind, line: usize) -> Self
+        ensures kind { result.kind ≡ kind }
+        ensures place { StandsAt line result }
+    {
+        match kind {
+            YamlKind::OutOfMemory => YamlFault { kind, line: 0 },
+            _ => YamlFault { kind, line },
+        }
+    }
 }
 
 impl From<AllocError> for YamlFault {
     ghost use Rattle.yaml_lines.specs.declared.fault.YamlKind.TheVariants.{OutOfMemory};
     ghost use Rattle.std.specs.Prelude.{◌≡◌};
 
-    ghost from_gives = { λ _ fault. fault.kind ≡ OutOfMemory };
+    ghost from_gives = { λ _ fault. (fault.kind ≡ OutOfMemory) × (fault.line ≡ 0) };
 
     fn from(_refused: AllocError) -> Self {
         YamlFault {
@@ -83,7 +103,7 @@ impl<T: Drop> From<AllocFailed<T>> for YamlFault {
     ghost use Rattle.yaml_lines.specs.declared.fault.YamlKind.TheVariants.{OutOfMemory};
     ghost use Rattle.std.specs.Prelude.{◌≡◌};
 
-    ghost from_gives = { λ _ fault. fault.kind ≡ OutOfMemory };
+    ghost from_gives = { λ _ fault. (fault.kind ≡ OutOfMemory) × (fault.line ≡ 0) };
 
     fn from(refused: AllocFailed<T>) -> Self {
         YamlFault::from(AllocError::from(refused))

@@ -1,3 +1,4 @@
+//! The header of a block text.
 /// What becomes of the line feeds at a block text's end.
 #[derive(Clone, Copy, Debug, PartialEq, Eq)]
 pub enum Chomping {

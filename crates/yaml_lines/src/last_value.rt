@@ -1,4 +1,8 @@
-ghost use Rattle.std.specs.Prelude.{◌≡◌, ◌+◌, ◌^◌, ◌≤◌, IfOk, None, length};
+//! The value that stands last on a line, which may begin a block text or a flow.
+//!
+//! The contracts cite `specs/Lines.antt`.
+ghost use Rattle.std.specs.Prelude.{◌≡◌, ◌+◌, ◌≤◌, IfOk, None, length};
+ghost use Rattle.yaml_lines.specs.Characters.{most_bytes};
 ghost use Rattle.yaml_lines.specs.Entries.{entry_of};
 ghost use Rattle.yaml_lines.specs.Lines.{last_value, value_at};
 
@@ -63,7 +67,7 @@ pub(crate) fn last_value<'a>(
     indent: usize,
     content: &'a [char],
 ) -> Result<Option<LastValue<'a>>, AllocError>
-    requires { indent + length content.now ≤ 2 ^ 32 }
+    requires { indent + length content.now ≤ most_bytes }
     ensures { IfOk result (λ value. value ≡ last_value indent None content.now) }
 {
     let mut dash = None;

@@ -1,17 +1,21 @@
 //! Laws of the definitions that the contracts cite, in the words of YAML itself. Each is a function that gives nothing:
 //! what it ensures is a theorem over the definitions alone.
 
-ghost use Rattle.std.specs.Prelude.{◌≡◌, ℕ, ◌++◌, true, false, List, ◌∷◌, Some, encode_utf8_all};
+ghost use Rattle.std.specs.Prelude.{◌≡◌, ℕ, ◌++◌, ◌<◌, true, false, List, [], ◌∷◌, length, Option, Some, None, IfSome, codes, encode_utf8_all};
 ghost use Rattle.std.specs.List.{list_all, list_any};
-ghost use Rattle.yaml_lines.specs.BlockTexts.{LineText};
-ghost use Rattle.yaml_lines.specs.Characters.{blank_or_end, is_over};
-ghost use Rattle.yaml_lines.specs.Entries.{entry_of, value_behind};
-ghost use Rattle.yaml_lines.specs.LineLaws.{saying, begins_text, holds_no_bar};
-ghost use Rattle.yaml_lines.specs.Lines.{standing, all_places, places_from};
+ghost use Rattle.yaml_lines.specs.BlockLaws.{literal, all_indented, text_of_lines, begins_bare, ends_full};
+ghost use Rattle.yaml_lines.specs.BlockTexts.{LineText, margin_of, extent, is_ragged, block_text};
+ghost use Rattle.yaml_lines.specs.Characters.{blank_or_end, comment_or_end, is_over, most_bytes};
+ghost use Rattle.yaml_lines.specs.Entries.{Place, KeyAndValue, entry_of, is_item, item_of, value_behind};
+ghost use Rattle.yaml_lines.specs.LineLaws.{saying, begins_text, holds_no_bar, ended};
+ghost use Rattle.yaml_lines.specs.Lines.{standing, all_places, last_value, places_from};
+ghost use Rattle.yaml_lines.specs.declared.header.Chomping.TheVariants.{Clip, Keep};
 ghost use Rattle.yaml_lines.specs.declared.flow_state.FlowState.{FlowState};
 ghost use Rattle.yaml_lines.specs.Meaning.{Meaning, text};
 ghost use Rattle.yaml_lines.specs.QuotingLaws.{IsPlainAlone, in_quotes, fits_single, fits_double, doubled, escaped, written, holds_no_feed};
 ghost use Rattle.yaml_lines.specs.Scalars.{scalar_meaning};
+
+use crate::MOST_BYTES;
 
 /// Quoting a text changes nothing but its mark: `make test`, `'make test'` and `"make test"` are the same text, of which
 /// only the second and the third are marked as quoted. It holds of every plain text that holds nothing that the quotes
@@ -71,4 +75,58 @@ pub fn comments_and_empty_lines_say_nothing()
 /// comment behind it.
 pub fn a_comment_behind_a_text_says_nothing()
     ensures { (content behind : List ℕ) (m : Meaning) → is_over behind ≡ true → scalar_meaning content ≡ Some m → scalar_meaning (content ++ behind) ≡ Some m }
+{}
+
+/// Which value stands last on a line, and at which column, is what the readers of items and entries find there: behind a
+/// dash it is that of what follows the dash, which then is the dash's; an entry's is its value, at the key's column; and
+/// what is neither an item nor an entry is the value of the dash before it, if there is one. A comment alone behind a
+/// dash counts as the dash's value; it begins neither a block text nor a flow. `dash` is the column of the last dash
+/// before the place, which begins with no blank.
+pub fn a_last_value_is_that_of_the_item_or_the_entry()
+    ensures item { (p rest : Place) (dash : Option ℕ) → is_item p.content ≡ true → item_of p ≡ Some (rest ∷ [])
+        → last_value p.indent dash p.content ≡ last_value rest.indent (Some p.indent) rest.content }
+    ensures empty_item { (p : Place) (dash : Option ℕ) → is_item p.content ≡ true → item_of p ≡ Some []
+        → IfSome (last_value p.indent dash p.content) (λ value. comment_or_end value.content ≡ true) }
+    ensures entry { (p : Place) (dash : Option ℕ) (entry : KeyAndValue) → blank_or_end p.content ≡ false → is_item p.content ≡ false → entry_of p.content ≡ Some entry
+        → last_value p.indent dash p.content ≡ Some (record { column = p.indent; content = entry.value }) }
+    ensures value { (p : Place) (column : ℕ) → blank_or_end p.content ≡ false → is_item p.content ≡ false → entry_of p.content ≡ None
+        → last_value p.indent (Some column) p.content ≡ Some (record { column = column; content = p.content }) }
+    ensures text { (p : Place) → blank_or_end p.content ≡ false → is_item p.content ≡ false → entry_of p.content ≡ None
+        → last_value p.indent None p.content ≡ None }
+{}
+
+/// A text that is written in the lines of a literal block text is that text: indent each line alike, deeper than the key
+/// or the dash, and `|` gives the lines as they were, each with its line feed. The first line must hold something and
+/// begin with no space, since it tells the indentation; for `|` the last line must hold something too, and `|+` keeps
+/// empty lines at the end as well. Blanks, `#`, quotes, dashes and colons in the lines are text. `margin` says which
+/// indentation is found, `belong` that each line belongs to the text, `even` that none is refused.
+pub fn a_text_in_lines_of_a_literal_block_text_is_that_text()
+    ensures margin { (column margin : ℕ) (lines : List (List ℕ)) → column < margin → begins_bare lines ≡ true → margin_of column (all_indented margin lines) ≡ Some margin }
+    ensures belong { (margin : ℕ) (lines : List (List ℕ)) → extent (Some margin) (all_indented margin lines) ≡ length lines }
+    ensures even { (margin : ℕ) (lines : List (List ℕ)) → begins_bare lines ≡ true → is_ragged (Some margin) (all_indented margin lines) ≡ false }
+    ensures clipped { (margin : ℕ) (lines : List (List ℕ)) → ends_full lines ≡ true → block_text (literal Clip) (Some margin) (all_indented margin lines) ≡ text_of_lines lines }
+    ensures kept { (margin : ℕ) (lines : List (List ℕ)) → block_text (literal Keep) (Some margin) (all_indented margin lines) ≡ text_of_lines lines }
+{}
+
+/// What the laws above ask for, they need. In single quotes `'it's'` is no text and no key; in double quotes neither
+/// `"a"b"` nor `"a\b"` is a text; a line feed ends a quoted text's line; `'a'b` isn't `'a'` with a comment, and `a#b` is a
+/// text of three characters; `a:b` is no entry; and the comment's line below `a: |` is a line of the block text.
+pub fn the_laws_ask_for_what_they_need()
+    ensures single { IsPlainAlone (codes "it's") (codes "it's") × (scalar_meaning (in_quotes 39 (codes "it's")) ≡ None) }
+    ensures double { let content = 97 ∷ 34 ∷ 98 ∷ [] in IsPlainAlone content content × (scalar_meaning (in_quotes 34 content) ≡ None) }
+    ensures backslash { let content = 97 ∷ 92 ∷ 98 ∷ [] in IsPlainAlone content content × (scalar_meaning (in_quotes 34 content) ≡ None) }
+    ensures feed { scalar_meaning (in_quotes 39 (97 ∷ 10 ∷ 98 ∷ [])) ≡ None }
+    ensures key { entry_of (in_quotes 39 (codes "it's") ++ codes ": a") ≡ None }
+    ensures colon { IsPlainAlone (codes "a") (codes "a") × (entry_of (codes "a" ++ codes ":b") ≡ None) }
+    ensures behind { (scalar_meaning (codes "'a'") ≡ Some (text (codes "a") true)) × (scalar_meaning (codes "'a'b") ≡ None) }
+    ensures hash { scalar_meaning (codes "a#b") ≡ Some (text (codes "a#b") false) }
+    ensures block_line { places_from (ended (codes "a: |") ∷ ended (codes " #") ∷ [])
+        ≡ Some (record { indent = 0; content = codes "a: |"; block = Some (35 ∷ 10 ∷ []) } ∷ []) }
+    ensures without_it { places_from (saying (ended (codes "a: |") ∷ ended (codes " #") ∷ []))
+        ≡ Some (record { indent = 0; content = codes "a: |"; block = Some [] } ∷ []) }
+{}
+
+/// The most bytes that a text may have are the same number in the code and in the definitions.
+pub fn the_limit_is_the_definitions()
+    ensures { MOST_BYTES ≡ most_bytes }
 {}

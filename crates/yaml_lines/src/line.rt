@@ -1,4 +1,8 @@
-ghost use Rattle.std.specs.Prelude.{◌≡◌, ◌+◌, ◌^◌, ◌≤◌, length, option_copied};
+//! A line that holds something.
+//!
+//! The contracts cite `Place` of `specs/Entries.antt`.
+ghost use Rattle.std.specs.Prelude.{◌≡◌, ◌+◌, ◌≤◌, length, option_copied};
+ghost use Rattle.yaml_lines.specs.Characters.{most_bytes};
 
 use crate::BlockText;
 use std::marker::Model;
@@ -15,25 +19,27 @@ pub struct Line<'a, 'b> {
 }
 
 impl<'a, 'b> Model for Line<'a, 'b> {
-    ghost use Rattle.std.specs.Prelude.{◌+◌, ◌^◌, ◌≤◌, length};
+    ghost use Rattle.std.specs.Prelude.{◌+◌, ◌≤◌, length};
+    ghost use Rattle.yaml_lines.specs.Characters.{most_bytes};
     ghost use Rattle.yaml_lines.specs.Entries.{Place};
 
     ghost Value = { Place };
 
     ghost view = { λ line. record { indent = line.indent; content = line.content.now; block = line.block } };
 
-    ghost invariant = { λ line. line.indent + length line.content.now ≤ 2 ^ 32 };
+    ghost invariant = { λ line. line.indent + length line.content.now ≤ most_bytes };
 }
 
 impl<'a, 'b> Line<'a, 'b> {
-    /// The line with this number, whose content begins after `indent` columns.
+    /// The line with this number, whose content begins after `indent` columns. Its columns are at most
+    /// [`MOST_BYTES`](crate::MOST_BYTES), as in any text.
     pub fn new(
         number: usize,
         indent: usize,
         content: &'b [char],
         block: Option<BlockText<'a, 'b>>,
     ) -> Self
-        requires { indent + length content.now ≤ 2 ^ 32 }
+        requires { indent + length content.now ≤ most_bytes }
         ensures { result ≡ record { indent = indent; content = content.now; block = block.entry } }
     {
         Line {
@@ -59,7 +65,7 @@ impl<'a, 'b> Line<'a, 'b> {
     /// The content's characters.
     pub fn content(&self) -> &'b [char]
         ensures characters { result.now ≡ self.now.content }
-        ensures bounded { self.now.indent + length self.now.content ≤ 2 ^ 32 }
+        ensures bounded { self.now.indent + length self.now.content ≤ most_bytes }
     {
         self.content
     }

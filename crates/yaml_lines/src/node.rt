@@ -1,3 +1,6 @@
+//! What a text means, as a value.
+//!
+//! Contracts see it by `view` of `specs/View.antt`.
 /// A node of a YAML text, in this project's profile of YAML 1.2.2.
 #[derive(Debug, Drop)]
 pub enum Node {

@@ -1,7 +1,7 @@
-ghost use Rattle.std.specs.Prelude.{◌≡◌, ◌+◌, ◌^◌, ◌<◌, ◌≤◌, IfOk, length};
+ghost use Rattle.std.specs.Prelude.{◌≡◌, ◌+◌, ◌^◌, ◌<◌, ◌≤◌, IfOk, IfErr, IfSome, length};
 ghost use Rattle.yaml_lines.specs.Characters.{most_bytes};
 ghost use Rattle.yaml_lines.specs.Entries.{Place};
-ghost use Rattle.yaml_lines.specs.Faults.{Gives, GivesSurely, GivesUpTo};
+ghost use Rattle.yaml_lines.specs.Faults.{Gives, GivesSurely, GivesUpTo, IsInLines, StandsWithin};
 ghost use Rattle.yaml_lines.specs.Lines.{bare, is_mark, is_start, last_value, left_at, left_by, left_of, places_from, with_flow, with_text, with_value};
 
 use crate::block_lines::{begins_block, extent, header_of, margin_of, ragged_at};
@@ -20,6 +20,7 @@ use std::marker::Model;
 pub struct Lines<'a, 'b> {
     /// All lines that hold something, if there is no fault, else those before it.
     pub lines: Vec<Line<'a, 'b>>,
+    /// The first fault, in one of the text's lines. It is never want of memory.
     pub fault: Option<YamlFault>,
 }
 
@@ -46,7 +47,7 @@ fn bare<'a, 'b>(
     content: &'b [char],
     flow: FlowState,
 ) -> LeftLine<'a, 'b>
-    requires { indent + length content.now ≤ 2 ^ 32 }
+    requires { indent + length content.now ≤ most_bytes }
     ensures { result ≡ bare indent content.now flow }
 {
     LeftLine {
@@ -65,9 +66,10 @@ fn with_text<'a, 'b>(
     margin: Option<usize>,
     header: Header,
 ) -> Result<LeftLine<'a, 'b>, YamlFault>
-    requires content { indent + length content.now ≤ 2 ^ 32 }
+    requires content { indent + length content.now ≤ most_bytes }
     requires numbers { number + length later.now < 2 ^ 64 }
-    ensures { GivesSurely (λ left. left) result (with_text indent content.now later.now margin header) }
+    ensures meant { GivesSurely (λ left. left) result (with_text indent content.now later.now margin header) }
+    ensures place { IfErr result (StandsWithin number (number + length later.now)) }
 {
     if let Some(at) = ragged_at(margin, later) {
         return Err(YamlFault {
@@ -95,9 +97,10 @@ fn with_value<'a, 'b>(
     later: &'a [RawLine<'b>],
     value: Option<LastValue<'b>>,
 ) -> Result<LeftLine<'a, 'b>, YamlFault>
-    requires content { indent + length content.now ≤ 2 ^ 32 }
+    requires content { indent + length content.now ≤ most_bytes }
     requires numbers { number + length later.now < 2 ^ 64 }
-    ensures { GivesSurely (λ left. left) result (with_value indent content.now later.now value.entry) }
+    ensures meant { GivesSurely (λ left. left) result (with_value indent content.now later.now value.entry) }
+    ensures place { IfErr result (StandsWithin number (number + length later.now)) }
 {
     let Some(value) = value else {
         return Ok(bare(number, indent, content, state_behind(content)));
@@ -128,9 +131,10 @@ fn with_flow<'a, 'b>(
     content: &'b [char],
     later: &'a [RawLine<'b>],
 ) -> Result<LeftLine<'a, 'b>, YamlFault>
-    requires content { indent + length content.now ≤ 2 ^ 32 }
+    requires content { indent + length content.now ≤ most_bytes }
     requires numbers { number + length later.now < 2 ^ 64 }
-    ensures { Gives (λ left. left) result (with_flow flow indent content.now later.now) }
+    ensures meant { Gives (λ left. left) result (with_flow flow indent content.now later.now) }
+    ensures place { IfErr result (StandsWithin number (number + length later.now)) }
 {
     if !flow.is_over() {
         return Ok(bare(number, indent, content, skim(flow, content)));
@@ -149,7 +153,8 @@ fn left_of<'a, 'b>(
 ) -> Result<LeftLine<'a, 'b>, YamlFault>
     requires content { length text.now ≤ most_bytes }
     requires numbers { number + length later.now < 2 ^ 64 }
-    ensures { Gives (λ left. left) result (left_of flow text.now later.now) }
+    ensures meant { Gives (λ left. left) result (left_of flow text.now later.now) }
+    ensures place { IfErr result (StandsWithin number (number + length later.now)) }
 {
     if !all_allowed(text) {
         return Err(YamlFault {
@@ -185,7 +190,8 @@ fn left_at<'a, 'b>(
 ) -> Result<LeftLine<'a, 'b>, YamlFault>
     requires content { length text.now ≤ most_bytes }
     requires numbers { number + length later.now < 2 ^ 64 }
-    ensures { Gives (λ left. left) result (left_at at text.now later.now) }
+    ensures meant { Gives (λ left. left) result (left_at at text.now later.now) }
+    ensures place { IfErr result (StandsWithin number (number + length later.now)) }
 {
     if at.taken == 0 {
         return left_of(alloc, at.flow, number, text, later);
@@ -239,7 +245,8 @@ pub fn read_lines<'a, 'b>(
     alloc: Global,
     raws: &'a [RawLine<'b>],
 ) -> Result<Lines<'a, 'b>, AllocError>
-    ensures { IfOk result (λ read. GivesUpTo read.lines.items read.fault (places_from raws.now)) }
+    ensures meant { IfOk result (λ read. GivesUpTo read.lines.items read.fault (places_from raws.now)) }
+    ensures place { IfOk result (λ read. IfSome read.fault (IsInLines (length raws.now))) }
 {
     let mut lines = Vec::new(alloc);
     let mut fresh = true;

@@ -1,5 +1,8 @@
-ghost use Rattle.std.specs.Prelude.{◌≡◌, ◌+◌, ◌*◌, ◌^◌, ◌<◌, IfSome, length, string_bytes};
-ghost use Rattle.yaml_lines.specs.Faults.{Gives, GivesSurely};
+//! Texts in single and double quotes.
+//!
+//! The contracts cite `specs/Quoted.antt`.
+ghost use Rattle.std.specs.Prelude.{◌≡◌, ◌+◌, ◌*◌, ◌^◌, ◌<◌, IfErr, IfSome, length, string_bytes};
+ghost use Rattle.yaml_lines.specs.Faults.{Gives, GivesSurely, StandsAt};
 ghost use Rattle.yaml_lines.specs.Quoted.{after_quote, begins_quoted, coded, double_step, escaped, four_digits, named, pair_of, quoted_of, quoted_within, single_step, step_of, two_digits};
 
 use crate::{YamlFault, YamlKind};
@@ -215,13 +218,15 @@ fn before_quote(mark: char, text: &[char]) -> usize {
 }
 
 // The text up to the closing quote of this mark.
+#[tactic(auto, using(crate::proofs::FaultLines::memory_line))]
 fn quoted_within<'a>(
     alloc: Global,
     number: usize,
     mark: char,
     text: &'a [char],
 ) -> Result<QuotedText<'a>, YamlFault>
-    ensures { Gives (λ quoted. quoted) result (quoted_within mark (length text.now) text.now) }
+    ensures meant { Gives (λ quoted. quoted) result (quoted_within mark (length text.now) text.now) }
+    ensures place { IfErr result (StandsAt number) }
 {
     let mut read = String::with_capacity(alloc, before_quote(mark, text))?;
     let mut rest = text;
@@ -231,7 +236,7 @@ fn quoted_within<'a>(
             rest: others,
         } = match step(mark, rest) {
             Ok(step) => step,
-            Err(kind) => return Err(YamlFault { kind, line: number }),
+            Err(kind) => return Err(YamlFault::at(kind, number)),
         };
         match character {
             Some(c) => read.push(c)?,
@@ -257,15 +262,17 @@ pub(crate) fn begins_quoted(text: &[char]) -> bool
 
 /// The quoted text that the characters begin with, in single or double quotes.
 ///
-/// One that doesn't end before a line feed or the last character, and a code of a surrogate, are `Quote` in line
-/// `number`, another escape than `\\ \" \/ \n \t \r \0 \xHH \uHHHH` is `Unsupported`.
+/// One that doesn't end before a line feed or the last character, and a code of a surrogate, are `Quote`, another escape
+/// than `\\ \" \/ \n \t \r \0 \xHH \uHHHH` is `Unsupported`, and characters that begin with no quote are `Layout`, all in
+/// line `number`. `OutOfMemory` is in line 0.
 #[tactic(auto, unfolding(crate::specs::Quoted::quoted_of))]
 pub fn read_quoted<'a>(
     alloc: Global,
     number: usize,
     text: &'a [char],
 ) -> Result<QuotedText<'a>, YamlFault>
-    ensures { Gives (λ quoted. quoted) result (quoted_of text.now) }
+    ensures meant { Gives (λ quoted. quoted) result (quoted_of text.now) }
+    ensures place { IfErr result (StandsAt number) }
 {
     match text {
         [mark, rest @ ..] if *mark == '\'' || *mark == '"' => quoted_within(

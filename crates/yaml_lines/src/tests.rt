@@ -43,7 +43,7 @@ fn shown_lines(alloc: Global, bytes: &[u8]) -> Result<String, YamlFault> {
 fn shown_content(alloc: Global, text: &str) -> Result<String, YamlFault> {
     let content = characters(alloc, text.as_bytes())?;
     let mut out = String::new(alloc);
-    if is_item(content.as_slice()) {
+    if is_item(content.as_slice()) && content.len() < 100 {
         out.push_str("- ")?;
         let line = Line::new(7, 2, content.as_slice(), None);
         if let Some(rest) = after_dash(&line)? {
@@ -108,8 +108,9 @@ fn lines_leave_their_places(rt: HostRuntime) -> Result<(), Fail> {
 
 #[test]
 fn control_characters_are_unsupported(rt: HostRuntime) -> Result<(), Fail> {
-    let cases: [(&[u8], &str); 6] = [
+    let cases: [(&[u8], &str); 7] = [
         (b"a\x01\n", "!3 in 1"),
+        (b"a\n\tb\n\x01\n", "1/0:a;!2 in 2"),
         (b"a\n# \x1f\n", "1/0:a;!3 in 2"),
         (b"a\rb\n", "!3 in 1"),
         (b"a\nb\r", "1/0:a;!3 in 2"),
@@ -222,7 +223,7 @@ fn quoted_texts_end_on_their_line(rt: HostRuntime) -> Result<(), Fail> {
 
 #[test]
 fn block_texts_leave_their_text(rt: HostRuntime) -> Result<(), Fail> {
-    let cases: [(&[u8], &str); 33] = [
+    let cases: [(&[u8], &str); 35] = [
         (b"a: |\n  x\n  y\nb", "1/0:a: |<x\ny\n>;4/0:b;"),
         (b"a: |-\n  x\n\n  y\n\n\nb", "1/0:a: |-<x\n\ny>;7/0:b;"),
         (b"a: |+ # c\n  x\n\n\nb", "1/0:a: |+ # c<x\n\n\n>;5/0:b;"),
@@ -252,6 +253,8 @@ fn block_texts_leave_their_text(rt: HostRuntime) -> Result<(), Fail> {
         (b"a: |\n  \xe6\xbc\xa2\n", "1/0:a: |<漢\n>;"),
         (b"a: |\n  ---\n  - b: |\n", "1/0:a: |<---\n- b: |\n>;"),
         (b"a: |\n  x\x01\n", "1/0:a: |<x\u{1}\n>;!3 in 2"),
+        (b"a: |\n  \n  x\n", "1/0:a: |<\nx\n>;"),
+        (b"a: >\n \n  \n  x\n  \n", "1/0:a: ><\n\nx\n>;"),
         (b"a: |\n   \n  x\n", "!4 in 2"),
         (b"a: |2\n  x\n", "!3 in 1"),
         (b"b\na: >-1\n", "1/0:b;!3 in 2"),
@@ -311,10 +314,12 @@ fn lines_within_a_flow_begin_no_block_text(rt: HostRuntime) -> Result<(), Fail> 
 
 #[test]
 fn bytes_that_are_no_utf8_are_refused_in_their_line(rt: HostRuntime) -> Result<(), Fail> {
-    let cases: [(&[u8], usize); 3] = [
+    let cases: [(&[u8], usize); 5] = [
         (b"\xff", 1),
         (b"a\n\xc3\n", 2),
         (b"a\r\nb\n\xed\xa0\x80", 3),
+        (b"\ta\n\n\xff", 3),
+        (b"a\n\xe6\xbc\n\xa2", 2),
     ];
     for (bytes, line) in cases {
         let fault = characters(rt.alloc(), bytes).err().ok_or("read")?;
@@ -351,12 +356,38 @@ fn the_most_bytes_are_read_and_one_more_is_not(rt: HostRuntime) -> Result<(), Fa
 
 #[test]
 fn refusals_have_their_numbers_and_words(rt: HostRuntime) -> Result<(), Fail> {
-    let fault = YamlFault {
-        kind: YamlKind::TabIndent,
-        line: 4,
-    };
-    let words = format!(in rt.alloc(); "{fault}")?;
-    assert_eq!(rt; words.as_str(), "line 4: a tab in the indentation");
-    assert_eq!(rt; YamlKind::OutOfMemory.number(), 9);
+    let cases = [
+        (YamlKind::NotUtf8, 1, "not UTF-8"),
+        (YamlKind::TabIndent, 2, "a tab in the indentation"),
+        (YamlKind::Unsupported, 3, "not supported"),
+        (YamlKind::Layout, 4, "bad layout"),
+        (YamlKind::Quote, 5, "bad quoted text"),
+        (YamlKind::DoubledKey, 6, "doubled key"),
+        (YamlKind::TooDeep, 7, "nested too deeply"),
+        (YamlKind::TooLarge, 8, "too large"),
+        (YamlKind::OutOfMemory, 9, "out of memory"),
+    ];
+    for (kind, number, want) in cases {
+        assert_eq!(rt; kind.number(), number);
+        let words = format!(in rt.alloc(); "{kind}")?;
+        assert_eq!(rt; words.as_str(), want);
+        let fault = YamlFault { kind, line: 4 };
+        let words = format!(in rt.alloc(); "{fault}")?;
+        let whole = format!(in rt.alloc(); "line 4: {want}")?;
+        assert_eq!(rt; words.as_str(), whole.as_str());
+    }
+    Ok(())
+}
+
+#[test]
+fn want_of_memory_is_said_of_line_0(rt: HostRuntime) -> Result<(), Fail> {
+    let fault = YamlFault::from(AllocError);
+    assert_eq!(rt;
+        fault,
+        YamlFault {
+            kind: YamlKind::OutOfMemory,
+            line: 0
+        }
+    );
     Ok(())
 }

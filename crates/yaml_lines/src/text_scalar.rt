@@ -1,5 +1,8 @@
-ghost use Rattle.std.specs.Prelude.{option_and_then, option_map, false};
-ghost use Rattle.yaml_lines.specs.Faults.{Gives};
+//! Texts on one line, plain or quoted.
+//!
+//! The contracts cite `specs/Scalars.antt`.
+ghost use Rattle.std.specs.Prelude.{IfErr, option_and_then, option_map, false};
+ghost use Rattle.yaml_lines.specs.Faults.{Gives, StandsAt};
 ghost use Rattle.yaml_lines.specs.Meaning.{text};
 ghost use Rattle.yaml_lines.specs.Plain.{plain_of};
 ghost use Rattle.yaml_lines.specs.Quoted.{quoted_of};
@@ -12,8 +15,10 @@ use crate::scan::{is_over, text_of, trim_end, uncommented};
 use crate::{Node, YamlFault, YamlKind, read_quoted, refusal};
 use std::alloc::Global;
 
+#[tactic(auto, using(crate::proofs::FaultLines::memory_line))]
 fn plain_scalar(alloc: Global, number: usize, content: &[char]) -> Result<Node, YamlFault>
-    ensures { Gives view result (option_map (λ bytes. text bytes false) (plain_of content.now)) }
+    ensures meant { Gives view result (option_map (λ bytes. text bytes false) (plain_of content.now)) }
+    ensures place { IfErr result (StandsAt number) }
 {
     if !begins_plain(content) || colon(content).is_some() {
         return Err(refusal(number, content));
@@ -26,7 +31,8 @@ fn plain_scalar(alloc: Global, number: usize, content: &[char]) -> Result<Node, 
 }
 
 fn quoted_scalar(alloc: Global, number: usize, content: &[char]) -> Result<Node, YamlFault>
-    ensures { Gives view result (option_and_then alone (quoted_of content.now)) }
+    ensures meant { Gives view result (option_and_then alone (quoted_of content.now)) }
+    ensures place { IfErr result (StandsAt number) }
 {
     let quoted = read_quoted(alloc, number, content)?;
     if !is_over(quoted.rest()) {
@@ -43,10 +49,11 @@ fn quoted_scalar(alloc: Global, number: usize, content: &[char]) -> Result<Node,
 
 /// The text, plain or quoted, that the whole content is, but for blanks and a comment behind it. A content that is none is
 /// refused in line `number`: as [`read_quoted`](crate::read_quoted) and [`refusal`](crate::refusal) say, and as `Layout`
-/// where something else follows a quoted text.
+/// where something else follows a quoted text. `OutOfMemory` is in line 0.
 #[tactic(auto, unfolding(crate::specs::Scalars::scalar_meaning))]
 pub fn scalar(alloc: Global, number: usize, content: &[char]) -> Result<Node, YamlFault>
-    ensures { Gives view result (scalar_meaning content.now) }
+    ensures meant { Gives view result (scalar_meaning content.now) }
+    ensures place { IfErr result (StandsAt number) }
 {
     if begins_quoted(content) {
         quoted_scalar(alloc, number, content)

@@ -2,7 +2,7 @@
 -- and a row that is read while some keys were seen.
 use Rattle.std.specs.Prelude.{ℕ, Bool, List, map, Option, Some, None, String, Vec, if◌then◌else◌}
 use Rattle.std.specs.declared.alloc.Global.{Global}
-use Rattle.yaml_lines.specs.ViewLaws.{member_view}
+use Rattle.yaml_lines.specs.View.{member_view}
 use Rattle.yaml_lines.specs.declared.node.Node.{Node}
 use Rattle.yaml_profile.specs.Blocks.{Row}
 

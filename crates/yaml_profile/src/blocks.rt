@@ -3,8 +3,7 @@ ghost use Rattle.std.specs.Prelude.{◌≡◌, ℕ, List, [], ◌∷◌, ◌<◌
 ghost use Rattle.std.specs.BTreeSet.{contains_text};
 ghost use Rattle.std.specs.Str.{bytes_eq};
 ghost use Rattle.yaml_lines.specs.Faults.{Gives};
-ghost use Rattle.yaml_lines.specs.View.{view};
-ghost use Rattle.yaml_lines.specs.ViewLaws.{member_view};
+ghost use Rattle.yaml_lines.specs.View.{view, member_view};
 ghost use Rattle.yaml_profile.specs.Blocks as blocks;
 ghost use Rattle.yaml_profile.specs.Rows.{fresh, rows_of};
 

@@ -2,8 +2,8 @@ use Rattle.std.proofs.Common.{◌≡◌, ℕ, ◌+◌, ◌-◌, List, [], ◌∷
 use Rattle.std.proofs.lemmas.Result.{err_from_is_err_and}
 use Rattle.std.specs.BTreeSet.{contains_text}
 use Rattle.yaml_lines.specs.Meaning.{Meaning, list, table, meanings_of, members_of}
-use Rattle.yaml_lines.specs.View.{view}
-use Rattle.yaml_lines.specs.ViewLaws.{member_view, view-List, view-Table}
+use Rattle.yaml_lines.specs.View.{view, member_view}
+use Rattle.yaml_lines.specs.ViewLemmas.{view-List, view-Table}
 use Rattle.yaml_flows.specs.Flows as flows
 use Rattle.yaml_flows.specs.Flows.{Found, mapped, parts_within}
 use Rattle.yaml_flows.specs.Keys.{Row, keys_differ}

@@ -1,7 +1,6 @@
 use Rattle.std.proofs.Common.{◌≡◌, ℕ, ◌+◌, ◌*◌, ◌-◌, List, true, map, option_and_then}
 use Rattle.std.specs.BTreeSet.{contains_text}
-use Rattle.yaml_lines.specs.View.{view}
-use Rattle.yaml_lines.specs.ViewLaws.{member_view}
+use Rattle.yaml_lines.specs.View.{view, member_view}
 use Rattle.yaml_flows.specs.Flows as flows
 use Rattle.yaml_flows.specs.Flows.{parts, parts_within, distinct}
 use Rattle.yaml_flows.specs.Keys.{keys_differ}

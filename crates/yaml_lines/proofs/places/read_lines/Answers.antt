@@ -1,4 +1,4 @@
-use Rattle.std.proofs.Common.{◌≡◌, ◌∙◌, ◌&&◌, ◌++◌, ◌∷◌, [], ◌+◌, ◌-◌, ◌<◌, get_or, sym, ap, ℕ, Bool, List, Option, Some, None, true, false, drop, length, take, true≢false}
+use Rattle.std.proofs.Common.{◌≡◌, ◌∙◌, arith, length-drop, ◌&&◌, ◌++◌, ◌∷◌, [], ◌+◌, ◌-◌, ◌<◌, get_or, sym, ap, ℕ, Bool, List, Option, Some, None, true, false, drop, length, take, true≢false}
 use Rattle.std.proofs.lemmas.List.{take_rest}
 use Rattle.yaml_lines.specs.BlockTexts.{LineText}
 use Rattle.yaml_lines.specs.declared.standing.Standing.{Standing}
@@ -22,16 +22,33 @@ stands at ls i l text o within is t e = record {
   left = ap (λ (cs : List ℕ). left_at at cs (drop (i + 1) ls)) (sym t) ∙ (ap (left_at at text) (sym (take_rest ls (i + 1))) ∙ e);
 }
 
-pub returns-in-Err : goal.returns-in-Err
-returns-in-Err c =
+pub returns-in-Err-clause-meant : goal.returns-in-Err-clause-meant
+returns-in-Err-clause-meant c =
     elim c.match-fault.branch [
       | in-OutOfMemory w ↦ rw w.result-is tt
       | in_default w ↦
           rw w.result-is
           (c.loop-i.invariant
           ∙ walked_fault c.loop-i.lines.items c.loop-i.fresh c.loop-i.at c.args.raws.now c.loop-i.i c.index-raws-i.result
-          (stands c.loop-i.at c.args.raws.now c.loop-i.i c.index-raws-i.result c.text.result.now None c.loop-i-test.true c.index-raws-i.is c.text.ensures.characters (c.in-Err.ensures w.in_default.not-OutOfMemory)))
+          (stands c.loop-i.at c.args.raws.now c.loop-i.i c.index-raws-i.result c.text.result.now None c.loop-i-test.true c.index-raws-i.is c.text.ensures.characters (c.in-Err.ensures.meant w.in_default.not-OutOfMemory)))
     ]
+
+-- how many lines are left behind line i
+left_behind : (ls : List LineText) (i : ℕ) → i < length ls → i + 1 + length (take (length ls - (i + 1)) (drop (i + 1) ls)) ≡ length ls
+left_behind ls i within = let rest = ap length (take_rest ls (i + 1)) in omega (arith, rest, length-drop (i + 1) ls)
+
+pub returns-in-Err-clause-place : goal.returns-in-Err-clause-place
+returns-in-Err-clause-place c =
+    elim c.match-fault.branch [
+      | in-OutOfMemory w ↦ rw w.result-is tt
+      | in_default w ↦
+          (let place = c.in-Err.ensures.place w.in_default.not-OutOfMemory in
+          let last = left_behind c.args.raws.now c.loop-i.i c.loop-i-test.true in
+          rw w.result-is (record { of_the_text = w.in_default.not-OutOfMemory; from_the_first = omega arith; to_the_last = omega arith }))
+    ]
+
+pub returns-then-not-is_start-clause-place : goal.returns-then-not-is_start-clause-place
+returns-then-not-is_start-clause-place c = record { of_the_text = λ same. cc; from_the_first = omega arith; to_the_last = omega arith }
 
 pub loop-i-preserved-in_default-line : goal.loop-i-preserved-in_default-line
 loop-i-preserved-in_default-line c =
@@ -39,10 +56,10 @@ loop-i-preserved-in_default-line c =
     c.loop-i.invariant
     ∙ walked_nothing c.loop-i.lines.items c.loop-i.fresh c.loop-i.at c.args.raws.now c.loop-i.i c.index-raws-i.result c.line.inside.next
     (stands c.loop-i.at c.args.raws.now c.loop-i.i c.index-raws-i.result c.text.result.now (leaves None) c.loop-i-test.true c.index-raws-i.is c.text.ensures.characters
-    (c.in-Ok.ensures ∙ (ap Some (sym c.line.view_is) ∙ ap leaves c.in_default-line.is)))
+    (c.in-Ok.ensures.meant ∙ (ap Some (sym c.line.view_is) ∙ ap leaves c.in_default-line.is)))
 
-pub returns-then-not-is_start : goal.returns-then-not-is_start
-returns-then-not-is_start c =
+pub returns-then-not-is_start-clause-meant : goal.returns-then-not-is_start-clause-meant
+returns-then-not-is_start-clause-meant c =
     let p = c.in-Some.line in
     let leaves : Option Place → Option Left = λ o. Some (record { place = o; next = c.line.inside.next }) in
     let mark : is_mark p ≡ true = sym c.is_mark.ensures ∙ c.if-not-is_mark.false in
@@ -54,7 +71,7 @@ returns-then-not-is_start c =
     c.loop-i.invariant
     ∙ walked_mark c.loop-i.lines.items c.loop-i.fresh c.loop-i.at c.args.raws.now c.loop-i.i c.index-raws-i.result p c.line.inside.next
     (stands c.loop-i.at c.args.raws.now c.loop-i.i c.index-raws-i.result c.text.result.now (leaves (Some p)) c.loop-i-test.true c.index-raws-i.is c.text.ensures.characters
-    (c.in-Ok.ensures ∙ (ap Some (sym c.line.view_is) ∙ ap leaves c.in-Some.is)))
+    (c.in-Ok.ensures.meant ∙ (ap Some (sym c.line.view_is) ∙ ap leaves c.in-Some.is)))
     mark other
 
 pub loop-i-preserved : goal.loop-i-preserved
@@ -64,7 +81,7 @@ loop-i-preserved c =
     let leaves : Option Place → Option Left = λ o. Some (record { place = o; next = more }) in
     let stands_at : Stands c.loop-i.at c.args.raws.now c.loop-i.i c.index-raws-i.result (leaves (Some p)) =
     stands c.loop-i.at c.args.raws.now c.loop-i.i c.index-raws-i.result c.text.result.now (leaves (Some p)) c.loop-i-test.true c.index-raws-i.is c.text.ensures.characters
-    (c.in-Ok.ensures ∙ (ap Some (sym c.line.view_is) ∙ ap leaves c.in-Some.is)) in
+    (c.in-Ok.ensures.meant ∙ (ap Some (sym c.line.view_is) ∙ ap leaves c.in-Some.is)) in
     let next : List Place → Bool → Option (List Place) = λ ps b. walked ps b more c.args.raws.now (c.loop-i.i + 1) in
     elim c.if-not-is_mark.branch [
       | then-not-is_mark+in_ok-push w ↦
@@ -86,5 +103,5 @@ loop-i-preserved c =
           ∙ (ap (λ (ps : List Place). next ps false) (sym items) ∙ ap (next c.if-not-is_mark.lines.items) (sym w.fresh-is))))
     ]
 
-pub returns : goal.returns
-returns c = c.loop-i.invariant ∙ walked_end c.loop-i.lines.items c.loop-i.fresh c.loop-i.at c.args.raws.now c.loop-i.i c.loop-i-test.false
+pub returns-clause-meant : goal.returns-clause-meant
+returns-clause-meant c = c.loop-i.invariant ∙ walked_end c.loop-i.lines.items c.loop-i.fresh c.loop-i.at c.args.raws.now c.loop-i.i c.loop-i-test.false

@@ -1,10 +1,10 @@
 use Rattle.std.proofs.Common.{◌≡◌, [], ◌∷◌, ◌++◌, map, Some, refl, sym, ap, ◌∙◌, arith}
 use Rattle.std.proofs.lemmas.Result.{err_from_is_err_and}
 use Rattle.std.specs.BTreeSet.{contains_text}
-use Rattle.yaml_lines.specs.View.{view}
+use Rattle.yaml_lines.specs.View.{view, member_view}
 use Rattle.yaml_profile.specs.Blocks as blocks
 use Rattle.yaml_profile.specs.Blocks.{all_of, parts, is_deeper, is_below_key, list_of, table_of}
-use Rattle.yaml_lines.specs.ViewLaws.{member_view, view-List, view-Table}
+use Rattle.yaml_lines.specs.ViewLemmas.{view-List, view-Table}
 use Rattle.yaml_profile.proofs.Lists.{prepend, one_more, refused, all_read}
 use Rattle.yaml_profile.proofs.Nodes.{node-no_room, node-list, node-table, node-line}
 use Rattle.yaml_profile.proofs.Tables.{has_key, none_seen, alone, rows_with, row_read, row_refused, rows_read, unseen, keys_differ-push, seen-push}

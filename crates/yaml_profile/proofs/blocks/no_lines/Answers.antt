@@ -1,5 +1,5 @@
 use Rattle.std.proofs.Common.{[], Some, sym, ap, ◌∙◌, arith}
-use Rattle.yaml_lines.specs.ViewLaws.{view-Empty}
+use Rattle.yaml_lines.specs.ViewLemmas.{view-Empty}
 use Rattle.yaml_profile.proofs.Nodes.{node-no_room, node-no_lines}
 use Rattle.yaml_profile.proofs.blocks.no_lines.Goals as goal
 

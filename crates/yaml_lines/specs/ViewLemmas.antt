@@ -1,14 +1,10 @@
--- What a `Node` stands for, at each of its variants.
+-- Lemmas: what a `Node` stands for, at each of its variants. Proofs of other crates cite them; no contract does.
 use Rattle.std.specs.Prelude.{◌≡◌, ℕ, Bool, List, [], ◌∷◌, map, String, Vec, string_bytes}
 use Rattle.std.proofs.Common.{rules, refl, ap, ◌∙◌}
 use Rattle.std.specs.declared.alloc.Global.{Global}
 use Rattle.yaml_lines.specs.Meaning.{Meaning, text, list, table, empty, meanings_of, members_of}
-use Rattle.yaml_lines.specs.View.{row_view, view}
+use Rattle.yaml_lines.specs.View.{row_view, view, member_view}
 use Rattle.yaml_lines.specs.declared.node.Node.{Node, Text, List as ListOf, Table, Empty, the_lemmas}
-
--- a key with its value, as the meaning of a table has them
-abbrev pub member_view : String Global × Node → List ℕ × Meaning
-member_view member = (string_bytes member.0, view member.1)
 
 pub view-Text : (content : String Global) (quoted : Bool) → view (Text content quoted) ≡ text (string_bytes content) quoted
 view-Text content quoted = search (rules, the_lemmas)
