@@ -1,16 +1,19 @@
 mod BlockSteps
 mod Contents
 mod Decoded
+mod FlowScans
+pub mod FlowSeams
+pub mod FlowTokens
 mod Held
 mod KeyQuoting
 mod Left
+pub mod QuotedSeams
 mod QuotedSteps
 mod QuotedTrailing
 mod Quoting
 mod RawLines
 mod Saying
 mod Scans
-mod Skims
 mod Trailing
 mod Walks
 mod Written
