@@ -1,5 +1,5 @@
+mod FlowWalks
 pub mod Keys
 mod Nodes
 mod Parts
-mod Scans
 mod Tables

@@ -1,8 +1,8 @@
 -- A node by its first character, a case at a time.
 use Rattle.std.proofs.Common.{◌≡◌, ℕ, zero, suc, ◌-◌, Bool, true, false, cond, eqb, List, [], ◌∷◌, drop, None, refl, sym, ap, ◌∙◌, arith}
 use Rattle.yaml_lines.specs.Characters.{begins_with}
+use Rattle.yaml_lines.specs.FlowTexts.{begins_plain, plain_at, text_at}
 use Rattle.yaml_flows.specs.Flows.{node, list_at, table_at, text_node_at}
-use Rattle.yaml_flows.specs.Texts.{begins_plain, plain_at, text_at}
 
 pub node-no_room : (room : ℕ) (cs : List ℕ) → room ≡ 0 → node room cs ≡ None
 unfolding node

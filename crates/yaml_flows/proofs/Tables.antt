@@ -1,8 +1,8 @@
 -- What is read of each row of a table in turn, with the rows that were read before in front.
 use Rattle.std.proofs.Common.{◌≡◌, ℕ, ◌+◌, ◌-◌, ◌<◌, ◌≤◌, drop, length, arith, Bool, true, false, cond, List, [], ◌∷◌, ◌++◌, Option, Some, None, option_and_then, refl, sym, ap, ◌∙◌}
 use Rattle.yaml_lines.specs.Characters.{begins_with}
+use Rattle.yaml_lines.specs.FlowGaps.{after_gap}
 use Rattle.yaml_flows.specs.Flows.{Found, part, parts, parts_within, distinct}
-use Rattle.yaml_flows.specs.Gaps.{after_gap}
 use Rattle.yaml_flows.specs.Keys.{Row, keys_differ}
 use Rattle.yaml_flows.specs.Views.{fresh}
 use Rattle.yaml_flows.proofs.Keys.{has_key, doubled}

@@ -3,10 +3,10 @@
 use Rattle.std.specs.Prelude.{ℕ, zero, suc, Bool, not, ◌&&◌, ◌||◌, List, [], ◌∷◌, Option, Some, None, option_map, option_and_then, length, drop, ◌==◌, if◌then◌else◌}
 use Rattle.std.specs.List.{list_any}
 use Rattle.yaml_lines.specs.Characters.{begins_with, is_nil}
+use Rattle.yaml_lines.specs.FlowGaps.{is_feed, after_gap}
+use Rattle.yaml_lines.specs.FlowTexts.{FlowText, is_key_end, text_at}
 use Rattle.yaml_lines.specs.Meaning.{Meaning, text, list, table, meanings_of, members_of}
-use Rattle.yaml_flows.specs.Gaps.{is_feed, after_gap}
 use Rattle.yaml_flows.specs.Keys.{Row, keys_differ}
-use Rattle.yaml_flows.specs.Texts.{FlowText, ends_key, text_at}
 
 -- a value, and what follows it
 pub record Found (A : Type 0) : Type 0 where
@@ -47,7 +47,7 @@ parts close read cs = parts_within close read (length (after_gap cs)) (after_gap
 -- what follows a key's colon; behind a plain key the colon is one that ends it
 abbrev pub behind_colon : Bool → List ℕ → Option (List ℕ)
 behind_colon quoted [] = None
-behind_colon quoted (c ∷ cs) = if c == 58 && (quoted || ends_key cs) then Some cs else None
+behind_colon quoted (c ∷ cs) = if is_key_end quoted c cs then Some cs else None
 
 -- the key with the value that follows it
 abbrev pub row_of : (List ℕ → Option (Found Meaning)) → FlowText → Option (Found Row)

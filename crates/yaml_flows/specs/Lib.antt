@@ -1,6 +1,5 @@
 pub mod Faults
+pub mod FlowLaws
 pub mod Flows
-pub mod Gaps
 pub mod Keys
-pub mod Texts
 pub mod Views

@@ -4,10 +4,10 @@ use Rattle.std.specs.Prelude.{ℕ, Bool, true, ◌||◌, List, Option, Some, Non
 use Rattle.std.specs.List.{list_any}
 use Rattle.std.specs.Str.{bytes_eq}
 use Rattle.std.specs.declared.alloc.Global.{Global}
+use Rattle.yaml_lines.specs.FlowTexts.{FlowText}
 use Rattle.yaml_lines.specs.declared.node.Node.{Node}
 use Rattle.yaml_flows.specs.Flows.{Found}
 use Rattle.yaml_flows.specs.Keys.{Row}
-use Rattle.yaml_flows.specs.Texts.{FlowText}
 use Rattle.yaml_flows.specs.declared.found.Found.{Found as FoundIn}
 use Rattle.yaml_flows.specs.declared.found.FlowText.{FlowText as TextIn}
 

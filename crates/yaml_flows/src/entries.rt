@@ -1,10 +1,20 @@
-ghost use Rattle.std.specs.Prelude.{◌≡◌, option_map};
+ghost use Rattle.std.specs.Prelude.{◌≡◌, false, true, MatchOption, drop, option_map};
 ghost use Rattle.yaml_flows.specs.Flows as flows;
+ghost use Rattle.yaml_lines.specs.Characters.{begins_with};
 
 use crate::fault::{FlowFault, fault_at};
-use crate::gap::after_gap;
-use crate::scan::ends_key;
-use yaml_lines::YamlKind;
+use yaml_lines::{YamlKind, after_gap, ends_key};
+
+/// What follows this character, if the characters begin with it.
+pub(crate) fn behind(mark: char, text: &[char]) -> Option<&[char]>
+    ensures { MatchOption result (begins_with mark text.now ≡ false)
+        (λ rest. (begins_with mark text.now ≡ true) × (rest.now ≡ drop 1 text.now)) }
+{
+    match text {
+        [first, rest @ ..] if *first == mark => Some(rest),
+        _ => None,
+    }
+}
 
 /// Where the next part or the closing bracket stands, if these characters follow a part and its gap.
 pub(crate) fn next_part(close: char, text: &[char]) -> Option<&[char]>

@@ -5,16 +5,15 @@ ghost use Rattle.yaml_flows.specs.Faults.{Gives};
 ghost use Rattle.yaml_flows.specs.Flows as flows;
 ghost use Rattle.yaml_flows.specs.Views.{seen_by, fresh, is_seen, seen_later};
 
-use crate::entries::{behind_colon, next_part, no_colon, no_next_item};
+use crate::ending::end;
+use crate::entries::{behind, behind_colon, next_part, no_colon, no_next_item};
 use crate::fault::{FlowFault, fault_at, no_room};
 use crate::found::{FlowText, Found};
-use crate::gap::{after_gap, end};
-use crate::scan::behind;
 use crate::seen_keys::see;
 use crate::texts::text_at;
 use std::alloc::Global;
 use std::collections::BTreeSet;
-use yaml_lines::{Node, YamlKind};
+use yaml_lines::{Node, YamlKind, after_gap};
 
 /// The node of a whole flow: of the content of its lines, the first from the bracket on, joined by line feeds. At most `room`
 /// nodes may lie within one another, the flow itself among them; keys aren't nodes.

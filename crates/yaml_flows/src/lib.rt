@@ -2,17 +2,17 @@
 //!
 //! [`read_flow`] reads the lines of one flow, joined by line feeds, as a [`Node`](yaml_lines::Node), or says by a
 //! [`FlowFault`] why they can't be read, and where. Its contract cites `specs/Flows.antt`, which says what the characters
-//! mean; what stands between the parts of a flow is in `specs/Gaps.antt`, its texts in `specs/Texts.antt`, and a table's
-//! keys in `specs/Keys.antt`. `Gives` of `specs/Faults.antt` ties the answer to that meaning.
+//! mean; a table's keys are in `specs/Keys.antt`, and what stands between the tokens of a flow and its texts in
+//! `FlowGaps.antt` and `FlowTexts.antt` of `yaml_lines`, whose reader of lines counts by them which lines belong to a flow.
+//! `Gives` of `specs/Faults.antt` ties the answer to that meaning, and [`laws`] says that both readers agree.
 #![tactic(auto)]
 
+mod ending;
 mod entries;
 mod fault;
 mod flows;
 mod found;
-mod gap;
-mod plain;
-mod scan;
+pub mod laws;
 mod seen_keys;
 mod texts;
 

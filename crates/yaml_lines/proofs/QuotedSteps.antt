@@ -60,3 +60,27 @@ pub no_step_yet : (mark : ℕ) (cs read : List ℕ) (n : ℕ) → read ≡ [] �
 no_step_yet mark cs read n e =
     let fuel : n ≡ n - 0 = omega arith in
     ap (λ (m : ℕ). quoted_within mark m cs) fuel ∙ (sym (same (quoted_within mark (n - 0) cs)) ∙ ap (λ (bs : List ℕ). prefixed bs (quoted_within mark (n - 0) cs)) (sym e))
+
+-- ---- what follows a quoted text, whatever its text
+
+abbrev rest_of : Option Quoted → Option (List ℕ)
+rest_of o = option_map (λ q. q.rest) o
+
+rest_kept : (read : List ℕ) (o : Option Quoted) → rest_of (prefixed read o) ≡ rest_of o
+rest_kept read None = refl
+rest_kept read (Some q) = refl
+
+pub rest_on : (mark n i : ℕ) (cs : List ℕ) (step : Step) (c : ℕ) → i < n → step_of mark cs ≡ Some step → step.character ≡ Some c
+    → rest_of (quoted_within mark (n - i) cs) ≡ rest_of (quoted_within mark (n - (i + 1)) step.rest)
+rest_on mark n i cs step c within e is =
+    sym (rest_kept [] (quoted_within mark (n - i) cs))
+    ∙ (ap rest_of (step_on mark n i cs [] step c within e is) ∙ rest_kept ([] ++ encode_utf8 c) (quoted_within mark (n - (i + 1)) step.rest))
+
+pub rest_end : (mark n i : ℕ) (cs : List ℕ) (step : Step) → i < n → step_of mark cs ≡ Some step → step.character ≡ None → rest_of (quoted_within mark (n - i) cs) ≡ Some step.rest
+rest_end mark n i cs step within e is = sym (rest_kept [] (quoted_within mark (n - i) cs)) ∙ ap rest_of (step_end mark n i cs [] step within e is)
+
+pub rest_fault : (mark n i : ℕ) (cs : List ℕ) → i < n → step_of mark cs ≡ None → rest_of (quoted_within mark (n - i) cs) ≡ None
+rest_fault mark n i cs within e = sym (rest_kept [] (quoted_within mark (n - i) cs)) ∙ ap rest_of (step_fault mark n i cs [] within e)
+
+pub no_rest : (mark n i : ℕ) (cs : List ℕ) → n ≤ i → rest_of (quoted_within mark (n - i) cs) ≡ None
+no_rest mark n i cs past = sym (rest_kept [] (quoted_within mark (n - i) cs)) ∙ ap rest_of (no_steps mark n i cs [] past)

@@ -3,7 +3,9 @@ pub mod BlockTexts
 pub mod Characters
 pub mod Entries
 pub mod Faults
+pub mod FlowGaps
 pub mod FlowLines
+pub mod FlowTexts
 pub mod LineLaws
 pub mod Lines
 pub mod Meaning

@@ -1,48 +1,31 @@
-// Where the lines of a flow end: how many of its brackets are open, kept from line to line.
-ghost use Rattle.std.specs.Prelude.{◌≡◌, length};
+//! Where the lines of a flow end: how many of its brackets are open, kept from line to line.
+ghost use Rattle.std.specs.Prelude.{◌≡◌, option_map};
 ghost use Rattle.yaml_lines.specs.FlowLines as flows;
+ghost use Rattle.yaml_lines.specs.FlowTexts.{text_at};
 
-use crate::scan::is_blank;
+use crate::flow_text::{behind_text, ends_key};
+use crate::gap::{after_gap, after_start};
+use crate::quoted_text::begins_quoted;
+use std::marker::Model;
 
-// What a flow's last character was part of.
-#[derive(Clone, Copy)]
-pub(crate) enum FlowPart {
-    // An opening bracket, a comma, or what else a text may follow.
-    Start,
-    Plain,
-    // A blank within or behind a plain text.
-    PlainBlank,
-    // A colon within or behind a plain text.
-    PlainColon,
-    Single,
-    Double,
-    // The backslash in double quotes.
-    Escape,
-    // A closing bracket or a closing quote.
-    Close,
-    Comment,
-    // A comment behind a closing bracket or quote.
-    CommentBehind,
-}
-
-// How many brackets are open at a character, and what it was part of.
+// How many brackets are open, and whether the last token was a quoted text, behind which a colon ends a key in any case.
 #[derive(Clone, Copy)]
 pub(crate) struct FlowState {
     depth: usize,
-    last: FlowPart,
+    quoted: bool,
 }
 
-// The most brackets that are counted: far more than may lie within one another.
+// The most brackets that are counted: more than may lie within one another.
 const MOST_OPEN: usize = 64;
 
 impl FlowState {
-    // Before a flow.
+    // Before a flow, or behind its end.
     pub(crate) fn outside() -> FlowState
         ensures { result ≡ flows.outside }
     {
         FlowState {
             depth: 0,
-            last: FlowPart::Start,
+            quoted: false,
         }
     }
 
@@ -54,159 +37,92 @@ impl FlowState {
     }
 }
 
+// What is open behind a token, and the characters that follow it.
+#[derive(Drop)]
+struct Behind<'a> {
+    state: FlowState,
+    rest: &'a [char],
+}
+
+impl<'a> Model for Behind<'a> {
+    ghost use Rattle.yaml_lines.specs.FlowLines as flows;
+
+    ghost Value = { flows.Behind };
+
+    ghost view = { λ behind. record { state = behind.state; rest = behind.rest.now } };
+}
+
+impl<'a> Behind<'a> {
+    ghost use Rattle.yaml_lines.specs.FlowLines as flows;
+
+    fn new(depth: usize, quoted: bool, rest: &'a [char]) -> Self
+        ensures { result ≡ record { state = flows.state depth quoted; rest = rest.now } }
+    {
+        Behind {
+            state: FlowState { depth, quoted },
+            rest,
+        }
+    }
+}
+
 fn one_deeper(depth: usize) -> usize
     ensures { result ≡ flows.one_deeper depth }
 {
     if depth < MOST_OPEN { depth + 1 } else { depth }
 }
 
-fn behind_blank(last: FlowPart) -> FlowPart
-    ensures { result ≡ flows.behind_blank last }
+// Behind the text that the characters begin with, else behind the first of them, which `others` follow.
+fn text_token<'a>(depth: usize, text: &'a [char], others: &'a [char]) -> Behind<'a>
+    ensures { result ≡ flows.behind_text depth others.now (text_at text.now) }
 {
-    match last {
-        FlowPart::Plain => FlowPart::PlainBlank,
-        FlowPart::PlainColon => FlowPart::Start,
-        other => other,
+    match behind_text(text) {
+        Some(rest) => Behind::new(depth, begins_quoted(text), rest),
+        None => Behind::new(depth, false, others),
     }
 }
 
-fn behind_hash(last: FlowPart) -> FlowPart
-    ensures { result ≡ flows.behind_hash last }
+// Behind the token that the characters begin with.
+#[tactic(auto, unfolding(crate::specs::FlowLines::behind_token))]
+fn behind_token<'a>(before: FlowState, text: &'a [char]) -> Behind<'a>
+    ensures { result ≡ flows.behind_token before text.now }
 {
-    match last {
-        FlowPart::Start | FlowPart::PlainBlank => FlowPart::Comment,
-        FlowPart::Close => FlowPart::CommentBehind,
-        _ => FlowPart::Plain,
+    let FlowState { depth, quoted } = before;
+    match text {
+        [] => Behind::new(depth, quoted, text),
+        ['[' | '{', rest @ ..] => Behind::new(one_deeper(depth), false, rest),
+        [']' | '}', rest @ ..] => Behind::new(depth.saturating_sub(1), false, rest),
+        [',', rest @ ..] => Behind::new(depth, false, rest),
+        [':', rest @ ..] if quoted || ends_key(rest) => Behind::new(depth, false, rest),
+        [_, rest @ ..] => text_token(depth, text, rest),
     }
 }
 
-fn behind_colon(last: FlowPart) -> FlowPart
-    ensures { result ≡ flows.behind_colon last }
-{
-    match last {
-        FlowPart::Close => FlowPart::Start,
-        _ => FlowPart::PlainColon,
-    }
-}
-
-fn behind_single(last: FlowPart) -> FlowPart
-    ensures { result ≡ flows.behind_single last }
-{
-    match last {
-        FlowPart::Start | FlowPart::Close => FlowPart::Single,
-        _ => FlowPart::Plain,
-    }
-}
-
-fn behind_double(last: FlowPart) -> FlowPart
-    ensures { result ≡ flows.behind_double last }
-{
-    match last {
-        FlowPart::Start => FlowPart::Double,
-        _ => FlowPart::Plain,
-    }
-}
-
-// What another character than a bracket is part of outside quotes and comments.
-fn part_outside(last: FlowPart, c: char) -> FlowPart
-    ensures { result ≡ flows.part_outside last c }
-{
-    if is_blank(c) {
-        return behind_blank(last);
-    }
-    match c {
-        ',' => FlowPart::Start,
-        '#' => behind_hash(last),
-        ':' => behind_colon(last),
-        '\'' => behind_single(last),
-        '"' => behind_double(last),
-        _ => FlowPart::Plain,
-    }
-}
-
-// A character outside quotes and comments.
-fn step_outside(state: FlowState, c: char) -> FlowState
-    ensures { result ≡ flows.step_outside state.last state.depth c }
-{
-    match c {
-        '[' | '{' => FlowState {
-            depth: one_deeper(state.depth),
-            last: FlowPart::Start,
-        },
-        ']' | '}' => FlowState {
-            depth: state.depth.saturating_sub(1),
-            last: FlowPart::Close,
-        },
-        _ => FlowState {
-            depth: state.depth,
-            last: part_outside(state.last, c),
-        },
-    }
-}
-
-fn in_single(c: char) -> FlowPart
-    ensures { result ≡ flows.in_single c }
-{
-    if c == '\'' {
-        FlowPart::Close
-    } else {
-        FlowPart::Single
-    }
-}
-
-fn in_double(c: char) -> FlowPart
-    ensures { result ≡ flows.in_double c }
-{
-    match c {
-        '"' => FlowPart::Close,
-        '\\' => FlowPart::Escape,
-        _ => FlowPart::Double,
-    }
-}
-
-// One character more.
-#[tactic(auto, unfolding(crate::specs::FlowLines::flow_step))]
-fn flow_step(state: FlowState, c: char) -> FlowState
-    ensures { result ≡ flows.flow_step state c }
-{
-    let last = match state.last {
-        FlowPart::Single => in_single(c),
-        FlowPart::Double => in_double(c),
-        FlowPart::Escape => FlowPart::Double,
-        FlowPart::Comment => FlowPart::Comment,
-        FlowPart::CommentBehind => FlowPart::CommentBehind,
-        _ => return step_outside(state, c),
-    };
-    FlowState {
-        depth: state.depth,
-        last,
-    }
-}
-
-// A line's end: a plain text and a comment end with it.
-fn line_end(last: FlowPart) -> FlowPart
-    ensures { result ≡ flows.line_end last }
-{
-    match last {
-        FlowPart::Plain | FlowPart::PlainBlank | FlowPart::PlainColon | FlowPart::Comment =>
-            FlowPart::Start,
-        FlowPart::CommentBehind => FlowPart::Close,
-        other => other,
-    }
-}
-
-// The state behind a line with this content.
+// What is open behind a line with this content.
+#[tactic(auto, unfolding(crate::specs::FlowLines::skim))]
 pub(crate) fn skim(before: FlowState, content: &[char]) -> FlowState
     ensures { result ≡ flows.skim before content.now }
 {
+    behind_all(before, after_start(content))
+}
+
+// What is open behind all tokens of these characters, or behind the flow's last bracket.
+fn behind_all(before: FlowState, text: &[char]) -> FlowState
+    ensures { result ≡ (flows.behind_all before text.now).state }
+{
     let mut state = before;
-    for c in content {
-        state = flow_step(state, *c);
+    let mut left = text;
+    for _ in 0..text.len() {
+        if left.is_empty() {
+            return state;
+        }
+        let Behind { state: next, rest } = behind_token(state, left);
+        if next.is_over() {
+            return next;
+        }
+        state = next;
+        left = after_gap(rest);
     }
-    FlowState {
-        depth: state.depth,
-        last: line_end(state.last),
-    }
+    state
 }
 
 /// Whether the value begins as a flow does: with `[` or `{`.
@@ -216,7 +132,7 @@ pub fn begins_flow(value: &[char]) -> bool
     matches!(value, ['[' | '{', ..])
 }
 
-// The state behind a line whose last value this is, if the line stands in no flow.
+// What is open behind a line whose last value this is, if the line stands in no flow.
 pub(crate) fn state_behind(value: &[char]) -> FlowState
     ensures { result ≡ flows.state_behind value.now }
 {

@@ -15,6 +15,8 @@ mod decode;
 mod entries;
 mod fault;
 mod flow_state;
+mod flow_text;
+mod gap;
 mod header;
 mod item;
 mod last_value;
@@ -35,14 +37,17 @@ pub use decode::{MOST_BYTES, characters};
 pub use entries::{Entry, read_entry};
 pub use fault::{YamlFault, YamlKind};
 pub use flow_state::begins_flow;
+pub use flow_text::{ends_key, plain_part};
+pub use gap::after_gap;
 pub use header::{Chomping, Header};
 pub use item::{after_dash, is_item};
 pub use line::Line;
 pub use node::Node;
 pub use places::{Lines, read_lines};
 pub use plain_text::refusal;
-pub use quoted_text::{QuotedText, read_quoted};
+pub use quoted_text::{QuotedText, begins_quoted, read_quoted};
 pub use raw_line::{RawLine, raw_lines};
+pub use scan::{skip, text_of};
 pub use text_scalar::scalar;
 
 #[cfg(test)]

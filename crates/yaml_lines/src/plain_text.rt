@@ -8,7 +8,7 @@ use crate::scan::{blank_or_end, is_blank, skip};
 use crate::{YamlFault, YamlKind};
 
 // One of the characters that begin no plain text.
-fn is_indicator(c: char) -> bool
+pub(crate) fn is_indicator(c: char) -> bool
     ensures { result ≡ is_indicator c }
 {
     matches!(
@@ -32,7 +32,7 @@ fn is_indicator(c: char) -> bool
 }
 
 // One of the characters that begin a plain text only where neither a blank nor the end follows.
-fn is_mark_character(c: char) -> bool
+pub(crate) fn is_mark_character(c: char) -> bool
     ensures { result ≡ is_mark_character c }
 {
     matches!(c, '-' | '?' | ':')

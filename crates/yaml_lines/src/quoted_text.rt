@@ -44,9 +44,9 @@ impl<'a> QuotedText<'a> {
 
 // One character of a quoted text, or no more characters, and what follows.
 #[derive(Drop)]
-struct QuoteStep<'a> {
-    character: Option<char>,
-    rest: &'a [char],
+pub(crate) struct QuoteStep<'a> {
+    pub(crate) character: Option<char>,
+    pub(crate) rest: &'a [char],
 }
 
 impl<'a> Model for QuoteStep<'a> {
@@ -202,7 +202,7 @@ fn double_step<'a>(text: &'a [char]) -> Result<QuoteStep<'a>, YamlKind>
 }
 
 // A step in the quotes of this mark.
-fn step<'a>(mark: char, text: &'a [char]) -> Result<QuoteStep<'a>, YamlKind>
+pub(crate) fn step<'a>(mark: char, text: &'a [char]) -> Result<QuoteStep<'a>, YamlKind>
     ensures { GivesSurely (λ step. step) result (step_of mark text.now) }
 {
     if mark == '\'' {
@@ -253,8 +253,8 @@ fn quoted_within<'a>(
     })
 }
 
-// Whether the characters begin with a quote, single or double.
-pub(crate) fn begins_quoted(text: &[char]) -> bool
+/// Whether the characters begin with a quote, single or double.
+pub fn begins_quoted(text: &[char]) -> bool
     ensures { result ≡ begins_quoted text.now }
 {
     matches!(text, ['\'' | '"', ..])

@@ -8,8 +8,8 @@ ghost use Rattle.yaml_lines.specs.Plain.{trim_end, uncommented};
 
 use std::alloc::{AllocError, Global};
 
-// The characters from the one at `at` on.
-pub(crate) fn skip(text: &[char], at: usize) -> &[char]
+/// The characters from the one at `at` on.
+pub fn skip(text: &[char], at: usize) -> &[char]
     requires { at ≤ length text.now }
     ensures { result.now ≡ drop at text.now }
 {
@@ -154,8 +154,8 @@ pub(crate) fn trim_end(text: &[char]) -> &[char]
     front(text, end)
 }
 
-// The characters as a text.
-pub(crate) fn text_of(alloc: Global, characters: &[char]) -> Result<String, AllocError>
+/// The characters as a text.
+pub fn text_of(alloc: Global, characters: &[char]) -> Result<String, AllocError>
     ensures { IfOk result (λ text. string_bytes text ≡ encode_utf8_all characters.now) }
 {
     let mut text = String::with_capacity(alloc, characters.len())?;

@@ -28,3 +28,7 @@ behind_gap comment free (c ∷ cs) = if is_of_gap comment free c then behind_gap
 -- what stands behind the gap that follows a bracket, a comma, a colon or a text
 abbrev pub after_gap : List ℕ → List ℕ
 after_gap cs = behind_gap false false cs
+
+-- what stands behind the gap at a line's start, where a comment may stand at once
+abbrev pub after_start : List ℕ → List ℕ
+after_start cs = behind_gap false true cs

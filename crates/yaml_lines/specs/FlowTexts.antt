@@ -4,7 +4,7 @@ use Rattle.std.specs.Prelude.{ℕ, Bool, true, false, not, ◌+◌, ◌&&◌, �
 use Rattle.yaml_lines.specs.Characters.{is_blank, is_nil}
 use Rattle.yaml_lines.specs.Plain.{is_indicator, is_mark_character, trim_end}
 use Rattle.yaml_lines.specs.Quoted.{Quoted, begins_quoted, quoted_of}
-use Rattle.yaml_flows.specs.Gaps.{is_feed, blank_or_line_end}
+use Rattle.yaml_lines.specs.FlowGaps.{is_feed, blank_or_line_end}
 
 -- one of `, [ ] { }`, which no plain text in a flow holds
 abbrev pub is_flow_indicator : ℕ → Bool
@@ -14,6 +14,10 @@ is_flow_indicator c = c == 44 || c == 91 || c == 93 || c == 123 || c == 125
 abbrev pub ends_key : List ℕ → Bool
 ends_key [] = true
 ends_key (c ∷ _) = is_blank c || is_feed c || is_flow_indicator c
+
+-- A colon in front of these characters ends a key: a plain one if it may end one, a quoted one in any case.
+abbrev pub is_key_end : Bool → ℕ → List ℕ → Bool
+is_key_end quoted c cs = c == 58 && (quoted || ends_key cs)
 
 -- the characters begin as a plain text may
 unfoldable pub begins_plain : List ℕ → Bool

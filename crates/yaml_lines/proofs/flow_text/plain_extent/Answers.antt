@@ -1,7 +1,7 @@
 use Rattle.std.proofs.Common.{◌≡◌, ◌∙◌, ◌+◌, sym, Bool, true, false, ap, drop, arith}
-use Rattle.yaml_flows.specs.Texts.{ends_plain}
-use Rattle.yaml_flows.proofs.Scans.{extent_from, extent_from_more, extent_from_here, extent_from_end}
-use Rattle.yaml_flows.proofs.plain.plain_extent.Goals as goal
+use Rattle.yaml_lines.specs.FlowTexts.{ends_plain}
+use Rattle.yaml_lines.proofs.FlowScans.{extent_from, extent_from_more, extent_from_here, extent_from_end}
+use Rattle.yaml_lines.proofs.flow_text.plain_extent.Goals as goal
 
 pub returns-then-ends_plain-clause-value : goal.returns-then-ends_plain-clause-value
 returns-then-ends_plain-clause-value c =

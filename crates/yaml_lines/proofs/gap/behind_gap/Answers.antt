@@ -1,8 +1,8 @@
 use Rattle.std.proofs.Common.{◌≡◌, ◌∙◌, ◌+◌, sym, Bool, true, false, ap, length, arith}
 use Rattle.std.proofs.lemmas.List.{drop_all}
-use Rattle.yaml_flows.specs.Gaps.{is_of_gap}
-use Rattle.yaml_flows.proofs.Scans.{gap_from, gap_from_inside, gap_from_behind, gap_from_end}
-use Rattle.yaml_flows.proofs.gap.after_gap.Goals as goal
+use Rattle.yaml_lines.specs.FlowGaps.{is_of_gap}
+use Rattle.yaml_lines.proofs.FlowScans.{gap_from, gap_from_inside, gap_from_behind, gap_from_end}
+use Rattle.yaml_lines.proofs.gap.behind_gap.Goals as goal
 
 pub returns-then-not-is_of_gap : goal.returns-then-not-is_of_gap
 returns-then-not-is_of_gap c =
