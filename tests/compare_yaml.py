@@ -14,7 +14,7 @@ import os
 import re
 import sys
 
-from yaml_texts import literal, read_rows, refused_rows
+from yaml_texts import literal, most_nodes, read_rows, refused_rows
 
 # The Python that Debian's packages serve, which may be another than the first `python3` of the path.
 DEBIANS_PYTHON = "/usr/bin/python3"
@@ -37,12 +37,12 @@ def holds(pattern):
 
 
 def has_deep_node(text):
-    """Whether a node of the text lies within more than 32 others, as PyYAML's nodes show it."""
+    """Whether more nodes of the text lie within one another than may, as PyYAML's nodes show it."""
     level, within = [yaml.compose(text, Loader=yaml.BaseLoader)], 0
     while level:
         level = [inner for node in level if not isinstance(node, yaml.ScalarNode) for inner in inner_nodes(node)]
         within += 1
-    return within > 33
+    return within > most_nodes()
 
 
 def inner_nodes(node):
@@ -88,7 +88,7 @@ REFUSED_HERE = {
         (has_doubled_key, "a key stands in its table once (YAML 1.2.2, 3.2.1.3); PyYAML keeps the last"),
     ],
     "TooDeep": [
-        (has_deep_node, "a node lies within at most 32 others"),
+        (has_deep_node, "there is a limit of depth"),
     ],
     "Quote": [
         (holds(r"(['\"])[^'\"\n]*\n[^'\"\n]*\1"), "a quoted text ends on its line"),
