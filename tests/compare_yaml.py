@@ -2,26 +2,52 @@
 
 Usage: tests/compare_yaml.py
 
+PyYAML (Debian's python3-yaml) must be there, for the Python that runs this or for /usr/bin/python3, which Debian's packages
+serve; where it is missing, nothing can be compared, and that is a failure.
+
 The rows are those of cases.rt and refused_cases.rt in crates/yaml_profile/src/text, which the tests of that crate hold
 the reader to. Where PyYAML takes a text, the values must agree. Each text that only one of the two takes is printed
 with its reason. A reason has a test of the text: a text for which no test holds is a failure.
 """
 import ast
+import os
 import re
 import sys
 
-from yaml_texts import literal, read_rows, refused_rows
+from yaml_texts import literal, most_nodes, read_rows, refused_rows
+
+# The Python that Debian's packages serve, which may be another than the first `python3` of the path.
+DEBIANS_PYTHON = "/usr/bin/python3"
+
+# Set for the second try, so that there is no third.
+SECOND_TRY = "COMPARE_YAML_SECOND_TRY"
 
 try:
     import yaml
 except ImportError:
-    print("yaml: PyYAML isn't installed (Debian's python3-yaml), so nothing was compared")
-    sys.exit(0)
+    if SECOND_TRY not in os.environ and os.access(DEBIANS_PYTHON, os.X_OK):
+        os.environ[SECOND_TRY] = "1"
+        os.execv(DEBIANS_PYTHON, [DEBIANS_PYTHON, *sys.argv])
+    sys.exit("tests/compare_yaml.py: there is no PyYAML (Debian's python3-yaml) to compare the YAML texts with")
 
 
 def holds(pattern):
     """The test whether a text has a part of this pattern."""
     return lambda text: re.search(pattern, text)
+
+
+def has_deep_node(text):
+    """Whether more nodes of the text lie within one another than may, as PyYAML's nodes show it."""
+    level, within = [yaml.compose(text, Loader=yaml.BaseLoader)], 0
+    while level:
+        level = [inner for node in level if not isinstance(node, yaml.ScalarNode) for inner in inner_nodes(node)]
+        within += 1
+    return within > most_nodes()
+
+
+def inner_nodes(node):
+    """The items of a list's node, the values of a table's."""
+    return [value for _, value in node.value] if isinstance(node, yaml.MappingNode) else node.value
 
 
 def has_doubled_key(text):
@@ -60,6 +86,9 @@ REFUSED_THERE = [
 REFUSED_HERE = {
     "DoubledKey": [
         (has_doubled_key, "a key stands in its table once (YAML 1.2.2, 3.2.1.3); PyYAML keeps the last"),
+    ],
+    "TooDeep": [
+        (has_deep_node, "there is a limit of depth"),
     ],
     "Quote": [
         (holds(r"(['\"])[^'\"\n]*\n[^'\"\n]*\1"), "a quoted text ends on its line"),

@@ -1,12 +1,16 @@
 pub mod Cuts
 mod FlowOfWords
+mod FlowParts
 pub mod Flows
+mod LinesOfEntries
 mod LinesOfWords
 pub mod Lists
+mod Moved
 pub mod Nodes
 mod SayingTexts
 pub mod Tables
 pub mod Texts
 mod TextsOfWords
 pub mod Turns
+mod UniqueKeys
 mod Words

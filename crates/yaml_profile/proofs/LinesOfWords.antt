@@ -9,7 +9,7 @@ use Rattle.yaml_lines.specs.Meaning.{Meaning, text}
 use Rattle.yaml_lines.specs.Plain.{is_indicator}
 use Rattle.yaml_lines.specs.Scalars.{scalar_meaning}
 use Rattle.yaml_profile.specs.Blocks.{Part, Cut, put, cut, parts, is_deeper, all_of, item, lone, text_of, flow, line_node, block, items, list_of, node}
-use Rattle.yaml_profile.specs.ListLaws.{is_word, AreWords, list_of_words, item_line}
+use Rattle.yaml_profile.specs.Words.{is_word, AreWords, list_of_words, item_line}
 use Rattle.yaml_profile.proofs.Words.{both, or_none, apart, no_blank, no_hash, IsFirst, first_of_word, word_no_item, word_no_entry, word_meaning}
 
 -- ---- the lines, one item each
@@ -30,9 +30,13 @@ item_parts indent word words =
 
 -- ---- one item
 
+-- a line of these characters, which begins no block text
+abbrev pub line_at : ℕ → List ℕ → Place
+line_at indent content = record { indent = indent; content = content; block = None }
+
 -- the word as a line of its own, behind the dash and a space
 abbrev own_line : ℕ → List ℕ → Place
-own_line indent word = record { indent = indent + 1 + 1; content = word; block = None }
+own_line indent word = line_at (indent + 1 + 1) word
 
 behind_dash : (indent c : ℕ) (cs : List ℕ) → IsFirst c cs → item_of (item_line indent (c ∷ cs)) ≡ Some (own_line indent (c ∷ cs) ∷ [])
 unfolding item_of rest_of
@@ -42,9 +46,9 @@ behind_dash indent c cs w =
     ap (λ (b : Bool). f (1 + cond b (1 + prefix_len is_blank cs) 0)) (no_blank c w.first)
     ∙ ap (λ (b : Bool). cond b (Some []) (Some (own_line indent (c ∷ cs) ∷ []))) (no_hash c w.first)
 
-own_meaning : (room indent c : ℕ) (cs : List ℕ) → IsFirst c cs → line_node (suc room) (own_line indent (c ∷ cs)) [] ≡ Some (text (encode_utf8_all (c ∷ cs)) false)
-own_meaning room indent c cs w =
-    let place : Place = own_line indent (c ∷ cs) in
+pub word_line : (room indent c : ℕ) (cs : List ℕ) → IsFirst c cs → line_node (suc room) (line_at indent (c ∷ cs)) [] ≡ Some (text (encode_utf8_all (c ∷ cs)) false)
+word_line room indent c cs w =
+    let place : Place = line_at indent (c ∷ cs) in
     let far : (k : ℕ) → is_indicator k ≡ true → eqb c k ≡ false = λ k e. apart c k is_indicator w.first.no_indicator e in
     ap (λ (b : Bool). cond b (flow (suc room) (c ∷ cs) []) (lone (text_of place) [])) (or_none (eqb c 91) (eqb c 123) (far 91 refl) (far 123 refl))
     ∙ (ap (λ (b : Bool). cond b None (scalar_meaning (c ∷ cs))) (or_none (eqb c 124) (eqb c 62) (far 124 refl) (far 62 refl)) ∙ word_meaning c cs w)
@@ -55,7 +59,7 @@ own_node room indent c cs w =
     let place : Place = own_line indent (c ∷ cs) in
     let f : Bool → Bool → Option Meaning = λ a b. block (node room) (line_node room) (line_node (suc room) place []) a b place [] in
     ap (λ (b : Bool). f b (is_some (entry_of (c ∷ cs)))) (word_no_item c cs w)
-    ∙ (ap (λ (o : Option KeyAndValue). f false (is_some o)) (word_no_entry c cs w) ∙ own_meaning room indent c cs w)
+    ∙ (ap (λ (o : Option KeyAndValue). f false (is_some o)) (word_no_entry c cs w) ∙ word_line room (indent + 1 + 1) c cs w)
 
 item_meaning : (room indent c : ℕ) (cs : List ℕ) → IsFirst c cs → item (node (suc room)) indent (item_part indent (c ∷ cs)) ≡ Some (text (encode_utf8_all (c ∷ cs)) false)
 unfolding is_item
@@ -87,6 +91,31 @@ lines_by room indent [] some all = absurd (omega arith)
 lines_by room indent (word ∷ words) some all =
     list_step (suc room) indent word (map (item_line indent) words)
     ∙ (ap (λ (ps : List Part). list_of (all_of (item (node (suc room)) indent) ps)) (item_parts indent word words) ∙ ap list_of (items_meaning room indent (word ∷ words) all))
+
+-- ---- where there is room for one node alone
+
+no_inner : (b : Bool) (o : Option (List Place)) (below : List Place) → cond b (option_and_then (λ front. node 0 (front ++ below)) o) None ≡ None
+unfolding node
+no_inner true None below = refl
+no_inner true (Some front) below = refl
+no_inner false o below = refl
+
+no_items : (indent : ℕ) (p : Part) (ps : List Part) → list_of (all_of (item (node 0) indent) (p ∷ ps)) ≡ None
+unfolding all_of
+no_items indent p ps =
+    ap (λ (o : Option Meaning). list_of (option_and_then (λ y. option_map (λ ys. y ∷ ys) (all_of (item (node 0) indent) ps)) o))
+    (no_inner (eqb p.head.indent indent && is_item p.head.content) (item_of p.head) p.below)
+
+too_deep_by : (indent : ℕ) (words : List (List ℕ)) → 1 ≤ length words → node 1 (map (item_line indent) words) ≡ None
+too_deep_by indent [] some = absurd (omega arith)
+too_deep_by indent (word ∷ words) some =
+    list_step 0 indent word (map (item_line indent) words)
+    ∙ (ap (λ (ps : List Part). list_of (all_of (item (node 0) indent) ps)) (item_parts indent word words) ∙ no_items indent (item_part indent word) (map (item_part indent) words))
+
+pub lines_too_deep : (indent : ℕ) (words : List (List ℕ)) → AreWords words → node 1 (map (item_line indent) words) ≡ None
+lines_too_deep indent words are = too_deep_by indent words are.some
+
+-- ---- where there is more
 
 pub line_words : (room indent : ℕ) (words : List (List ℕ)) → 2 ≤ room → AreWords words → node room (map (item_line indent) words) ≡ Some (list_of_words words)
 line_words zero indent words enough are = absurd (omega arith)

@@ -5,7 +5,8 @@ use Rattle.std.proofs.lemmas.Slice.Eq.{bytes_eq-Decides}
 use Rattle.std.specs.BTreeSet.{BTreeSet, contains_text}
 use Rattle.std.specs.List.{list_any}
 use Rattle.std.specs.Str.{bytes_eq}
-use Rattle.yaml_profile.specs.Blocks.{Row, all_of, keys_differ, distinct}
+use Rattle.yaml_flows.specs.Keys.{Row, keys_differ}
+use Rattle.yaml_profile.specs.Blocks.{all_of, distinct}
 use Rattle.yaml_profile.specs.Rows.{fresh}
 use Rattle.yaml_profile.proofs.Lists.{prepend, one_more, refused, all_read}
 

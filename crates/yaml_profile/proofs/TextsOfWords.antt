@@ -12,7 +12,7 @@ use Rattle.yaml_lines.specs.Meaning.{Meaning}
 use Rattle.yaml_lines.specs.Plain.{is_indicator, begins_plain}
 use Rattle.yaml_profile.specs.Blocks.{further, node, whole}
 use Rattle.yaml_flows.specs.Flows.{flow_meaning}
-use Rattle.yaml_profile.specs.ListLaws.{is_word_character, is_word, AreWords, list_of_words, item_line, flow_of_words, lines_of_words}
+use Rattle.yaml_profile.specs.Words.{is_word_character, is_word, AreWords, list_of_words, item_line, flow_of_words, lines_of_words}
 use Rattle.yaml_profile.specs.Text.{most_nodes, meaning_of}
 use Rattle.yaml_profile.proofs.FlowOfWords.{flow_words}
 use Rattle.yaml_profile.proofs.LinesOfWords.{line_words}

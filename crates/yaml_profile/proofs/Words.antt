@@ -9,7 +9,7 @@ use Rattle.yaml_lines.specs.Meaning.{text}
 use Rattle.yaml_lines.specs.Plain.{is_indicator, is_mark_character, begins_plain, plain_of, Sides, before_side, sides_of, trim_end, uncommented}
 use Rattle.yaml_lines.specs.Quoted.{is_quote, quoted_of}
 use Rattle.yaml_lines.specs.Scalars.{alone, scalar_meaning}
-use Rattle.yaml_profile.specs.ListLaws.{is_word_character, is_word}
+use Rattle.yaml_profile.specs.Words.{is_word_character, is_word}
 
 -- ---- tests
 
@@ -25,7 +25,7 @@ neither false false e = (refl, refl)
 pub or_none : (a b : Bool) → a ≡ false → b ≡ false → (a || b) ≡ false
 or_none a b e f = ap₂ (λ x y. x || y) e f
 
-and_none : (a b : Bool) → b ≡ false → (a && b) ≡ false
+pub and_none : (a b : Bool) → b ≡ false → (a && b) ≡ false
 and_none true b e = e
 and_none false b e = refl
 
@@ -120,7 +120,7 @@ pub record IsFirst (c : ℕ) (cs : List ℕ) : Type 0 where
 pub first_of_word : (c : ℕ) (cs : List ℕ) → is_word (c ∷ cs) ≡ true → IsFirst c cs
 first_of_word c cs e = record { first = ordinary c (both (is_word_character c) (list_all is_word_character cs) e).0; all = e }
 
-word_begins : (c : ℕ) (cs : List ℕ) → IsOrdinary c → begins_plain (c ∷ cs) ≡ true
+pub word_begins : (c : ℕ) (cs : List ℕ) → IsOrdinary c → begins_plain (c ∷ cs) ≡ true
 unfolding begins_plain
 word_begins c cs o =
     ap (λ (b : Bool). not b && not (is_mark_character c && blank_or_end cs)) o.no_indicator

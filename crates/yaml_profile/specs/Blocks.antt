@@ -1,12 +1,12 @@
 -- What the lines of a text mean: lists and tables by their indentation, flows and single texts. (YAML 1.2.2, sections
 -- 8.2.1 "Block Sequences", 8.2.2 "Block Mappings" and 8.2.3 "Block Nodes".)
-use Rattle.std.specs.Prelude.{ℕ, zero, suc, Bool, true, false, not, ◌&&◌, ◌||◌, List, [], ◌∷◌, ◌++◌, Option, Some, None, option_map, option_and_then, is_some, nat_lt, ◌==◌, if◌then◌else◌}
-use Rattle.std.specs.List.{list_all, list_any}
-use Rattle.std.specs.Str.{bytes_eq}
+use Rattle.std.specs.Prelude.{ℕ, zero, suc, Bool, true, false, ◌&&◌, ◌||◌, List, [], ◌∷◌, ◌++◌, Option, Some, None, option_map, option_and_then, is_some, nat_lt, ◌==◌, if◌then◌else◌}
+use Rattle.std.specs.List.{list_all}
 use Rattle.yaml_lines.specs.BlockTexts.{begins_block}
 use Rattle.yaml_lines.specs.Characters.{is_nil}
 use Rattle.yaml_lines.specs.Entries.{Place, KeyAndValue, is_item, item_of, entry_of}
 use Rattle.yaml_flows.specs.Flows.{flow_meaning}
+use Rattle.yaml_flows.specs.Keys.{Row, keys_differ}
 use Rattle.yaml_lines.specs.FlowLines.{begins_flow, is_closing}
 use Rattle.yaml_lines.specs.Meaning.{Meaning, text, list, table, empty, meanings_of, members_of}
 use Rattle.yaml_lines.specs.Scalars.{scalar_meaning}
@@ -105,9 +105,6 @@ value node line place below = if is_nil place.content then node below else line 
 abbrev pub value_place : Place → KeyAndValue → Place
 value_place head entry = record { indent = head.indent; content = entry.value; block = head.block }
 
-abbrev pub Row : Type 0
-Row = List ℕ × Meaning
-
 -- a key with its value
 abbrev pub row : (List Place → Option Meaning) → (Place → List Place → Option Meaning) → Part → KeyAndValue → Option Row
 row node line part entry = option_map (λ v. (entry.key, v)) (value node line (value_place part.head entry) part.below)
@@ -117,11 +114,7 @@ abbrev pub entry : (List Place → Option Meaning) → (Place → List Place →
 entry node line indent part =
     if part.head.indent == indent then option_and_then (row node line part) (entry_of part.head.content) else None
 
--- no key stands twice
-unfoldable pub keys_differ : List Row → Bool
-keys_differ [] = true
-keys_differ (r ∷ rs) = not (list_any (λ other. bytes_eq r.0 other.0) rs) && keys_differ rs
-
+-- a table's rows, of which no key stands twice
 abbrev pub distinct : List Row → Option (List Row)
 distinct rs = if keys_differ rs then Some rs else None
 

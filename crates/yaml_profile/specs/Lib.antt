@@ -3,6 +3,8 @@ pub use Rattle.yaml_lines.specs.Meaning
 pub use Rattle.yaml_lines.specs.View
 pub use Rattle.yaml_lines.specs.ViewLemmas
 pub mod Blocks
-pub mod ListLaws
+pub mod Moved
 pub mod Rows
 pub mod Text
+pub mod UniqueKeys
+pub mod Words

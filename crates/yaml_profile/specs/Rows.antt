@@ -4,7 +4,7 @@ use Rattle.std.specs.Prelude.{ℕ, Bool, List, map, Option, Some, None, String, 
 use Rattle.std.specs.declared.alloc.Global.{Global}
 use Rattle.yaml_lines.specs.View.{member_view}
 use Rattle.yaml_lines.specs.declared.node.Node.{Node}
-use Rattle.yaml_profile.specs.Blocks.{Row}
+use Rattle.yaml_flows.specs.Keys.{Row}
 
 abbrev pub rows_of : Vec (String Global × Node) Global → List Row
 rows_of v = map member_view v.items

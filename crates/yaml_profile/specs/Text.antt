@@ -4,7 +4,7 @@ use Rattle.yaml_lines.specs.Lines.{places_of_bytes}
 use Rattle.yaml_lines.specs.Meaning.{Meaning}
 use Rattle.yaml_profile.specs.Blocks.{whole}
 
--- the most nodes that may lie within one another: a node lies within at most 32 others
+-- the most nodes that may lie within one another
 abbrev pub most_nodes : ℕ
 most_nodes = 33
 

@@ -1,4 +1,5 @@
-// Nodes by their lines: lists and tables by the indentation, and what stands on one line.
+//! Nodes by their lines: lists and tables by the indentation, and what stands on one line.
+
 ghost use Rattle.std.specs.Prelude.{◌≡◌, ℕ, List, [], ◌∷◌, ◌<◌, ◌≤◌, length, map, IfOk, if◌then◌else◌, true, string_bytes, IsOk, ◌↔◌};
 ghost use Rattle.std.specs.BTreeSet.{contains_text};
 ghost use Rattle.std.specs.Str.{bytes_eq};
@@ -6,6 +7,7 @@ ghost use Rattle.yaml_lines.specs.Faults.{Gives};
 ghost use Rattle.yaml_lines.specs.View.{view, member_view};
 ghost use Rattle.yaml_profile.specs.Blocks as blocks;
 ghost use Rattle.yaml_profile.specs.Rows.{fresh, rows_of};
+ghost use Rattle.yaml_profile.specs.Text.{most_nodes};
 
 use crate::inline::{Inline, fault, line_node};
 use crate::keys::see;
@@ -24,6 +26,7 @@ pub(crate) fn block(
     number: usize,
     end: YamlFault,
 ) -> Result<Node, YamlFault>
+    requires { room ≤ most_nodes }
     ensures { Gives view result (blocks.node room lines.now) }
 {
     match lines {
@@ -51,6 +54,7 @@ fn node(
     room: usize,
     end: YamlFault,
 ) -> Result<Node, YamlFault>
+    requires { room ≤ most_nodes }
     ensures { Gives view result (blocks.node room (first.now ∷ later.now)) }
 {
     if room == 0 {
@@ -104,6 +108,7 @@ fn items(
     room: usize,
     end: YamlFault,
 ) -> Result<Vec<Node>, YamlFault>
+    requires { room ≤ most_nodes }
     ensures { Gives (λ v. map view v.items) result (blocks.items (blocks.node room) first.now later.now) }
 {
     let indent = first.indent();
@@ -128,6 +133,7 @@ fn item(
     room: usize,
     end: YamlFault,
 ) -> Result<Node, YamlFault>
+    requires { room ≤ most_nodes }
     ensures { Gives view result
         (blocks.item (blocks.node room) indent (record { head = line.now; below = below.now })) }
 {
@@ -150,6 +156,7 @@ fn rows(
     room: usize,
     end: YamlFault,
 ) -> Result<Vec<(String, Node)>, YamlFault>
+    requires { room ≤ most_nodes }
     ensures { Gives rows_of result
         (blocks.rows (blocks.node room) (blocks.line_node room) first.now later.now) }
 {
@@ -194,6 +201,7 @@ fn entry(
     room: usize,
     end: YamlFault,
 ) -> Result<(String, Node), YamlFault>
+    requires { room ≤ most_nodes }
     ensures given { Gives member_view result (fresh (contains_text seen.old)
         (blocks.entry (blocks.node room) (blocks.line_node room) indent
         (record { head = line.now; below = below.now }))) }
@@ -220,6 +228,7 @@ fn value(
     room: usize,
     end: YamlFault,
 ) -> Result<Node, YamlFault>
+    requires { room ≤ most_nodes }
     ensures { Gives view result
         (blocks.value (blocks.node room) (blocks.line_node room) place.now below.now) }
 {

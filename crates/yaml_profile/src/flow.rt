@@ -1,11 +1,13 @@
-// Flows over the lines that belong to them.
-ghost use Rattle.std.specs.Prelude.{◌≡◌, ◌++◌, IfOk, if◌then◌else◌};
+//! Flows over the lines that belong to them.
+
+ghost use Rattle.std.specs.Prelude.{◌≡◌, ◌≤◌, ◌++◌, IfOk, if◌then◌else◌};
 ghost use Rattle.std.specs.List.{list_all};
 ghost use Rattle.yaml_flows.specs.Faults.{Gives as FlowGives};
 ghost use Rattle.yaml_lines.specs.Faults.{Gives};
 ghost use Rattle.yaml_lines.specs.View.{view};
 ghost use Rattle.yaml_lines.specs.declared.fault.YamlKind.TheVariants.{OutOfMemory};
 ghost use Rattle.yaml_profile.specs.Blocks as blocks;
+ghost use Rattle.yaml_profile.specs.Text.{most_nodes};
 
 use crate::inline::{Inline, fault};
 use crate::parts::count_in_flow;
@@ -22,6 +24,7 @@ pub(crate) fn flow_node(
     room: usize,
     end: YamlFault,
 ) -> Result<Node, YamlFault>
+    requires { room ≤ most_nodes }
     ensures { Gives view result (if list_all (blocks.is_in_flow place.now.indent) below.now
         then blocks.flow room place.now.content below.now else None) }
 {
@@ -45,6 +48,7 @@ pub(crate) fn flow_over(
     room: usize,
     end: YamlFault,
 ) -> Result<Node, YamlFault>
+    requires { room ≤ most_nodes }
     ensures { Gives view result (blocks.flow room content.now later.now) }
 {
     match read_over(alloc, content, later, room) {
@@ -60,6 +64,7 @@ fn read_over(
     later: &[Line<'_, '_>],
     room: usize,
 ) -> Result<Node, FlowFault>
+    requires { room ≤ most_nodes }
     ensures { FlowGives view result (blocks.flow room content.now later.now) }
 {
     match later {

@@ -1,21 +1,24 @@
-// Nodes on one line: behind a key, behind a dash, or on a line of their own.
-ghost use Rattle.std.specs.Prelude.{◌≡◌, Some, false, option_copied, option_map};
+//! Nodes on one line: behind a key, behind a dash, or on a line of their own.
+
+ghost use Rattle.std.specs.Prelude.{◌≡◌, ◌≤◌, Some, false, option_copied, option_map};
 ghost use Rattle.yaml_lines.specs.Faults.{Gives};
 ghost use Rattle.yaml_lines.specs.View.{view};
 ghost use Rattle.yaml_lines.specs.Meaning.{text};
 ghost use Rattle.yaml_profile.specs.Blocks as blocks;
+ghost use Rattle.yaml_profile.specs.Text.{most_nodes};
 
 use crate::flow::flow_node;
 use std::alloc::Global;
 use std::marker::Model;
 use yaml_lines::{BlockText, Line, Node, YamlFault, YamlKind, begins_block, begins_flow, scalar};
 
+/// The fault of this kind in this line.
 pub(crate) fn fault(kind: YamlKind, line: usize) -> YamlFault {
     YamlFault { kind, line }
 }
 
-// What stands on one line: the number and the indentation of the line, the content, and the block text that it begins.
-// Contracts see the place.
+/// What stands on one line: the number and the indentation of the line, the content, and the block text that it begins.
+/// Contracts see the place.
 #[derive(Drop)]
 pub(crate) struct Inline<'a, 'b, 'c> {
     number: usize,
@@ -34,7 +37,7 @@ impl<'a, 'b, 'c> Model for Inline<'a, 'b, 'c> {
 }
 
 impl<'a, 'b, 'c> Inline<'a, 'b, 'c> {
-    // The whole line.
+    /// The whole line.
     pub(crate) fn line(line: &'a Line<'b, 'c>) -> Self
         ensures { result ≡ line.now }
     {
@@ -46,7 +49,7 @@ impl<'a, 'b, 'c> Inline<'a, 'b, 'c> {
         }
     }
 
-    // The value of a key on the line.
+    /// The value of a key on the line.
     pub(crate) fn value(line: &'a Line<'b, 'c>, value: &'a [char]) -> Self
         ensures { result ≡ record { indent = line.now.indent; content = value.now; block = line.now.block } }
     {
@@ -58,16 +61,19 @@ impl<'a, 'b, 'c> Inline<'a, 'b, 'c> {
         }
     }
 
+    /// The line's number in the text, from 1.
     pub(crate) fn number(&self) -> usize {
         self.number
     }
 
+    /// The column at which the line's content begins, from 0.
     pub(crate) fn indent(&self) -> usize
         ensures { result ≡ self.now.indent }
     {
         self.indent
     }
 
+    /// What stands there, from its first character to the line's end.
     pub(crate) fn content(&self) -> &'a [char]
         ensures { result.now ≡ self.now.content }
     {
@@ -113,8 +119,8 @@ fn lone(node: Node, below: &[Line<'_, '_>]) -> Result<Node, YamlFault>
     }
 }
 
-// What begins on the line, with the lines below it, where at most `room` nodes may lie within one another. Where the lines
-// end within a flow, `end` is the fault.
+/// What begins on the line, with the lines below it, where at most `room` nodes may lie within one another. Where the lines
+/// end within a flow, `end` is the fault.
 pub(crate) fn line_node(
     alloc: Global,
     place: &Inline<'_, '_, '_>,
@@ -122,6 +128,7 @@ pub(crate) fn line_node(
     room: usize,
     end: YamlFault,
 ) -> Result<Node, YamlFault>
+    requires { room ≤ most_nodes }
     ensures { Gives view result (blocks.line_node room place.now below.now) }
 {
     if room == 0 {

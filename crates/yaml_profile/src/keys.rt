@@ -1,4 +1,5 @@
-// The keys of a table that were read so far.
+//! The keys of a table that were read so far.
+
 ghost use Rattle.std.specs.Prelude.{◌≡◌, ◌≢◌, ℕ, List, true, false, OnOk, IfErr, if◌then◌else◌};
 ghost use Rattle.std.specs.BTreeSet.{contains_text};
 ghost use Rattle.std.specs.Str.{bytes_eq};
@@ -8,7 +9,7 @@ use std::alloc::Global;
 use std::collections::BTreeSet;
 use yaml_lines::{YamlFault, YamlKind};
 
-// From now on the key in line `number` was seen. One that was seen before is `DoubledKey`.
+/// From now on the key in line `number` was seen. One that was seen before is `DoubledKey`.
 pub(crate) fn see(
     alloc: Global,
     seen: &mut BTreeSet<String>,

@@ -1,15 +1,19 @@
 //! Laws of the definitions that the contracts cite, in the words of YAML itself. Each is a function that gives nothing:
 //! what it ensures is a theorem over the definitions alone.
 
-ghost use Rattle.std.specs.Prelude.{◌≡◌, ℕ, ◌≤◌, ◌++◌, List, [], ◌∷◌, map, Some, false};
+ghost use Rattle.std.specs.Prelude.{◌≡◌, ℕ, ◌≤◌, ◌++◌, List, [], ◌∷◌, map, Some, None, false};
 ghost use Rattle.std.specs.List.{list_any};
 ghost use Rattle.yaml_flows.specs.Flows.{flow_meaning};
 ghost use Rattle.yaml_lines.specs.Characters.{characters_of};
 ghost use Rattle.yaml_lines.specs.LineLaws.{saying, begins_text};
 ghost use Rattle.yaml_lines.specs.Lines.{line_texts};
-ghost use Rattle.yaml_profile.specs.Blocks.{node};
-ghost use Rattle.yaml_profile.specs.ListLaws.{AreWords, list_of_words, item_line, flow_of_words, lines_of_words};
+ghost use Rattle.yaml_lines.specs.Meaning.{Meaning};
+ghost use Rattle.yaml_lines.specs.Entries.{Place};
+ghost use Rattle.yaml_profile.specs.Blocks.{node, whole};
+ghost use Rattle.yaml_profile.specs.Moved.{moved};
+ghost use Rattle.yaml_profile.specs.Words.{AreWords, list_of_words, item_line, flow_of_words, lines_of_words, WordEntry, AreWordEntries, entry_line, flow_of_entries, table_of_entries};
 ghost use Rattle.yaml_profile.specs.Text.{meaning_of};
+ghost use Rattle.yaml_profile.specs.UniqueKeys.{HasUniqueKeys};
 
 use yaml_lines::laws::comments_and_empty_lines_say_nothing;
 
@@ -22,13 +26,37 @@ use yaml_lines::laws::comments_and_empty_lines_say_nothing;
 ///
 /// and `[main.c,src/app.c]` are both the list of the texts `main.c` and `src/app.c`, neither of them quoted. `lines` says
 /// so of the lines of such a list, at any indentation; `brackets` of the characters of the flow; `text_of_lines` and
-/// `text_in_brackets` of the bytes of whole texts. Room for two nodes within one another is enough.
+/// `text_in_brackets` of the bytes of whole texts. Room for two nodes within one another is enough; where there is room
+/// for one alone, neither is read.
 pub fn a_list_has_one_meaning_in_both_forms()
     ensures lines { (room indent : ℕ) (words : List (List ℕ)) → 2 ≤ room → AreWords words → node room (map (item_line indent) words) ≡ Some (list_of_words words) }
     ensures brackets { (room : ℕ) (words : List (List ℕ)) → 2 ≤ room → AreWords words → flow_meaning room (flow_of_words words) ≡ Some (list_of_words words) }
+    ensures no_room_for_lines { (indent : ℕ) (words : List (List ℕ)) → AreWords words → node 1 (map (item_line indent) words) ≡ None }
+    ensures no_room_for_brackets { (words : List (List ℕ)) → AreWords words → flow_meaning 1 (flow_of_words words) ≡ None }
     ensures text_of_lines { (words : List (List ℕ)) (bytes : List ℕ) → AreWords words → characters_of bytes ≡ Some (lines_of_words words) → meaning_of bytes ≡ Some (list_of_words words) }
     ensures text_in_brackets { (words : List (List ℕ)) (bytes : List ℕ) → AreWords words → characters_of bytes ≡ Some (flow_of_words words ++ 10 ∷ [])
         → meaning_of bytes ≡ Some (list_of_words words) }
+{}
+
+/// A table of words is the same in lines and in braces:
+///
+/// ```yaml
+/// id: names
+/// language: fail
+/// ```
+///
+/// and `{id: names,language: fail}` are both the table with these keys and values, and neither is read where a key stands
+/// twice. `lines` says so of the lines of such a table, at any indentation; `braces` of the characters of the flow.
+pub fn a_table_has_one_meaning_in_both_forms()
+    ensures lines { (room indent : ℕ) (entries : List WordEntry) → 2 ≤ room → AreWordEntries entries → node room (map (entry_line indent) entries) ≡ table_of_entries entries }
+    ensures braces { (room : ℕ) (entries : List WordEntry) → 2 ≤ room → AreWordEntries entries → flow_meaning room (flow_of_entries entries) ≡ table_of_entries entries }
+{}
+
+/// Lines that all stand the same number of columns further to the right mean the same, and where the one can't be read,
+/// neither can the others. `lines` says so of the lines of a node within a text, `whole` of those of a whole text.
+pub fn indenting_every_line_changes_nothing()
+    ensures lines { (room columns : ℕ) (lines : List Place) → node room (map (moved columns) lines) ≡ node room lines }
+    ensures whole { (room columns : ℕ) (lines : List Place) → whole room (map (moved columns) lines) ≡ whole room lines }
 {}
 
 /// Comments and empty lines change no meaning. Two texts, of which the one has the lines of the other without those that
@@ -46,3 +74,8 @@ pub fn comments_and_empty_lines_change_no_meaning()
 {
     comments_and_empty_lines_say_nothing();
 }
+
+/// No table that is read holds a key twice, neither the table that the text is nor one anywhere within it.
+pub fn a_key_stands_in_its_table_once()
+    ensures { (bytes : List ℕ) (meant : Meaning) → meaning_of bytes ≡ Some meant → HasUniqueKeys meant }
+{}

@@ -3,7 +3,7 @@
 //! [`read`] takes this project's profile of YAML 1.2.2: comments, one document, block lists and tables by their
 //! indentation, plain and quoted texts, flows and block texts. Its contract cites `specs/Text.antt`, which says what bytes
 //! mean, and `specs/Blocks.antt`, which says what their lines mean; [`laws`] says of that meaning what a user of YAML would
-//! expect.
+//! expect. A [`YamlFault`] is a [`YamlKind`] and the line of the first fault. [`MOST_NODES`] says how deep nodes may lie.
 #![tactic(auto)]
 
 mod blocks;
@@ -14,5 +14,5 @@ pub mod laws;
 mod parts;
 mod text;
 
-pub use text::read;
+pub use text::{MOST_NODES, read};
 pub use yaml_lines::{Node, YamlFault, YamlKind};

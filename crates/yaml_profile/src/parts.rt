@@ -1,4 +1,5 @@
-// Where the lines that belong to the part above them end.
+//! Where the lines that belong to the part above them end.
+
 ghost use Rattle.std.specs.Prelude.{◌≡◌, ◌≤◌, length};
 ghost use Rattle.std.specs.List.{prefix_len};
 ghost use Rattle.yaml_profile.specs.Blocks.{begins_closing, cut, parts, is_deeper, is_below_key, is_in_flow};

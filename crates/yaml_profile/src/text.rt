@@ -1,4 +1,5 @@
-// A whole text, from its bytes on.
+//! A whole text, from its bytes on.
+
 ghost use Rattle.std.specs.Prelude.{◌≡◌, ◌≤◌, length, option_and_then};
 ghost use Rattle.yaml_lines.specs.Characters.{most_bytes};
 ghost use Rattle.yaml_lines.specs.Faults.{Gives};
@@ -16,15 +17,15 @@ use yaml_lines::{
     raw_lines, read_lines,
 };
 
-// The most nodes that may lie within one another: a node lies within at most 32 others.
-const MOST_NODES: usize = 33;
+/// The most nodes that may lie within one another. Texts and empty places are nodes too; keys aren't.
+pub const MOST_NODES: usize = 33;
 
-/// The node of a text of at most 1,048,576 bytes.
+/// The node of a text of at most [`MOST_BYTES`](yaml_lines::MOST_BYTES) bytes.
 ///
 /// A text that has no node is refused with the first line, from 1, at which it can't be read: `TooLarge` (in line 1),
 /// `NotUtf8`, `TabIndent`, `Unsupported`, `Layout`, `Quote` at a quoted text that doesn't end on its line, `DoubledKey` in
-/// the line of the second of two equal keys, or `TooDeep` where a node lies within more than 32 others. `OutOfMemory` (in
-/// line 0) says nothing of the text.
+/// the line of the second of two equal keys, or `TooDeep` at a node that would be one more than [`MOST_NODES`] within one
+/// another. `OutOfMemory` (in line 0) says nothing of the text.
 pub fn read(alloc: Global, bytes: &[u8]) -> Result<Node, YamlFault>
     ensures { Gives view result (meaning_of bytes.now) }
 {

@@ -376,6 +376,51 @@ pub(super) const FLOWS_OVER_LINES: &[(&str, &str)] = &[
     ("a:\n  {b: c}\n", "{'a': {'b': 'c'}}"),
 ];
 
+// Flows that mislead a reader that counts their brackets, each before a block text: 7.4, 8.1. A reader that still takes the
+// flow for open behind its last line finds no block text below it.
+pub(super) const FLOWS_BEFORE_BLOCK_TEXTS: &[(&str, &str)] = &[
+    ("a: ['\"']\nb: |\n  z\n", "{'a': [\"\\\"\"], 'b': 'z\\n'}"),
+    ("a: [x:'y]\nb: |\n  z\n", "{'a': ['x:\\'y'], 'b': 'z\\n'}"),
+    ("a: ['# [']\nb: |\n  z\n", "{'a': [\"# [\"], 'b': 'z\\n'}"),
+    (
+        "a: [\"\\\"[\"]\nb: |\n  z\n",
+        "{'a': [\"\\\"[\"], 'b': 'z\\n'}",
+    ),
+    ("a: [x'y]\nb: |\n  z\n", "{'a': ['x\\'y'], 'b': 'z\\n'}"),
+    (
+        "a: [x\"y, 'z']\nb: |\n  z\n",
+        "{'a': ['x\"y', \"z\"], 'b': 'z\\n'}",
+    ),
+    (
+        "a: {\"k\":'v['}\nb: |\n  z\n",
+        "{'a': {'k': \"v[\"}, 'b': 'z\\n'}",
+    ),
+    (
+        "a: ['it''s [', '']\nb: |\n  z\n",
+        "{'a': [\"it's [\", \"\"], 'b': 'z\\n'}",
+    ),
+    (
+        "a: [x#y, \"\\\\\"]\nb: |\n  z\n",
+        "{'a': ['x#y', \"\\\\\"], 'b': 'z\\n'}",
+    ),
+    (
+        "a: [x, # ] } ' [\n  y]\nb: |\n  z\n",
+        "{'a': ['x', 'y'], 'b': 'z\\n'}",
+    ),
+    (
+        "a: ['it''s',\n  'b [''', # ''\n  c\n]\nb: |\n  z\n",
+        "{'a': [\"it's\", \"b ['\", 'c'], 'b': 'z\\n'}",
+    ),
+    (
+        "a: {x\n  : 'y[', \"z\"\n  :{w: ']'}}\nb: |\n  z\n",
+        "{'a': {'x': \"y[\", 'z': {'w': \"]\"}}, 'b': 'z\\n'}",
+    ),
+    (
+        "a: {x:\n  'y[' # {\n  }\nb: |\n  z\n",
+        "{'a': {'x': \"y[\"}, 'b': 'z\\n'}",
+    ),
+];
+
 // Literal block texts, and block texts of all kinds: 8.1.1, 8.1.2
 pub(super) const LITERAL_TEXTS: &[(&str, &str)] = &[
     ("e: |\n  a\n", "{'e': 'a\\n'}"),
@@ -390,6 +435,7 @@ pub(super) const LITERAL_TEXTS: &[(&str, &str)] = &[
     ("- - |\n    a\n  - b\n", "[['a\\n', 'b']]"),
     ("- a: |\n    b\n  c: d\n", "[{'a': 'b\\n', 'c': 'd'}]"),
     ("a: |\n\n\n  b\n", "{'a': '\\n\\nb\\n'}"),
+    ("a: |\n  \n  b\n", "{'a': '\\nb\\n'}"),
     ("a: |\n  b\n    c\n   d\n", "{'a': 'b\\n  c\\n d\\n'}"),
     ("a: |\n  \tb\n", "{'a': '\\tb\\n'}"),
     ("a: |\n", "{'a': ''}"),

@@ -33,6 +33,8 @@ pub(super) const REFUSED_LINES: &[(&str, YamlKind, usize)] = &[
     ("a:\n\tb: 1\n", YamlKind::TabIndent, 2),
     ("- a\n-\tb\n", YamlKind::TabIndent, 2),
     ("a: |\n\tb\n", YamlKind::TabIndent, 2),
+    ("a: 1\n\tb: 2\nc: \u{1}\n", YamlKind::TabIndent, 2),
+    ("\ta: \u{1}\n", YamlKind::Unsupported, 1),
 ];
 
 // Lists and tables by their indentation: 8.2
@@ -74,6 +76,50 @@ pub(super) const REFUSED_LISTS_AND_TABLES: &[(&str, YamlKind, usize)] = &[
     ("-\n  a\n b\n", YamlKind::Layout, 3),
     (": 1\n", YamlKind::Layout, 1),
     ("a\nb\n\tc: 1\n", YamlKind::Layout, 2),
+];
+
+// Nodes within more than 32 others, and empty places in a flow, which are no nodes.
+pub(super) const TOO_DEEP: &[(&str, YamlKind, usize)] = &[
+    (
+        "# a\n- - - - - - - - - - - - - - - - - - - - - - - - - - - - - - - - - b\n",
+        YamlKind::TooDeep,
+        2,
+    ),
+    (
+        "\n  # a\n- - - - - - - - - - - - - - - - - - - - - - - - - - - - - - - - -\n",
+        YamlKind::TooDeep,
+        3,
+    ),
+    (
+        "# a\n- - - - - - - - - - - - - - - - - - - - - - - - - - - - - - - - b:\n",
+        YamlKind::TooDeep,
+        2,
+    ),
+    (
+        "- - - - - - - - - - - - - - - - - - - - - - - - - - - - - - - b:\n                                                              # c\n                                                              - d\n",
+        YamlKind::TooDeep,
+        3,
+    ),
+    (
+        "# a\n[[[[[[[[[[[[[[[[[[[[[[[[[[[[[[[[[b]]]]]]]]]]]]]]]]]]]]]]]]]]]]]]]]]\n",
+        YamlKind::TooDeep,
+        2,
+    ),
+    (
+        "[ # a\n[[[[[[[[[[[[[[[[[[[[[[[[[[[[[[[[{b: c}]]]]]]]]]]]]]]]]]]]]]]]]]]]]]]]]]\n",
+        YamlKind::TooDeep,
+        2,
+    ),
+    (
+        "[[[[[[[[[[[[[[[[[[[[[[[[[[[[[[[[[,]]]]]]]]]]]]]]]]]]]]]]]]]]]]]]]]]\n",
+        YamlKind::Layout,
+        1,
+    ),
+    (
+        "[[[[[[[[[[[[[[[[[[[[[[[[[[[[[[[[{b: }]]]]]]]]]]]]]]]]]]]]]]]]]]]]]]]]\n",
+        YamlKind::Layout,
+        1,
+    ),
 ];
 
 // Keys that stand in their table already: 3.2.1.3
@@ -166,6 +212,9 @@ pub(super) const REFUSED_FLOWS: &[(&str, YamlKind, usize)] = &[
     ("{a}\n", YamlKind::Unsupported, 1),
     ("{a, b: c}\n", YamlKind::Unsupported, 1),
     ("{'a'}\n", YamlKind::Unsupported, 1),
+    ("{a]\n", YamlKind::Layout, 1),
+    ("{a [b]}\n", YamlKind::Layout, 1),
+    ("{a\"]\n", YamlKind::Layout, 1),
     ("{a: }\n", YamlKind::Layout, 1),
     ("{a:, b: c}\n", YamlKind::Layout, 1),
     ("{: a}\n", YamlKind::Layout, 1),
@@ -213,6 +262,9 @@ pub(super) const REFUSED_FLOWS_OVER_LINES: &[(&str, YamlKind, usize)] = &[
     ("[a\n b]\n", YamlKind::Layout, 2),
     ("['a\n b']\n", YamlKind::Quote, 1),
     ("[a,\n \"b]\n", YamlKind::Quote, 2),
+    ("a: [\"b\n  c\"]\n", YamlKind::Quote, 1),
+    ("a: [b,\n  \"c\n  d\", e]\n", YamlKind::Quote, 2),
+    ("a: {\"b\n", YamlKind::Quote, 1),
     ("{a: |\n  b}\n", YamlKind::Layout, 1),
     ("[a]\n[b]\n", YamlKind::Layout, 2),
     ("a: [b]\n]\n", YamlKind::Layout, 2),

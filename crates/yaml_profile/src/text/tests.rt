@@ -162,6 +162,11 @@ fn reads_flows_over_lines(rt: HostRuntime) -> Result<(), Fail> {
 }
 
 #[test]
+fn reads_block_texts_behind_flows(rt: HostRuntime) -> Result<(), Fail> {
+    expect_read(&rt, rt.alloc(), cases::FLOWS_BEFORE_BLOCK_TEXTS)
+}
+
+#[test]
 fn reads_literal_texts(rt: HostRuntime) -> Result<(), Fail> {
     expect_read(&rt, rt.alloc(), cases::LITERAL_TEXTS)
 }
@@ -176,6 +181,23 @@ fn reads_what_teams_write(rt: HostRuntime) -> Result<(), Fail> {
     expect_read(&rt, rt.alloc(), cases::CONFIGURATIONS)
 }
 
+// Why the law of comments and empty lines leaves out texts with block texts: of those, such lines are a part.
+const LINES_OF_BLOCK_TEXTS: [(&str, &str); 3] = [
+    ("a: |\n  b\n  # c\n", "a: |\n  b\n"),
+    ("a: |\n  b\n\n  c\n", "a: |\n  b\n  c\n"),
+    ("- >+\n  a\n\n", "- >+\n  a\n"),
+];
+
+#[test]
+fn comments_and_empty_lines_of_a_block_text_are_text(rt: HostRuntime) -> Result<(), Fail> {
+    for (text, without) in LINES_OF_BLOCK_TEXTS {
+        let whole = shown(rt.alloc(), text)?;
+        let kept = shown(rt.alloc(), without)?;
+        assert!(rt; whole.as_str() != kept.as_str(), "of {text:?}");
+    }
+    Ok(())
+}
+
 #[test]
 fn refuses_lines_that_no_text_has(rt: HostRuntime) -> Result<(), Fail> {
     expect_refused(&rt, rt.alloc(), refused_cases::REFUSED_LINES)
@@ -184,6 +206,11 @@ fn refuses_lines_that_no_text_has(rt: HostRuntime) -> Result<(), Fail> {
 #[test]
 fn refuses_lines_at_another_indentation(rt: HostRuntime) -> Result<(), Fail> {
     expect_refused(&rt, rt.alloc(), refused_cases::REFUSED_LISTS_AND_TABLES)
+}
+
+#[test]
+fn refuses_nodes_within_too_many_others(rt: HostRuntime) -> Result<(), Fail> {
+    expect_refused(&rt, rt.alloc(), refused_cases::TOO_DEEP)
 }
 
 #[test]

@@ -2,6 +2,7 @@ use Rattle.std.proofs.Common.{◌≡◌, [], ◌∷◌, ◌++◌, map, Some, ref
 use Rattle.std.proofs.lemmas.Result.{err_from_is_err_and}
 use Rattle.std.specs.BTreeSet.{contains_text}
 use Rattle.yaml_lines.specs.View.{view, member_view}
+use Rattle.yaml_flows.specs.Keys.{keys_differ}
 use Rattle.yaml_profile.specs.Blocks as blocks
 use Rattle.yaml_profile.specs.Blocks.{all_of, parts, is_deeper, is_below_key, list_of, table_of}
 use Rattle.yaml_lines.specs.ViewLemmas.{view-List, view-Table}
@@ -134,7 +135,7 @@ rows-rows-init t c =
           ∙ ap (rows_with (blocks.entry node line indent) []) (begun (is_below_key indent) _ _ _ _ _ refl c.split_below_key.ensures.below c.split_below_key.ensures.rest)
           ∙ row_read (blocks.entry node line indent) [] _ _ row entry.0
           ∙ ap (λ rs. rows_with (blocks.entry node line indent) rs (parts (is_below_key indent) c.split_below_key.result.1.now)) (sym found);
-      apart = ap blocks.keys_differ found ∙ keys_differ-push [] row alone refl;
+      apart = ap keys_differ found ∙ keys_differ-push [] row alone refl;
       seen = λ q.
           c.in_ok-entry.ensures.seen q ∙ seen-push q [] row _ (none_seen c.new-seen.result c.new-seen.ensures.empty q) ∙ ap (has_key q) (sym found);
     }
@@ -172,7 +173,7 @@ rows-rows-preserved t c =
           (begun (is_below_key indent) c.rows.rest.now _ _ _ c.next-item.result next c.split_below_key-in-len1-up.ensures.below c.split_below_key-in-len1-up.ensures.rest)
           ∙ row_read (blocks.entry node line indent) before _ _ row entry.0
           ∙ ap (λ rs. rows_with (blocks.entry node line indent) rs (parts (is_below_key indent) c.split_below_key-in-len1-up.result.1.now)) (sym found);
-      apart = ap blocks.keys_differ found ∙ keys_differ-push before row c.rows.invariant.apart (sym (c.rows.invariant.seen row.0) ∙ entry.1);
+      apart = ap keys_differ found ∙ keys_differ-push before row c.rows.invariant.apart (sym (c.rows.invariant.seen row.0) ∙ entry.1);
       seen = λ q. c.in_ok-entry-2.ensures.seen q ∙ seen-push q before row _ (c.rows.invariant.seen q) ∙ ap (has_key q) (sym found);
     }
 

@@ -2,7 +2,8 @@ use Rattle.std.proofs.Common.{◌≡◌, ℕ, ◌+◌, ◌*◌, List, true, map,
 use Rattle.std.specs.BTreeSet.{contains_text}
 use Rattle.yaml_lines.specs.View.{view, member_view}
 use Rattle.yaml_profile.specs.Blocks as blocks
-use Rattle.yaml_profile.specs.Blocks.{all_of, parts, is_deeper, is_below_key, keys_differ}
+use Rattle.yaml_profile.specs.Blocks.{all_of, parts, is_deeper, is_below_key}
+use Rattle.yaml_flows.specs.Keys.{keys_differ}
 use Rattle.yaml_profile.proofs.Lists.{prepend}
 use Rattle.yaml_profile.proofs.Tables.{rows_with, has_key}
 use Rattle.yaml_profile.proofs.blocks.+blocks.Given as goal

@@ -1,0 +1,9 @@
+use Rattle.yaml_profile.proofs.FlowOfWords.{flow_entries}
+use Rattle.yaml_profile.proofs.LinesOfEntries.{line_entries}
+use Rattle.yaml_profile.proofs.laws.a_table_has_one_meaning_in_both_forms.Goals as goal
+
+pub returns-clause-lines : goal.returns-clause-lines
+returns-clause-lines c = line_entries
+
+pub returns-clause-braces : goal.returns-clause-braces
+returns-clause-braces c = flow_entries
