@@ -15,7 +15,8 @@ use Rattle.sqlite.proofs.StateLemmas.{survives_then}
 use Rattle.store_tables.specs.Schema.{no_more}
 use Rattle.store_tables.specs.Steps.{IsMade, IsStep, IsDone}
 use Rattle.store_tables.specs.Tables.{Tables, Holds, with_schema}
-use Rattle.repo_store.specs.Calls.{Commits, IsCall, Rests}
+use Rattle.repo_store.specs.Calls.{Rests}
+use Rattle.repo_store.specs.Transactions.{Commits, IsCall}
 
 -- a statement on the tables, as a step from one content to the next
 pub step_as_made : {S A : Type 0} (g : Ghosts S) (old new : Held S) (r : Result A Error) (t : Tables) (makes : Tables → Tables) → IsStep g old new r makes → IsMade g old new r (λ db. Holds db t) (λ db. Holds db (makes t))

@@ -10,7 +10,7 @@ use Rattle.hook_base.specs.RisingLemmas.{bytes_same, bytes_differ}
 use Rattle.repo_store.specs.Complete.{IsAmong}
 use Rattle.repo_store.specs.Contents.{has_digest}
 use Rattle.repo_store.specs.Rows.{blob_row}
-use Rattle.repo_store.specs.Whole.{is_kept}
+use Rattle.repo_store.specs.RowRules.{is_kept}
 use Rattle.repo_store.proofs.IndexLemmas.{known}
 
 pub kept_as_digest : (digest : List ℕ) (contents : List (List ℕ)) → is_kept (map blob_row contents) digest ≡ has_digest digest contents

@@ -75,6 +75,6 @@ module _ (front : List Change) (change : Change) where
           | inr ge ↦
               let same : length front ≡ k = omega (arith, length-append front (change ∷ [])) in
               let it : x ≡ change = sym read ∙ ap (λ (j : ℕ). get_or (front ++ change ∷ []) j x) (sym same) ∙ get_or-append_seam front change [] x in
-              let whole : take k (front ++ change ∷ []) ≡ front = ap (λ (j : ℕ). take j (front ++ change ∷ [])) (sym same) ∙ take-append_seam front (change ∷ []) in
-              here (subst (λ (l : List Change). CollidesIn change (with_changes l contents)) whole (subst (λ (c : Change). CollidesIn c (with_changes (take k (front ++ change ∷ [])) contents)) it any.collides))
+              let obeys : take k (front ++ change ∷ []) ≡ front = ap (λ (j : ℕ). take j (front ++ change ∷ [])) (sym same) ∙ take-append_seam front (change ∷ []) in
+              here (subst (λ (l : List Change). CollidesIn change (with_changes l contents)) obeys (subst (λ (c : Change). CollidesIn c (with_changes (take k (front ++ change ∷ [])) contents)) it any.collides))
         ]

@@ -1,4 +1,4 @@
--- Each change leaves a whole repository.
+-- Each change leaves a complete repository.
 use Rattle.std.proofs.Common.{◌≡◌, ℕ, zero, suc, ◌<◌, ◌||◌, true, false, List, [], ◌∷◌, ◌++◌, length, get_or, if◌then◌else◌, Option, None, Some, MatchOption, refl, sym, ap, subst, ◌∙◌, inl, inr, arith, length-append}
 use Rattle.std.specs.declared.cmp.Ordering.TheVariants.{Less, Equal, Greater}
 use Rattle.std.specs.List.{AllByRecursion}
@@ -17,12 +17,12 @@ use Rattle.hook_base.specs.Trees.{IsRisingChanges, apply_at, apply_changes, put_
 use Rattle.repo_store.specs.Complete.{HaveDistinctDigests, HaveContents, HaveNewContents, IsAmong, IsComplete}
 use Rattle.repo_store.specs.Contents.{Collides, has_content, with_content, with_new, with_changes}
 use Rattle.repo_store.specs.Kept.{FixCollides, Kept, accepting, committing, keeping, setting, staging, unstaging}
-use Rattle.repo_store.specs.Limits.{Fits}
-use Rattle.repo_store.specs.Loaded.{AreBare, with_file}
+use Rattle.repo_store.specs.Limits.{Fits, commit_limit}
+use Rattle.repo_store.specs.FromRows.{AreBare, with_file}
 use Rattle.repo_store.specs.Repository.{Commit, Repository, empty, staged_changes}
-use Rattle.repo_store.proofs.LoadLemmas.{all_pushed}
+use Rattle.repo_store.proofs.FromRowsLemmas.{all_pushed}
 use Rattle.repo_store.proofs.SoundLemmas.{fixes_fit, fixes_rise, sound_accepted, sound_committed, sound_empty, sound_staged, sound_unstaged}
-use Rattle.repo_store.proofs.WholeLemmas.{all_weaker}
+use Rattle.repo_store.proofs.RowRuleLemmas.{all_weaker}
 
 option_weaker : (P Q : List ℕ → Type 0) (now : Option (List ℕ)) → ((b : List ℕ) → P b → Q b) → MatchOption now (Unit {0}) P → MatchOption now (Unit {0}) Q
 option_weaker P Q None f it = tt
@@ -196,7 +196,7 @@ complete_kept bytes kept it clear =
       apart = apart_with bytes kept.contents clear it.apart;
     }
 
-pub complete_committed : (message : List ℕ) (kept : Kept) → IsComplete kept → length kept.repo.history < 100000 → IsComplete (committing message kept)
+pub complete_committed : (message : List ℕ) (kept : Kept) → IsComplete kept → length kept.repo.history < commit_limit → IsComplete (committing message kept)
 complete_committed message kept it few = record {
   sound = sound_committed message kept.repo it.sound few;
   staged = it.staged;

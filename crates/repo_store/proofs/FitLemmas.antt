@@ -1,4 +1,4 @@
--- A database that holds a whole store is refused neither as damaged nor as no store.
+-- A database that holds a complete store is refused neither as damaged nor as no store.
 use Rattle.std.proofs.Common.{◌≡◌, List, [], ◌∷◌, length, IsPermutation, inl, inr, refl, sym, ap, subst, arith}
 use Rattle.std.specs.List.{AllByRecursion}
 use Rattle.std.proofs.lemmas.List.Elements.{recursion_from_All, All-from_recursion}
@@ -14,8 +14,8 @@ use Rattle.repo_store.specs.Kept.{Kept}
 use Rattle.repo_store.specs.Rows.{tables_of, version_row}
 use Rattle.repo_store.specs.Shown.{Leaves}
 use Rattle.repo_store.specs.Unfit.{IsUnfit}
-use Rattle.repo_store.specs.Whole.{IsVersioned, IsWhole}
-use Rattle.repo_store.proofs.WholeLemmas.{holds_one, same_meta, whole_same}
+use Rattle.repo_store.specs.RowRules.{IsVersioned, AreStoreRows}
+use Rattle.repo_store.proofs.RowRuleLemmas.{holds_one, same_meta, obeys_same}
 
 -- a list with one element, in another order
 only_one : (xs ys : List MetaRow) (x : MetaRow) → IsPermutation xs ys → xs ≡ x ∷ [] → ys ≡ x ∷ []
@@ -29,20 +29,20 @@ module _ (db : Database) (t : Tables) (holds : Holds db t) where
   versioned_fit : IsVersioned t → ¬ IsUnfit db NotAStore
   versioned_fit versioned unfit = elim unfit [ inl other ↦ other holds.schema | inr unversioned ↦ unversioned.other (only_one t.meta unversioned.rows version_row (same_meta t.meta unversioned.rows (db.trees 0) holds.meta unversioned.stored) versioned) ]
 
-  whole_fit : IsWhole t → ¬ IsUnfit db Damaged
-  whole_fit whole unfit = unfit.broken (whole_same t unfit.tables (holds_one db t unfit.tables holds unfit.holds) whole)
+  obeys_fit : AreStoreRows t → ¬ IsUnfit db Damaged
+  obeys_fit obeys unfit = unfit.broken (obeys_same t unfit.tables (holds_one db t unfit.tables holds unfit.holds) obeys)
 
-pub held_fit : (db : Database) (kept : Kept) (fault : StoreFault) → Holds db (tables_of kept.repo kept.contents) → IsWhole (tables_of kept.repo kept.contents) → IsUnfit db fault → IsRefusal ⊥ ⊥ ⊥ fault
-held_fit db kept NotAStore holds whole unfit = absurd (versioned_fit db (tables_of kept.repo kept.contents) holds refl unfit)
-held_fit db kept Damaged holds whole unfit = absurd (whole_fit db (tables_of kept.repo kept.contents) holds whole unfit)
-held_fit db kept (Sql error) holds whole unfit = tt
-held_fit db kept OutOfMemory holds whole unfit = tt
-held_fit db kept Collision holds whole unfit = unfit
-held_fit db kept TooLarge holds whole unfit = unfit
-held_fit db kept TooMany holds whole unfit = unfit
+pub held_fit : (db : Database) (kept : Kept) (fault : StoreFault) → Holds db (tables_of kept.repo kept.contents) → AreStoreRows (tables_of kept.repo kept.contents) → IsUnfit db fault → IsRefusal ⊥ ⊥ ⊥ fault
+held_fit db kept NotAStore holds obeys unfit = absurd (versioned_fit db (tables_of kept.repo kept.contents) holds refl unfit)
+held_fit db kept Damaged holds obeys unfit = absurd (obeys_fit db (tables_of kept.repo kept.contents) holds obeys unfit)
+held_fit db kept (Sql error) holds obeys unfit = tt
+held_fit db kept OutOfMemory holds obeys unfit = tt
+held_fit db kept Collision holds obeys unfit = unfit
+held_fit db kept TooLarge holds obeys unfit = unfit
+held_fit db kept TooMany holds obeys unfit = unfit
 
 pub left_undamaged : (trees : Trees) (kept : Kept) → Leaves kept trees → ¬ IsUnfit (with_schema trees) Damaged
-left_undamaged trees kept left unfit = held_fit (with_schema trees) kept Damaged left.holds left.whole unfit
+left_undamaged trees kept left unfit = held_fit (with_schema trees) kept Damaged left.holds left.obeys unfit
 
 pub left_versioned : (trees : Trees) (kept : Kept) → Leaves kept trees → ¬ IsUnfit (with_schema trees) NotAStore
-left_versioned trees kept left unfit = held_fit (with_schema trees) kept NotAStore left.holds left.whole unfit
+left_versioned trees kept left unfit = held_fit (with_schema trees) kept NotAStore left.holds left.obeys unfit

@@ -135,7 +135,7 @@ index_popped m n contents bytes index puts = record {
           | true ↦ λ e. absurd (never (sym (puts digest ∙ ap (λ b. cond b None (get bytes_eq m digest)) e) ∙ is))
           | false ↦ λ e.
               let it = index.found digest k (sym (puts digest ∙ ap (λ b. cond b None (get bytes_eq m digest)) e) ∙ is) in
-              let whole : k < length (contents ++ bytes ∷ []) = it.0 in
+              let obeys : k < length (contents ++ bytes ∷ []) = it.0 in
               elim (cases_lt k (length contents)) [
                 | inl lt ↦ (lt, ap sha256 (sym (before k lt)) ∙ it.1)
                 | inr ge ↦

@@ -32,8 +32,8 @@ contents_before bytes contents =
 
 pub blobs_after : (old new : List (List ℕ)) → take (length old) new ≡ old → IsPermutation (map blob_row (drop (length old) new) ++ map blob_row old) (map blob_row new)
 blobs_after old new front =
-    let whole : old ++ drop (length old) new ≡ new = ap (λ (l : List (List ℕ)). l ++ drop (length old) new) (sym front) ∙ take-append-drop (length old) new in
-    let rows : map blob_row old ++ map blob_row (drop (length old) new) ≡ map blob_row new = sym (map-append blob_row old (drop (length old) new)) ∙ ap (map blob_row) whole in
+    let obeys : old ++ drop (length old) new ≡ new = ap (λ (l : List (List ℕ)). l ++ drop (length old) new) (sym front) ∙ take-append-drop (length old) new in
+    let rows : map blob_row old ++ map blob_row (drop (length old) new) ≡ map blob_row new = sym (map-append blob_row old (drop (length old) new)) ∙ ap (map blob_row) obeys in
     subst (IsPermutation (map blob_row (drop (length old) new) ++ map blob_row old)) rows (IsPermutation-append_comm (map blob_row (drop (length old) new)) (map blob_row old))
 
 -- a file put in its place is one of the files

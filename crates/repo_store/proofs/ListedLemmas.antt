@@ -19,18 +19,18 @@ use Rattle.repo_store.specs.Calls.{Rests}
 use Rattle.repo_store.specs.Complete.{AreAlike, IsComplete}
 use Rattle.repo_store.specs.Faults.{IsDamage, IsRefusal}
 use Rattle.repo_store.specs.Kept.{Kept, Mirror}
-use Rattle.repo_store.specs.Loaded.{AreShown, IsSame, rows_in}
-use Rattle.repo_store.specs.Opens.{AreListed, AreLoaded, AreRead, IsFoundIn}
+use Rattle.repo_store.specs.FromRows.{AreShown, IsSame, rows_in}
+use Rattle.repo_store.specs.Opening.{AreListed, AreListedAlone, AreRead, IsFoundIn}
 use Rattle.repo_store.specs.Rows.{tables_of, version_row}
 use Rattle.repo_store.specs.Unfit.{IsDamaged, IsUnfit}
-use Rattle.repo_store.specs.Whole.{IsWhole}
+use Rattle.repo_store.specs.RowRules.{AreStoreRows}
 use Rattle.repo_store.proofs.ReadingLemmas.{unchanged_kept}
 use Rattle.repo_store.specs.Shown.{Stands, Leaves}
 use Rattle.repo_store.proofs.CallLemmas.{clean_if_open, holds_as, leaves_commit}
 use Rattle.repo_store.proofs.OneLemmas.{left_alike}
 use Rattle.repo_store.proofs.StandLemmas.{ShutIfDirty}
 use Rattle.repo_store.proofs.SameLemmas.{holds_same}
-use Rattle.repo_store.proofs.WholeLemmas.{whole_same}
+use Rattle.repo_store.proofs.RowRuleLemmas.{obeys_same}
 
 refused_unfit : (db : Database) (fault : StoreFault) → IsRefusal ⊥ ⊥ ⊥ fault → IsUnfit db fault
 refused_unfit db NotAStore h = absurd h
@@ -82,7 +82,7 @@ module _ {S X : Type 0} (g : Ghosts S) (a b : Held S) (meta : X) (listed : X →
   rows_fail c e Rows fault two why = record { found = λ clean ours live. refused_unfit (state g a).now fault why; was_open = λ clean ours. tt; kept = all_kept c two.survives two.kept; survives = along c two.survives }
 
   pub listed_all : (c : Held S) (rows : StoreRows) (r : Result Mirror StoreFault) → listed meta ≡ version_row ∷ [] → AreRead g b c (Ok rows) AreShown
-      → IfOk r (λ lists. IsSame (rows_in rows) (tables_of lists.kept.repo lists.kept.contents)) → IfErr r (IsDamage (¬ IsWhole (rows_in rows))) → AreListed g a c r
+      → IfOk r (λ lists. IsSame (rows_in rows) (tables_of lists.kept.repo lists.kept.contents)) → IfErr r (IsDamage (¬ AreStoreRows (rows_in rows))) → AreListed g a c r
   listed_all c rows r versioned two same broken = record { found = λ clean ours live. decide r (holds clean ours live) same broken; was_open = λ clean ours. open_at r (one.rows no_more (clean_before c two.survives clean) ours).0.0.was_open; kept = all_kept c two.survives two.kept; survives = along c two.survives }
     where
       holds : HasCleanDisk (state g c) → (state g a).now.schema ≡ store_schema → (IsTrue (state g a).is_open → IsDatabase (state g a).now) → Holds (state g a).now (rows_in rows)
@@ -109,20 +109,20 @@ module _ {S X : Type 0} (g : Ghosts S) (a b : Held S) (meta : X) (listed : X →
       open_at (Ok lists) was = was
       open_at (Err fault) was = tt
 
-      decide : (r : Result Mirror StoreFault) → Holds (state g a).now (rows_in rows) → IfOk r (λ lists. IsSame (rows_in rows) (tables_of lists.kept.repo lists.kept.contents)) → IfErr r (IsDamage (¬ IsWhole (rows_in rows)))
+      decide : (r : Result Mirror StoreFault) → Holds (state g a).now (rows_in rows) → IfOk r (λ lists. IsSame (rows_in rows) (tables_of lists.kept.repo lists.kept.contents)) → IfErr r (IsDamage (¬ AreStoreRows (rows_in rows)))
           → MatchResult r (IsFoundIn (state g a).now) (IsUnfit (state g a).now)
       decide (Ok lists) hold same broken = holds_same (state g a).now (rows_in rows) (tables_of lists.kept.repo lists.kept.contents) same hold
       decide (Err fault) hold same broken =
-          damage_unfit (state g a).now (¬ IsWhole (rows_in rows)) fault (λ breaks. record { tables = rows_in rows; holds = hold; versioned = refl; broken = breaks }) broken
+          damage_unfit (state g a).now (¬ AreStoreRows (rows_in rows)) fault (λ breaks. record { tables = rows_in rows; holds = hold; versioned = refl; broken = breaks }) broken
 
--- and those rows are whole
-pub listed_whole : (rows : StoreRows) (r : Result Mirror StoreFault) → IfOk r (λ lists. IsSame (rows_in rows) (tables_of lists.kept.repo lists.kept.contents)) → OnOk r (IsWhole (rows_in rows)) → IfOk r (λ lists. IsWhole (tables_of lists.kept.repo lists.kept.contents))
-listed_whole rows (Ok lists) same whole = whole_same (rows_in rows) (tables_of lists.kept.repo lists.kept.contents) same whole
-listed_whole rows (Err fault) same whole = same
+-- and those rows obey the rules
+pub listed_obey : (rows : StoreRows) (r : Result Mirror StoreFault) → IfOk r (λ lists. IsSame (rows_in rows) (tables_of lists.kept.repo lists.kept.contents)) → OnOk r (AreStoreRows (rows_in rows)) → IfOk r (λ lists. AreStoreRows (tables_of lists.kept.repo lists.kept.contents))
+listed_obey rows (Ok lists) same obeys = obeys_same (rows_in rows) (tables_of lists.kept.repo lists.kept.contents) same obeys
+listed_obey rows (Err fault) same obeys = same
 
 -- in a transaction of its own, which is rolled back
 pub loaded : {S : Type 0} (g : Ghosts S) (old mid end new : Held S) (r : Result Mirror StoreFault) → mid ≡ record old { in_transaction = true } → AreListed g mid end r → new.in_transaction ≡ false
-    → (HasCleanDisk (state g new) → IsRolledBack (state g end) (state g new)) → Survives (state g end) (state g new) (λ _. ⊥) → AreLoaded g old new r
+    → (HasCleanDisk (state g new) → IsRolledBack (state g end) (state g new)) → Survives (state g end) (state g new) (λ _. ⊥) → AreListedAlone g old new r
 loaded {S} g old mid end new r begun listed outside undone survives = record {
   outside = outside;
   found = λ clean ours live. it.found (clean_end clean) ours live;
@@ -145,8 +145,8 @@ loaded {S} g old mid end new r begun listed outside undone survives = record {
     clean_end clean = omega (arith, survives.clean)
 
 -- what stands in a store that was opened
-module _ {S : Type 0} (g : Ghosts S) (old new : Held S) (lists : Mirror) (complete : IsComplete lists.kept) (whole : IsWhole (tables_of lists.kept.repo lists.kept.contents)) (ours : (state g old).now.schema ≡ store_schema) (live : IsTrue (state g old).is_open → IsDatabase (state g old).now)
-    (settled : IsTrue (state g old).is_open → (state g old).now ≡ (state g old).committed) (load : AreLoaded g old new (Ok lists)) (dirty : ShutIfDirty (state g new)) where
+module _ {S : Type 0} (g : Ghosts S) (old new : Held S) (lists : Mirror) (complete : IsComplete lists.kept) (obeys : AreStoreRows (tables_of lists.kept.repo lists.kept.contents)) (ours : (state g old).now.schema ≡ store_schema) (live : IsTrue (state g old).is_open → IsDatabase (state g old).now)
+    (settled : IsTrue (state g old).is_open → (state g old).now ≡ (state g old).committed) (load : AreListedAlone g old new (Ok lists)) (dirty : ShutIfDirty (state g new)) where
   clean_new : IsTrue (state g new).is_open → HasCleanDisk (state g new)
   clean_new h = clean_if_open (state g new).is_clean (state g new).is_open dirty h
 
@@ -159,7 +159,7 @@ module _ {S : Type 0} (g : Ghosts S) (old new : Held S) (lists : Mirror) (comple
   opened_stands = record {
     outside = load.outside;
     complete = complete;
-    whole = whole;
+    obeys = obeys;
     now = λ h. let rest = load.rests (clean_new h) ours in subst (λ (db : Database). Holds db (tables_of lists.kept.repo lists.kept.contents)) (sym (rest.now h)) (opened_holds h);
     committed = λ h. let rest = load.rests (clean_new h) ours in subst (λ (db : Database). Holds db (tables_of lists.kept.repo lists.kept.contents)) (sym (rest.committed h)) (opened_holds h);
   }
@@ -167,7 +167,7 @@ module _ {S : Type 0} (g : Ghosts S) (old new : Held S) (lists : Mirror) (comple
   -- the repository that was left is the one that is opened
   pub opened_again : IsTrue (state g new).is_open → (kept : Kept) → Leaves kept (state g old).committed.trees → AreAlike lists.kept kept
   opened_again h kept left =
-      left_alike (state g old).committed.trees lists.kept kept (record { holds = holds_as (state g old).committed (tables_of lists.kept.repo lists.kept.contents) (opened_holds h); complete = complete; whole = whole }) left
+      left_alike (state g old).committed.trees lists.kept kept (record { holds = holds_as (state g old).committed (tables_of lists.kept.repo lists.kept.contents) (opened_holds h); complete = complete; obeys = obeys }) left
 
   -- what a crash may leave was there before, and is what was committed
   pub opened_durable : ((trees : Trees) → IsTrue (state g old).is_open → (state g old).may_leave trees → trees ≡ (state g old).committed.trees)
@@ -178,11 +178,11 @@ module _ {S : Type 0} (g : Ghosts S) (old new : Held S) (lists : Mirror) (comple
       record {
         holds = leaves_commit (state g old).committed trees (tables_of lists.kept.repo lists.kept.contents) holds (law trees was (elim (load.survives.crash clean trees left) [ inl before ↦ before | inr none ↦ absurd none ]));
         complete = complete;
-        whole = whole;
+        obeys = obeys;
       }
 
 -- a read that left the connection open left the last commit
-pub rests_if_open : {S : Type 0} (g : Ghosts S) (old new : Held S) (r : Result Mirror StoreFault) → (state g old).now.schema ≡ store_schema → AreLoaded g old new r → ShutIfDirty (state g new) → Rests (state g old) (state g new)
+pub rests_if_open : {S : Type 0} (g : Ghosts S) (old new : Held S) (r : Result Mirror StoreFault) → (state g old).now.schema ≡ store_schema → AreListedAlone g old new r → ShutIfDirty (state g new) → Rests (state g old) (state g new)
 rests_if_open g old new r ours load dirty =
     let clean = λ (h : IsTrue (state g new).is_open). clean_if_open (state g new).is_clean (state g new).is_open dirty h in
     record { was_open = λ h. (load.rests (clean h) ours).was_open h; now = λ h. (load.rests (clean h) ours).now h; committed = λ h. (load.rests (clean h) ours).committed h }

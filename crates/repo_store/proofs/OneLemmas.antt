@@ -1,4 +1,4 @@
--- Rows tell one whole repository at most.
+-- Rows tell one complete repository at most.
 use Rattle.std.proofs.Common.{◌≡◌, ℕ, ◌+◌, ◌<◌, ℤ, pos, Bool, true, false, not, List, [], ◌∷◌, ◌++◌, map, filter, length, get_or, Option, None, Some, MatchOption, Ordering, Less, Equal, Greater, is_lt, IsPermutation, ◌⊎◌, inl, inr, refl, sym, ap, ap₂, subst, ◌∙◌, arith}
 use Rattle.std.specs.List.{Any, AllByRecursion}
 use Rattle.std.specs.Ordering.{int_cmp}
@@ -29,12 +29,12 @@ use Rattle.store_tables.specs.declared.rows.StagedRow.{StagedRow}
 use Rattle.store_tables.specs.Tables.{Holds, with_schema}
 use Rattle.repo_store.specs.Complete.{AreAlike, HaveDistinctDigests, HaveContents, HaveNewContents, IsAmong, IsComplete}
 use Rattle.repo_store.specs.Kept.{Kept}
-use Rattle.repo_store.specs.Loaded.{IsSame}
+use Rattle.repo_store.specs.FromRows.{IsSame}
 use Rattle.repo_store.specs.Repository.{Commit}
 use Rattle.repo_store.specs.Shown.{Leaves}
 use Rattle.repo_store.specs.Rows.{blob_row, commit_row, commit_rows, entry_row, entry_rows, fix_at, fix_row, mode_number, staged_row, tables_of}
-use Rattle.repo_store.proofs.LoadLemmas.{fix_path, pos_less}
-use Rattle.repo_store.proofs.WholeLemmas.{all_both, all_same, all_weaker, holds_one}
+use Rattle.repo_store.proofs.FromRowsLemmas.{fix_path, pos_less}
+use Rattle.repo_store.proofs.RowRuleLemmas.{all_both, all_same, all_weaker, holds_one}
 
 -- ---- lists in one order
 
@@ -234,24 +234,24 @@ module _ (a b : List (List ℕ)) (same : IsPermutation a b) (apart : HaveDistinc
 -- ---- all of it
 
 alike_from_same : (a b : Kept) → IsComplete a → IsComplete b → IsSame (tables_of a.repo a.contents) (tables_of b.repo b.contents) → AreAlike a b
-alike_from_same a b whole other same =
+alike_from_same a b obeys other same =
     let contents = same_contents a.contents b.contents same.blobs in
     let staged =
-    same_files a.contents b.contents contents other.apart staged_row (λ (row : StagedRow). row) (λ file. refl) a.repo.staged b.repo.staged whole.staged other.staged
-    (one_rising path_of staged_row (λ (row : StagedRow). row.path) (λ file. refl) a.repo.staged b.repo.staged whole.sound.staged_rise other.sound.staged_rise same.staged) in
+    same_files a.contents b.contents contents other.apart staged_row (λ (row : StagedRow). row) (λ file. refl) a.repo.staged b.repo.staged obeys.staged other.staged
+    (one_rising path_of staged_row (λ (row : StagedRow). row.path) (λ file. refl) a.repo.staged b.repo.staged obeys.sound.staged_rise other.sound.staged_rise same.staged) in
     let fixes =
-    same_fixes a.contents b.contents contents other.apart a.repo.fixes b.repo.fixes whole.fixes other.fixes
-    (one_rising (λ (change : Change). change.path) fix_row (λ (row : FixRow). row.path) (λ change. fix_path change.path change.now) a.repo.fixes b.repo.fixes whole.sound.fixes_rise other.sound.fixes_rise same.fixes) in
+    same_fixes a.contents b.contents contents other.apart a.repo.fixes b.repo.fixes obeys.fixes other.fixes
+    (one_rising (λ (change : Change). change.path) fix_row (λ (row : FixRow). row.path) (λ change. fix_path change.path change.now) a.repo.fixes b.repo.fixes obeys.sound.fixes_rise other.sound.fixes_rise same.fixes) in
     let history =
     same_history a.contents b.contents contents other.apart 1 a.repo.history b.repo.history (same_commits a.repo.history b.repo.history same.commits) same.entries
-    whole.sound.trees_rise other.sound.trees_rise whole.trees other.trees in
+    obeys.sound.trees_rise other.sound.trees_rise obeys.trees other.trees in
     record {
       repo = ap₂ (λ (h : List Commit) (r : List File × List Change). record { history = h; staged = r.0; fixes = r.1 }) history (ap₂ (λ (s : List File) (f : List Change). (s, f)) staged fixes);
       contents = contents;
     }
 
 pub held_alike : (db : Database) (a b : Kept) → IsComplete a → IsComplete b → Holds db (tables_of a.repo a.contents) → Holds db (tables_of b.repo b.contents) → AreAlike a b
-held_alike db a b whole other holds also = alike_from_same a b whole other (holds_one db (tables_of a.repo a.contents) (tables_of b.repo b.contents) holds also)
+held_alike db a b obeys other holds also = alike_from_same a b obeys other (holds_one db (tables_of a.repo a.contents) (tables_of b.repo b.contents) holds also)
 
 pub left_alike : (trees : Trees) (a b : Kept) → Leaves a trees → Leaves b trees → AreAlike a b
 left_alike trees a b left also = held_alike (with_schema trees) a b left.complete also.complete left.holds also.holds

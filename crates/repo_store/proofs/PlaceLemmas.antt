@@ -1,5 +1,5 @@
 -- The place of a path among held files, and what a file put there makes of them.
-use Rattle.repo_store.specs.declared.held.HeldFix.{HeldFix}
+use Rattle.repo_store.specs.declared.shared.SharedFix.{SharedFix}
 use Rattle.hook_base.specs.declared.change.Change.{Change}
 use Rattle.std.proofs.Common.{◌≡◌, ℕ, zero, suc, ◌+◌, ◌<◌, ◌≤◌, List, [], ◌∷◌, ◌++◌, map, length, take, drop, get_or, set, true, false, IsTrue, Result, Ok, Err, MatchResult, OnErr, is_ok, if◌then◌else◌, sym, ap, ap₂, ◌∙◌, arith, is_some, refl, Option, None, Some}
 use Rattle.std.specs.List.{insert, drop-map, HoldsAt, remove}
@@ -24,31 +24,31 @@ use Rattle.hook_base.specs.Places.{IsAt, IsGap}
 use Rattle.hook_base.specs.Trees.{IsRising, path_of, put_row, remove_file, entry_of, rewrite_file, with_bytes, apply_at, apply_change, apply_changes}
 use Rattle.hook_base.specs.TreeLemmas.{put_row-at, put_row-gap, gap_within, entry_of-at, entry_of-gap, rewrite_file-at, remove_file-at, rewrite_file-gap, remove_file-gap, apply_changes-append}
 use Rattle.hook_base.proofs.PlaceLemmas.{found}
-use Rattle.repo_store.specs.declared.held.HeldFile.{HeldFile}
-use Rattle.repo_store.specs.Limits.{Fits, path_bytes}
+use Rattle.repo_store.specs.declared.shared.SharedFile.{SharedFile}
+use Rattle.repo_store.specs.Limits.{Fits, path_bytes, file_limit, path_limit}
 use Rattle.repo_store.specs.Lists.{file_of, fix_of}
 
-abbrev path_in : HeldFile → List ℕ
+abbrev path_in : SharedFile → List ℕ
 path_in file = file.path
 
-below_held : (path : List ℕ) (files : List HeldFile) → IsBelowAll path_of path (map file_of files) → IsBelowAll path_in path files
+below_held : (path : List ℕ) (files : List SharedFile) → IsBelowAll path_of path (map file_of files) → IsBelowAll path_in path files
 below_held path [] all = tt
 below_held path (file ∷ files) all = (all.0, below_held path files all.1)
 
-held_rise : (files : List HeldFile) → IsRising (map file_of files) → IsRisingBy path_in files
+held_rise : (files : List SharedFile) → IsRising (map file_of files) → IsRisingBy path_in files
 held_rise [] rising = tt
 held_rise (file ∷ files) rising = (below_held file.path files rising.0, held_rise files rising.1)
 
 module _ (path : List ℕ) where
-  abbrev pub side : HeldFile → Ordering
+  abbrev pub side : SharedFile → Ordering
   side file = path_cmp file.path path
 
-  sides_rise : (files : List HeldFile) → IsRising (map file_of files) → IsNonDecreasingBy (λ y. ordering_index (side y)) files
+  sides_rise : (files : List SharedFile) → IsRising (map file_of files) → IsNonDecreasingBy (λ y. ordering_index (side y)) files
   sides_rise files rising =
       searchable_from_sorted nat_list_cmp_total path_in files path
       (λ k d low high. ap is_lt (greater_from_below (get_or files k d).path (get_or files (k + 1) d).path (rising_pair path_in files k (k + 1) d d (omega arith) high (held_rise files rising))))
 
-  at_equal : (files : List HeldFile) (k : ℕ) → k < length files → IsRising (map file_of files) → HoldsAt (λ y. side y ≡ Equal) files k → IsAt path (map file_of files) k
+  at_equal : (files : List SharedFile) (k : ℕ) → k < length files → IsRising (map file_of files) → HoldsAt (λ y. side y ≡ Equal) files k → IsAt path (map file_of files) k
   at_equal [] k within rising equal = absurd (omega arith)
   at_equal (file ∷ files) k within rising equal =
       let all = file ∷ files in
@@ -56,7 +56,7 @@ module _ (path : List ℕ) where
       let same : path ≡ (get_or all k file).path = sym (path_tied (get_or all k file).path path (equal file)) in
       found path (map file_of all) k (file_of file) inside rising (same ∙ ap (λ (r : File). r.path) (sym (get_or-map file_of all k file)))
 
-  gap_between : (files : List HeldFile) (k : ℕ) → k ≤ length files → ((j : ℕ) (d : HeldFile) → 0 ≤ j → j < k → side (get_or files j d) ≡ Less) → ((j : ℕ) (d : HeldFile) → k ≤ j → j < length files → side (get_or files j d) ≡ Greater)
+  gap_between : (files : List SharedFile) (k : ℕ) → k ≤ length files → ((j : ℕ) (d : SharedFile) → 0 ≤ j → j < k → side (get_or files j d) ≡ Less) → ((j : ℕ) (d : SharedFile) → k ≤ j → j < length files → side (get_or files j d) ≡ Greater)
       → IsGap path (map file_of files) k
   gap_between [] zero within before after = tt
   gap_between [] (suc k) within before after = absurd (omega arith)
@@ -66,7 +66,7 @@ module _ (path : List ℕ) where
       (record { is_less = before 0 file (omega arith) (omega arith) }, gap_between files k (omega arith) (λ j d low high. before (suc j) d (omega arith) (omega arith)) (λ j d low high. after (suc j) d (omega arith) (omega arith)))
 
   -- what the search by halves says
-  pub placed : (files : List HeldFile) (r : Result ℕ ℕ) → IsRising (map file_of files) → MatchResult r (λ k. k < length files) (λ k. k ≤ length files) → IsBinarySearchResult side files r
+  pub placed : (files : List SharedFile) (r : Result ℕ ℕ) → IsRising (map file_of files) → MatchResult r (λ k. k < length files) (λ k. k ≤ length files) → IsBinarySearchResult side files r
       → MatchResult r (IsAt path (map file_of files)) (IsGap path (map file_of files))
   placed files (Ok k) rising within it = at_equal files k within rising it
   placed files (Err k) rising within it = let parts = it (sides_rise files rising) in gap_between files k within parts.0 parts.1
@@ -97,13 +97,13 @@ module _ (new : File) (rows : List File) (k : ℕ) (gap : IsGap new.path rows k)
   more_bytes : path_bytes (put_row new rows) ≡ path_bytes rows + length new.path
   more_bytes = ap path_bytes (put_row-gap new rows k gap) ∙ sum_by-insert (λ (file : File). length file.path) rows k new
 
-  pub fits_gap : (bytes : ℕ) → bytes ≡ path_bytes rows + length new.path → length rows < 100000 → (IsTrue (leb bytes 8388608) → Fits (put_row new rows)) × (Fits (put_row new rows) → IsTrue (leb bytes 8388608))
+  pub fits_gap : (bytes : ℕ) → bytes ≡ path_bytes rows + length new.path → length rows < file_limit → (IsTrue (leb bytes path_limit) → Fits (put_row new rows)) × (Fits (put_row new rows) → IsTrue (leb bytes path_limit))
   fits_gap bytes is room = (
-    λ small. let most = leb-true bytes 8388608 small in record { files_fit = omega (arith, one_more); paths_fit = omega (arith, more_bytes) },
-    λ fits. le-leb bytes 8388608 (let paths_fit = fits.paths_fit in omega (arith, more_bytes)),
+    λ small. let most = leb-true bytes path_limit small in record { files_fit = omega (arith, one_more); paths_fit = omega (arith, more_bytes) },
+    λ fits. le-leb bytes path_limit (let paths_fit = fits.paths_fit in omega (arith, more_bytes)),
   )
 
-  pub full_gap : 100000 ≤ length rows → Fits (put_row new rows) → ⊥
+  pub full_gap : file_limit ≤ length rows → Fits (put_row new rows) → ⊥
   full_gap full fits = let files_fit = fits.files_fit in omega (arith, one_more)
 
 -- the files of the other paths fit where all do
@@ -125,10 +125,10 @@ fits_removed path rows fits =
 
 -- ---- put among held files
 
-pub held_set : (files : List HeldFile) (k : ℕ) (new : HeldFile) → IsAt new.path (map file_of files) k → map file_of (set files k new) ≡ put_row (file_of new) (map file_of files)
+pub held_set : (files : List SharedFile) (k : ℕ) (new : SharedFile) → IsAt new.path (map file_of files) k → map file_of (set files k new) ≡ put_row (file_of new) (map file_of files)
 held_set files k new at = map-set file_of files k new ∙ sym (put_row-at (file_of new) (map file_of files) k at)
 
-pub held_insert : (files : List HeldFile) (k : ℕ) (new : HeldFile) → IsGap new.path (map file_of files) k → map file_of (insert files k new) ≡ put_row (file_of new) (map file_of files)
+pub held_insert : (files : List SharedFile) (k : ℕ) (new : SharedFile) → IsGap new.path (map file_of files) k → map file_of (insert files k new) ≡ put_row (file_of new) (map file_of files)
 held_insert files k new gap =
     map-append file_of (take k files) (new ∷ drop k files) ∙ ap₂ (λ (a b : List File). a ++ (file_of new ∷ b)) (sym (take-map file_of k files)) (sym (drop-map file_of k files))
     ∙ sym (put_row-gap (file_of new) (map file_of files) k gap)
@@ -144,13 +144,13 @@ has_placed path rows (Err k) gap = rw (entry_of-gap path rows k gap) refl
 
 -- ---- a fix among held files
 
-pub held_rewrite : (path : List ℕ) (files : List HeldFile) (k : ℕ) (file : HeldFile) (bytes : List ℕ) → IsRising (map file_of files) → IsAt path (map file_of files) k → file ≡ get_or files k file
+pub held_rewrite : (path : List ℕ) (files : List SharedFile) (k : ℕ) (file : SharedFile) (bytes : List ℕ) → IsRising (map file_of files) → IsAt path (map file_of files) k → file ≡ get_or files k file
     → map file_of (set files k (record file { content = bytes })) ≡ rewrite_file path bytes (map file_of files)
 held_rewrite path files k file bytes rising at is =
     map-set file_of files k (record file { content = bytes }) ∙ ap (λ (f : File). set (map file_of files) k (with_bytes bytes f)) (ap file_of is ∙ sym (get_or-map file_of files k file))
     ∙ sym (rewrite_file-at path bytes (map file_of files) k (file_of file) rising at)
 
-pub held_remove : (path : List ℕ) (files : List HeldFile) (k : ℕ) → IsRising (map file_of files) → IsAt path (map file_of files) k → map file_of (remove files k) ≡ remove_file path (map file_of files)
+pub held_remove : (path : List ℕ) (files : List SharedFile) (k : ℕ) → IsRising (map file_of files) → IsAt path (map file_of files) k → map file_of (remove files k) ≡ remove_file path (map file_of files)
 held_remove path files k rising at =
     map-append file_of (take k files) (drop (suc k) files) ∙ ap₂ (λ (a b : List File). a ++ b) (sym (take-map file_of k files)) (sym (drop-map file_of (suc k) files)) ∙ sym (remove_file-at path (map file_of files) k rising at)
 
@@ -180,9 +180,9 @@ pub fits_applied : (changes : List Change) (rows : List File) → Fits rows → 
 fits_applied [] rows fits = fits
 fits_applied (change ∷ changes) rows fits = fits_applied changes (apply_at change.path change.now rows) (fits_applied_one change.path change.now rows fits)
 
-pub applied_more : (fixes : List HeldFix) (i : ℕ) (fix : HeldFix) (rows now : List File) → i < length fixes → fix ≡ get_or fixes i fix → now ≡ apply_changes (map fix_of (take i fixes)) rows
+pub applied_more : (fixes : List SharedFix) (i : ℕ) (fix : SharedFix) (rows now : List File) → i < length fixes → fix ≡ get_or fixes i fix → now ≡ apply_changes (map fix_of (take i fixes)) rows
     → apply_change (fix_of fix) now ≡ apply_changes (map fix_of (take (i + 1) fixes)) rows
 applied_more fixes i fix rows now within is now_is =
     let step : map fix_of (take (i + 1) fixes) ≡ map fix_of (take i fixes) ++ fix_of fix ∷ [] =
-    ap (map fix_of) (take_more fixes i fix within ∙ ap (λ (f : HeldFix). take i fixes ++ f ∷ []) (sym is)) ∙ map-append fix_of (take i fixes) (fix ∷ []) in
+    ap (map fix_of) (take_more fixes i fix within ∙ ap (λ (f : SharedFix). take i fixes ++ f ∷ []) (sym is)) ∙ map-append fix_of (take i fixes) (fix ∷ []) in
     ap (apply_change (fix_of fix)) now_is ∙ sym (apply_changes-append (map fix_of (take i fixes)) (fix_of fix ∷ []) rows) ∙ ap (λ (l : List Change). apply_changes l rows) (sym step)

@@ -10,7 +10,7 @@ use Rattle.sqlite.proofs.InsideLemmas.{keeps_then}
 use Rattle.sqlite.proofs.StateLemmas.{survives_then}
 use Rattle.store_tables.specs.Schema.{no_more, store_schema}
 use Rattle.store_tables.specs.Steps.{IsRead}
-use Rattle.repo_store.specs.Opens.{AreRead}
+use Rattle.repo_store.specs.Opening.{AreRead}
 
 unchanged_then : (a b c : State) → IsUnchanged a b → IsUnchanged b c → IsUnchanged a c
 unchanged_then a b c one two = (

@@ -22,20 +22,20 @@ use Rattle.store_tables.specs.declared.rows.EntryRow.{EntryRow}
 use Rattle.repo_store.specs.Complete.{HaveContents, HaveNewContents, IsAmong, IsComplete}
 use Rattle.repo_store.specs.Contents.{has_content, with_content, with_new, with_changes}
 use Rattle.repo_store.specs.Kept.{HasLarge, Kept, accepting, committing, keeping, setting, staging, unstaging}
-use Rattle.repo_store.specs.Limits.{IsSmall}
+use Rattle.repo_store.specs.Limits.{IsSmall, content_limit, path_limit}
 use Rattle.repo_store.specs.Repository.{Commit, empty, staged_changes}
 use Rattle.repo_store.specs.Rows.{blob_row, commit_rows, entry_row, entry_rows, fix_at, fix_row, mode_number, staged_row, tables_of}
-use Rattle.repo_store.specs.Whole.{IsBlobRow, IsEntryRow, IsFileRow, IsFixRow, IsMarked, IsPathText, IsStagedRow, IsWhole, is_kept, is_staged}
+use Rattle.repo_store.specs.RowRules.{IsBlobRow, IsEntryRow, IsFileRow, IsFixRow, IsMarked, IsPathText, IsStagedRow, AreStoreRows, is_kept, is_staged}
 use Rattle.repo_store.proofs.ChangeLemmas.{large_among}
 use Rattle.repo_store.proofs.CompleteLemmas.{complete_empty}
-use Rattle.repo_store.proofs.LoadLemmas.{AreNumbered, all_pushed, commits_whole, fix_path, fixes_staged, length_commit_rows, staged_as_entry}
+use Rattle.repo_store.proofs.FromRowsLemmas.{AreNumbered, all_pushed, commits_obey, fix_path, fixes_staged, length_commit_rows, staged_as_entry}
 use Rattle.repo_store.proofs.SoundLemmas.{AreStaged, all_kept}
-use Rattle.repo_store.proofs.WholeLemmas.{all_both}
+use Rattle.repo_store.proofs.RowRuleLemmas.{all_both}
 
 abbrev ArePaths : List File → Type 0
 ArePaths files = AllByRecursion (λ (file : File). IsPathText file.path) files
 
--- What the rules ask of the lists, beyond that they are one whole repository.
+-- What the rules ask of the lists, beyond that they are one complete repository.
 record ObeysRules (kept : Kept) : Type 0 where
   staged_legal : ArePaths kept.repo.staged
   trees_legal : AllByRecursion (λ (commit : Commit). ArePaths commit.tree) kept.repo.history
@@ -66,15 +66,15 @@ row_contents : (contents : List (List ℕ)) → AllByRecursion IsBlobRow (map bl
 row_contents [] all = tt
 row_contents (bytes ∷ contents) all = (all.0.small, row_contents contents all.1)
 
-rules_in : (kept : Kept) → IsWhole (tables_of kept.repo kept.contents) → ObeysRules kept
-rules_in kept whole =
+rules_in : (kept : Kept) → AreStoreRows (tables_of kept.repo kept.contents) → ObeysRules kept
+rules_in kept obeys =
     let blobs = map blob_row kept.contents in
     record {
-      staged_legal = staged_paths blobs kept.repo.staged whole.staged.files;
-      trees_legal = tree_paths blobs (length (commit_rows 1 kept.repo.history)) 1 kept.repo.history whole.entries;
-      fixes_staged = fixes_staged kept.repo.fixes kept.repo.staged blobs whole.fixes;
-      messages_small = row_messages 1 kept.repo.history whole.commits.messages_small;
-      contents_small = row_contents kept.contents whole.blobs;
+      staged_legal = staged_paths blobs kept.repo.staged obeys.staged.files;
+      trees_legal = tree_paths blobs (length (commit_rows 1 kept.repo.history)) 1 kept.repo.history obeys.entries;
+      fixes_staged = fixes_staged kept.repo.fixes kept.repo.staged blobs obeys.fixes;
+      messages_small = row_messages 1 kept.repo.history obeys.commits.messages_small;
+      contents_small = row_contents kept.contents obeys.blobs;
     }
 
 -- ---- to the rows
@@ -146,9 +146,9 @@ numbered_rows : (n : ℕ) (history : List Commit) → AllByRecursion (λ (commit
 numbered_rows n [] small = tt
 numbered_rows n (commit ∷ history) small = ((refl, small.0), numbered_rows (n + 1) history small.1)
 
--- a whole repository that obeys the rules stands in rows that obey them
-whole_by : (kept : Kept) → IsComplete kept → ObeysRules kept → IsWhole (tables_of kept.repo kept.contents)
-whole_by kept complete rules =
+-- a complete repository that obeys the rules stands in rows that obey them
+obeys_by : (kept : Kept) → IsComplete kept → ObeysRules kept → AreStoreRows (tables_of kept.repo kept.contents)
+obeys_by kept complete rules =
     let staged = kept.repo.staged in
     let history = kept.repo.history in
     let count = length_commit_rows 1 history in
@@ -157,10 +157,10 @@ whole_by kept complete rules =
       staged = record {
         files = staged_rows kept.contents staged rules.staged_legal complete.staged;
         files_fit = let fit = complete.sound.staged_fit.files_fit in omega (arith, length-map staged staged_row);
-        paths_fit = subst (λ (n : ℕ). n ≤ 8388608) (sym (fold-map (λ a row. a + length row.path) staged_row 0 staged)) complete.sound.staged_fit.paths_fit;
+        paths_fit = subst (λ (n : ℕ). n ≤ path_limit) (sym (fold-map (λ a row. a + length row.path) staged_row 0 staged)) complete.sound.staged_fit.paths_fit;
       };
       fixes = fix_rows kept.contents staged kept.repo.fixes rules.staged_legal rules.fixes_staged complete.fixes;
-      commits = commits_whole (commit_rows 1 history) (numbered_rows 1 history rules.messages_small) (let few = complete.sound.numbered in omega arith);
+      commits = commits_obey (commit_rows 1 history) (numbered_rows 1 history rules.messages_small) (let few = complete.sound.numbered in omega arith);
       entries = tree_entries kept.contents (length (commit_rows 1 history)) 0 history (omega arith) rules.trees_legal complete.trees;
       answers = refl;
     }
@@ -197,7 +197,7 @@ small_with bytes contents small all =
     elim (has_content bytes contents) as (λ b. AllByRecursion IsSmall (if b then contents else contents ++ bytes ∷ [])) [ true ↦ all | false ↦ all_pushed IsSmall contents bytes all small ]
 
 not_large : (bytes : List ℕ) → ¬ ¬ IsSmall bytes → IsSmall bytes
-not_large bytes none = elim (cases_lt 16777216 (length bytes)) [ inl large ↦ absurd (none (λ small. absurd (omega arith))) | inr small ↦ small ]
+not_large bytes none = elim (cases_lt content_limit (length bytes)) [ inl large ↦ absurd (none (λ small. absurd (omega arith))) | inr small ↦ small ]
 
 small_new : (now : Option (List ℕ)) (contents : List (List ℕ)) → ¬ MatchOption now ⊥ (λ bytes. ¬ IsSmall bytes) → AllByRecursion IsSmall contents → AllByRecursion IsSmall (with_new now contents)
 small_new None contents none all = all
@@ -211,19 +211,19 @@ small_all (change ∷ changes) contents none all =
 
 -- ---- the calls
 
-pub whole_empty : IsWhole (tables_of empty [])
-whole_empty = whole_by (record { repo = empty; contents = [] }) complete_empty (record { staged_legal = tt; trees_legal = tt; fixes_staged = tt; messages_small = tt; contents_small = tt })
+pub obeys_empty : AreStoreRows (tables_of empty [])
+obeys_empty = obeys_by (record { repo = empty; contents = [] }) complete_empty (record { staged_legal = tt; trees_legal = tt; fixes_staged = tt; messages_small = tt; contents_small = tt })
 
-module _ (kept : Kept) (whole : IsWhole (tables_of kept.repo kept.contents)) where
+module _ (kept : Kept) (obeys : AreStoreRows (tables_of kept.repo kept.contents)) where
   rules : ObeysRules kept
-  rules = rules_in kept whole
+  rules = rules_in kept obeys
 
   abbrev After : Kept → Type 0
-  After after = IsComplete after → IsWhole (tables_of after.repo after.contents)
+  After after = IsComplete after → AreStoreRows (tables_of after.repo after.contents)
 
-  pub whole_staged : (path : List ℕ) (entry : FileEntry) → IsPathText path → IsSmall entry.bytes → After (staging path entry kept)
-  whole_staged path entry legal small complete =
-      whole_by (staging path entry kept) complete (record {
+  pub obeys_staged : (path : List ℕ) (entry : FileEntry) → IsPathText path → IsSmall entry.bytes → After (staging path entry kept)
+  obeys_staged path entry legal small complete =
+      obeys_by (staging path entry kept) complete (record {
         staged_legal = paths_put (record { path = path; entry = entry }) kept.repo.staged legal rules.staged_legal;
         trees_legal = rules.trees_legal;
         fixes_staged = tt;
@@ -231,9 +231,9 @@ module _ (kept : Kept) (whole : IsWhole (tables_of kept.repo kept.contents)) whe
         contents_small = small_with entry.bytes kept.contents small rules.contents_small;
       })
 
-  pub whole_unstaged : (path : List ℕ) → After (unstaging path kept)
-  whole_unstaged path complete =
-      whole_by (unstaging path kept) complete (record {
+  pub obeys_unstaged : (path : List ℕ) → After (unstaging path kept)
+  obeys_unstaged path complete =
+      obeys_by (unstaging path kept) complete (record {
         staged_legal = paths_removed path kept.repo.staged rules.staged_legal;
         trees_legal = rules.trees_legal;
         fixes_staged = tt;
@@ -241,9 +241,9 @@ module _ (kept : Kept) (whole : IsWhole (tables_of kept.repo kept.contents)) whe
         contents_small = rules.contents_small;
       })
 
-  pub whole_kept : (bytes : List ℕ) → IsSmall bytes → After (keeping bytes kept)
-  whole_kept bytes small complete =
-      whole_by (keeping bytes kept) complete (record {
+  pub obeys_kept : (bytes : List ℕ) → IsSmall bytes → After (keeping bytes kept)
+  obeys_kept bytes small complete =
+      obeys_by (keeping bytes kept) complete (record {
         staged_legal = rules.staged_legal;
         trees_legal = rules.trees_legal;
         fixes_staged = rules.fixes_staged;
@@ -251,10 +251,10 @@ module _ (kept : Kept) (whole : IsWhole (tables_of kept.repo kept.contents)) whe
         contents_small = small_with bytes kept.contents small rules.contents_small;
       })
 
-  pub whole_committed : (message : List ℕ) → IsSmall message → After (committing message kept)
-  whole_committed message small complete =
+  pub obeys_committed : (message : List ℕ) → IsSmall message → After (committing message kept)
+  obeys_committed message small complete =
       let commit : Commit = record { message = message; tree = kept.repo.staged } in
-      whole_by (committing message kept) complete (record {
+      obeys_by (committing message kept) complete (record {
         staged_legal = rules.staged_legal;
         trees_legal = all_pushed (λ (c : Commit). ArePaths c.tree) kept.repo.history commit rules.trees_legal rules.staged_legal;
         fixes_staged = tt;
@@ -262,9 +262,9 @@ module _ (kept : Kept) (whole : IsWhole (tables_of kept.repo kept.contents)) whe
         contents_small = rules.contents_small;
       })
 
-  pub whole_accepted : After (accepting kept)
-  whole_accepted complete =
-      whole_by (accepting kept) complete (record {
+  pub obeys_accepted : After (accepting kept)
+  obeys_accepted complete =
+      obeys_by (accepting kept) complete (record {
         staged_legal = paths_applied kept.repo.fixes kept.repo.staged rules.staged_legal;
         trees_legal = rules.trees_legal;
         fixes_staged = tt;
@@ -272,9 +272,9 @@ module _ (kept : Kept) (whole : IsWhole (tables_of kept.repo kept.contents)) whe
         contents_small = rules.contents_small;
       })
 
-  pub whole_set : (changes : List Change) → ¬ HasLarge (staged_changes changes kept.repo.staged) → After (setting changes kept)
-  whole_set changes none complete =
-      whole_by (setting changes kept) complete (record {
+  pub obeys_set : (changes : List Change) → ¬ HasLarge (staged_changes changes kept.repo.staged) → After (setting changes kept)
+  obeys_set changes none complete =
+      obeys_by (setting changes kept) complete (record {
         staged_legal = rules.staged_legal;
         trees_legal = rules.trees_legal;
         fixes_staged = all_kept (λ (change : Change). is_some (entry_of change.path kept.repo.staged)) changes;

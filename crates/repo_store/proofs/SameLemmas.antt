@@ -14,7 +14,7 @@ use Rattle.store_tables.specs.declared.rows.EntryRow.{EntryRow}
 use Rattle.sqlite_schema.specs.declared.schema.Schema.{Schema}
 use Rattle.store_tables.specs.Steps.{IsStep, IsDone}
 use Rattle.store_tables.specs.Tables.{Tables, HoldsIn, Stored, meta_cells, blob_cells, staged_cells, fix_cells, commit_cells, entry_cells, answer_cells}
-pub use Rattle.repo_store.specs.Loaded.{IsSame}
+pub use Rattle.repo_store.specs.FromRows.{IsSame}
 
 pub same_itself : (t : Tables) → IsSame t t
 same_itself t = record {

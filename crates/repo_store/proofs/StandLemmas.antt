@@ -9,16 +9,16 @@ use Rattle.sqlite.specs.State.{State, HasCleanDisk, Survives}
 use Rattle.sqlite.proofs.StateLemmas.{survives_weaker}
 use Rattle.store_tables.specs.Schema.{no_schema}
 use Rattle.store_tables.specs.Tables.{Tables, Holds, IsBare, with_schema}
-use Rattle.repo_store.specs.Calls.{IsCall}
+use Rattle.repo_store.specs.Transactions.{IsCall}
 use Rattle.repo_store.specs.Complete.{IsComplete}
 use Rattle.repo_store.specs.Kept.{Kept}
 use Rattle.repo_store.specs.Repository.{empty}
 use Rattle.repo_store.specs.Rows.{tables_of}
 use Rattle.repo_store.specs.Shown.{Stands, Leaves, IsOneTransaction}
-use Rattle.repo_store.specs.Whole.{IsWhole}
+use Rattle.repo_store.specs.RowRules.{AreStoreRows}
 use Rattle.repo_store.proofs.CallLemmas.{clean_if_open, leaves_commit}
 use Rattle.repo_store.proofs.CompleteLemmas.{complete_empty}
-use Rattle.repo_store.proofs.RuleLemmas.{whole_empty}
+use Rattle.repo_store.proofs.RuleLemmas.{obeys_empty}
 use Rattle.repo_store.proofs.SameLemmas.{IsSame, holds_same}
 
 abbrev pub tables_in : Kept → Tables
@@ -36,12 +36,12 @@ clean_of : (s : State) → ShutIfDirty s → IsTrue s.is_open → HasCleanDisk s
 clean_of s dirty h = clean_if_open s.is_clean s.is_open dirty h
 
 module _ {S A : Type 0} (g : Ghosts S) (old new : Held S) (kept after : Kept) (t : Tables) (stands : Stands g old kept) (is : IsSame t (tables_in after)) (dirty : ShutIfDirty (state g new)) (complete : IsComplete after)
-    (whole : IsWhole (tables_in after)) where
+    (obeys : AreStoreRows (tables_in after)) where
   rests : (e : Error) → Calls {A = A} g old new kept t (Err e) → Stands g new kept
   rests e call = record {
     outside = call.outside;
     complete = stands.complete;
-    whole = stands.whole;
+    obeys = stands.obeys;
     now = λ h. subst (λ (db : Database). Holds db (tables_in kept)) (sym (call.kept.now h)) (stands.committed (call.kept.was_open h));
     committed = λ h. subst (λ (db : Database). Holds db (tables_in kept)) (sym (call.kept.committed h)) (stands.committed (call.kept.was_open h));
   }
@@ -50,14 +50,14 @@ module _ {S A : Type 0} (g : Ghosts S) (old new : Held S) (kept after : Kept) (t
   stands_on x call = record {
     outside = call.outside;
     complete = complete;
-    whole = whole;
+    obeys = obeys;
     now = λ h. holds_same (state g new).now t (tables_in after) is (call.done (clean_of (state g new) dirty h) stands.now).now;
     committed = λ h. holds_same (state g new).committed t (tables_in after) is (call.done (clean_of (state g new) dirty h) stands.now).committed;
   }
 
   crash_leaves : (r : Result A Error) → Calls {A = A} g old new kept t r → Survives (state g old) (state g new) (Leaves after)
   crash_leaves r call =
-      survives_weaker (state g old) (state g new) (λ trees. Holds (with_schema trees) t) (Leaves after) (λ _ trees h. record { holds = holds_same (with_schema trees) t (tables_in after) is h; complete = complete; whole = whole }) (call.survives stands.now)
+      survives_weaker (state g old) (state g new) (λ trees. Holds (with_schema trees) t) (Leaves after) (λ _ trees h. record { holds = holds_same (with_schema trees) t (tables_in after) is h; complete = complete; obeys = obeys }) (call.survives stands.now)
 
   pub refused_stands : (now : Kept) → now ≡ kept → (e : Error) → Calls {A = A} g old new kept t (Err e) → Stands g new now
   refused_stands now same e call = subst (Stands g new) (sym same) (rests e call)
@@ -73,7 +73,7 @@ module _ {S A : Type 0} (g : Ghosts S) (old new : Held S) (kept after : Kept) (t
   done_transaction settled now same x call y = record {
     stands = done_stands now same x call;
     crash = crash_leaves (Ok x) call;
-    durable = λ clean trees left. let it = call.done clean stands.now in record { holds = leaves_commit (state g new).committed trees (tables_in after) ((stands_on x call).committed it.is_open) (settled trees it.is_open left); complete = complete; whole = whole };
+    durable = λ clean trees left. let it = call.done clean stands.now in record { holds = leaves_commit (state g new).committed trees (tables_in after) ((stands_on x call).committed it.is_open) (settled trees it.is_open left); complete = complete; obeys = obeys };
   }
 
 -- an empty store in a database that had no tables
@@ -83,11 +83,11 @@ made_stands g old new now x call bare dirty is =
     subst (Stands g new) (sym is) (record {
       outside = call.outside;
       complete = complete_empty;
-      whole = whole_empty;
+      obeys = obeys_empty;
       now = λ h. (call.done (clean_of (state g new) dirty h) bare).now;
       committed = λ h. (call.done (clean_of (state g new) dirty h) bare).committed;
     })
 
 pub made_survives : (old new : State) → Survives old new (λ trees. Holds (with_schema trees) (tables_of empty [])) → Survives old new (Leaves (record { repo = empty; contents = [] }))
 made_survives old new survives =
-    survives_weaker old new (λ trees. Holds (with_schema trees) (tables_of empty [])) (Leaves (record { repo = empty; contents = [] })) (λ _ trees h. record { holds = h; complete = complete_empty; whole = whole_empty }) survives
+    survives_weaker old new (λ trees. Holds (with_schema trees) (tables_of empty [])) (Leaves (record { repo = empty; contents = [] })) (λ _ trees h. record { holds = h; complete = complete_empty; obeys = obeys_empty }) survives

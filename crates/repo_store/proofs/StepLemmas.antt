@@ -10,9 +10,9 @@ use Rattle.store_tables.specs.declared.rows.BlobRow.{BlobRow}
 use Rattle.store_tables.specs.declared.rows.EntryRow.{EntryRow}
 use Rattle.store_tables.specs.Steps.{IsStep}
 use Rattle.store_tables.specs.Tables.{Tables, with_blob, with_entry, with_fix, with_staged}
-use Rattle.repo_store.specs.declared.held.HeldFix.{HeldFix}
+use Rattle.repo_store.specs.declared.shared.SharedFix.{SharedFix}
 use Rattle.store_tables.specs.declared.rows.FixRow.{FixRow}
-use Rattle.repo_store.specs.declared.held.HeldFile.{HeldFile}
+use Rattle.repo_store.specs.declared.shared.SharedFile.{SharedFile}
 use Rattle.repo_store.specs.Lists.{file_of, fix_of}
 use Rattle.repo_store.specs.Rows.{blob_row, with_blobs, entry_row, with_entries, fix_row, with_fix_rows, staged_row, with_staged_rows}
 use Rattle.repo_store.proofs.CallLemmas.{step_then}
@@ -38,7 +38,7 @@ blob_more g old mid new news i bytes row within is row_is one two =
     step_same g old new (Ok tt) (λ t. with_blob (blob_row bytes) (with_blobs (take i news) t)) (λ t. with_blobs (take (i + 1) news) t)
     (λ t. same_blobs (with_blob (blob_row bytes) (with_blobs (take i news) t)) (map blob_row (take (i + 1) news) ++ t.blobs) (one_more blob_row news i bytes t.blobs within is)) both
 
-pub entry_more : {S : Type 0} (g : Ghosts S) (old mid new : Held S) (n : ℕ) (files : List HeldFile) (i : ℕ) (file : HeldFile) (row : EntryRow) → i < length files → file ≡ get_or files i file → row ≡ entry_row n (file_of file)
+pub entry_more : {S : Type 0} (g : Ghosts S) (old mid new : Held S) (n : ℕ) (files : List SharedFile) (i : ℕ) (file : SharedFile) (row : EntryRow) → i < length files → file ≡ get_or files i file → row ≡ entry_row n (file_of file)
     → IsStep {A = Unit {0}} g old mid (Ok tt) (λ t. with_entries (map (entry_row n) (map file_of (take i files))) t) → IsStep {A = Unit {0}} g mid new (Ok tt) (with_entry row)
     → IsStep {A = Unit {0}} g old new (Ok tt) (λ t. with_entries (map (entry_row n) (map file_of (take (i + 1) files))) t)
 entry_more g old mid new n files i file row within is row_is one two =
@@ -48,21 +48,21 @@ entry_more g old mid new n files i file row within is row_is one two =
     step_same g old new (Ok tt) (λ t. with_entry (entry_row n (file_of file)) (before t)) (λ t. with_entries (map (entry_row n) (map file_of (take (i + 1) files))) t)
     (λ t. same_entries (with_entry (entry_row n (file_of file)) (before t)) (map (entry_row n) (map file_of (take (i + 1) files)) ++ t.entries)
     (subst₂ (λ (a b : List EntryRow). IsPermutation (entry_row n (file_of file) ∷ (a ++ t.entries)) (b ++ t.entries)) (sym (map-map (entry_row n) file_of (take i files))) (sym (map-map (entry_row n) file_of (take (i + 1) files)))
-    (one_more (λ (f : HeldFile). entry_row n (file_of f)) files i file t.entries within is))) both
+    (one_more (λ (f : SharedFile). entry_row n (file_of f)) files i file t.entries within is))) both
 
-pub fix_more : {S : Type 0} (g : Ghosts S) (old mid new : Held S) (fixes : List HeldFix) (i : ℕ) (fix : HeldFix) → i < length fixes → fix ≡ get_or fixes i fix
+pub fix_more : {S : Type 0} (g : Ghosts S) (old mid new : Held S) (fixes : List SharedFix) (i : ℕ) (fix : SharedFix) → i < length fixes → fix ≡ get_or fixes i fix
     → IsStep {A = Unit {0}} g old mid (Ok tt) (λ t. with_fix_rows (map fix_row (map fix_of (take i fixes))) t) → IsStep {A = Unit {0}} g mid new (Ok tt) (with_fix (fix_row (fix_of fix)))
     → IsStep {A = Unit {0}} g old new (Ok tt) (λ t. with_fix_rows (map fix_row (map fix_of (take (i + 1) fixes))) t)
 fix_more g old mid new fixes i fix within is one put =
     let before : Tables → Tables = λ t. with_fix_rows (map fix_row (map fix_of (take i fixes))) t in
     let both = step_then g old mid new (Ok tt) before (with_fix (fix_row (fix_of fix))) one put in
     let rows = subst₂ (λ (a b : List FixRow). IsPermutation (fix_row (fix_of fix) ∷ a) b)
-    (append-nil (map (λ (f : HeldFix). fix_row (fix_of f)) (take i fixes)) ∙ sym (map-map fix_row fix_of (take i fixes))) (append-nil (map (λ (f : HeldFix). fix_row (fix_of f)) (take (i + 1) fixes)) ∙ sym (map-map fix_row fix_of (take (i + 1) fixes)))
-    (one_more (λ (f : HeldFix). fix_row (fix_of f)) fixes i fix [] within is) in
+    (append-nil (map (λ (f : SharedFix). fix_row (fix_of f)) (take i fixes)) ∙ sym (map-map fix_row fix_of (take i fixes))) (append-nil (map (λ (f : SharedFix). fix_row (fix_of f)) (take (i + 1) fixes)) ∙ sym (map-map fix_row fix_of (take (i + 1) fixes)))
+    (one_more (λ (f : SharedFix). fix_row (fix_of f)) fixes i fix [] within is) in
     step_same g old new (Ok tt) (λ t. with_fix (fix_row (fix_of fix)) (before t)) (λ t. with_fix_rows (map fix_row (map fix_of (take (i + 1) fixes))) t)
     (λ t. same_fixes (with_fix (fix_row (fix_of fix)) (before t)) (map fix_row (map fix_of (take (i + 1) fixes))) rows) both
 
-pub staged_more : {S : Type 0} (g : Ghosts S) (old mid new : Held S) (files : List HeldFile) (i : ℕ) (file : HeldFile) (row : StagedRow) → i < length files → file ≡ get_or files i file → row ≡ staged_row (file_of file)
+pub staged_more : {S : Type 0} (g : Ghosts S) (old mid new : Held S) (files : List SharedFile) (i : ℕ) (file : SharedFile) (row : StagedRow) → i < length files → file ≡ get_or files i file → row ≡ staged_row (file_of file)
     → IsStep {A = Unit {0}} g old mid (Ok tt) (λ t. with_staged_rows (map staged_row (map file_of (take i files))) t) → IsStep {A = Unit {0}} g mid new (Ok tt) (with_staged row)
     → IsStep {A = Unit {0}} g old new (Ok tt) (λ t. with_staged_rows (map staged_row (map file_of (take (i + 1) files))) t)
 staged_more g old mid new files i file row within is row_is one two =
@@ -70,7 +70,7 @@ staged_more g old mid new files i file row within is row_is one two =
     let before : Tables → Tables = λ t. with_staged_rows (map staged_row (map file_of (take i files))) t in
     let both = step_then g old mid new (Ok tt) before (with_staged (staged_row (file_of file))) one put in
     let rows = subst₂ (λ (a b : List StagedRow). IsPermutation (staged_row (file_of file) ∷ a) b)
-    (append-nil (map (λ (f : HeldFile). staged_row (file_of f)) (take i files)) ∙ sym (map-map staged_row file_of (take i files))) (append-nil (map (λ (f : HeldFile). staged_row (file_of f)) (take (i + 1) files)) ∙ sym (map-map staged_row file_of (take (i + 1) files)))
-    (one_more (λ (f : HeldFile). staged_row (file_of f)) files i file [] within is) in
+    (append-nil (map (λ (f : SharedFile). staged_row (file_of f)) (take i files)) ∙ sym (map-map staged_row file_of (take i files))) (append-nil (map (λ (f : SharedFile). staged_row (file_of f)) (take (i + 1) files)) ∙ sym (map-map staged_row file_of (take (i + 1) files)))
+    (one_more (λ (f : SharedFile). staged_row (file_of f)) files i file [] within is) in
     step_same g old new (Ok tt) (λ t. with_staged (staged_row (file_of file)) (before t)) (λ t. with_staged_rows (map staged_row (map file_of (take (i + 1) files))) t)
     (λ t. same_staged (with_staged (staged_row (file_of file)) (before t)) (map staged_row (map file_of (take (i + 1) files))) rows) both

@@ -8,8 +8,8 @@ use Rattle.hook_base.specs.declared.file.File.{File}
 use Rattle.hook_base.specs.Rising.{IsBelow, IsBelowAll}
 use Rattle.hook_base.specs.RisingLemmas.{greater_from_below}
 use Rattle.hook_base.specs.Trees.{IsRising, path_of, put_row}
-use Rattle.repo_store.specs.declared.held.HeldFile.{HeldFile}
-use Rattle.repo_store.specs.declared.held.HeldCommit.{HeldCommit}
+use Rattle.repo_store.specs.declared.shared.SharedFile.{SharedFile}
+use Rattle.repo_store.specs.declared.shared.SharedCommit.{SharedCommit}
 use Rattle.repo_store.specs.declared.log_entry.LogEntry.{LogEntry}
 use Rattle.repo_store.specs.Lists.{file_of, commit_of}
 use Rattle.repo_store.specs.Log.{entry_at, log_from}
@@ -34,10 +34,10 @@ rising_front zero rows rising = tt
 rising_front (suc n) [] rising = tt
 rising_front (suc n) (row ∷ rows) rising = (below_front row.path n rows rising.0, rising_front n rows rising.1)
 
-pub tree_more : (files : List HeldFile) (i : ℕ) (file : HeldFile) (tree : List File) → i < length files → file ≡ get_or files i file → IsRising (map file_of files) → tree ≡ map file_of (take i files) → put_row (file_of file) tree ≡ map file_of (take (i + 1) files)
+pub tree_more : (files : List SharedFile) (i : ℕ) (file : SharedFile) (tree : List File) → i < length files → file ≡ get_or files i file → IsRising (map file_of files) → tree ≡ map file_of (take i files) → put_row (file_of file) tree ≡ map file_of (take (i + 1) files)
 tree_more files i file tree within is rising tree_is =
     let step : map file_of (take (i + 1) files) ≡ map file_of (take i files) ++ file_of file ∷ [] =
-    ap (map file_of) (take_more files i file within ∙ ap (λ (f : HeldFile). take i files ++ f ∷ []) (sym is)) ∙ map-append file_of (take i files) (file ∷ []) in
+    ap (map file_of) (take_more files i file within ∙ ap (λ (f : SharedFile). take i files ++ f ∷ []) (sym is)) ∙ map-append file_of (take i files) (file ∷ []) in
     let front : IsRising (map file_of (take (i + 1) files)) = subst IsRising (take-map file_of (i + 1) files) (rising_front (i + 1) (map file_of files) rising) in
     ap (put_row (file_of file)) tree_is ∙ put_last (map file_of (take i files)) (file_of file) (subst IsRising step front) ∙ sym step
 
@@ -52,26 +52,26 @@ pub log_more : (n : ℕ) (history : List Commit) (commit : Commit) → log_from 
 log_more n [] commit = ap (λ (m : ℕ). entry_at m commit ∷ []) (omega arith)
 log_more n (first ∷ history) commit = ap (λ (l : List LogEntry). entry_at n first ∷ l) (log_more (n + 1) history commit ∙ ap (λ (m : ℕ). log_from (n + 1) history ++ entry_at m commit ∷ []) (omega arith))
 
-pub log_step : (history : List HeldCommit) (i : ℕ) (commit : HeldCommit) (number : ℕ) (message : List ℕ) (log : List LogEntry) → i < length history → commit ≡ get_or history i commit → number ≡ i + 1 → message ≡ commit.message
+pub log_step : (history : List SharedCommit) (i : ℕ) (commit : SharedCommit) (number : ℕ) (message : List ℕ) (log : List LogEntry) → i < length history → commit ≡ get_or history i commit → number ≡ i + 1 → message ≡ commit.message
     → log ≡ log_from 1 (map commit_of (take i history)) → log ++ record { number = number; message = message } ∷ [] ≡ log_from 1 (map commit_of (take (i + 1) history))
 log_step history i commit number message log within is number_is message_is log_is =
     let front = map commit_of (take i history) in
     let count : number ≡ 1 + length front = omega (arith, length-map (take i history) commit_of, length-take i history) in
     let step : map commit_of (take (i + 1) history) ≡ front ++ commit_of commit ∷ [] =
-    ap (map commit_of) (take_more history i commit within ∙ ap (λ (c : HeldCommit). take i history ++ c ∷ []) (sym is)) ∙ map-append commit_of (take i history) (commit ∷ []) in
+    ap (map commit_of) (take_more history i commit within ∙ ap (λ (c : SharedCommit). take i history ++ c ∷ []) (sym is)) ∙ map-append commit_of (take i history) (commit ∷ []) in
     ap₂ (λ (l : List LogEntry) (e : LogEntry). l ++ e ∷ []) log_is (ap₂ (λ (n : ℕ) (m : List ℕ). log_entry n m) count message_is) ∙ sym (log_more 1 front (commit_of commit)) ∙ ap (log_from 1) (sym step)
   where
     log_entry : ℕ → List ℕ → LogEntry
     log_entry n m = record { number = n; message = m }
 
-pub rising_at : (history : List HeldCommit) (k : ℕ) (commit : HeldCommit) → AllByRecursion (λ (c : Commit). IsRising c.tree) (map commit_of history) → k < length history → commit ≡ get_or history k commit → IsRising (map file_of commit.files.items)
+pub rising_at : (history : List SharedCommit) (k : ℕ) (commit : SharedCommit) → AllByRecursion (λ (c : Commit). IsRising c.tree) (map commit_of history) → k < length history → commit ≡ get_or history k commit → IsRising (map file_of commit.files.items)
 rising_at [] k commit all within is = absurd (omega arith)
-rising_at (first ∷ history) zero commit all within is = subst (λ (c : HeldCommit). IsRising (map file_of c.files.items)) (sym is) all.0
+rising_at (first ∷ history) zero commit all within is = subst (λ (c : SharedCommit). IsRising (map file_of c.files.items)) (sym is) all.0
 rising_at (first ∷ history) (suc k) commit all within is = rising_at history k commit all.1 (omega arith) is
 
-pub last_at : (history : List HeldCommit) (k : ℕ) (commit : HeldCommit) → k + 1 ≡ length history → commit ≡ get_or history k commit → last_tree (map commit_of history) ≡ map file_of commit.files.items
+pub last_at : (history : List SharedCommit) (k : ℕ) (commit : SharedCommit) → k + 1 ≡ length history → commit ≡ get_or history k commit → last_tree (map commit_of history) ≡ map file_of commit.files.items
 last_at [] k commit count is = absurd (omega arith)
-last_at (first ∷ []) zero commit count is = ap (λ (c : HeldCommit). map file_of c.files.items) (sym is)
+last_at (first ∷ []) zero commit count is = ap (λ (c : SharedCommit). map file_of c.files.items) (sym is)
 last_at (first ∷ []) (suc k) commit count is = absurd (omega arith)
 last_at (first ∷ second ∷ history) zero commit count is = absurd (omega arith)
 last_at (first ∷ second ∷ history) (suc k) commit count is = last_at (second ∷ history) k commit (omega arith) is
@@ -88,7 +88,7 @@ none_at (x ∷ xs) (suc k) past = none_at xs k (omega arith)
 abbrev tree_in : Commit → List File
 tree_in commit = commit.tree
 
-pub tree_there : (history : List HeldCommit) (n : ℕ) (commit : HeldCommit) (tree : List File) → (n ≡ 0 → ⊥) → n - 1 < length history → commit ≡ get_or history (n - 1) commit → tree ≡ map file_of commit.files.items
+pub tree_there : (history : List SharedCommit) (n : ℕ) (commit : SharedCommit) (tree : List File) → (n ≡ 0 → ⊥) → n - 1 < length history → commit ≡ get_or history (n - 1) commit → tree ≡ map file_of commit.files.items
     → Some tree ≡ option_map tree_in (commit_at n (map commit_of history))
 tree_there history n commit tree some within is tree_is =
     let at : n - 1 < length (map commit_of history) = omega (arith, length-map history commit_of) in
@@ -96,5 +96,5 @@ tree_there history n commit tree some within is tree_is =
     slice_get_read (map commit_of history) (length (map commit_of history)) (n - 1) (commit_of commit) refl at (ap commit_of is ∙ sym (get_or-map commit_of history (n - 1) commit)) in
     ap Some tree_is ∙ sym (ap (option_map tree_in) (read_at n (map commit_of history) some ∙ found))
 
-pub tree_absent : (history : List HeldCommit) (n : ℕ) → (n ≡ 0 → ⊥) → length history ≤ n - 1 → None ≡ option_map tree_in (commit_at n (map commit_of history))
+pub tree_absent : (history : List SharedCommit) (n : ℕ) → (n ≡ 0 → ⊥) → length history ≤ n - 1 → None ≡ option_map tree_in (commit_at n (map commit_of history))
 tree_absent history n some past = sym (ap (option_map tree_in) (read_at n (map commit_of history) some ∙ none_at (map commit_of history) (n - 1) (omega (arith, length-map history commit_of))))

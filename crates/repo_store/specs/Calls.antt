@@ -1,28 +1,9 @@
--- What a call makes of a connection: one transaction.
-use Rattle.std.specs.Prelude.{◌≡◌, false, Result, OnOk, OnErr, IsTrue}
-use Rattle.sqlite_trees.specs.declared.store.Store.{Ghosts}
-use Rattle.sqlite.specs.declared.error.Error.{Error}
-use Rattle.sqlite.specs.Effect.{Database}
-use Rattle.sqlite.specs.Held.{Held, state}
-use Rattle.sqlite.specs.State.{State, HasCleanDisk, Survives}
-use Rattle.store_tables.specs.Tables.{with_schema}
-
--- the connection is open, and shows and has committed a database with P
-pub record Commits (s : State) (P : Database → Type 0) : Type 0 where
-  pub is_open : IsTrue s.is_open
-  pub now : P s.now
-  pub committed : P s.committed
+-- What a refused call leaves of a connection.
+use Rattle.std.specs.Prelude.{◌≡◌, IsTrue}
+use Rattle.sqlite.specs.State.{State}
 
 -- where the connection is still open, it shows what was committed before
 pub record Rests (old new : State) : Type 0 where
   pub was_open : IsTrue new.is_open → IsTrue old.is_open
   pub now : IsTrue new.is_open → new.now ≡ old.committed
   pub committed : IsTrue new.is_open → new.committed ≡ old.committed
-
--- A whole call outside a transaction: from a database with Before, at `Ok` one with After is committed, and otherwise
--- the last commit stands. A crash leaves what it could leave before, or the trees of a database with After.
-pub record IsCall {S A : Type 0} (g : Ghosts S) (old new : Held S) (result : Result A Error) (Before After : Database → Type 0) : Type 0 where
-  pub outside : new.in_transaction ≡ false
-  pub done : HasCleanDisk (state g new) → (IsTrue (state g old).is_open → Before (state g old).now) → OnOk result (Commits (state g new) After)
-  pub kept : OnErr result (Rests (state g old) (state g new))
-  pub survives : (IsTrue (state g old).is_open → Before (state g old).now) → Survives (state g old) (state g new) (λ trees. After (with_schema trees))

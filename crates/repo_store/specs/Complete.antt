@@ -1,4 +1,4 @@
--- What is kept is one whole repository.
+-- What is kept is one complete repository.
 use Rattle.std.specs.Prelude.{◌≡◌, ℕ, ◌<◌, true, List, [], length, slice_index_or, MatchOption, IsPermutation}
 use Rattle.std.specs.List.{AllByRecursion}
 use Rattle.sha2.specs.Sha256.{sha256}

@@ -1,5 +1,8 @@
--- The numbers of the refusals.
+-- The refusals: the number of each, which one an error of the database is, and in which cases each comes.
 use Rattle.std.specs.Prelude.{ℕ}
+use Rattle.sqlite.specs.declared.error.Error.{Error}
+use Rattle.sqlite.specs.declared.error.Error.TheVariants.{SqliteFailure}
+use Rattle.sqlite.specs.declared.error.ErrorCode.TheVariants as code
 use Rattle.repo_store.specs.declared.fault.StoreFault.{StoreFault}
 use Rattle.repo_store.specs.declared.fault.StoreFault.TheVariants.{NotAStore, Damaged, Sql, OutOfMemory, Collision, TooLarge, TooMany}
 
@@ -11,6 +14,11 @@ number_of OutOfMemory = 4
 number_of Collision = 5
 number_of TooLarge = 6
 number_of TooMany = 7
+
+-- the refusal that an error of the database is: want of memory is its own, and every other error is handed on
+abbrev pub fault_of : Error → StoreFault
+fault_of (SqliteFailure code.OutOfMemory) = OutOfMemory
+fault_of error = Sql error
 
 -- A refusal that comes only where contents are too large, something is too many or contents collide, or where memory or
 -- the database refuses.

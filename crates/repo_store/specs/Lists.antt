@@ -1,20 +1,21 @@
--- What the lists in memory stand for.
+-- Serves private functions only, those of the modules `lists`, `files` and `trees` and of the transactions: what the lists
+-- in memory stand for.
 use Rattle.std.specs.Prelude.{List, map}
 use Rattle.hook_base.specs.declared.file.File.{File}
 use Rattle.hook_base.specs.declared.change.Change.{Change}
-use Rattle.repo_store.specs.declared.held.HeldFile.{HeldFile}
-use Rattle.repo_store.specs.declared.held.HeldFix.{HeldFix}
-use Rattle.repo_store.specs.declared.held.HeldCommit.{HeldCommit}
+use Rattle.repo_store.specs.declared.shared.SharedFile.{SharedFile}
+use Rattle.repo_store.specs.declared.shared.SharedFix.{SharedFix}
+use Rattle.repo_store.specs.declared.shared.SharedCommit.{SharedCommit}
 use Rattle.repo_store.specs.Repository.{Commit, Repository}
 
-abbrev pub file_of : HeldFile → File
-file_of held = record { path = held.path; entry = record { mode = held.mode; bytes = held.content } }
+abbrev pub file_of : SharedFile → File
+file_of shared = record { path = shared.path; entry = record { mode = shared.mode; bytes = shared.content } }
 
-abbrev pub fix_of : HeldFix → Change
-fix_of held = record { path = held.path; now = held.now }
+abbrev pub fix_of : SharedFix → Change
+fix_of shared = record { path = shared.path; now = shared.now }
 
-abbrev pub commit_of : HeldCommit → Commit
-commit_of held = record { message = held.message; tree = map file_of held.files.items }
+abbrev pub commit_of : SharedCommit → Commit
+commit_of shared = record { message = shared.message; tree = map file_of shared.files.items }
 
-abbrev pub repository_of : List HeldCommit → List HeldFile → List HeldFix → Repository
+abbrev pub repository_of : List SharedCommit → List SharedFile → List SharedFix → Repository
 repository_of history staged fixes = record { history = map commit_of history; staged = map file_of staged; fixes = map fix_of fixes }

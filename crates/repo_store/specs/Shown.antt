@@ -9,7 +9,7 @@ use Rattle.store_tables.specs.Tables.{Holds, with_schema}
 use Rattle.repo_store.specs.Complete.{IsComplete}
 use Rattle.repo_store.specs.Kept.{Kept, kept_code}
 use Rattle.repo_store.specs.Rows.{tables_of}
-use Rattle.repo_store.specs.Whole.{IsWhole}
+use Rattle.repo_store.specs.RowRules.{AreStoreRows}
 
 -- the connection, and what it keeps
 pub record Shown (S : Type 0) : Type 0 where
@@ -19,21 +19,21 @@ pub record Shown (S : Type 0) : Type 0 where
 abbrev pub shown_code : {S : Type 0} → Coded S → Coded (Shown S)
 shown_code {S} store = code_by (Held S × Kept) (coded× (held_code store) kept_code) (λ s. (s.conn, s.kept)) (λ p. record { conn = p.0; kept = p.1 }) (λ _. refl)
 
--- What is kept is one whole repository, and its rows obey the rules by which a store is opened. While the connection is
+-- What is kept is one complete repository, and its rows obey the rules by which a store is opened. While the connection is
 -- open, it stands in its tables, and is committed.
 pub record Stands {S : Type 0} (g : Ghosts S) (conn : Held S) (kept : Kept) : Type 0 where
   pub outside : conn.in_transaction ≡ false
   pub complete : IsComplete kept
-  pub whole : IsWhole (tables_of kept.repo kept.contents)
+  pub obeys : AreStoreRows (tables_of kept.repo kept.contents)
   pub now : IsTrue (state g conn).is_open → Holds (state g conn).now (tables_of kept.repo kept.contents)
   pub committed : IsTrue (state g conn).is_open → Holds (state g conn).committed (tables_of kept.repo kept.contents)
 
--- Opened again, the trees are a store that keeps this, one whole repository, in rows that obey the rules by which it is
+-- Opened again, the trees are a store that keeps this, one complete repository, in rows that obey the rules by which it is
 -- opened.
 pub record Leaves (kept : Kept) (trees : Trees) : Type 0 where
   pub holds : Holds (with_schema trees) (tables_of kept.repo kept.contents)
   pub complete : IsComplete kept
-  pub whole : IsWhole (tables_of kept.repo kept.contents)
+  pub obeys : AreStoreRows (tables_of kept.repo kept.contents)
 
 -- on a clean disk, a crash can leave nothing but this
 abbrev pub LeavesOnly : {S : Type 0} (g : Ghosts S) (conn : Held S) (kept : Kept) → Type 0

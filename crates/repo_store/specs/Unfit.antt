@@ -7,7 +7,7 @@ use Rattle.store_tables.specs.Tables.{Tables, Holds, Stored, meta_cells}
 use Rattle.repo_store.specs.declared.fault.StoreFault.{StoreFault}
 use Rattle.repo_store.specs.declared.fault.StoreFault.TheVariants.{NotAStore, Damaged, Sql, OutOfMemory, Collision, TooLarge, TooMany}
 use Rattle.repo_store.specs.Rows.{version_row}
-use Rattle.repo_store.specs.Whole.{IsVersioned, IsWhole}
+use Rattle.repo_store.specs.RowRules.{IsVersioned, AreStoreRows}
 
 -- The database has the tables of a store, but `meta` holds other rows than the one of version 1.
 pub record IsOfNoVersion (db : Database) : Type 0 where
@@ -21,7 +21,7 @@ pub record IsDamaged (db : Database) : Type 0 where
   pub tables : Tables
   pub holds : Holds db tables
   pub versioned : IsVersioned tables
-  pub broken : ¬ IsWhole tables
+  pub broken : ¬ AreStoreRows tables
 
 -- A refusal of a database: as `NotAStore` only where it hasn't exactly the tables of a store, or where they are of no
 -- version that is known, and as `Damaged` only where it holds a store whose rows break a rule. Nothing is said of when

@@ -1,16 +1,18 @@
+//! The tables when the fixes are accepted: one transaction.
+
 ghost use Rattle.std.specs.Prelude.{◌≡◌, false, map};
 ghost use Rattle.store_tables.specs.Steps.{IsStep};
 ghost use Rattle.store_tables.specs.Tables.{Tables, Holds, without_fixes};
-ghost use Rattle.repo_store.specs.Calls.{IsCall};
+ghost use Rattle.repo_store.specs.Transactions.{IsCall};
 ghost use Rattle.repo_store.specs.Lists.{file_of};
 ghost use Rattle.repo_store.specs.Rows.{staged_row, with_staged_rows};
 
-use crate::held::HeldFile;
 use crate::mode::number_of;
+use crate::shared::SharedFile;
 use sqlite::{Alter, Connection, Error, Transaction};
 use store_tables::{clear_fixes, clear_staged, put_staged};
 
-fn put_files<S: Alter>(tx: &mut Transaction<'_, S>, files: &[HeldFile]) -> Result<(), Error>
+fn put_files<S: Alter>(tx: &mut Transaction<'_, S>, files: &[SharedFile]) -> Result<(), Error>
     ensures same_reference { tx.new.conn.ghost_name ≡ tx.old.conn.ghost_name }
     ensures step { IsStep S.Store tx.old.conn.now tx.new.conn.now result (λ t. with_staged_rows (map staged_row (map file_of files.now)) t) }
 {
@@ -26,7 +28,7 @@ fn put_files<S: Alter>(tx: &mut Transaction<'_, S>, files: &[HeldFile]) -> Resul
     Ok(())
 }
 
-fn accept_in<S: Alter>(tx: &mut Transaction<'_, S>, files: &[HeldFile]) -> Result<(), Error>
+fn accept_in<S: Alter>(tx: &mut Transaction<'_, S>, files: &[SharedFile]) -> Result<(), Error>
     ensures same_reference { tx.new.conn.ghost_name ≡ tx.old.conn.ghost_name }
     ensures step { IsStep S.Store tx.old.conn.now tx.new.conn.now result (λ t. with_staged_rows (map staged_row (map file_of files.now)) (without_fixes t)) }
 {
@@ -37,7 +39,7 @@ fn accept_in<S: Alter>(tx: &mut Transaction<'_, S>, files: &[HeldFile]) -> Resul
 /// Puts these files in place of the staged ones, and forgets the fixes, in one transaction.
 pub(crate) fn accept_rows<S: Alter>(
     conn: &mut Connection<S>,
-    files: &[HeldFile],
+    files: &[SharedFile],
 ) -> Result<(), Error>
     requires { conn.old.in_transaction ≡ false }
     ensures { (t : Tables) → IsCall S.Store conn.old conn.new result (λ db. Holds db t) (λ db. Holds db (with_staged_rows (map staged_row (map file_of files.now)) (without_fixes t))) }

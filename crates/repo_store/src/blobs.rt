@@ -1,19 +1,21 @@
+//! Contents in the tables.
+
 ghost use Rattle.std.specs.Prelude.{◌≡◌, false};
 ghost use Rattle.store_tables.specs.Steps.{IsStep};
 ghost use Rattle.store_tables.specs.Tables.{Tables, Holds};
-ghost use Rattle.repo_store.specs.Calls.{IsCall};
+ghost use Rattle.repo_store.specs.Transactions.{IsCall};
 ghost use Rattle.repo_store.specs.Rows.{with_blobs};
 
 use crate::content::Content;
 use sqlite::{Alter, Connection, Error, Transaction};
-use store_tables::{put_blob, touch};
+use store_tables::{change_nothing, put_blob};
 
 /// Keeps contents that the table lacks.
 pub(crate) fn keep_in<S: Alter>(tx: &mut Transaction<'_, S>, news: &[Content]) -> Result<(), Error>
     ensures same_reference { tx.new.conn.ghost_name ≡ tx.old.conn.ghost_name }
     ensures step { IsStep S.Store tx.old.conn.now tx.new.conn.now result (λ t. with_blobs news.now t) }
 {
-    touch(tx)?;
+    change_nothing(tx)?;
     for content in news {
         put_blob(tx, content.digest(), content.as_slice())?;
     }

@@ -1,20 +1,26 @@
+//! A commit in the tables: one transaction.
+
 ghost use Rattle.std.specs.Prelude.{◌≡◌, false, map, pos};
 ghost use Rattle.store_tables.specs.Steps.{IsStep};
 ghost use Rattle.store_tables.specs.Tables.{Tables, Holds, with_commit, without_fixes};
-ghost use Rattle.repo_store.specs.Calls.{IsCall};
+ghost use Rattle.repo_store.specs.Transactions.{IsCall};
 ghost use Rattle.repo_store.specs.Lists.{file_of};
 ghost use Rattle.repo_store.specs.Rows.{entry_row, with_entries};
 
-use crate::held::{HeldCommit, HeldFile};
 use crate::mode::number_of;
+use crate::shared::{SharedCommit, SharedFile};
 use sqlite::{Alter, Connection, Error, Transaction};
-use store_tables::{clear_fixes, put_commit, put_entry, touch};
+use store_tables::{change_nothing, clear_fixes, put_commit, put_entry};
 
-fn put_files<S: Alter>(tx: &mut Transaction<'_, S>, n: u32, files: &[HeldFile]) -> Result<(), Error>
+fn put_files<S: Alter>(
+    tx: &mut Transaction<'_, S>,
+    n: u32,
+    files: &[SharedFile],
+) -> Result<(), Error>
     ensures same_reference { tx.new.conn.ghost_name ≡ tx.old.conn.ghost_name }
     ensures step { IsStep S.Store tx.old.conn.now tx.new.conn.now result (λ t. with_entries (map (entry_row n) (map file_of files.now)) t) }
 {
-    touch(tx)?;
+    change_nothing(tx)?;
     for file in files {
         put_entry(
             tx,
@@ -30,7 +36,7 @@ fn put_files<S: Alter>(tx: &mut Transaction<'_, S>, n: u32, files: &[HeldFile]) 
 fn commit_in<S: Alter>(
     tx: &mut Transaction<'_, S>,
     n: u32,
-    commit: &HeldCommit,
+    commit: &SharedCommit,
 ) -> Result<(), Error>
     ensures same_reference { tx.new.conn.ghost_name ≡ tx.old.conn.ghost_name }
     ensures step { IsStep S.Store tx.old.conn.now tx.new.conn.now result (λ t. without_fixes (with_entries (map (entry_row n) (map file_of commit.now.files.items)) (with_commit (record { n = pos n; message = commit.now.message }) t))) }
@@ -44,7 +50,7 @@ fn commit_in<S: Alter>(
 pub(crate) fn commit_rows<S: Alter>(
     conn: &mut Connection<S>,
     n: u32,
-    commit: &HeldCommit,
+    commit: &SharedCommit,
 ) -> Result<(), Error>
     requires { conn.old.in_transaction ≡ false }
     ensures { (t : Tables) → IsCall S.Store conn.old conn.new result (λ db. Holds db t) (λ db. Holds db (without_fixes (with_entries (map (entry_row n) (map file_of commit.now.files.items)) (with_commit (record { n = pos n; message = commit.now.message }) t)))) }

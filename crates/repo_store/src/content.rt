@@ -1,3 +1,5 @@
+//! Contents that are kept in memory once, with their digest.
+
 ghost use Rattle.std.specs.Prelude.{◌≡◌, IfOk};
 ghost use Rattle.sha2.specs.Sha256.{sha256};
 
@@ -9,7 +11,7 @@ use std::rc::Rc;
 
 /// Contents that each file which has them shares, with the SHA-256 of them. Contracts see the bytes.
 #[derive(Debug, Drop)]
-pub struct Content {
+pub(crate) struct Content {
     digest: [u8; 32],
     bytes: Rc<Bytes>,
 }
@@ -27,7 +29,7 @@ impl Model for Content {
 
 impl Content {
     /// The bytes themselves, whose digest is known.
-    pub fn of(alloc: Global, digest: [u8; 32], bytes: Bytes) -> Result<Content, OutOfMemory>
+    pub(crate) fn of(alloc: Global, digest: [u8; 32], bytes: Bytes) -> Result<Content, OutOfMemory>
         requires { digest ≡ sha256 bytes }
         ensures { IfOk result (λ content. content ≡ bytes) }
     {
@@ -36,7 +38,11 @@ impl Content {
     }
 
     /// A copy of the bytes, whose digest is known.
-    pub fn copy_of(alloc: Global, digest: [u8; 32], bytes: &[u8]) -> Result<Content, OutOfMemory>
+    pub(crate) fn copy_of(
+        alloc: Global,
+        digest: [u8; 32],
+        bytes: &[u8],
+    ) -> Result<Content, OutOfMemory>
         requires { digest ≡ sha256 bytes.now }
         ensures { IfOk result (λ content. content ≡ bytes.now) }
     {
@@ -44,14 +50,14 @@ impl Content {
     }
 
     /// The SHA-256 of the bytes.
-    pub fn digest(&self) -> &[u8; 32]
+    pub(crate) fn digest(&self) -> &[u8; 32]
         ensures { result.now ≡ sha256 self.now }
     {
         &self.digest
     }
 
     /// The bytes.
-    pub fn as_slice(&self) -> &[u8]
+    pub(crate) fn as_slice(&self) -> &[u8]
         ensures { result.now ≡ self.now }
     {
         self.bytes.as_ref().as_slice()

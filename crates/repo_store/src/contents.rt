@@ -1,13 +1,16 @@
+//! All contents that are kept, found by their digests.
+
 ghost use Rattle.std.specs.Prelude.{◌≡◌, ◌≢◌, ◌+◌, ◌-◌, ◌<◌, ◌≤◌, [], ◌∷◌, ◌++◌, false, length, take, drop, IfOk, IfErr, IfNone, IfSome, OnOk, OnErr};
 ghost use Rattle.std.specs.List.{Any};
 ghost use Rattle.sha2.specs.Sha256.{sha256};
 ghost use Rattle.repo_store.specs.Contents.{Collides, has_digest, with_content};
 ghost use Rattle.repo_store.specs.Faults.{IsDamage, IsRefusal};
 ghost use Rattle.repo_store.specs.Limits.{IsSmall};
-ghost use Rattle.repo_store.specs.Whole.{IsBlobRow};
+ghost use Rattle.repo_store.specs.RowRules.{IsBlobRow};
 
 use crate::StoreFault;
 use crate::content::Content;
+use crate::limits::CONTENT_LIMIT;
 use hook_base::OutOfMemory;
 use sha2::{Digest as _, Sha256};
 use sqlite::Error;
@@ -16,12 +19,9 @@ use std::collections::HashMap;
 use std::marker::Model;
 use store_tables::BlobRow;
 
-/// The most bytes that contents may have.
-pub const CONTENT_LIMIT: usize = 16_777_216;
-
 /// Contents, each kept once and found by its digest. Contracts see the list of them, the oldest first.
 #[derive(Debug, Drop)]
-pub struct Contents {
+pub(crate) struct Contents {
     items: Vec<Content>,
     places: HashMap<[u8; 32], usize>,
 }
@@ -39,7 +39,7 @@ impl Model for Contents {
 
 impl Contents {
     /// No contents.
-    pub fn new(alloc: Global) -> Contents
+    pub(crate) fn new(alloc: Global) -> Contents
         ensures { result ≡ [] }
     {
         Contents {
@@ -49,14 +49,14 @@ impl Contents {
     }
 
     /// How many there are.
-    pub fn len(&self) -> usize
+    pub(crate) fn len(&self) -> usize
         ensures { result ≡ length self.now }
     {
         self.items.len()
     }
 
     /// Those from a place on.
-    pub fn since(&self, place: usize) -> &[Content]
+    pub(crate) fn since(&self, place: usize) -> &[Content]
         requires { place ≤ length self.now }
         ensures { result.now ≡ drop place self.now }
     {
@@ -64,7 +64,7 @@ impl Contents {
     }
 
     /// Those that stand under a digest.
-    pub fn find(&self, digest: &[u8; 32]) -> Option<&Content>
+    pub(crate) fn find(&self, digest: &[u8; 32]) -> Option<&Content>
         ensures absent { IfNone result (has_digest digest.now self.now ≡ false) }
         ensures found { IfSome result (λ content. Any (λ bytes. bytes ≡ content.now) self.now) }
         ensures under { IfSome result (λ content. sha256 content.now ≡ digest.now) }
@@ -77,7 +77,7 @@ impl Contents {
     }
 
     /// Keeps contents whose digest is that of none. A refusal leaves them as they were.
-    pub fn push(&mut self, content: Content) -> Result<(), OutOfMemory>
+    pub(crate) fn push(&mut self, content: Content) -> Result<(), OutOfMemory>
         requires { has_digest (sha256 content) self.old ≡ false }
         ensures kept { OnOk result (self.new ≡ self.old ++ content ∷ []) }
         ensures refused { OnErr result (self.new ≡ self.old) }
@@ -93,7 +93,7 @@ impl Contents {
     }
 
     /// The bytes as contents, kept anew where they aren't there yet. A refusal leaves all as it was.
-    pub fn keep(&mut self, bytes: &[u8]) -> Result<Content, StoreFault>
+    pub(crate) fn keep(&mut self, bytes: &[u8]) -> Result<Content, StoreFault>
         ensures content { IfOk result (λ content. content ≡ bytes.now) }
         ensures kept { OnOk result (self.new ≡ with_content bytes.now self.old) }
         ensures same { OnErr result (self.new ≡ self.old) }
@@ -115,9 +115,9 @@ impl Contents {
     }
 
     /// Takes in contents that stand under their own digest, without a copy of the bytes.
-    pub fn admit(&mut self, row: BlobRow) -> Result<(), StoreFault>
+    pub(crate) fn admit(&mut self, row: BlobRow) -> Result<(), StoreFault>
         ensures kept { OnOk result (self.new ≡ self.old ++ row.bytes ∷ []) }
-        ensures whole { OnOk result (IsBlobRow row) }
+        ensures obeys { OnOk result (IsBlobRow row) }
         ensures broken { IfErr result (IsDamage (¬ IsBlobRow row)) }
     {
         if row.bytes.len() > CONTENT_LIMIT {
@@ -153,7 +153,7 @@ impl Contents {
     }
 
     /// Takes the last out.
-    pub fn pop(&mut self)
+    pub(crate) fn pop(&mut self)
         ensures { self.new ≡ take (length self.old - 1) self.old }
     {
         if let Some(content) = self.items.pop() {
@@ -162,7 +162,7 @@ impl Contents {
     }
 
     /// Takes those from a place on out.
-    pub fn truncate(&mut self, place: usize)
+    pub(crate) fn truncate(&mut self, place: usize)
         ensures { self.new ≡ take place self.old }
     {
         'later: while self.len() > place {
@@ -171,7 +171,7 @@ impl Contents {
     }
 }
 
-/// The contents again, if they are these bytes.
+// The contents again, if they are these bytes.
 fn shared(content: &Content, bytes: &[u8]) -> Result<Content, StoreFault>
     ensures same { IfOk result (λ made. (made ≡ bytes.now) × (content.now ≡ bytes.now)) }
     ensures differs { IfErr result (IsRefusal ⊥ ⊥ (content.now ≢ bytes.now)) }

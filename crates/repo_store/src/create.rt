@@ -1,8 +1,10 @@
+//! The tables of an empty store: one transaction.
+
 ghost use Rattle.std.specs.Prelude.{◌≡◌, [], false, IsTrue};
 ghost use Rattle.store_tables.specs.Schema.{no_schema};
 ghost use Rattle.store_tables.specs.Steps.{IsMade};
 ghost use Rattle.store_tables.specs.Tables.{IsBare, Holds};
-ghost use Rattle.repo_store.specs.Calls.{IsCall};
+ghost use Rattle.repo_store.specs.Transactions.{IsCall};
 ghost use Rattle.repo_store.specs.Repository.{empty};
 ghost use Rattle.repo_store.specs.Rows.{tables_of};
 ghost use Rattle.sqlite.specs.Held.{state};

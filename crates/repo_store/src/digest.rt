@@ -1,3 +1,5 @@
+//! What a digest is to the callers.
+
 /// The SHA-256 of contents (FIPS 180-4).
 #[derive(Clone, Copy, Debug, PartialEq, Eq)]
 pub struct Digest {

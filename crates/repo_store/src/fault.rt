@@ -1,3 +1,5 @@
+//! The refusals of the calls on a store.
+
 use sqlite::ErrorCode;
 use thiserror::Error;
 
@@ -11,8 +13,8 @@ pub enum StoreFault {
     /// The tables of the database that is opened hold what no store holds.
     #[error("the store is damaged")]
     Damaged,
-    /// The database refused; or a store is made where there are tables, indexes or views already. No contract says when
-    /// this comes.
+    /// The database refused, for another reason than want of memory; no contract says when. Or a store is made where
+    /// there are tables, indexes or views already: then it is SQL's `NameTaken`.
     #[error("{0}")]
     Sql(sqlite::Error),
     /// Memory was refused.
@@ -49,11 +51,26 @@ impl StoreFault {
     }
 }
 
-ghost use Rattle.repo_store.specs.Faults.{IsRefusal};
+impl From<sqlite::Error> for StoreFault {
+    ghost use Rattle.std.specs.Prelude.{◌≡◌};
+    ghost use Rattle.repo_store.specs.Faults.{fault_of};
 
-/// The fault that an error of the database is.
+    ghost from_gives = { λ error fault. fault ≡ fault_of error };
+
+    /// Want of memory is `OutOfMemory`, and every other error of the database is `Sql`.
+    fn from(error: sqlite::Error) -> StoreFault {
+        fault_of(error)
+    }
+}
+
+ghost use Rattle.std.specs.Prelude.{◌≡◌};
+ghost use Rattle.repo_store.specs.Faults.{IsRefusal};
+ghost use Rattle.repo_store.specs.Faults as spec;
+
+// The fault that an error of the database is.
 pub(crate) fn fault_of(error: sqlite::Error) -> StoreFault
-    ensures { IsRefusal ⊥ ⊥ ⊥ result }
+    ensures exact { result ≡ spec.fault_of error }
+    ensures why { IsRefusal ⊥ ⊥ ⊥ result }
 {
     match error {
         sqlite::Error::SqliteFailure(ErrorCode::OutOfMemory) => StoreFault::OutOfMemory,

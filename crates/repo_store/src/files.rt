@@ -1,3 +1,5 @@
+//! A tree as a list of files that share their contents: looking up, putting, taking out, applying fixes.
+
 ghost use Rattle.std.specs.Prelude.{◌≡◌, ◌↔◌, ◌<◌, ◌^◌, map, filter, not, is_some, IfOk, OnOk, MatchResult, IsTrue, vec_len, vec_capacity};
 ghost use Rattle.std.specs.Str.{IsUtf8, bytes_eq};
 ghost use Rattle.hook_base.specs.Paths.{IsRepoPath};
@@ -7,16 +9,12 @@ ghost use Rattle.hook_base.specs.Trees.{IsRising, apply_change, apply_changes, e
 ghost use Rattle.repo_store.specs.Limits.{Fits, path_bytes};
 ghost use Rattle.repo_store.specs.Lists.{file_of, fix_of};
 
-use crate::held::{HeldCommit, HeldFile, HeldFix};
+use crate::limits::{FILE_LIMIT, PATH_LIMIT};
+use crate::shared::{SharedCommit, SharedFile, SharedFix};
 use hook_base::{Bytes, OutOfMemory, RepoPath};
 
-/// The most files, and bytes of their paths, that a staged tree may have.
-const FILE_LIMIT: usize = 100_000;
-
-const PATH_LIMIT: usize = 8_388_608;
-
-/// Where a path stands in files that rise: at the file of an index, or before it.
-fn place_of(files: &[HeldFile], path: &RepoPath) -> Result<usize, usize>
+// Where a path stands in files that rise: at the file of an index, or before it.
+fn place_of(files: &[SharedFile], path: &RepoPath) -> Result<usize, usize>
     requires { IsRising (map file_of files.now) }
     ensures { MatchResult result (IsAt path.now (map file_of files.now)) (IsGap path.now (map file_of files.now)) }
 {
@@ -24,15 +22,15 @@ fn place_of(files: &[HeldFile], path: &RepoPath) -> Result<usize, usize>
 }
 
 /// Whether a path has a file.
-pub fn has_path(files: &[HeldFile], path: &RepoPath) -> bool
+pub(crate) fn has_path(files: &[SharedFile], path: &RepoPath) -> bool
     requires { IsRising (map file_of files.now) }
     ensures { result ≡ is_some (entry_of path.now (map file_of files.now)) }
 {
     place_of(files, path).is_ok()
 }
 
-/// The bytes of the paths together.
-fn count_path_bytes(files: &[HeldFile]) -> usize
+// The bytes of the paths together.
+fn count_path_bytes(files: &[SharedFile]) -> usize
     requires { path_bytes (map file_of files.now) < 2 ^ 64 }
     ensures { result ≡ path_bytes (map file_of files.now) }
 {
@@ -40,7 +38,7 @@ fn count_path_bytes(files: &[HeldFile]) -> usize
 }
 
 /// Whether the files are within the limits of a staged tree.
-pub fn fit(files: &[HeldFile]) -> bool
+pub(crate) fn fit(files: &[SharedFile]) -> bool
     ensures { IsTrue result ↔ Fits (map file_of files.now) }
 {
     if files.len() > FILE_LIMIT {
@@ -58,7 +56,7 @@ pub fn fit(files: &[HeldFile]) -> bool
 }
 
 /// Whether the files still fit when a file stands at the path too.
-pub fn may_put(files: &[HeldFile], path: &RepoPath) -> bool
+pub(crate) fn may_put(files: &[SharedFile], path: &RepoPath) -> bool
     requires rising { IsRising (map file_of files.now) }
     requires fits { Fits (map file_of files.now) }
     ensures fits { (entry : FileEntry) → IsTrue result ↔ Fits (put_file path.now entry (map file_of files.now)) }
@@ -76,7 +74,7 @@ pub fn may_put(files: &[HeldFile], path: &RepoPath) -> bool
 }
 
 /// Puts a file, for which there is room, in place of the one at its path, or adds it.
-pub fn put_file(files: &mut Vec<HeldFile>, file: HeldFile)
+pub(crate) fn put_file(files: &mut Vec<SharedFile>, file: SharedFile)
     requires rising { IsRising (map file_of files.old.items) }
     requires room { vec_len files.old < vec_capacity files.old }
     ensures { map file_of files.new.items ≡ put_row (file_of file) (map file_of files.old.items) }
@@ -90,23 +88,26 @@ pub fn put_file(files: &mut Vec<HeldFile>, file: HeldFile)
 }
 
 /// Takes the file of a path out.
-pub fn keep_others(files: &mut Vec<HeldFile>, path: &RepoPath)
+pub(crate) fn keep_others(files: &mut Vec<SharedFile>, path: &RepoPath)
     ensures { files.new.items ≡ filter (λ file. not (bytes_eq file.path path.now)) files.old.items }
 {
     files.retain(|file| file.path != *path);
 }
 
 /// A commit of these files.
-pub fn commit_with(message: &[u8], files: &Vec<HeldFile>) -> Result<HeldCommit, OutOfMemory>
+pub(crate) fn commit_with(
+    message: &[u8],
+    files: &Vec<SharedFile>,
+) -> Result<SharedCommit, OutOfMemory>
     ensures { IfOk result (λ commit. (commit.message ≡ message.now) × (map file_of commit.files.items ≡ map file_of files.now.items)) }
 {
     let message = Bytes::copy_of(*files.allocator(), message)?;
     let files = files.clone()?;
-    Ok(HeldCommit { message, files })
+    Ok(SharedCommit { message, files })
 }
 
-/// Applies a fix, where its path has a file.
-fn apply_fix(files: &mut Vec<HeldFile>, fix: &HeldFix) -> Result<(), OutOfMemory>
+// Applies a fix, where its path has a file.
+fn apply_fix(files: &mut Vec<SharedFile>, fix: &SharedFix) -> Result<(), OutOfMemory>
     requires { IsRising (map file_of files.old.items) }
     ensures { OnOk result (map file_of files.new.items ≡ apply_change (fix_of fix.entry.now) (map file_of files.old.items)) }
 {
@@ -127,7 +128,10 @@ fn apply_fix(files: &mut Vec<HeldFile>, fix: &HeldFix) -> Result<(), OutOfMemory
 }
 
 /// The files with the fixes applied.
-pub fn with_fixes(files: &Vec<HeldFile>, fixes: &[HeldFix]) -> Result<Vec<HeldFile>, OutOfMemory>
+pub(crate) fn with_fixes(
+    files: &Vec<SharedFile>,
+    fixes: &[SharedFix],
+) -> Result<Vec<SharedFile>, OutOfMemory>
     requires { IsRising (map file_of files.now.items) }
     ensures { IfOk result (λ made. map file_of made.items ≡ apply_changes (map fix_of fixes.now) (map file_of files.now.items)) }
 {

@@ -1,17 +1,19 @@
+//! The fixes in the tables: one transaction.
+
 ghost use Rattle.std.specs.Prelude.{◌≡◌, false, map};
 ghost use Rattle.store_tables.specs.Steps.{IsStep};
 ghost use Rattle.store_tables.specs.Tables.{Tables, Holds, with_fix};
-ghost use Rattle.repo_store.specs.Calls.{IsCall};
+ghost use Rattle.repo_store.specs.Transactions.{IsCall};
 ghost use Rattle.repo_store.specs.Lists.{fix_of};
 ghost use Rattle.repo_store.specs.Rows.{fix_row, with_blobs, with_fix_rows};
 
 use crate::blobs::keep_in;
 use crate::content::Content;
-use crate::held::HeldFix;
+use crate::shared::SharedFix;
 use sqlite::{Alter, Connection, Error, Transaction};
 use store_tables::{clear_fixes, put_fix};
 
-fn put_held<S: Alter>(tx: &mut Transaction<'_, S>, fix: &HeldFix) -> Result<(), Error>
+fn put_shared<S: Alter>(tx: &mut Transaction<'_, S>, fix: &SharedFix) -> Result<(), Error>
     ensures same_reference { tx.new.conn.ghost_name ≡ tx.old.conn.ghost_name }
     ensures step { IsStep S.Store tx.old.conn.now tx.new.conn.now result (with_fix (fix_row (fix_of fix.entry.now))) }
 {
@@ -24,13 +26,13 @@ fn put_held<S: Alter>(tx: &mut Transaction<'_, S>, fix: &HeldFix) -> Result<(), 
     }
 }
 
-fn put_fixes<S: Alter>(tx: &mut Transaction<'_, S>, fixes: &[HeldFix]) -> Result<(), Error>
+fn put_fixes<S: Alter>(tx: &mut Transaction<'_, S>, fixes: &[SharedFix]) -> Result<(), Error>
     ensures same_reference { tx.new.conn.ghost_name ≡ tx.old.conn.ghost_name }
     ensures step { IsStep S.Store tx.old.conn.now tx.new.conn.now result (λ t. with_fix_rows (map fix_row (map fix_of fixes.now)) t) }
 {
     clear_fixes(tx)?;
     for fix in fixes {
-        put_held(tx, fix)?;
+        put_shared(tx, fix)?;
     }
     Ok(())
 }
@@ -38,7 +40,7 @@ fn put_fixes<S: Alter>(tx: &mut Transaction<'_, S>, fixes: &[HeldFix]) -> Result
 fn set_in<S: Alter>(
     tx: &mut Transaction<'_, S>,
     news: &[Content],
-    fixes: &[HeldFix],
+    fixes: &[SharedFix],
 ) -> Result<(), Error>
     ensures same_reference { tx.new.conn.ghost_name ≡ tx.old.conn.ghost_name }
     ensures step { IsStep S.Store tx.old.conn.now tx.new.conn.now result (λ t. with_fix_rows (map fix_row (map fix_of fixes.now)) (with_blobs news.now t)) }
@@ -51,7 +53,7 @@ fn set_in<S: Alter>(
 pub(crate) fn set_rows<S: Alter>(
     conn: &mut Connection<S>,
     news: &[Content],
-    fixes: &[HeldFix],
+    fixes: &[SharedFix],
 ) -> Result<(), Error>
     requires { conn.old.in_transaction ≡ false }
     ensures { (t : Tables) → IsCall S.Store conn.old conn.new result (λ db. Holds db t) (λ db. Holds db (with_fix_rows (map fix_row (map fix_of fixes.now)) (with_blobs news.now t))) }

@@ -1,6 +1,7 @@
 //! Laws of the definitions that the contracts cite. Each is a function that gives nothing: what it ensures is a theorem
 //! over the definitions alone.
 
+ghost use Rattle.std.specs.Prelude.{◌≡◌, []};
 ghost use Rattle.sqlite.specs.Effect.{Database};
 ghost use Rattle.sqlite_trees.specs.Tree.{Trees};
 ghost use Rattle.store_tables.specs.Tables.{Holds, with_schema};
@@ -9,12 +10,16 @@ ghost use Rattle.repo_store.specs.declared.fault.StoreFault.{StoreFault};
 ghost use Rattle.repo_store.specs.declared.fault.StoreFault.TheVariants.{Damaged, NotAStore};
 ghost use Rattle.repo_store.specs.Faults.{IsRefusal};
 ghost use Rattle.repo_store.specs.Kept.{Kept};
+ghost use Rattle.repo_store.specs.Limits.{commit_limit, content_limit, file_limit, path_limit};
+ghost use Rattle.repo_store.specs.Repository.{empty};
 ghost use Rattle.repo_store.specs.Rows.{tables_of};
 ghost use Rattle.repo_store.specs.Shown.{Leaves};
 ghost use Rattle.repo_store.specs.Unfit.{IsUnfit};
-ghost use Rattle.repo_store.specs.Whole.{IsWhole};
+ghost use Rattle.repo_store.specs.RowRules.{AreStoreRows};
 
-/// A database holds one whole repository at most: if two stand in its tables, they have the same commits, staged files and
+use crate::limits::{COMMIT_LIMIT, CONTENT_LIMIT, FILE_LIMIT, PATH_LIMIT};
+
+/// A database holds one complete repository at most: if two stand in its tables, they have the same commits, staged files and
 /// fixes, and the same contents in some order. So trees that a crash leaves as a store with one of them (`trees`) are no
 /// store with another.
 pub fn a_database_holds_one_repository()
@@ -25,7 +30,20 @@ pub fn a_database_holds_one_repository()
 /// What the calls and a crash leave is a store: trees that keep a repository are neither a damaged store nor no store. So
 /// `open` refuses a database that holds one (`tables`) only where memory or the database refuses.
 pub fn what_is_left_is_a_store()
-    ensures tables { (db : Database) (kept : Kept) (fault : StoreFault) → Holds db (tables_of kept.repo kept.contents) → IsWhole (tables_of kept.repo kept.contents) → IsUnfit db fault → IsRefusal ⊥ ⊥ ⊥ fault }
+    ensures tables { (db : Database) (kept : Kept) (fault : StoreFault) → Holds db (tables_of kept.repo kept.contents) → AreStoreRows (tables_of kept.repo kept.contents) → IsUnfit db fault → IsRefusal ⊥ ⊥ ⊥ fault }
     ensures undamaged { (trees : Trees) (kept : Kept) → Leaves kept trees → ¬ IsUnfit (with_schema trees) Damaged }
     ensures versioned { (trees : Trees) (kept : Kept) → Leaves kept trees → ¬ IsUnfit (with_schema trees) NotAStore }
+{}
+
+/// Not every two stores are alike: none is like the empty one but itself.
+pub fn only_the_empty_store_is_like_it()
+    ensures { (kept : Kept) → AreAlike (record { repo = empty; contents = [] }) kept → kept ≡ record { repo = empty; contents = [] } }
+{}
+
+/// The limits of the program are those that the contracts name.
+pub fn the_limits_are_those_of_the_contracts()
+    ensures contents { CONTENT_LIMIT ≡ content_limit }
+    ensures files { FILE_LIMIT ≡ file_limit }
+    ensures paths { PATH_LIMIT ≡ path_limit }
+    ensures commits { COMMIT_LIMIT ≡ commit_limit }
 {}

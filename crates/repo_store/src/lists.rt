@@ -1,3 +1,5 @@
+//! What a store shows, in memory: its commits, staged files, fixes and contents.
+
 ghost use Rattle.std.specs.Prelude.{◌≡◌, ◌<◌, ◌≤◌, [], true, map, length, take, drop, is_some, option_map, MatchOption, IfOk, IfErr, OnOk, OnErr};
 ghost use Rattle.std.specs.Str.{IsUtf8};
 ghost use Rattle.hook_base.specs.Paths.{IsRepoPath};
@@ -12,28 +14,23 @@ ghost use Rattle.repo_store.specs.Repository.{Commit, commit_at, empty, last_tre
 ghost use Rattle.repo_store.specs.Sound.{IsSound};
 
 use crate::content::Content;
-use crate::contents::{CONTENT_LIMIT, Contents};
+use crate::contents::Contents;
 use crate::files::{commit_with, has_path, keep_others, may_put, put_file, with_fixes};
-use crate::held::{HeldCommit, HeldFile, HeldFix};
+use crate::limits::{COMMIT_LIMIT, CONTENT_LIMIT};
+use crate::shared::{SharedCommit, SharedFile, SharedFix};
 use crate::trees::{changes_of, log_of, tree_of};
 use crate::{LogEntry, StoreFault};
 use hook_base::{Change, Mode, OutOfMemory, RepoPath, Tree};
 use std::alloc::Global;
 use std::marker::Model;
 
-/// The most bytes that the message of a commit may have.
-pub const MESSAGE_LIMIT: usize = 16_777_216;
-
-/// The most commits that a store may have.
-pub const COMMIT_LIMIT: usize = 100_000;
-
 /// A repository in memory, and the contents that are kept.
 #[derive(Debug, Drop)]
-pub struct Lists {
+pub(crate) struct Lists {
     contents: Contents,
-    history: Vec<HeldCommit>,
-    staged: Vec<HeldFile>,
-    fixes: Vec<HeldFix>,
+    history: Vec<SharedCommit>,
+    staged: Vec<SharedFile>,
+    fixes: Vec<SharedFix>,
 }
 
 impl Model for Lists {
@@ -59,7 +56,7 @@ impl Model for Lists {
 }
 
 impl Lists {
-    pub fn new(alloc: Global) -> Lists
+    pub(crate) fn new(alloc: Global) -> Lists
         ensures { result.kept ≡ record { repo = empty; contents = [] } }
     {
         Lists {
@@ -71,11 +68,11 @@ impl Lists {
     }
 
     /// A repository of these lists.
-    pub fn of(
+    pub(crate) fn of(
         contents: Contents,
-        history: Vec<HeldCommit>,
-        staged: Vec<HeldFile>,
-        fixes: Vec<HeldFix>,
+        history: Vec<SharedCommit>,
+        staged: Vec<SharedFile>,
+        fixes: Vec<SharedFix>,
     ) -> Lists
         requires { IsSound (repository_of history.items staged.items fixes.items) }
         ensures { result.kept ≡ record { repo = repository_of history.items staged.items fixes.items; contents = contents } }
@@ -89,7 +86,7 @@ impl Lists {
     }
 
     /// Makes room for one more staged file and one more commit.
-    pub fn reserve(&mut self) -> Result<(), OutOfMemory>
+    pub(crate) fn reserve(&mut self) -> Result<(), OutOfMemory>
         ensures same { self.new.kept ≡ self.old.kept }
         ensures room { OnOk result (self.new.has_room ≡ true) }
     {
@@ -99,14 +96,14 @@ impl Lists {
     }
 
     /// How many contents are kept.
-    pub fn count(&self) -> usize
+    pub(crate) fn count(&self) -> usize
         ensures { result ≡ length self.now.kept.contents }
     {
         self.contents.len()
     }
 
     /// The contents from a place on.
-    pub fn since(&self, place: usize) -> &[Content]
+    pub(crate) fn since(&self, place: usize) -> &[Content]
         requires { place ≤ length self.now.kept.contents }
         ensures { result.now ≡ drop place self.now.kept.contents }
     {
@@ -114,7 +111,7 @@ impl Lists {
     }
 
     /// The bytes as contents, kept anew where they aren't there yet. A refusal leaves all as it was.
-    pub fn keep(&mut self, bytes: &[u8]) -> Result<Content, StoreFault>
+    pub(crate) fn keep(&mut self, bytes: &[u8]) -> Result<Content, StoreFault>
         ensures content { IfOk result (λ content. content ≡ bytes.now) }
         ensures kept { OnOk result (self.new ≡ record self.old { kept = keeping bytes.now self.old.kept }) }
         ensures same { OnErr result (self.new ≡ self.old) }
@@ -126,25 +123,25 @@ impl Lists {
     }
 
     /// Forgets the contents from a place on.
-    pub fn forget_since(&mut self, place: usize)
+    pub(crate) fn forget_since(&mut self, place: usize)
         ensures { self.new ≡ record self.old { kept = record self.old.kept { contents = take place self.old.kept.contents } } }
     {
         self.contents.truncate(place);
     }
 
     /// A file that may be staged, with room for it, whose contents are kept. A refusal leaves all as it was.
-    pub fn prepare(
+    pub(crate) fn prepare(
         &mut self,
         path: &RepoPath,
         mode: Mode,
         bytes: &[u8],
-    ) -> Result<HeldFile, StoreFault>
+    ) -> Result<SharedFile, StoreFault>
         ensures file { IfOk result (λ file. file_of file ≡ record { path = path.now; entry = record { mode = mode; bytes = bytes.now } }) }
         ensures kept { OnOk result (self.new.kept ≡ keeping bytes.now self.old.kept) }
         ensures room { OnOk result (self.new.has_room ≡ true) }
         ensures within { OnOk result (IsSmall bytes.now × Fits (put_file path.now (record { mode = mode; bytes = bytes.now }) self.old.kept.repo.staged)) }
         ensures same { OnErr result (self.new.kept ≡ self.old.kept) }
-        ensures why { IfErr result (IsRefusal (¬ IsSmall bytes.now) (¬ Fits (put_file path.now (record { mode = mode; bytes = bytes.now }) self.old.kept.repo.staged)) (Collides bytes.now self.old.kept.contents)) }
+        ensures why { IfErr result (IsRefusal (¬ IsSmall bytes.now) (IsSmall bytes.now × (¬ Fits (put_file path.now (record { mode = mode; bytes = bytes.now }) self.old.kept.repo.staged))) (Fits (put_file path.now (record { mode = mode; bytes = bytes.now }) self.old.kept.repo.staged) × Collides bytes.now self.old.kept.contents)) }
         ensures apart { OnOk result (¬ Collides bytes.now self.old.kept.contents) }
         ensures rising { IsRising self.old.kept.repo.staged }
         ensures path { IsRepoPath path.now }
@@ -165,7 +162,7 @@ impl Lists {
             return Err(StoreFault::OutOfMemory);
         }
         match self.keep(bytes) {
-            Ok(content) => Ok(HeldFile {
+            Ok(content) => Ok(SharedFile {
                 path,
                 mode,
                 content,
@@ -175,7 +172,7 @@ impl Lists {
     }
 
     /// Stages a file, for which there is room, and forgets the fixes.
-    pub fn stage(&mut self, file: HeldFile)
+    pub(crate) fn stage(&mut self, file: SharedFile)
         requires room { self.old.has_room ≡ true }
         requires fits { Fits (put_file file.path (record { mode = file.mode; bytes = file.content }) self.old.kept.repo.staged) }
         ensures { self.new.kept ≡ record self.old.kept { repo = with_staged file.path (record { mode = file.mode; bytes = file.content }) self.old.kept.repo } }
@@ -185,21 +182,21 @@ impl Lists {
     }
 
     /// How many commits there are.
-    pub fn commits(&self) -> u32
+    pub(crate) fn commits(&self) -> u32
         ensures { result ≡ length self.now.kept.repo.history }
     {
         self.history.len() as u32
     }
 
     /// The next commit, of the staged files, with room for it. A refusal leaves all as it was.
-    pub fn prepare_commit(&mut self, message: &[u8]) -> Result<HeldCommit, StoreFault>
+    pub(crate) fn prepare_commit(&mut self, message: &[u8]) -> Result<SharedCommit, StoreFault>
         ensures commit { IfOk result (λ commit. commit_of commit ≡ record { message = message.now; tree = self.old.kept.repo.staged }) }
         ensures room { OnOk result (self.new.has_room ≡ true) }
         ensures within { OnOk result (IsSmall message.now × (length self.old.kept.repo.history < commit_limit)) }
         ensures same { self.new.kept ≡ self.old.kept }
-        ensures why { IfErr result (IsRefusal (¬ IsSmall message.now) (commit_limit ≤ length self.old.kept.repo.history) ⊥) }
+        ensures why { IfErr result (IsRefusal (¬ IsSmall message.now) (IsSmall message.now × (commit_limit ≤ length self.old.kept.repo.history)) ⊥) }
     {
-        if message.len() > MESSAGE_LIMIT {
+        if message.len() > CONTENT_LIMIT {
             return Err(StoreFault::TooLarge);
         }
         if self.history.len() >= COMMIT_LIMIT {
@@ -215,7 +212,7 @@ impl Lists {
     }
 
     /// Adds the next commit, for which there is room, and forgets the fixes.
-    pub fn commit(&mut self, commit: HeldCommit)
+    pub(crate) fn commit(&mut self, commit: SharedCommit)
         requires next { commit_of commit ≡ record { message = commit.message; tree = self.old.kept.repo.staged } }
         requires room { self.old.has_room ≡ true }
         requires few { length self.old.kept.repo.history < commit_limit }
@@ -225,8 +222,8 @@ impl Lists {
         self.fixes.clear();
     }
 
-    /// A fix, whose contents are kept. A refusal leaves all as it was.
-    fn hold(&mut self, change: &Change) -> Result<HeldFix, StoreFault>
+    // A fix, whose contents are kept. A refusal leaves all as it was.
+    fn share_fix(&mut self, change: &Change) -> Result<SharedFix, StoreFault>
         ensures fix { IfOk result (λ fix. fix_of fix ≡ change.entry.now) }
         ensures kept { OnOk result (self.new.kept ≡ record self.old.kept { contents = with_new change.entry.now.now self.old.kept.contents }) }
         ensures same { OnErr result (self.new.kept ≡ self.old.kept) }
@@ -238,9 +235,9 @@ impl Lists {
             return Err(StoreFault::OutOfMemory);
         };
         match &change.now {
-            None => Ok(HeldFix { path, now: None }),
+            None => Ok(SharedFix { path, now: None }),
             Some(bytes) => match self.keep(bytes.as_slice()) {
-                Ok(content) => Ok(HeldFix {
+                Ok(content) => Ok(SharedFix {
                     path,
                     now: Some(content),
                 }),
@@ -249,15 +246,15 @@ impl Lists {
         }
     }
 
-    /// Whether a path is staged.
+    // Whether a path is staged.
     fn is_staged(&self, path: &RepoPath) -> bool
         ensures { result ≡ is_some (entry_of path.now self.now.kept.repo.staged) }
     {
         has_path(self.staged.as_slice(), path)
     }
 
-    /// The changes of staged files, whose contents are kept; at a refusal those of some of them are.
-    fn hold_fixes(&mut self, changes: &[Change]) -> Result<Vec<HeldFix>, StoreFault>
+    // The changes of staged files, whose contents are kept; at a refusal those of some of them are.
+    fn share_fixes(&mut self, changes: &[Change]) -> Result<Vec<SharedFix>, StoreFault>
         ensures fixes { IfOk result (λ fixes. map fix_of fixes.items ≡ staged_changes changes.now self.old.kept.repo.staged) }
         ensures kept { OnOk result (self.new.kept.contents ≡ with_changes (staged_changes changes.now self.old.kept.repo.staged) self.old.kept.contents) }
         ensures sound { IsSound self.old.kept.repo }
@@ -270,7 +267,7 @@ impl Lists {
         let mut fixes = Vec::new(*self.staged.allocator());
         'changes: for change in changes {
             if self.is_staged(&change.path) {
-                match self.hold(change) {
+                match self.share_fix(change) {
                     Ok(fix) => {
                         if fixes.push(fix).is_err() {
                             return Err(StoreFault::OutOfMemory);
@@ -284,7 +281,7 @@ impl Lists {
     }
 
     /// The changes of staged files, whose contents are kept. A refusal leaves all as it was.
-    pub fn prepare_fixes(&mut self, changes: &[Change]) -> Result<Vec<HeldFix>, StoreFault>
+    pub(crate) fn prepare_fixes(&mut self, changes: &[Change]) -> Result<Vec<SharedFix>, StoreFault>
         requires { IsRisingChanges changes.now }
         ensures fixes { IfOk result (λ fixes. map fix_of fixes.items ≡ staged_changes changes.now self.old.kept.repo.staged) }
         ensures rising { IfOk result (λ fixes. IsRisingChanges (map fix_of fixes.items)) }
@@ -296,7 +293,7 @@ impl Lists {
         ensures why { IfErr result (IsRefusal (HasLarge (staged_changes changes.now self.old.kept.repo.staged)) ⊥ (FixCollides (staged_changes changes.now self.old.kept.repo.staged) self.old.kept.contents)) }
     {
         let before = self.count();
-        match self.hold_fixes(changes) {
+        match self.share_fixes(changes) {
             Ok(fixes) => Ok(fixes),
             Err(fault) => {
                 self.forget_since(before);
@@ -306,7 +303,7 @@ impl Lists {
     }
 
     /// Sets the fixes.
-    pub fn set_fixes(&mut self, fixes: Vec<HeldFix>)
+    pub(crate) fn set_fixes(&mut self, fixes: Vec<SharedFix>)
         requires rising { IsRisingChanges (map fix_of fixes.items) }
         requires few { length (map fix_of fixes.items) ≤ file_limit }
         ensures { self.new.kept ≡ record self.old.kept { repo = record self.old.kept.repo { fixes = map fix_of fixes.items } } }
@@ -315,14 +312,14 @@ impl Lists {
     }
 
     /// The staged files, in memory of their own.
-    pub fn staged(&self) -> Result<Tree, OutOfMemory>
+    pub(crate) fn staged(&self) -> Result<Tree, OutOfMemory>
         ensures { IfOk result (λ tree. tree ≡ self.now.kept.repo.staged) }
     {
         tree_of(*self.staged.allocator(), self.staged.as_slice())
     }
 
     /// The files of the last commit, and none where there is no commit, in memory of their own.
-    pub fn head(&self) -> Result<Tree, OutOfMemory>
+    pub(crate) fn head(&self) -> Result<Tree, OutOfMemory>
         ensures { IfOk result (λ tree. tree ≡ last_tree self.now.kept.repo.history) }
     {
         match self.history.as_slice() {
@@ -332,21 +329,21 @@ impl Lists {
     }
 
     /// The fixes, in memory of their own.
-    pub fn fixes(&self) -> Result<Vec<Change>, OutOfMemory>
+    pub(crate) fn fixes(&self) -> Result<Vec<Change>, OutOfMemory>
         ensures { IfOk result (λ fixes. fixes.items ≡ self.now.kept.repo.fixes) }
     {
         changes_of(*self.staged.allocator(), self.fixes.as_slice())
     }
 
     /// The commits with their numbers, the oldest first.
-    pub fn log(&self) -> Result<Vec<LogEntry>, OutOfMemory>
+    pub(crate) fn log(&self) -> Result<Vec<LogEntry>, OutOfMemory>
         ensures { IfOk result (λ log. log.items ≡ log_from 1 self.now.kept.repo.history) }
     {
         log_of(*self.staged.allocator(), self.history.as_slice())
     }
 
     /// The files of a commit, or none where there is no commit of this number.
-    pub fn tree_of(&self, number: u32) -> Result<Option<Tree>, OutOfMemory>
+    pub(crate) fn tree_of(&self, number: u32) -> Result<Option<Tree>, OutOfMemory>
         ensures { IfOk result (λ tree. tree ≡ option_map (λ (commit : Commit). commit.tree) (commit_at number self.now.kept.repo.history)) }
     {
         if number == 0 {
@@ -362,21 +359,21 @@ impl Lists {
     }
 
     /// How many fixes there are.
-    pub fn count_fixes(&self) -> u32
+    pub(crate) fn count_fixes(&self) -> u32
         ensures { result ≡ length self.now.kept.repo.fixes }
     {
         self.fixes.len() as u32
     }
 
     /// The staged files with the fixes applied.
-    pub fn prepare_accept(&self) -> Result<Vec<HeldFile>, OutOfMemory>
+    pub(crate) fn prepare_accept(&self) -> Result<Vec<SharedFile>, OutOfMemory>
         ensures { IfOk result (λ files. map file_of files.items ≡ apply_changes self.now.kept.repo.fixes self.now.kept.repo.staged) }
     {
         with_fixes(&self.staged, self.fixes.as_slice())
     }
 
     /// Stages the files with the fixes applied, and forgets the fixes.
-    pub fn accept(&mut self, files: Vec<HeldFile>)
+    pub(crate) fn accept(&mut self, files: Vec<SharedFile>)
         requires { map file_of files.items ≡ apply_changes self.old.kept.repo.fixes self.old.kept.repo.staged }
         ensures { self.new.kept ≡ accepting self.old.kept }
     {
@@ -385,7 +382,7 @@ impl Lists {
     }
 
     /// Takes a path out of the staged files, and forgets the fixes.
-    pub fn unstage(&mut self, path: &RepoPath)
+    pub(crate) fn unstage(&mut self, path: &RepoPath)
         ensures { self.new.kept ≡ unstaging path.now self.old.kept }
     {
         keep_others(&mut self.staged, path);

@@ -1,3 +1,5 @@
+//! A commit as the log shows it.
+
 use hook_base::Bytes;
 
 /// A commit in the log: its number, from 1 on, and its message.

@@ -1,21 +1,23 @@
+//! A staged file in the tables: one transaction.
+
 ghost use Rattle.std.specs.Prelude.{◌≡◌, false};
 ghost use Rattle.store_tables.specs.Steps.{IsStep};
 ghost use Rattle.store_tables.specs.Tables.{Tables, Holds, with_staged, without_staged, without_fixes};
-ghost use Rattle.repo_store.specs.Calls.{IsCall};
+ghost use Rattle.repo_store.specs.Transactions.{IsCall};
 ghost use Rattle.repo_store.specs.Lists.{file_of};
 ghost use Rattle.repo_store.specs.Rows.{with_blobs, staged_row};
 
 use crate::blobs::keep_in;
 use crate::content::Content;
-use crate::held::HeldFile;
 use crate::mode::number_of;
+use crate::shared::SharedFile;
 use sqlite::{Alter, Connection, Error, Transaction};
 use store_tables::{clear_fixes, put_staged, take_staged};
 
 fn stage_in<S: Alter>(
     tx: &mut Transaction<'_, S>,
     news: &[Content],
-    file: &HeldFile,
+    file: &SharedFile,
 ) -> Result<(), Error>
     ensures same_reference { tx.new.conn.ghost_name ≡ tx.old.conn.ghost_name }
     ensures step { IsStep S.Store tx.old.conn.now tx.new.conn.now result (λ t. with_staged (staged_row (file_of file.now)) (without_staged file.now.path (without_fixes (with_blobs news.now t)))) }
@@ -35,7 +37,7 @@ fn stage_in<S: Alter>(
 pub(crate) fn stage_rows<S: Alter>(
     conn: &mut Connection<S>,
     news: &[Content],
-    file: &HeldFile,
+    file: &SharedFile,
 ) -> Result<(), Error>
     requires { conn.old.in_transaction ≡ false }
     ensures { (t : Tables) → IsCall S.Store conn.old conn.new result (λ db. Holds db t) (λ db. Holds db (with_staged (staged_row (file_of file.now)) (without_staged file.now.path (without_fixes (with_blobs news.now t))))) }

@@ -1,3 +1,5 @@
+//! The calls on a store. Each prepares in memory what can be refused there, then changes the tables, then the memory.
+
 ghost use Rattle.std.specs.Prelude.{◌≡◌, ◌≢◌, ◌+◌, ◌<◌, ◌≤◌, [], false, length, option_map, IfOk, IfErr, OnOk, MatchResult, IsTrue};
 ghost use Rattle.sha2.specs.Sha256.{sha256};
 ghost use Rattle.hook_base.specs.Paths.{message_path};
@@ -7,7 +9,7 @@ ghost use Rattle.sqlite.specs.Held.{state};
 ghost use Rattle.sqlite.specs.State.{HasCleanDisk, Survives};
 ghost use Rattle.store_tables.specs.Tables.{Holds};
 ghost use Rattle.repo_store.specs.Calls.{Rests};
-ghost use Rattle.repo_store.specs.Changes.{Changes};
+ghost use Rattle.repo_store.specs.AllOrNothing.{IsAllOrNothing};
 ghost use Rattle.repo_store.specs.Complete.{AreAlike};
 ghost use Rattle.repo_store.specs.Contents.{Collides};
 ghost use Rattle.repo_store.specs.Faults.{IsRefusal};
@@ -26,7 +28,7 @@ use crate::create::{has_no_tables, make};
 use crate::fault::fault_of;
 use crate::fixes::set_rows;
 use crate::lists::Lists;
-use crate::load::{has_tables, load};
+use crate::opening::{has_tables, read_store};
 use crate::stage::stage_rows;
 use crate::unstage::unstage_rows;
 use crate::{Digest, LogEntry, StoreFault};
@@ -36,7 +38,7 @@ use std::alloc::Global;
 use std::marker::Model;
 
 /// A repository in a database: its commits, the staged files and the fixes. Each call that changes it is one transaction:
-/// it is done whole or not at all, whatever stops it. `StoreFault` says what a refused one leaves in the tables. The calls
+/// it is done as a whole or not at all, whatever stops it. `StoreFault` says what a refused one leaves in the tables. The calls
 /// that read are answered from memory.
 #[derive(Drop)]
 pub struct Store<S: Alter> {
@@ -58,7 +60,7 @@ impl<S: Alter> Model for Store<S> {
 
 impl<S: Alter> Store<S> {
     /// Makes an empty store in a database that has no tables. A database that has tables, indexes or views is refused as
-    /// `Sql` and given back as it was. Any refusal gives the connection back, with the tables as before where it is still
+    /// `Sql`, as SQL's `NameTaken`, and given back as it was. Any refusal gives the connection back, with the tables as before where it is still
     /// open. The connection must be outside a transaction.
     pub fn create(
         alloc: Global,
@@ -67,7 +69,7 @@ impl<S: Alter> Store<S> {
         requires { conn.in_transaction ≡ false }
         ensures made { IfOk result (λ store. store.kept ≡ record { repo = empty; contents = [] }) }
         ensures stands { IfOk result (λ store. Stands S.Store store.conn store.kept) }
-        ensures occupied { IsTrue (state S.Store conn).is_open → (state S.Store conn).now.schema ≢ no_schema → MatchResult result (λ _. ⊥) (λ e. e.1 ≡ conn) }
+        ensures occupied { IsTrue (state S.Store conn).is_open → (state S.Store conn).now.schema ≢ no_schema → MatchResult result (λ _. ⊥) (λ e. (e.0 ≡ StoreFault.Sql (Error.SqliteFailure ErrorCode.NameTaken)) × (e.1 ≡ conn)) }
         ensures was_bare { IfOk result (λ _. IsTrue (state S.Store conn).is_open → (state S.Store conn).now.schema ≡ no_schema) }
         ensures why { IfErr result (λ e. IsRefusal ⊥ ⊥ ⊥ e.0) }
         ensures refused { IfErr result (λ e. Rests (state S.Store conn) (state S.Store e.1)) }
@@ -112,23 +114,23 @@ impl<S: Alter> Store<S> {
         if !has_tables(&conn) {
             return Err((StoreFault::NotAStore, conn));
         }
-        match load(alloc, &mut conn) {
+        match read_store(alloc, &mut conn) {
             Ok(lists) => Ok(Store { conn, lists }),
             Err(fault) => Err((fault, conn)),
         }
     }
 
     /// Stages a file, in place of the one at its path, and forgets the fixes. The path must not be that of the commit's
-    /// message. Refused are contents of more than 16 MiB (`TooLarge`), a staged tree of more than 100,000 files or 8 MiB
-    /// of paths (`TooMany`), and contents whose digest is that of others (`Collision`); a refusal leaves what the store
-    /// shows as it was.
+    /// message. Refused are, in this order, contents of more than 16 MiB (`TooLarge`), a staged tree of more than 100,000
+    /// files or 8 MiB of paths (`TooMany`), and contents whose digest is that of others (`Collision`); a refusal leaves
+    /// what the store shows as it was.
     pub fn stage(&mut self, path: &RepoPath, mode: Mode, bytes: &[u8]) -> Result<(), StoreFault>
         requires { path.now ≢ message_path }
-        ensures change { Changes self.old.kept self.new.kept result (staging path.now (record { mode = mode; bytes = bytes.now }) self.old.kept) }
+        ensures change { IsAllOrNothing self.old.kept self.new.kept result (staging path.now (record { mode = mode; bytes = bytes.now }) self.old.kept) }
         ensures transaction { IsOneTransaction S.Store self.old self.new result (staging path.now (record { mode = mode; bytes = bytes.now }) self.old.kept) }
         ensures within { OnOk result (IsSmall bytes.now × Fits (put_file path.now (record { mode = mode; bytes = bytes.now }) self.old.kept.repo.staged)) }
         ensures apart { OnOk result (¬ Collides bytes.now self.old.kept.contents) }
-        ensures why { IfErr result (IsRefusal (¬ IsSmall bytes.now) (¬ Fits (put_file path.now (record { mode = mode; bytes = bytes.now }) self.old.kept.repo.staged)) (Collides bytes.now self.old.kept.contents)) }
+        ensures why { IfErr result (IsRefusal (¬ IsSmall bytes.now) (IsSmall bytes.now × (¬ Fits (put_file path.now (record { mode = mode; bytes = bytes.now }) self.old.kept.repo.staged))) (Fits (put_file path.now (record { mode = mode; bytes = bytes.now }) self.old.kept.repo.staged) × Collides bytes.now self.old.kept.contents)) }
     {
         let before = self.lists.count();
         let file = match self.lists.prepare(path, mode, bytes) {
@@ -146,7 +148,7 @@ impl<S: Alter> Store<S> {
     /// Takes a path out of the staged files, if it is there, and forgets the fixes. A refusal leaves what the store shows
     /// as it was.
     pub fn unstage(&mut self, path: &RepoPath) -> Result<(), StoreFault>
-        ensures change { Changes self.old.kept self.new.kept result (unstaging path.now self.old.kept) }
+        ensures change { IsAllOrNothing self.old.kept self.new.kept result (unstaging path.now self.old.kept) }
         ensures transaction { IsOneTransaction S.Store self.old self.new result (unstaging path.now self.old.kept) }
         ensures why { IfErr result (IsRefusal ⊥ ⊥ ⊥) }
     {
@@ -162,7 +164,7 @@ impl<S: Alter> Store<S> {
     /// others (`Collision`); a refusal leaves what the store shows as it was.
     pub fn set_fixes(&mut self, changes: &[Change]) -> Result<(), StoreFault>
         requires { IsRisingChanges changes.now }
-        ensures change { Changes self.old.kept self.new.kept result (setting changes.now self.old.kept) }
+        ensures change { IsAllOrNothing self.old.kept self.new.kept result (setting changes.now self.old.kept) }
         ensures transaction { IsOneTransaction S.Store self.old self.new result (setting changes.now self.old.kept) }
         ensures within { OnOk result (¬ HasLarge (staged_changes changes.now self.old.kept.repo.staged)) }
         ensures apart { OnOk result (¬ FixCollides (staged_changes changes.now self.old.kept.repo.staged) self.old.kept.contents) }
@@ -184,7 +186,7 @@ impl<S: Alter> Store<S> {
     /// Applies the fixes to the staged files, forgets them, and answers how many there were. A refusal leaves what the
     /// store shows as it was.
     pub fn accept(&mut self) -> Result<u32, StoreFault>
-        ensures change { Changes self.old.kept self.new.kept result (accepting self.old.kept) }
+        ensures change { IsAllOrNothing self.old.kept self.new.kept result (accepting self.old.kept) }
         ensures transaction { IsOneTransaction S.Store self.old self.new result (accepting self.old.kept) }
         ensures number { IfOk result (λ n. n ≡ length self.old.kept.repo.fixes) }
         ensures why { IfErr result (IsRefusal ⊥ ⊥ ⊥) }
@@ -202,14 +204,14 @@ impl<S: Alter> Store<S> {
     }
 
     /// Adds a commit of the staged files, forgets the fixes, and answers the commit's number, from 1 on. Refused are a
-    /// message of more than 16 MiB (`TooLarge`) and more than 100,000 commits (`TooMany`); a refusal leaves what the
+    /// message of more than 16 MiB (`TooLarge`), and else more than 100,000 commits (`TooMany`); a refusal leaves what the
     /// store shows as it was.
     pub fn commit(&mut self, message: &[u8]) -> Result<u32, StoreFault>
-        ensures change { Changes self.old.kept self.new.kept result (committing message.now self.old.kept) }
+        ensures change { IsAllOrNothing self.old.kept self.new.kept result (committing message.now self.old.kept) }
         ensures transaction { IsOneTransaction S.Store self.old self.new result (committing message.now self.old.kept) }
         ensures number { IfOk result (λ n. n ≡ length self.old.kept.repo.history + 1) }
         ensures within { OnOk result (IsSmall message.now × (length self.old.kept.repo.history < commit_limit)) }
-        ensures why { IfErr result (IsRefusal (¬ IsSmall message.now) (commit_limit ≤ length self.old.kept.repo.history) ⊥) }
+        ensures why { IfErr result (IsRefusal (¬ IsSmall message.now) (IsSmall message.now × (commit_limit ≤ length self.old.kept.repo.history)) ⊥) }
     {
         let commit = match self.lists.prepare_commit(message) {
             Ok(commit) => commit,
@@ -226,7 +228,7 @@ impl<S: Alter> Store<S> {
     /// Keeps contents, and answers their digest. Refused are contents of more than 16 MiB (`TooLarge`), and those whose
     /// digest is that of others (`Collision`); a refusal leaves what the store shows as it was.
     pub fn blob_put(&mut self, bytes: &[u8]) -> Result<Digest, StoreFault>
-        ensures change { Changes self.old.kept self.new.kept result (keeping bytes.now self.old.kept) }
+        ensures change { IsAllOrNothing self.old.kept self.new.kept result (keeping bytes.now self.old.kept) }
         ensures transaction { IsOneTransaction S.Store self.old self.new result (keeping bytes.now self.old.kept) }
         ensures digest { IfOk result (λ digest. digest.bytes ≡ sha256 bytes.now) }
         ensures within { OnOk result (IsSmall bytes.now) }

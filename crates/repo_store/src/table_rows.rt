@@ -1,6 +1,8 @@
+//! All rows of a store, as they are read.
+
 ghost use Rattle.std.specs.Prelude.{◌≡◌};
-ghost use Rattle.repo_store.specs.Loaded.{AreShown};
-ghost use Rattle.repo_store.specs.Opens.{AreRead};
+ghost use Rattle.repo_store.specs.FromRows.{AreShown};
+ghost use Rattle.repo_store.specs.Opening.{AreRead};
 
 use sqlite::{Alter, Error, Transaction};
 use std::alloc::Global;
@@ -12,12 +14,12 @@ use store_tables::{
 /// The rows of all tables but `meta`.
 #[derive(Debug, Drop)]
 pub(crate) struct StoreRows {
-    pub blobs: Vec<BlobRow>,
-    pub staged: Vec<StagedRow>,
-    pub fixes: Vec<FixRow>,
-    pub commits: Vec<CommitRow>,
-    pub entries: Vec<EntryRow>,
-    pub answers: Vec<AnswerRow>,
+    pub(crate) blobs: Vec<BlobRow>,
+    pub(crate) staged: Vec<StagedRow>,
+    pub(crate) fixes: Vec<FixRow>,
+    pub(crate) commits: Vec<CommitRow>,
+    pub(crate) entries: Vec<EntryRow>,
+    pub(crate) answers: Vec<AnswerRow>,
 }
 
 /// Reads all tables but `meta`.

@@ -1,4 +1,5 @@
 mod contents;
+mod faults;
 mod fixes;
 mod kept;
 mod planted;

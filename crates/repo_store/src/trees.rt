@@ -1,3 +1,5 @@
+//! Trees, changes and the log in memory of their own, for the callers.
+
 ghost use Rattle.std.specs.Prelude.{◌≡◌, ◌≤◌, length, map, IfOk};
 ghost use Rattle.hook_base.specs.Trees.{IsRising};
 ghost use Rattle.repo_store.specs.Limits.{commit_limit};
@@ -5,11 +7,11 @@ ghost use Rattle.repo_store.specs.Lists.{commit_of, file_of, fix_of};
 ghost use Rattle.repo_store.specs.Log.{log_from};
 
 use crate::LogEntry;
-use crate::held::{HeldCommit, HeldFile, HeldFix};
+use crate::shared::{SharedCommit, SharedFile, SharedFix};
 use hook_base::{Bytes, Change, FileEntry, OutOfMemory, Tree};
 use std::alloc::Global;
 
-fn entry_of(file: &HeldFile, alloc: Global) -> Result<FileEntry, OutOfMemory>
+fn entry_of(file: &SharedFile, alloc: Global) -> Result<FileEntry, OutOfMemory>
     ensures { IfOk result (λ entry. entry ≡ (file_of file.entry.now).entry) }
 {
     let bytes = Bytes::copy_of(alloc, file.content.as_slice())?;
@@ -20,7 +22,7 @@ fn entry_of(file: &HeldFile, alloc: Global) -> Result<FileEntry, OutOfMemory>
 }
 
 /// The files as a tree of their own.
-pub fn tree_of(alloc: Global, files: &[HeldFile]) -> Result<Tree, OutOfMemory>
+pub(crate) fn tree_of(alloc: Global, files: &[SharedFile]) -> Result<Tree, OutOfMemory>
     requires { IsRising (map file_of files.now) }
     ensures { IfOk result (λ tree. tree ≡ map file_of files.now) }
 {
@@ -31,7 +33,7 @@ pub fn tree_of(alloc: Global, files: &[HeldFile]) -> Result<Tree, OutOfMemory>
     Ok(tree)
 }
 
-fn change_of(alloc: Global, fix: &HeldFix) -> Result<Change, OutOfMemory>
+fn change_of(alloc: Global, fix: &SharedFix) -> Result<Change, OutOfMemory>
     ensures { IfOk result (λ change. change ≡ fix_of fix.entry.now) }
 {
     let path = fix.path.clone()?;
@@ -43,7 +45,7 @@ fn change_of(alloc: Global, fix: &HeldFix) -> Result<Change, OutOfMemory>
 }
 
 /// The fixes as changes of their own.
-pub fn changes_of(alloc: Global, fixes: &[HeldFix]) -> Result<Vec<Change>, OutOfMemory>
+pub(crate) fn changes_of(alloc: Global, fixes: &[SharedFix]) -> Result<Vec<Change>, OutOfMemory>
     ensures { IfOk result (λ changes. changes.items ≡ map fix_of fixes.now) }
 {
     let mut changes = Vec::new(alloc);
@@ -54,7 +56,7 @@ pub fn changes_of(alloc: Global, fixes: &[HeldFix]) -> Result<Vec<Change>, OutOf
 }
 
 /// The log of the commits, which are numbered from 1 on.
-pub fn log_of(alloc: Global, history: &[HeldCommit]) -> Result<Vec<LogEntry>, OutOfMemory>
+pub(crate) fn log_of(alloc: Global, history: &[SharedCommit]) -> Result<Vec<LogEntry>, OutOfMemory>
     requires { length history.now ≤ commit_limit }
     ensures { IfOk result (λ log. log.items ≡ log_from 1 (map commit_of history.now)) }
 {

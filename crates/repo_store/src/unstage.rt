@@ -1,7 +1,9 @@
+//! A path taken out of the staged files in the tables: one transaction.
+
 ghost use Rattle.std.specs.Prelude.{◌≡◌, false};
 ghost use Rattle.store_tables.specs.Steps.{IsStep};
 ghost use Rattle.store_tables.specs.Tables.{Tables, Holds, without_staged, without_fixes};
-ghost use Rattle.repo_store.specs.Calls.{IsCall};
+ghost use Rattle.repo_store.specs.Transactions.{IsCall};
 
 use hook_base::RepoPath;
 use sqlite::{Alter, Connection, Error, Transaction};

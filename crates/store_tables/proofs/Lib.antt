@@ -1,5 +1,6 @@
 pub mod ColumnLemmas
 pub mod Compiles
+pub mod EmptyStatementLemmas
 pub mod MakeLemmas
 pub mod QueryLemmas
 pub mod ReadLemmas
@@ -8,5 +9,4 @@ pub mod RowLemmas
 pub mod StagedLemmas
 pub mod StepLemmas
 pub mod TableLemmas
-pub mod TouchLemmas
 pub mod WriteLemmas

@@ -1,4 +1,4 @@
--- Numbers of which none comes twice.
+-- Serves private functions only, those of the module `rowids`: numbers of which none comes twice.
 use Rattle.std.specs.Prelude.{◌≡◌, ◌≢◌, ℤ, List, Option, None, Some}
 use Rattle.std.specs.Ordering.{int_cmp}
 use Rattle.std.specs.declared.cmp.Ordering.TheVariants.{Less}

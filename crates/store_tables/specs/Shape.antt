@@ -1,4 +1,4 @@
--- Parts of what a table of a store is.
+-- Serves private functions only, those of the module `schema`: parts of what a table of a store is.
 use Rattle.std.specs.Prelude.{◌≡◌, ℕ, false, List, [], map, Option}
 use Rattle.sqlite_value.specs.Keys.{plain}
 use Rattle.sqlite_schema.specs.declared.schema.Table.{Table}

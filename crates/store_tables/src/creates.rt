@@ -1,3 +1,5 @@
+//! One statement for each table, and all of them in the order in which the tables refer to one another.
+
 ghost use Rattle.std.specs.Prelude.{◌≡◌};
 ghost use Rattle.store_tables.specs.Schema.{no_schema};
 ghost use Rattle.store_tables.specs.Steps.{IsMade};

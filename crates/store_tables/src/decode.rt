@@ -1,3 +1,5 @@
+//! Each row of a table from the columns that a query shows of it.
+
 use crate::columns::{FromColumns, blob_at, blob_if_any, has_columns, number_at, text_at};
 use crate::rows::{AnswerRow, BlobRow, CommitRow, EntryRow, FixRow, MetaRow, StagedRow};
 use sqlite::{Error, Row};

@@ -1,13 +1,12 @@
 //! The tables of a store, and each statement on them: `make_tables`, the functions that put rows in and take them out
 //! inside a transaction, and those that read a table back. Contracts cite `specs/Schema` (the tables as SQL has them),
 //! `specs/Tables` (the rows that a database holds, as lists) and `specs/Steps` (what a statement in a transaction
-//! leaves, also after a crash).
+//! leaves, also after a crash). `specs/Rowids` and `specs/Shape` serve private functions only.
 #![tactic(auto)]
 
 mod columns;
 mod creates;
 mod decode;
-mod empty;
 mod reads;
 mod rowids;
 mod rows;
@@ -17,13 +16,12 @@ mod tests;
 mod writes;
 
 pub use creates::make_tables;
-pub use empty::{clear_staged, touch};
 pub use reads::{
     read_answers, read_blobs, read_commits, read_entries, read_fixes, read_meta, read_staged,
 };
 pub use rows::{AnswerRow, BlobRow, CommitRow, EntryRow, FixRow, MetaRow, StagedRow};
 pub use schema::has_store_tables;
 pub use writes::{
-    clear_answers, clear_fixes, put_answer, put_blob, put_commit, put_entry, put_fix, put_meta,
-    put_staged, take_staged,
+    change_nothing, clear_answers, clear_fixes, clear_staged, put_answer, put_blob, put_commit,
+    put_entry, put_fix, put_meta, put_staged, take_staged,
 };

@@ -1,3 +1,5 @@
+//! The rowids that a query shows, and whether each is another.
+
 ghost use Rattle.std.specs.Prelude.{◌≡◌, map, IfOk, IsTrue};
 ghost use Rattle.sqlite_value.specs.declared.value.Value.TheVariants.{Int};
 ghost use Rattle.sqlite_value.specs.Order.{column};

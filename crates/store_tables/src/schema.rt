@@ -1,3 +1,5 @@
+//! Whether a database has the tables of a store and no others: its schema is compared part by part.
+
 ghost use Rattle.std.specs.Prelude.{◌≡◌, ◌↔◌, ◌+◌, ◌∷◌, [], ◌<◌, ◌^◌, None, Some, true, false, drop, IsTrue};
 ghost use Rattle.sqlite_value.specs.Keys.{plain};
 ghost use Rattle.sqlite.specs.Effect.{IsDatabase};
@@ -13,7 +15,7 @@ use sqlite_schema::schema::{Action, Column, Index, Kind, Reference, Stamps, Tabl
 use sqlite_value::keys::{Collation, Order};
 use sqlite_value::value::Value;
 
-/// Whether this is the column of these words in a STRICT table.
+// Whether this is the column of these words in a STRICT table.
 fn is_column(column: &Column, name: &str, kind: Kind, not_null: bool) -> bool
     ensures { IsTrue result ↔ (column.now ≡ column_of name.now kind not_null) }
 {
@@ -25,7 +27,7 @@ fn is_column(column: &Column, name: &str, kind: Kind, not_null: bool) -> bool
         && column.collation == Collation::Binary
 }
 
-/// Whether this refers to the primary key of a table, and refuses to be broken.
+// Whether this refers to the primary key of a table, and refuses to be broken.
 fn is_reference(reference: &Reference, place: usize, parent: &str) -> bool
     ensures { IsTrue result ↔ (reference.now ≡ refers_to place parent.now) }
 {
@@ -49,7 +51,7 @@ fn has_no_stamps(stamps: &Stamps) -> bool
     stamps.places.is_empty() && has_no_terms(&stamps.terms) && stamps.formats.is_empty()
 }
 
-/// Whether a table has this name and tree, and no rules but its columns, keys and references.
+// Whether a table has this name and tree, and no rules but its columns, keys and references.
 fn is_plain(table: &Table, name: &str, tree: u32) -> bool
     ensures { IsTrue result ↔ IsPlain table.now name.now tree }
 {
@@ -91,7 +93,7 @@ fn is_only_order(orders: &[Order]) -> bool
     }
 }
 
-/// Whether the primary key of a table is these places, with an index of its own.
+// Whether the primary key of a table is these places, with an index of its own.
 fn has_index_key(table: &Table, places: &[usize]) -> bool
     ensures { IsTrue result ↔ IsKeyed table.now None places.now (places.now ∷ []) }
 {
@@ -101,7 +103,7 @@ fn has_index_key(table: &Table, places: &[usize]) -> bool
         && is_only_order(table.orders.as_slice())
 }
 
-/// Whether the primary key of a table is its first column, which is the rowid.
+// Whether the primary key of a table is its first column, which is the rowid.
 fn has_rowid_key(table: &Table) -> bool
     ensures { IsTrue result ↔ IsKeyed table.now (Some 0) (0 ∷ []) [] }
 {
@@ -203,7 +205,7 @@ fn is_entries(table: &Table) -> bool
     }
 }
 
-/// Whether the first four columns of a table refer to contents.
+// Whether the first four columns of a table refer to contents.
 fn are_four_digests(references: &[Reference]) -> bool
     ensures { IsTrue result ↔ (references.now ≡ spec.answers.references) }
 {
@@ -242,7 +244,7 @@ fn is_answers(table: &Table) -> bool
         && are_four_digests(table.references.as_slice())
 }
 
-/// Whether this is the index of a primary key.
+// Whether this is the index of a primary key.
 fn is_key_index(index: &Index, name: &str, table: u32, columns: &[usize]) -> bool
     requires { table < 2 ^ 31 }
     ensures { IsTrue result ↔ (index.now ≡ record { name = name.now; tree = table + 1; table = table; columns = columns.now; order = plain; is_unique = true }) }

@@ -1,6 +1,9 @@
+//! One statement for each change of a table. Each is done at `Ok`; at an error, which is the database's own, it isn't
+//! done, or the whole transaction is rolled back. Nothing is committed.
+
 ghost use Rattle.std.specs.Prelude.{◌≡◌, pos};
 ghost use Rattle.store_tables.specs.Steps.{IsStep};
-ghost use Rattle.store_tables.specs.Tables.{with_meta, with_blob, with_staged, without_staged, with_fix, fix_row, without_fixes, with_commit, with_entry, with_answer, without_answers};
+ghost use Rattle.store_tables.specs.Tables.{with_meta, with_blob, with_staged, without_staged, without_all_staged, with_fix, fix_row, without_fixes, with_commit, with_entry, with_answer, without_answers};
 
 use sqlite::{Alter, Error, Transaction, params};
 
@@ -127,6 +130,15 @@ pub fn take_staged<S: Alter>(tx: &mut Transaction<'_, S>, path: &str) -> Result<
     Ok(())
 }
 
+/// Takes out all staged files.
+pub fn clear_staged<S: Alter>(tx: &mut Transaction<'_, S>) -> Result<(), Error>
+    ensures same_reference { tx.new.conn.ghost_name ≡ tx.old.conn.ghost_name }
+    ensures step { IsStep S.Store tx.old.conn.now tx.new.conn.now result without_all_staged }
+{
+    tx.execute("DELETE FROM staged", &[])?;
+    Ok(())
+}
+
 /// Takes out all fixes.
 pub fn clear_fixes<S: Alter>(tx: &mut Transaction<'_, S>) -> Result<(), Error>
     ensures same_reference { tx.new.conn.ghost_name ≡ tx.old.conn.ghost_name }
@@ -142,5 +154,14 @@ pub fn clear_answers<S: Alter>(tx: &mut Transaction<'_, S>) -> Result<(), Error>
     ensures step { IsStep S.Store tx.old.conn.now tx.new.conn.now result (without_answers) }
 {
     tx.execute("DELETE FROM answers", &[])?;
+    Ok(())
+}
+
+/// Runs an empty statement, which changes nothing. Only a database that is open answers `Ok`.
+pub fn change_nothing<S: Alter>(tx: &mut Transaction<'_, S>) -> Result<(), Error>
+    ensures same_reference { tx.new.conn.ghost_name ≡ tx.old.conn.ghost_name }
+    ensures step { IsStep S.Store tx.old.conn.now tx.new.conn.now result (λ t. t) }
+{
+    tx.execute("", &[])?;
     Ok(())
 }

@@ -8,7 +8,7 @@ use crate::stop::Stop;
 use crate::tables::{Counts, insert_contents, read_tables};
 use hook_base::Change;
 use repo_store::{Store, StoreFault};
-use sqlite::{Alter, Connection, Error, ErrorCode, File, FileStore};
+use sqlite::{Alter, Connection, Error, File, FileStore};
 use std::alloc::Global;
 
 /// The store that is open, if one is, and the fixes that wait.
@@ -52,7 +52,7 @@ impl Place {
         }
         let begun = match Connection::open(rt, name) {
             Ok(conn) => begun_in(alloc, conn, is_new).map_err(|(fault, _conn)| fault),
-            Err(error) => Err(fault_of(error)),
+            Err(error) => Err(StoreFault::from(error)),
         };
         match begun {
             Ok(store) => {
@@ -94,21 +94,14 @@ pub(crate) fn begun_in<S: Alter + Drop>(
     }
 }
 
-pub(crate) fn fault_of(error: Error) -> StoreFault {
-    match error {
-        Error::SqliteFailure(ErrorCode::OutOfMemory) => StoreFault::OutOfMemory,
-        other => StoreFault::Sql(other),
-    }
-}
-
 fn closed(alloc: Global, conn: Connection<FileStore<File>>) -> Result<Answer, Stop> {
-    answered(alloc, conn.close().map_err(fault_of))
+    answered(alloc, conn.close().map_err(|error| StoreFault::from(error)))
 }
 
 fn connect(rt: &HostRuntime, name: &str) -> Result<Answer, Stop> {
     match Connection::open(rt, name) {
         Ok(conn) => closed(rt.alloc(), conn),
-        Err(error) => Answer::refused(rt.alloc(), &fault_of(error)),
+        Err(error) => Answer::refused(rt.alloc(), &StoreFault::from(error)),
     }
 }
 
@@ -131,7 +124,7 @@ pub(crate) fn counted(alloc: Global, read: Result<Counts, Error>) -> Result<Answ
             answer.show(alloc, counts.strays)?;
             Ok(answer)
         }
-        Err(error) => Answer::refused(alloc, &fault_of(error)),
+        Err(error) => Answer::refused(alloc, &StoreFault::from(error)),
     }
 }
 
@@ -142,5 +135,5 @@ fn insert_alone(rt: &HostRuntime, name: &str, size: u32) -> Result<Answer, Stop>
         Ok(mut conn) => insert_contents(&mut conn, bytes.as_slice()),
         Err(error) => Err(error),
     };
-    answered(alloc, inserted.map_err(fault_of))
+    answered(alloc, inserted.map_err(|error| StoreFault::from(error)))
 }

@@ -4,11 +4,11 @@
 use crate::answer::Answer;
 use crate::calls::play_call;
 use crate::command::{Call, Command};
-use crate::place::{begun_in, counted, fault_of};
+use crate::place::{begun_in, counted};
 use crate::stop::Stop;
 use crate::tables::read_tables;
 use hook_base::Change;
-use repo_store::Store;
+use repo_store::{Store, StoreFault};
 use sqlite::{Connection, Error, FileStore, Files, Options};
 use sqlite_disk::{Crash, Fuse, Memory};
 use std::alloc::Global;
@@ -63,7 +63,7 @@ impl StoppingPlace {
     fn begin(&mut self, alloc: Global, is_new: bool) -> Result<Answer, Stop> {
         match self.connect(alloc)? {
             Ok(conn) => self.begin_in(alloc, conn, is_new),
-            Err(error) => Answer::refused(alloc, &fault_of(error)),
+            Err(error) => Answer::refused(alloc, &StoreFault::from(error)),
         }
     }
 
@@ -92,7 +92,7 @@ impl StoppingPlace {
                 self.files = Some(conn.into_store().close());
                 counted(alloc, read)
             }
-            Err(error) => Answer::refused(alloc, &fault_of(error)),
+            Err(error) => Answer::refused(alloc, &StoreFault::from(error)),
         }
     }
 

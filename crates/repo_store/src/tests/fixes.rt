@@ -10,10 +10,10 @@ use std::alloc::Global;
 use std::process::Abort;
 use std::test::Fail;
 
-/// What a store keeps as a fix: a path, and the new contents where the file isn't gone.
+// What a store keeps as a fix: a path, and the new contents where the file isn't gone.
 struct KeptFix(&'static str, Option<&'static [u8]>);
 
-/// Calls on a store that has `a.txt` staged, and the fixes that it has then.
+// Calls on a store that has `a.txt` staged, and the fixes that it has then.
 struct Case(&'static [Step], &'static [KeptFix]);
 
 const CASES: &[Case] = &[

@@ -44,7 +44,7 @@ pub fn store_over<S: Alter + Drop>(alloc: Global, conn: Connection<S>) -> Result
     }
 }
 
-/// The files of each commit, the oldest first.
+// The files of each commit, the oldest first.
 fn trees_of<S: Alter>(alloc: Global, store: &Store<S>) -> Result<Vec<Option<Tree>>, Fail> {
     let mut trees = Vec::new(alloc);
     for commit in store.log()?.as_slice() {

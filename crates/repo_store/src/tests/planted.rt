@@ -22,7 +22,7 @@ const FILLING: &[Step] = &[
     Fix("a.txt", b"2"),
 ];
 
-/// A connection to the store that `plants` speaks of, and what is seen of it.
+// A connection to the store that `plants` speaks of, and what is seen of it.
 fn filled(alloc: Global) -> Result<(Connection<MemStore>, String), Fail> {
     let mut store = new_store(alloc)?;
     for step in FILLING {
@@ -52,7 +52,7 @@ fn other_rows<S: Alter>(alloc: Global, tx: &mut Transaction<'_, S>) -> Result<St
     Ok(format!(in alloc; "{staged:?} {fixes:?} {entries:?} {answers:?}")?)
 }
 
-/// The rows of all tables, as a text.
+// The rows of all tables, as a text.
 fn rows_of<S: Alter>(alloc: Global, conn: &mut Connection<S>) -> Result<String, Fail> {
     if !conn.is_autocommit() {
         return Err(Fail::from("in a transaction"));
@@ -63,7 +63,7 @@ fn rows_of<S: Alter>(alloc: Global, conn: &mut Connection<S>) -> Result<String, 
     Ok(format!(in alloc; "{some} {others}")?)
 }
 
-/// The connection that `open` gives back with the refusal of this number.
+// The connection that `open` gives back with the refusal of this number.
 fn refused<S: Alter + Drop>(
     rt: &impl Abort,
     alloc: Global,

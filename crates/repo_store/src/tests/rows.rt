@@ -1,6 +1,6 @@
 //! Rows that the references between the tables keep out of a file: handed to the reader by themselves, they are damage.
 
-use crate::loaded::lists_of;
+use crate::from_rows::lists_of;
 use crate::table_rows::StoreRows;
 use hook_base::Bytes;
 use sha2::{Digest as _, Sha256};
@@ -33,7 +33,7 @@ fn staged(alloc: Global, content: &[u8]) -> Result<StagedRow, Fail> {
     })
 }
 
-/// The rows of a store with the contents `1`, a commit and these.
+// The rows of a store with the contents `1`, a commit and these.
 fn rows_with(alloc: Global, staged: StagedRow, entry: EntryRow) -> Result<StoreRows, Fail> {
     let mut rows = StoreRows {
         blobs: Vec::new(alloc),
@@ -56,7 +56,7 @@ fn rows_with(alloc: Global, staged: StagedRow, entry: EntryRow) -> Result<StoreR
     Ok(rows)
 }
 
-/// The number of the refusal of rows, or 0.
+// The number of the refusal of rows, or 0.
 fn fault_of(alloc: Global, staged: StagedRow, entry: EntryRow) -> Result<u8, Fail> {
     match lists_of(alloc, rows_with(alloc, staged, entry)?) {
         Ok(_lists) => Ok(0),

@@ -12,7 +12,7 @@ use std::alloc::Global;
 use std::process::Abort;
 use std::test::Fail;
 
-/// A call and what it answers.
+// A call and what it answers.
 struct Played(Step, Answer);
 
 const STORY: &[Played] = &[
@@ -25,7 +25,7 @@ const STORY: &[Played] = &[
     Played(Unstage("a.txt"), Done(0)),
 ];
 
-/// A second commit, of no files, and then one more file.
+// A second commit, of no files, and then one more file.
 const MORE: &[Played] = &[
     Played(Commit(b"n\n"), Done(2)),
     Played(Stage("tools/run", Executable, b"#!/bin/sh\n"), Done(0)),
@@ -45,7 +45,7 @@ fn play_all<S: Alter>(
     Ok(())
 }
 
-/// A tree has a file of this mode and these bytes.
+// A tree has a file of this mode and these bytes.
 fn has(
     rt: &impl Abort,
     alloc: Global,

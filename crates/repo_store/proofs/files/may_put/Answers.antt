@@ -1,6 +1,7 @@
 use Rattle.std.proofs.Common.{◌+◌, length, map, refl, arith}
 use borrow.Author.Tests.{ltb-true}
 use Rattle.std.proofs.lemmas.List.{length-map}
+use Rattle.repo_store.specs.Limits.{file_limit}
 use Rattle.repo_store.specs.Lists.{file_of}
 use Rattle.repo_store.proofs.PlaceLemmas.{fits_at, fits_gap, full_gap}
 use Rattle.repo_store.proofs.files.may_put.Goals as goal
@@ -15,6 +16,6 @@ returns-then-files-lt-FILE_LIMIT-clause-fits c entry =
 
 pub returns-else-files-lt-FILE_LIMIT-clause-fits : goal.returns-else-files-lt-FILE_LIMIT-clause-fits
 returns-else-files-lt-FILE_LIMIT-clause-fits c entry = (
-  λ few. let room = ltb-true (length c.args.files.now) 100000 few in absurd (omega arith),
+  λ few. let room = ltb-true (length c.args.files.now) file_limit few in absurd (omega arith),
   λ fits. absurd (full_gap (record { path = c.args.path.now; entry = entry }) (map file_of c.args.files.now) c.in-Err.field-0 c.in-Err.ensures (omega (arith, length-map c.args.files.now file_of)) fits),
 )

@@ -1,5 +1,5 @@
 use Rattle.std.proofs.lemmas.Result.{err_from_is_err_and}
-use Rattle.repo_store.specs.Loaded.{AreShown}
+use Rattle.repo_store.specs.FromRows.{AreShown}
 use Rattle.repo_store.proofs.ReadingLemmas.{first_read, next_read, read_stops, first_stops, read_ends}
 use Rattle.repo_store.proofs.table_rows.read_rows.Goals as goal
 

@@ -2,11 +2,11 @@ use Rattle.std.proofs.Common.{◌≡◌, Ok, Err, map, refl, ap, subst, ◌∙�
 use Rattle.hook_base.specs.Trees.{apply_changes}
 use Rattle.repo_store.specs.Kept.{accepting}
 use Rattle.repo_store.specs.Lists.{file_of}
-use Rattle.repo_store.specs.Changes.{Changes}
+use Rattle.repo_store.specs.AllOrNothing.{IsAllOrNothing}
 use Rattle.repo_store.specs.Shown.{Shown, IsOneTransaction}
 use Rattle.repo_store.proofs.KeptLemmas.{accepting_handed}
 use Rattle.repo_store.proofs.CompleteLemmas.{complete_accepted}
-use Rattle.repo_store.proofs.RuleLemmas.{whole_accepted}
+use Rattle.repo_store.proofs.RuleLemmas.{obeys_accepted}
 use Rattle.repo_store.proofs.StandLemmas.{tables_in, refused_stands, done_stands, refused_transaction, done_transaction}
 use Rattle.repo_store.proofs.store.Store.accept.Goals as goal
 
@@ -17,14 +17,14 @@ invariant_of-self g c =
     let files : map file_of c.as_slice.result.now ≡ apply_changes kept.repo.fixes kept.repo.staged = ap (map file_of) c.as_slice.ensures.value ∙ c.in-Ok.ensures in
     let same = accepting_handed (map file_of c.as_slice.result.now) kept files in
     let complete = complete_accepted kept c.self.invariant.complete in
-    let whole = whole_accepted kept c.self.invariant.whole complete in
-    refused_stands g.S.Store c.self.inside.conn new kept (accepting kept) _ c.self.invariant same (g.met.S.Store.shut_if_dirty new.store) complete whole
+    let obeys = obeys_accepted kept c.self.invariant.obeys complete in
+    refused_stands g.S.Store c.self.inside.conn new kept (accepting kept) _ c.self.invariant same (g.met.S.Store.shut_if_dirty new.store) complete obeys
     kept refl c.in-Err-accept_rows.error (c.in-Err-accept_rows.ensures (tables_in kept))
 
 pub returns-in-Err-accept_rows-clause-change : goal.returns-in-Err-accept_rows-clause-change
 returns-in-Err-accept_rows-clause-change g c =
     let kept = c.self.inside.lists.kept in
-    subst (λ (s : Shown g.row.S.Denot). Changes s.kept kept (Err c.fault_of.result) (accepting s.kept)) c.self.view_is (record { done = tt; same = refl })
+    subst (λ (s : Shown g.row.S.Denot). IsAllOrNothing s.kept kept (Err c.fault_of.result) (accepting s.kept)) c.self.view_is (record { done = tt; same = refl })
 
 pub returns-in-Err-accept_rows-clause-transaction : goal.returns-in-Err-accept_rows-clause-transaction
 returns-in-Err-accept_rows-clause-transaction g c =
@@ -33,9 +33,9 @@ returns-in-Err-accept_rows-clause-transaction g c =
     let files : map file_of c.as_slice.result.now ≡ apply_changes kept.repo.fixes kept.repo.staged = ap (map file_of) c.as_slice.ensures.value ∙ c.in-Ok.ensures in
     let same = accepting_handed (map file_of c.as_slice.result.now) kept files in
     let complete = complete_accepted kept c.self.invariant.complete in
-    let whole = whole_accepted kept c.self.invariant.whole complete in
+    let obeys = obeys_accepted kept c.self.invariant.obeys complete in
     subst (λ (s : Shown g.row.S.Denot). IsOneTransaction g.S.Store s (record { conn = new; kept = kept }) (Err c.fault_of.result) (accepting s.kept)) c.self.view_is
-    (refused_transaction g.S.Store c.self.inside.conn new kept (accepting kept) _ c.self.invariant same (g.met.S.Store.shut_if_dirty new.store) complete whole
+    (refused_transaction g.S.Store c.self.inside.conn new kept (accepting kept) _ c.self.invariant same (g.met.S.Store.shut_if_dirty new.store) complete obeys
     kept refl c.in-Err-accept_rows.error (c.in-Err-accept_rows.ensures (tables_in kept)) c.fault_of.result)
 
 pub invariant_of-self-2 : goal.invariant_of-self-2
@@ -45,13 +45,13 @@ invariant_of-self-2 g c =
     let files : map file_of c.as_slice.result.now ≡ apply_changes kept.repo.fixes kept.repo.staged = ap (map file_of) c.as_slice.ensures.value ∙ c.in-Ok.ensures in
     let same = accepting_handed (map file_of c.as_slice.result.now) kept files in
     let complete = complete_accepted kept c.self.invariant.complete in
-    let whole = whole_accepted kept c.self.invariant.whole complete in
-    done_stands g.S.Store c.self.inside.conn new kept (accepting kept) _ c.self.invariant same (g.met.S.Store.shut_if_dirty new.store) complete whole
+    let obeys = obeys_accepted kept c.self.invariant.obeys complete in
+    done_stands g.S.Store c.self.inside.conn new kept (accepting kept) _ c.self.invariant same (g.met.S.Store.shut_if_dirty new.store) complete obeys
     c.accept.new.self.kept c.accept.ensures c.in_default.field-0 (c.in_default.ensures (tables_in kept))
 
 pub returns-clause-change : goal.returns-clause-change
 returns-clause-change g c =
-    subst (λ (s : Shown g.row.S.Denot). Changes s.kept c.accept.new.self.kept (Ok c.count_fixes-number.result) (accepting s.kept)) c.self.view_is (record { done = c.accept.ensures; same = tt })
+    subst (λ (s : Shown g.row.S.Denot). IsAllOrNothing s.kept c.accept.new.self.kept (Ok c.count_fixes-number.result) (accepting s.kept)) c.self.view_is (record { done = c.accept.ensures; same = tt })
 
 pub returns-clause-transaction : goal.returns-clause-transaction
 returns-clause-transaction g c =
@@ -60,7 +60,7 @@ returns-clause-transaction g c =
     let files : map file_of c.as_slice.result.now ≡ apply_changes kept.repo.fixes kept.repo.staged = ap (map file_of) c.as_slice.ensures.value ∙ c.in-Ok.ensures in
     let same = accepting_handed (map file_of c.as_slice.result.now) kept files in
     let complete = complete_accepted kept c.self.invariant.complete in
-    let whole = whole_accepted kept c.self.invariant.whole complete in
+    let obeys = obeys_accepted kept c.self.invariant.obeys complete in
     subst (λ (s : Shown g.row.S.Denot). IsOneTransaction g.S.Store s (record { conn = new; kept = c.accept.new.self.kept }) (Ok c.count_fixes-number.result) (accepting s.kept)) c.self.view_is
-    (done_transaction g.S.Store c.self.inside.conn new kept (accepting kept) _ c.self.invariant same (g.met.S.Store.shut_if_dirty new.store) complete whole
+    (done_transaction g.S.Store c.self.inside.conn new kept (accepting kept) _ c.self.invariant same (g.met.S.Store.shut_if_dirty new.store) complete obeys
     (g.met.S.Store.settled new.store) c.accept.new.self.kept c.accept.ensures c.in_default.field-0 (c.in_default.ensures (tables_in kept)) c.count_fixes-number.result)

@@ -2,11 +2,11 @@ use Rattle.std.proofs.Common.{◌≡◌, ℕ, ◌+◌, List, Ok, Err, length, ma
 use Rattle.repo_store.specs.Kept.{Kept, committing}
 use Rattle.repo_store.specs.Lists.{file_of}
 use Rattle.repo_store.specs.Repository.{Commit}
-use Rattle.repo_store.specs.Changes.{Changes}
+use Rattle.repo_store.specs.AllOrNothing.{IsAllOrNothing}
 use Rattle.repo_store.specs.Shown.{Shown, IsOneTransaction}
 use Rattle.repo_store.proofs.KeptLemmas.{committing_handed}
 use Rattle.repo_store.proofs.CompleteLemmas.{complete_committed}
-use Rattle.repo_store.proofs.RuleLemmas.{whole_committed}
+use Rattle.repo_store.proofs.RuleLemmas.{obeys_committed}
 use Rattle.repo_store.proofs.StandLemmas.{tables_in, refused_stands, done_stands, refused_transaction, done_transaction}
 use Rattle.repo_store.proofs.store.Store.commit.Goals as goal
 
@@ -19,14 +19,14 @@ invariant_of-self-in-Err-commit_rows g c =
     let same = committing_handed c.args.message.now c.in-Ok.commit.message (c.commits-number.result + 1) (map file_of c.in-Ok.commit.files.items) kept
     (ap (λ (commit : Commit). commit.message) prepared.commit) count (ap (λ (commit : Commit). commit.tree) prepared.commit) in
     let complete = complete_committed c.args.message.now kept c.self.invariant.complete prepared.within.1 in
-    let whole = whole_committed kept c.self.invariant.whole c.args.message.now prepared.within.0 complete in
-    refused_stands g.S.Store c.self.inside.conn new kept (committing c.args.message.now kept) _ c.self.invariant same (g.met.S.Store.shut_if_dirty new.store) complete whole
+    let obeys = obeys_committed kept c.self.invariant.obeys c.args.message.now prepared.within.0 complete in
+    refused_stands g.S.Store c.self.inside.conn new kept (committing c.args.message.now kept) _ c.self.invariant same (g.met.S.Store.shut_if_dirty new.store) complete obeys
     c.prepare_commit.new.self.kept prepared.same c.in-Err-commit_rows.error (c.in-Err-commit_rows.ensures (tables_in kept))
 
 pub returns-in-Err-commit_rows-clause-change : goal.returns-in-Err-commit_rows-clause-change
 returns-in-Err-commit_rows-clause-change g c =
     let prepared = c.in-Ok.ensures in
-    subst (λ (s : Shown g.row.S.Denot). Changes s.kept c.prepare_commit.new.self.kept (Err c.fault_of.result) (committing c.args.message.now s.kept)) c.self.view_is (record { done = tt; same = prepared.same })
+    subst (λ (s : Shown g.row.S.Denot). IsAllOrNothing s.kept c.prepare_commit.new.self.kept (Err c.fault_of.result) (committing c.args.message.now s.kept)) c.self.view_is (record { done = tt; same = prepared.same })
 
 pub returns-in-Err-commit_rows-clause-transaction : goal.returns-in-Err-commit_rows-clause-transaction
 returns-in-Err-commit_rows-clause-transaction g c =
@@ -37,9 +37,9 @@ returns-in-Err-commit_rows-clause-transaction g c =
     let same = committing_handed c.args.message.now c.in-Ok.commit.message (c.commits-number.result + 1) (map file_of c.in-Ok.commit.files.items) kept
     (ap (λ (commit : Commit). commit.message) prepared.commit) count (ap (λ (commit : Commit). commit.tree) prepared.commit) in
     let complete = complete_committed c.args.message.now kept c.self.invariant.complete prepared.within.1 in
-    let whole = whole_committed kept c.self.invariant.whole c.args.message.now prepared.within.0 complete in
+    let obeys = obeys_committed kept c.self.invariant.obeys c.args.message.now prepared.within.0 complete in
     subst (λ (s : Shown g.row.S.Denot). IsOneTransaction g.S.Store s (record { conn = new; kept = c.prepare_commit.new.self.kept }) (Err c.fault_of.result) (committing c.args.message.now s.kept)) c.self.view_is
-    (refused_transaction g.S.Store c.self.inside.conn new kept (committing c.args.message.now kept) _ c.self.invariant same (g.met.S.Store.shut_if_dirty new.store) complete whole
+    (refused_transaction g.S.Store c.self.inside.conn new kept (committing c.args.message.now kept) _ c.self.invariant same (g.met.S.Store.shut_if_dirty new.store) complete obeys
     c.prepare_commit.new.self.kept prepared.same c.in-Err-commit_rows.error (c.in-Err-commit_rows.ensures (tables_in kept)) c.fault_of.result)
 
 pub invariant_of-self-2 : goal.invariant_of-self-2
@@ -52,15 +52,15 @@ invariant_of-self-2 g c =
     (ap (λ (commit : Commit). commit.message) prepared.commit) count (ap (λ (commit : Commit). commit.tree) prepared.commit) in
     let now = c.commit.ensures ∙ ap₂ (λ (m : List ℕ) (k : Kept). committing m k) (ap (λ (commit : Commit). commit.message) prepared.commit) prepared.same in
     let complete = complete_committed c.args.message.now kept c.self.invariant.complete prepared.within.1 in
-    let whole = whole_committed kept c.self.invariant.whole c.args.message.now prepared.within.0 complete in
-    done_stands g.S.Store c.self.inside.conn new kept (committing c.args.message.now kept) _ c.self.invariant same (g.met.S.Store.shut_if_dirty new.store) complete whole
+    let obeys = obeys_committed kept c.self.invariant.obeys c.args.message.now prepared.within.0 complete in
+    done_stands g.S.Store c.self.inside.conn new kept (committing c.args.message.now kept) _ c.self.invariant same (g.met.S.Store.shut_if_dirty new.store) complete obeys
     c.commit.new.self.kept now c.in_default.field-0 (c.in_default.ensures (tables_in kept))
 
 pub returns-clause-change : goal.returns-clause-change
 returns-clause-change g c =
     let prepared = c.in-Ok.ensures in
     let now = c.commit.ensures ∙ ap₂ (λ (m : List ℕ) (k : Kept). committing m k) (ap (λ (commit : Commit). commit.message) prepared.commit) prepared.same in
-    subst (λ (s : Shown g.row.S.Denot). Changes s.kept c.commit.new.self.kept (Ok (c.commits-number.result + 1)) (committing c.args.message.now s.kept)) c.self.view_is (record { done = now; same = tt })
+    subst (λ (s : Shown g.row.S.Denot). IsAllOrNothing s.kept c.commit.new.self.kept (Ok (c.commits-number.result + 1)) (committing c.args.message.now s.kept)) c.self.view_is (record { done = now; same = tt })
 
 pub returns-clause-transaction : goal.returns-clause-transaction
 returns-clause-transaction g c =
@@ -72,7 +72,7 @@ returns-clause-transaction g c =
     (ap (λ (commit : Commit). commit.message) prepared.commit) count (ap (λ (commit : Commit). commit.tree) prepared.commit) in
     let now = c.commit.ensures ∙ ap₂ (λ (m : List ℕ) (k : Kept). committing m k) (ap (λ (commit : Commit). commit.message) prepared.commit) prepared.same in
     let complete = complete_committed c.args.message.now kept c.self.invariant.complete prepared.within.1 in
-    let whole = whole_committed kept c.self.invariant.whole c.args.message.now prepared.within.0 complete in
+    let obeys = obeys_committed kept c.self.invariant.obeys c.args.message.now prepared.within.0 complete in
     subst (λ (s : Shown g.row.S.Denot). IsOneTransaction g.S.Store s (record { conn = new; kept = c.commit.new.self.kept }) (Ok (c.commits-number.result + 1)) (committing c.args.message.now s.kept)) c.self.view_is
-    (done_transaction g.S.Store c.self.inside.conn new kept (committing c.args.message.now kept) _ c.self.invariant same (g.met.S.Store.shut_if_dirty new.store) complete whole
+    (done_transaction g.S.Store c.self.inside.conn new kept (committing c.args.message.now kept) _ c.self.invariant same (g.met.S.Store.shut_if_dirty new.store) complete obeys
     (g.met.S.Store.settled new.store) c.commit.new.self.kept now c.in_default.field-0 (c.in_default.ensures (tables_in kept)) (c.commits-number.result + 1))

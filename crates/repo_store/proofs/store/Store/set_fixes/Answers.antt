@@ -4,12 +4,12 @@ use Rattle.repo_store.specs.Faults.{IsRefusal}
 use Rattle.repo_store.specs.Kept.{FixCollides, HasLarge, Kept, Mirror, setting}
 use Rattle.repo_store.specs.Lists.{fix_of}
 use Rattle.repo_store.specs.Repository.{staged_changes}
-use Rattle.repo_store.specs.Changes.{Changes}
+use Rattle.repo_store.specs.AllOrNothing.{IsAllOrNothing}
 use Rattle.repo_store.specs.Shown.{Shown, IsOneTransaction}
 use Rattle.repo_store.proofs.FixLemmas.{changes_grow}
 use Rattle.repo_store.proofs.KeptLemmas.{setting_handed, forgotten_changes}
 use Rattle.repo_store.proofs.CompleteLemmas.{complete_set}
-use Rattle.repo_store.proofs.RuleLemmas.{whole_set}
+use Rattle.repo_store.proofs.RuleLemmas.{obeys_set}
 use Rattle.repo_store.proofs.StandLemmas.{tables_in, refused_stands, done_stands, refused_transaction, done_transaction}
 use Rattle.repo_store.proofs.store.Store.set_fixes.Goals as goal
 
@@ -36,8 +36,8 @@ invariant_of-self-in-Err-set_rows g c =
     let same = setting_handed c.args.changes.now (map fix_of c.as_slice.result.now) c.since.result.now kept fixes news in
     let now = forgotten_changes taken kept c.prepare_fixes.new.self.kept c.forget_since.new.self.kept c.count-before.result c.count-before.ensures prepared.kept (ap (λ (m : Mirror). m.kept) c.forget_since.ensures) in
     let complete = complete_set c.args.changes.now kept c.self.invariant.complete c.requires prepared.apart in
-    let whole = whole_set kept c.self.invariant.whole c.args.changes.now prepared.within complete in
-    refused_stands g.S.Store c.self.inside.conn new kept (setting c.args.changes.now kept) _ c.self.invariant same (g.met.S.Store.shut_if_dirty new.store) complete whole
+    let obeys = obeys_set kept c.self.invariant.obeys c.args.changes.now prepared.within complete in
+    refused_stands g.S.Store c.self.inside.conn new kept (setting c.args.changes.now kept) _ c.self.invariant same (g.met.S.Store.shut_if_dirty new.store) complete obeys
     c.forget_since.new.self.kept now c.in-Err-set_rows.error (c.in-Err-set_rows.ensures (tables_in kept))
 
 pub returns-in-Err-set_rows-clause-change : goal.returns-in-Err-set_rows-clause-change
@@ -46,7 +46,7 @@ returns-in-Err-set_rows-clause-change g c =
     let taken = staged_changes c.args.changes.now kept.repo.staged in
     let prepared = c.in-Ok.ensures in
     let now = forgotten_changes taken kept c.prepare_fixes.new.self.kept c.forget_since.new.self.kept c.count-before.result c.count-before.ensures prepared.kept (ap (λ (m : Mirror). m.kept) c.forget_since.ensures) in
-    subst (λ (s : Shown g.row.S.Denot). Changes s.kept c.forget_since.new.self.kept (Err c.fault_of.result) (setting c.args.changes.now s.kept)) c.self.view_is (record { done = tt; same = now })
+    subst (λ (s : Shown g.row.S.Denot). IsAllOrNothing s.kept c.forget_since.new.self.kept (Err c.fault_of.result) (setting c.args.changes.now s.kept)) c.self.view_is (record { done = tt; same = now })
 
 pub returns-in-Err-set_rows-clause-transaction : goal.returns-in-Err-set_rows-clause-transaction
 returns-in-Err-set_rows-clause-transaction g c =
@@ -59,9 +59,9 @@ returns-in-Err-set_rows-clause-transaction g c =
     let same = setting_handed c.args.changes.now (map fix_of c.as_slice.result.now) c.since.result.now kept fixes news in
     let now = forgotten_changes taken kept c.prepare_fixes.new.self.kept c.forget_since.new.self.kept c.count-before.result c.count-before.ensures prepared.kept (ap (λ (m : Mirror). m.kept) c.forget_since.ensures) in
     let complete = complete_set c.args.changes.now kept c.self.invariant.complete c.requires prepared.apart in
-    let whole = whole_set kept c.self.invariant.whole c.args.changes.now prepared.within complete in
+    let obeys = obeys_set kept c.self.invariant.obeys c.args.changes.now prepared.within complete in
     subst (λ (s : Shown g.row.S.Denot). IsOneTransaction g.S.Store s (record { conn = new; kept = c.forget_since.new.self.kept }) (Err c.fault_of.result) (setting c.args.changes.now s.kept)) c.self.view_is
-    (refused_transaction g.S.Store c.self.inside.conn new kept (setting c.args.changes.now kept) _ c.self.invariant same (g.met.S.Store.shut_if_dirty new.store) complete whole
+    (refused_transaction g.S.Store c.self.inside.conn new kept (setting c.args.changes.now kept) _ c.self.invariant same (g.met.S.Store.shut_if_dirty new.store) complete obeys
     c.forget_since.new.self.kept now c.in-Err-set_rows.error (c.in-Err-set_rows.ensures (tables_in kept)) c.fault_of.result)
 
 pub invariant_of-self-2 : goal.invariant_of-self-2
@@ -75,15 +75,15 @@ invariant_of-self-2 g c =
     let same = setting_handed c.args.changes.now (map fix_of c.as_slice.result.now) c.since.result.now kept fixes news in
     let now = c.set_fixes.ensures ∙ ap₂ (λ (k : Kept) (l : List Change). record k { repo = record k.repo { fixes = l } }) prepared.kept prepared.fixes in
     let complete = complete_set c.args.changes.now kept c.self.invariant.complete c.requires prepared.apart in
-    let whole = whole_set kept c.self.invariant.whole c.args.changes.now prepared.within complete in
-    done_stands g.S.Store c.self.inside.conn new kept (setting c.args.changes.now kept) _ c.self.invariant same (g.met.S.Store.shut_if_dirty new.store) complete whole
+    let obeys = obeys_set kept c.self.invariant.obeys c.args.changes.now prepared.within complete in
+    done_stands g.S.Store c.self.inside.conn new kept (setting c.args.changes.now kept) _ c.self.invariant same (g.met.S.Store.shut_if_dirty new.store) complete obeys
     c.set_fixes.new.self.kept now c.in_default.field-0 (c.in_default.ensures (tables_in kept))
 
 pub returns-clause-change : goal.returns-clause-change
 returns-clause-change g c =
     let prepared = c.in-Ok.ensures in
     let now = c.set_fixes.ensures ∙ ap₂ (λ (k : Kept) (l : List Change). record k { repo = record k.repo { fixes = l } }) prepared.kept prepared.fixes in
-    subst (λ (s : Shown g.row.S.Denot). Changes s.kept c.set_fixes.new.self.kept (Ok tt) (setting c.args.changes.now s.kept)) c.self.view_is (record { done = now; same = tt })
+    subst (λ (s : Shown g.row.S.Denot). IsAllOrNothing s.kept c.set_fixes.new.self.kept (Ok tt) (setting c.args.changes.now s.kept)) c.self.view_is (record { done = now; same = tt })
 
 pub returns-clause-transaction : goal.returns-clause-transaction
 returns-clause-transaction g c =
@@ -96,7 +96,7 @@ returns-clause-transaction g c =
     let same = setting_handed c.args.changes.now (map fix_of c.as_slice.result.now) c.since.result.now kept fixes news in
     let now = c.set_fixes.ensures ∙ ap₂ (λ (k : Kept) (l : List Change). record k { repo = record k.repo { fixes = l } }) prepared.kept prepared.fixes in
     let complete = complete_set c.args.changes.now kept c.self.invariant.complete c.requires prepared.apart in
-    let whole = whole_set kept c.self.invariant.whole c.args.changes.now prepared.within complete in
+    let obeys = obeys_set kept c.self.invariant.obeys c.args.changes.now prepared.within complete in
     subst (λ (s : Shown g.row.S.Denot). IsOneTransaction g.S.Store s (record { conn = new; kept = c.set_fixes.new.self.kept }) (Ok tt) (setting c.args.changes.now s.kept)) c.self.view_is
-    (done_transaction g.S.Store c.self.inside.conn new kept (setting c.args.changes.now kept) _ c.self.invariant same (g.met.S.Store.shut_if_dirty new.store) complete whole
+    (done_transaction g.S.Store c.self.inside.conn new kept (setting c.args.changes.now kept) _ c.self.invariant same (g.met.S.Store.shut_if_dirty new.store) complete obeys
     (g.met.S.Store.settled new.store) c.set_fixes.new.self.kept now c.in_default.field-0 (c.in_default.ensures (tables_in kept)) tt)

@@ -6,12 +6,12 @@ use Rattle.hook_base.specs.declared.file.FileEntry.{FileEntry}
 use Rattle.repo_store.specs.Kept.{Kept, Mirror, staging}
 use Rattle.repo_store.specs.Lists.{file_of}
 use Rattle.repo_store.specs.Repository.{with_staged}
-use Rattle.repo_store.specs.Changes.{Changes}
+use Rattle.repo_store.specs.AllOrNothing.{IsAllOrNothing}
 use Rattle.repo_store.specs.Shown.{Shown, IsOneTransaction}
-use Rattle.repo_store.specs.Whole.{IsPathText}
+use Rattle.repo_store.specs.RowRules.{IsPathText}
 use Rattle.repo_store.proofs.KeptLemmas.{staging_handed, forgotten}
 use Rattle.repo_store.proofs.CompleteLemmas.{complete_staged}
-use Rattle.repo_store.proofs.RuleLemmas.{whole_staged}
+use Rattle.repo_store.proofs.RuleLemmas.{obeys_staged}
 use Rattle.repo_store.proofs.StandLemmas.{tables_in, refused_stands, done_stands, refused_transaction, done_transaction}
 use Rattle.repo_store.proofs.store.Store.stage.Goals as goal
 
@@ -29,8 +29,8 @@ invariant_of-self-in-Err-stage_rows g c =
     let same = staging_handed file (file_of c.in-Ok.file) c.in-Ok.file.path c.since.result.now kept prepared.rising prepared.file (ap (λ (f : File). f.path) prepared.file) news in
     let now = forgotten c.args.bytes.now kept c.prepare.new.self.kept c.forget_since.new.self.kept c.count-before.result c.count-before.ensures prepared.kept (ap (λ (m : Mirror). m.kept) c.forget_since.ensures) in
     let complete = complete_staged c.args.path.now entry kept c.self.invariant.complete prepared.within.1 prepared.apart in
-    let whole = whole_staged kept c.self.invariant.whole c.args.path.now entry (legal c.args.path.now prepared.utf8 prepared.path c.requires) prepared.within.0 complete in
-    refused_stands g.S.Store c.self.inside.conn new kept (staging c.args.path.now entry kept) _ c.self.invariant same (g.met.S.Store.shut_if_dirty new.store) complete whole
+    let obeys = obeys_staged kept c.self.invariant.obeys c.args.path.now entry (legal c.args.path.now prepared.utf8 prepared.path c.requires) prepared.within.0 complete in
+    refused_stands g.S.Store c.self.inside.conn new kept (staging c.args.path.now entry kept) _ c.self.invariant same (g.met.S.Store.shut_if_dirty new.store) complete obeys
     c.forget_since.new.self.kept now c.in-Err-stage_rows.error (c.in-Err-stage_rows.ensures (tables_in kept))
 
 pub returns-in-Err-stage_rows-clause-change : goal.returns-in-Err-stage_rows-clause-change
@@ -39,7 +39,7 @@ returns-in-Err-stage_rows-clause-change g c =
     let entry : FileEntry = record { mode = c.args.mode; bytes = c.args.bytes.now } in
     let prepared = c.in-Ok.ensures in
     let now = forgotten c.args.bytes.now kept c.prepare.new.self.kept c.forget_since.new.self.kept c.count-before.result c.count-before.ensures prepared.kept (ap (λ (m : Mirror). m.kept) c.forget_since.ensures) in
-    subst (λ (s : Shown g.row.S.Denot). Changes s.kept c.forget_since.new.self.kept (Err c.fault_of.result) (staging c.args.path.now entry s.kept)) c.self.view_is (record { done = tt; same = now })
+    subst (λ (s : Shown g.row.S.Denot). IsAllOrNothing s.kept c.forget_since.new.self.kept (Err c.fault_of.result) (staging c.args.path.now entry s.kept)) c.self.view_is (record { done = tt; same = now })
 
 pub returns-in-Err-stage_rows-clause-transaction : goal.returns-in-Err-stage_rows-clause-transaction
 returns-in-Err-stage_rows-clause-transaction g c =
@@ -52,9 +52,9 @@ returns-in-Err-stage_rows-clause-transaction g c =
     let same = staging_handed file (file_of c.in-Ok.file) c.in-Ok.file.path c.since.result.now kept prepared.rising prepared.file (ap (λ (f : File). f.path) prepared.file) news in
     let now = forgotten c.args.bytes.now kept c.prepare.new.self.kept c.forget_since.new.self.kept c.count-before.result c.count-before.ensures prepared.kept (ap (λ (m : Mirror). m.kept) c.forget_since.ensures) in
     let complete = complete_staged c.args.path.now entry kept c.self.invariant.complete prepared.within.1 prepared.apart in
-    let whole = whole_staged kept c.self.invariant.whole c.args.path.now entry (legal c.args.path.now prepared.utf8 prepared.path c.requires) prepared.within.0 complete in
+    let obeys = obeys_staged kept c.self.invariant.obeys c.args.path.now entry (legal c.args.path.now prepared.utf8 prepared.path c.requires) prepared.within.0 complete in
     subst (λ (s : Shown g.row.S.Denot). IsOneTransaction g.S.Store s (record { conn = new; kept = c.forget_since.new.self.kept }) (Err c.fault_of.result) (staging c.args.path.now entry s.kept)) c.self.view_is
-    (refused_transaction g.S.Store c.self.inside.conn new kept (staging c.args.path.now entry kept) _ c.self.invariant same (g.met.S.Store.shut_if_dirty new.store) complete whole
+    (refused_transaction g.S.Store c.self.inside.conn new kept (staging c.args.path.now entry kept) _ c.self.invariant same (g.met.S.Store.shut_if_dirty new.store) complete obeys
     c.forget_since.new.self.kept now c.in-Err-stage_rows.error (c.in-Err-stage_rows.ensures (tables_in kept)) c.fault_of.result)
 
 pub invariant_of-self-2 : goal.invariant_of-self-2
@@ -68,8 +68,8 @@ invariant_of-self-2 g c =
     let same = staging_handed file (file_of c.in-Ok.file) c.in-Ok.file.path c.since.result.now kept prepared.rising prepared.file (ap (λ (f : File). f.path) prepared.file) news in
     let now = c.stage.ensures ∙ ap₂ (λ (f : File) (k : Kept). record { repo = with_staged f.path f.entry k.repo; contents = k.contents }) prepared.file prepared.kept in
     let complete = complete_staged c.args.path.now entry kept c.self.invariant.complete prepared.within.1 prepared.apart in
-    let whole = whole_staged kept c.self.invariant.whole c.args.path.now entry (legal c.args.path.now prepared.utf8 prepared.path c.requires) prepared.within.0 complete in
-    done_stands g.S.Store c.self.inside.conn new kept (staging c.args.path.now entry kept) _ c.self.invariant same (g.met.S.Store.shut_if_dirty new.store) complete whole
+    let obeys = obeys_staged kept c.self.invariant.obeys c.args.path.now entry (legal c.args.path.now prepared.utf8 prepared.path c.requires) prepared.within.0 complete in
+    done_stands g.S.Store c.self.inside.conn new kept (staging c.args.path.now entry kept) _ c.self.invariant same (g.met.S.Store.shut_if_dirty new.store) complete obeys
     c.stage.new.self.kept now c.in_default.field-0 (c.in_default.ensures (tables_in kept))
 
 pub returns-clause-change : goal.returns-clause-change
@@ -77,7 +77,7 @@ returns-clause-change g c =
     let entry : FileEntry = record { mode = c.args.mode; bytes = c.args.bytes.now } in
     let prepared = c.in-Ok.ensures in
     let now = c.stage.ensures ∙ ap₂ (λ (f : File) (k : Kept). record { repo = with_staged f.path f.entry k.repo; contents = k.contents }) prepared.file prepared.kept in
-    subst (λ (s : Shown g.row.S.Denot). Changes s.kept c.stage.new.self.kept (Ok tt) (staging c.args.path.now entry s.kept)) c.self.view_is (record { done = now; same = tt })
+    subst (λ (s : Shown g.row.S.Denot). IsAllOrNothing s.kept c.stage.new.self.kept (Ok tt) (staging c.args.path.now entry s.kept)) c.self.view_is (record { done = now; same = tt })
 
 pub returns-clause-transaction : goal.returns-clause-transaction
 returns-clause-transaction g c =
@@ -90,7 +90,7 @@ returns-clause-transaction g c =
     let same = staging_handed file (file_of c.in-Ok.file) c.in-Ok.file.path c.since.result.now kept prepared.rising prepared.file (ap (λ (f : File). f.path) prepared.file) news in
     let now = c.stage.ensures ∙ ap₂ (λ (f : File) (k : Kept). record { repo = with_staged f.path f.entry k.repo; contents = k.contents }) prepared.file prepared.kept in
     let complete = complete_staged c.args.path.now entry kept c.self.invariant.complete prepared.within.1 prepared.apart in
-    let whole = whole_staged kept c.self.invariant.whole c.args.path.now entry (legal c.args.path.now prepared.utf8 prepared.path c.requires) prepared.within.0 complete in
+    let obeys = obeys_staged kept c.self.invariant.obeys c.args.path.now entry (legal c.args.path.now prepared.utf8 prepared.path c.requires) prepared.within.0 complete in
     subst (λ (s : Shown g.row.S.Denot). IsOneTransaction g.S.Store s (record { conn = new; kept = c.stage.new.self.kept }) (Ok tt) (staging c.args.path.now entry s.kept)) c.self.view_is
-    (done_transaction g.S.Store c.self.inside.conn new kept (staging c.args.path.now entry kept) _ c.self.invariant same (g.met.S.Store.shut_if_dirty new.store) complete whole
+    (done_transaction g.S.Store c.self.inside.conn new kept (staging c.args.path.now entry kept) _ c.self.invariant same (g.met.S.Store.shut_if_dirty new.store) complete obeys
     (g.met.S.Store.settled new.store) c.stage.new.self.kept now c.in_default.field-0 (c.in_default.ensures (tables_in kept)) tt)

@@ -1,10 +1,10 @@
 use Rattle.std.proofs.Common.{Ok, Err, refl, subst}
 use Rattle.repo_store.specs.Kept.{unstaging}
-use Rattle.repo_store.specs.Changes.{Changes}
+use Rattle.repo_store.specs.AllOrNothing.{IsAllOrNothing}
 use Rattle.repo_store.specs.Shown.{Shown, IsOneTransaction}
 use Rattle.repo_store.proofs.KeptLemmas.{unstaging_tables}
 use Rattle.repo_store.proofs.CompleteLemmas.{complete_unstaged}
-use Rattle.repo_store.proofs.RuleLemmas.{whole_unstaged}
+use Rattle.repo_store.proofs.RuleLemmas.{obeys_unstaged}
 use Rattle.repo_store.proofs.StandLemmas.{tables_in, refused_stands, done_stands, refused_transaction, done_transaction}
 use Rattle.repo_store.proofs.store.Store.unstage.Goals as goal
 
@@ -13,8 +13,8 @@ invariant_of-self g c =
     let new = c.unstage_rows.new.conn in
     let kept = c.self.inside.lists.kept in
     let complete = complete_unstaged c.args.path.now kept c.self.invariant.complete in
-    let whole = whole_unstaged kept c.self.invariant.whole c.args.path.now complete in
-    refused_stands g.S.Store c.self.inside.conn new kept (unstaging c.args.path.now kept) _ c.self.invariant (unstaging_tables c.args.path.now kept) (g.met.S.Store.shut_if_dirty new.store) complete whole
+    let obeys = obeys_unstaged kept c.self.invariant.obeys c.args.path.now complete in
+    refused_stands g.S.Store c.self.inside.conn new kept (unstaging c.args.path.now kept) _ c.self.invariant (unstaging_tables c.args.path.now kept) (g.met.S.Store.shut_if_dirty new.store) complete obeys
     kept refl c.in-Err.error (c.in-Err.ensures (tables_in kept))
 
 pub invariant_of-self-2 : goal.invariant_of-self-2
@@ -22,35 +22,35 @@ invariant_of-self-2 g c =
     let new = c.unstage_rows.new.conn in
     let kept = c.self.inside.lists.kept in
     let complete = complete_unstaged c.args.path.now kept c.self.invariant.complete in
-    let whole = whole_unstaged kept c.self.invariant.whole c.args.path.now complete in
-    done_stands g.S.Store c.self.inside.conn new kept (unstaging c.args.path.now kept) _ c.self.invariant (unstaging_tables c.args.path.now kept) (g.met.S.Store.shut_if_dirty new.store) complete whole
+    let obeys = obeys_unstaged kept c.self.invariant.obeys c.args.path.now complete in
+    done_stands g.S.Store c.self.inside.conn new kept (unstaging c.args.path.now kept) _ c.self.invariant (unstaging_tables c.args.path.now kept) (g.met.S.Store.shut_if_dirty new.store) complete obeys
     c.unstage.new.self.kept c.unstage.ensures c.in_default.field-0 (c.in_default.ensures (tables_in kept))
 
 pub returns-in-Err-clause-change : goal.returns-in-Err-clause-change
 returns-in-Err-clause-change g c =
     let kept = c.self.inside.lists.kept in
-    subst (λ (s : Shown g.row.S.Denot). Changes s.kept kept (Err c.fault_of.result) (unstaging c.args.path.now s.kept)) c.self.view_is (record { done = tt; same = refl })
+    subst (λ (s : Shown g.row.S.Denot). IsAllOrNothing s.kept kept (Err c.fault_of.result) (unstaging c.args.path.now s.kept)) c.self.view_is (record { done = tt; same = refl })
 
 pub returns-in-Err-clause-transaction : goal.returns-in-Err-clause-transaction
 returns-in-Err-clause-transaction g c =
     let new = c.unstage_rows.new.conn in
     let kept = c.self.inside.lists.kept in
     let complete = complete_unstaged c.args.path.now kept c.self.invariant.complete in
-    let whole = whole_unstaged kept c.self.invariant.whole c.args.path.now complete in
+    let obeys = obeys_unstaged kept c.self.invariant.obeys c.args.path.now complete in
     subst (λ (s : Shown g.row.S.Denot). IsOneTransaction g.S.Store s (record { conn = new; kept = kept }) (Err c.fault_of.result) (unstaging c.args.path.now s.kept)) c.self.view_is
-    (refused_transaction g.S.Store c.self.inside.conn new kept (unstaging c.args.path.now kept) _ c.self.invariant (unstaging_tables c.args.path.now kept) (g.met.S.Store.shut_if_dirty new.store) complete whole
+    (refused_transaction g.S.Store c.self.inside.conn new kept (unstaging c.args.path.now kept) _ c.self.invariant (unstaging_tables c.args.path.now kept) (g.met.S.Store.shut_if_dirty new.store) complete obeys
     kept refl c.in-Err.error (c.in-Err.ensures (tables_in kept)) c.fault_of.result)
 
 pub returns-clause-change : goal.returns-clause-change
 returns-clause-change g c =
-    subst (λ (s : Shown g.row.S.Denot). Changes s.kept c.unstage.new.self.kept (Ok tt) (unstaging c.args.path.now s.kept)) c.self.view_is (record { done = c.unstage.ensures; same = tt })
+    subst (λ (s : Shown g.row.S.Denot). IsAllOrNothing s.kept c.unstage.new.self.kept (Ok tt) (unstaging c.args.path.now s.kept)) c.self.view_is (record { done = c.unstage.ensures; same = tt })
 
 pub returns-clause-transaction : goal.returns-clause-transaction
 returns-clause-transaction g c =
     let new = c.unstage_rows.new.conn in
     let kept = c.self.inside.lists.kept in
     let complete = complete_unstaged c.args.path.now kept c.self.invariant.complete in
-    let whole = whole_unstaged kept c.self.invariant.whole c.args.path.now complete in
+    let obeys = obeys_unstaged kept c.self.invariant.obeys c.args.path.now complete in
     subst (λ (s : Shown g.row.S.Denot). IsOneTransaction g.S.Store s (record { conn = new; kept = c.unstage.new.self.kept }) (Ok tt) (unstaging c.args.path.now s.kept)) c.self.view_is
-    (done_transaction g.S.Store c.self.inside.conn new kept (unstaging c.args.path.now kept) _ c.self.invariant (unstaging_tables c.args.path.now kept) (g.met.S.Store.shut_if_dirty new.store) complete whole
+    (done_transaction g.S.Store c.self.inside.conn new kept (unstaging c.args.path.now kept) _ c.self.invariant (unstaging_tables c.args.path.now kept) (g.met.S.Store.shut_if_dirty new.store) complete obeys
     (g.met.S.Store.settled new.store) c.unstage.new.self.kept c.unstage.ensures c.in_default.field-0 (c.in_default.ensures (tables_in kept)) tt)

@@ -1,9 +1,0 @@
-use Rattle.std.proofs.Common.{◌≡◌, ◌++◌, map}
-use Rattle.std.specs.List.{AllByRecursion}
-use Rattle.std.specs.Vec.Iter.{into_iter_items}
-use Rattle.repo_store.specs.Rows.{blob_row}
-use Rattle.repo_store.specs.Whole.{IsBlobRow}
-use Rattle.repo_store.proofs.loaded.contents_of.Given as goal
-
-abbrev pub invariant-rows : goal.invariant-rows
-invariant-rows l = record { left : l.yielded ++ into_iter_items l.row-iterator ≡ l.fn.rows.items; contents : map blob_row l.contents ≡ l.yielded; whole : AllByRecursion IsBlobRow l.yielded }

@@ -1,0 +1,121 @@
+-- The rules that the rows of a store obey, whatever their order. What breaks one of them is a damaged store.
+use Rattle.std.specs.Prelude.{◌≡◌, ◌⊎◌, ℕ, ◌+◌, ◌≤◌, ℤ, pos, Bool, true, List, [], ◌∷◌, length, map, sum_by, Option, None, Some, IsPermutation}
+use Rattle.std.specs.List.{AllByRecursion, list_any}
+use Rattle.std.specs.Str.{IsUtf8, bytes_eq}
+use Rattle.sha2.specs.Sha256.{sha256}
+use Rattle.hook_base.specs.Paths.{path_fault}
+use Rattle.store_tables.specs.declared.rows.BlobRow.{BlobRow}
+use Rattle.store_tables.specs.declared.rows.StagedRow.{StagedRow}
+use Rattle.store_tables.specs.declared.rows.FixRow.{FixRow}
+use Rattle.store_tables.specs.declared.rows.CommitRow.{CommitRow}
+use Rattle.store_tables.specs.declared.rows.EntryRow.{EntryRow}
+use Rattle.store_tables.specs.Tables.{Tables}
+use Rattle.repo_store.specs.Limits.{IsSmall, commit_limit, file_limit, path_limit}
+use Rattle.repo_store.specs.Rows.{version_row}
+
+-- ---- single rows
+
+-- contents, under their digest
+pub record IsBlobRow (row : BlobRow) : Type 0 where
+  -- the digest is the SHA-256 of the bytes
+  pub named : row.digest ≡ sha256 row.bytes
+  -- the bytes are at most 16 MiB
+  pub small : IsSmall row.bytes
+
+-- contents are kept under the digest
+abbrev pub is_kept : List BlobRow → List ℕ → Bool
+is_kept blobs digest = list_any (λ (blob : BlobRow). bytes_eq digest blob.digest) blobs
+
+-- a text that is a path inside a repository
+pub record IsPathText (path : List ℕ) : Type 0 where
+  pub utf8 : IsUtf8 path
+  pub legal : path_fault path ≡ None
+
+-- a file of a tree
+pub record IsFileRow (blobs : List BlobRow) (path : List ℕ) (mode : ℤ) (digest : List ℕ) : Type 0 where
+  -- its path is one inside a repository
+  pub path_legal : IsPathText path
+  -- its mode is plain or executable
+  pub mode_known : (mode ≡ pos 0) ⊎ (mode ≡ pos 1)
+  -- its contents are kept
+  pub content_kept : is_kept blobs digest ≡ true
+
+abbrev pub IsStagedRow : List BlobRow → StagedRow → Type 0
+IsStagedRow blobs row = IsFileRow blobs row.path row.mode row.digest
+
+-- a file is staged at the path
+abbrev pub is_staged : List StagedRow → List ℕ → Bool
+is_staged staged path = list_any (λ (row : StagedRow). bytes_eq path row.path) staged
+
+-- a file is gone, and has no digest; or it isn't, and its digest is that of kept contents
+abbrev pub IsMarked : List BlobRow → ℤ → Option (List ℕ) → Type 0
+IsMarked blobs gone None = gone ≡ pos 1
+IsMarked blobs gone (Some digest) = (gone ≡ pos 0) × (is_kept blobs digest ≡ true)
+
+-- a fix
+pub record IsFixRow (blobs : List BlobRow) (staged : List StagedRow) (row : FixRow) : Type 0 where
+  -- its path is one inside a repository
+  pub path_legal : IsPathText row.path
+  -- it says that the file is gone exactly where it has no digest, and its contents are kept
+  pub marked : IsMarked blobs row.gone row.digest
+  -- its file is staged
+  pub file_staged : is_staged staged row.path ≡ true
+
+-- the number of a commit, of which there are so many
+pub record IsNumbered (commits : ℕ) (number : ℤ) : Type 0 where
+  pub at : ℕ
+  pub is : number ≡ pos (at + 1)
+  pub within : at + 1 ≤ commits
+
+-- a file of a commit
+pub record IsEntryRow (blobs : List BlobRow) (commits : ℕ) (row : EntryRow) : Type 0 where
+  -- its commit is there
+  pub owned : IsNumbered commits row.n
+  pub file : IsFileRow blobs row.path row.mode row.digest
+
+-- ---- the tables
+
+-- the numbers from one on, so many of them
+abbrev pub numbers_from : ℕ → List CommitRow → List ℤ
+numbers_from n [] = []
+numbers_from n (row ∷ rows) = pos n ∷ numbers_from (n + 1) rows
+
+abbrev pub number_in : CommitRow → ℤ
+number_in row = row.n
+
+-- the bytes of the paths together
+abbrev pub staged_path_bytes : List StagedRow → ℕ
+staged_path_bytes rows = sum_by (λ (row : StagedRow). length row.path) rows
+
+pub record AreStagedRows (blobs : List BlobRow) (rows : List StagedRow) : Type 0 where
+  -- each is a file
+  pub files : AllByRecursion (IsStagedRow blobs) rows
+  -- they are no more than a staged tree may have
+  pub files_fit : length rows ≤ file_limit
+  pub paths_fit : staged_path_bytes rows ≤ path_limit
+
+pub record AreCommitRows (rows : List CommitRow) : Type 0 where
+  -- they are numbered from 1 on
+  pub numbered : IsPermutation (map number_in rows) (numbers_from 1 rows)
+  pub few : length rows ≤ commit_limit
+  -- the message of each is within its limit
+  pub messages_small : AllByRecursion (λ (row : CommitRow). IsSmall row.message) rows
+
+-- The rows are those of a store.
+pub record AreStoreRows (t : Tables) : Type 0 where
+  -- each content stands under its own digest
+  pub blobs : AllByRecursion IsBlobRow t.blobs
+  -- the staged files are files, and within the limits
+  pub staged : AreStagedRows t.blobs t.staged
+  -- each fix is one of a staged file
+  pub fixes : AllByRecursion (IsFixRow t.blobs t.staged) t.fixes
+  -- the commits are numbered from 1 on
+  pub commits : AreCommitRows t.commits
+  -- each entry is a file of a commit
+  pub entries : AllByRecursion (IsEntryRow t.blobs (length t.commits)) t.entries
+  -- no answer is remembered yet
+  pub answers : t.answers ≡ []
+
+-- The store is of version 1, and says nothing else of itself.
+abbrev pub IsVersioned : Tables → Type 0
+IsVersioned t = t.meta ≡ version_row ∷ []

@@ -1,0 +1,60 @@
+//! The lists that the rows of all tables stand for, and which rows are damage: one file a table, and the columns that
+//! several tables have.
+
+mod blobs;
+mod columns;
+mod commits;
+mod fixes;
+mod staged;
+
+ghost use Rattle.std.specs.Prelude.{◌≡◌, IfOk, IfErr, OnOk};
+ghost use Rattle.repo_store.specs.Complete.{IsComplete};
+ghost use Rattle.repo_store.specs.Faults.{IsDamage};
+ghost use Rattle.repo_store.specs.FromRows.{IsSame, rows_in};
+ghost use Rattle.repo_store.specs.RowRules.{AreStoreRows};
+ghost use Rattle.repo_store.specs.Rows.{tables_of};
+
+use crate::StoreFault;
+use crate::lists::Lists;
+use crate::table_rows::StoreRows;
+use blobs::contents_of;
+use commits::commits_of;
+use fixes::fixes_of;
+use staged::staged_of;
+use std::alloc::Global;
+
+/// The lists that these rows stand for.
+pub(crate) fn lists_of(alloc: Global, rows: StoreRows) -> Result<Lists, StoreFault>
+    ensures same { IfOk result (λ lists. IsSame (rows_in rows) (tables_of lists.kept.repo lists.kept.contents)) }
+    ensures complete { IfOk result (λ lists. IsComplete lists.kept) }
+    ensures obeys { OnOk result (AreStoreRows (rows_in rows)) }
+    ensures broken { IfErr result (IsDamage (¬ AreStoreRows (rows_in rows))) }
+{
+    let StoreRows {
+        blobs,
+        staged,
+        fixes,
+        commits,
+        entries,
+        answers,
+    } = rows;
+    if !answers.is_empty() {
+        return Err(StoreFault::Damaged);
+    }
+    let contents = match contents_of(alloc, blobs) {
+        Ok(contents) => contents,
+        Err(fault) => return Err(fault),
+    };
+    let staged = match staged_of(alloc, &contents, staged) {
+        Ok(staged) => staged,
+        Err(fault) => return Err(fault),
+    };
+    let fixes = match fixes_of(alloc, &contents, staged.as_slice(), fixes) {
+        Ok(fixes) => fixes,
+        Err(fault) => return Err(fault),
+    };
+    match commits_of(alloc, &contents, commits, entries) {
+        Ok(history) => Ok(Lists::of(contents, history, staged, fixes)),
+        Err(fault) => Err(fault),
+    }
+}

@@ -1,0 +1,111 @@
+//! What the columns of a row stand for: a path, a mode, contents under their digest, and a file of these.
+
+ghost use Rattle.std.specs.Prelude.{◌≡◌, ◌⊎◌, pos, true, false, map, IfOk, IfErr, IfSome, IfNone, OnOk, IsTrue};
+ghost use Rattle.sha2.specs.Sha256.{sha256};
+ghost use Rattle.hook_base.specs.Rising.{IsBelow as IsBelowPath};
+ghost use Rattle.repo_store.specs.Complete.{IsAmong};
+ghost use Rattle.repo_store.specs.Faults.{IsDamage};
+ghost use Rattle.repo_store.specs.Lists.{file_of};
+ghost use Rattle.repo_store.specs.Rows.{blob_row, mode_number, staged_row};
+ghost use Rattle.repo_store.specs.RowRules.{IsFileRow, IsPathText, is_kept};
+
+use crate::StoreFault;
+use crate::content::Content;
+use crate::contents::Contents;
+use crate::shared::SharedFile;
+use hook_base::{Mode, PathFault, RepoPath};
+use std::alloc::Global;
+use std::cmp::Ordering;
+use std::str;
+
+// The contents under a digest, if the bytes are one.
+fn find<'a>(contents: &'a Contents, digest: &[u8]) -> Option<&'a Content>
+    ensures under { IfSome result (λ content. sha256 content.now ≡ digest.now) }
+    ensures kept { IfSome result (λ _. is_kept (map blob_row contents.now) digest.now ≡ true) }
+    ensures among { IfSome result (λ content. IsAmong contents.now content.now) }
+    ensures absent { IfNone result (is_kept (map blob_row contents.now) digest.now ≡ false) }
+{
+    match <&[u8; 32]>::try_from(digest) {
+        Ok(digest) => contents.find(digest),
+        Err(_) => None,
+    }
+}
+
+/// The contents under a digest that a row names, shared.
+pub(crate) fn content_at(contents: &Contents, digest: &[u8]) -> Result<Content, StoreFault>
+    ensures found { IfOk result (λ content. sha256 content ≡ digest.now) }
+    ensures kept { OnOk result (is_kept (map blob_row contents.now) digest.now ≡ true) }
+    ensures among { IfOk result (IsAmong contents.now) }
+    ensures missing { IfErr result (IsDamage (is_kept (map blob_row contents.now) digest.now ≡ false)) }
+{
+    match find(contents, digest) {
+        Some(content) => match content.clone() {
+            Ok(content) => Ok(content),
+            Err(_) => Err(StoreFault::OutOfMemory),
+        },
+        None => Err(StoreFault::Damaged),
+    }
+}
+
+/// The path that a row names.
+pub(crate) fn path_at(alloc: Global, bytes: &[u8]) -> Result<RepoPath, StoreFault>
+    ensures path { IfOk result (λ path. path ≡ bytes.now) }
+    ensures legal { OnOk result (IsPathText bytes.now) }
+    ensures illegal { IfErr result (IsDamage (¬ IsPathText bytes.now)) }
+{
+    match str::from_utf8(bytes) {
+        Ok(text) => match RepoPath::read(alloc, text) {
+            Ok(path) => Ok(path),
+            Err(PathFault::OutOfMemory) => Err(StoreFault::OutOfMemory),
+            Err(_) => Err(StoreFault::Damaged),
+        },
+        Err(_) => Err(StoreFault::Damaged),
+    }
+}
+
+// The mode of a number.
+fn mode_at(number: i64) -> Option<Mode>
+    ensures known { IfSome result (λ mode. pos (mode_number mode) ≡ number) }
+    ensures unknown { IfNone result (¬ ((number ≡ pos 0) ⊎ (number ≡ pos 1))) }
+{
+    match number {
+        0 => Some(Mode::Plain),
+        1 => Some(Mode::Executable),
+        _ => None,
+    }
+}
+
+/// The file that a row shows.
+pub(crate) fn file_at(
+    alloc: Global,
+    contents: &Contents,
+    path: &[u8],
+    mode: i64,
+    digest: &[u8],
+) -> Result<SharedFile, StoreFault>
+    ensures file { IfOk result (λ file. staged_row (file_of file) ≡ record { path = path.now; mode = mode; digest = digest.now }) }
+    ensures among { IfOk result (λ file. IsAmong contents.now file.content) }
+    ensures obeys { OnOk result (IsFileRow (map blob_row contents.now) path.now mode digest.now) }
+    ensures broken { IfErr result (IsDamage (¬ IsFileRow (map blob_row contents.now) path.now mode digest.now)) }
+{
+    let Some(mode) = mode_at(mode) else {
+        return Err(StoreFault::Damaged);
+    };
+    let path = path_at(alloc, path)?;
+    let content = content_at(contents, digest)?;
+    Ok(SharedFile {
+        path,
+        mode,
+        content,
+    })
+}
+
+/// Whether a path comes after another.
+pub(crate) fn is_after(last: &RepoPath, path: &RepoPath) -> bool
+    ensures { IsTrue result → IsBelowPath last.now path.now }
+{
+    match last.cmp(path) {
+        Ordering::Less => true,
+        _ => false,
+    }
+}

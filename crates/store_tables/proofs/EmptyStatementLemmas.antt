@@ -1,0 +1,25 @@
+-- The empty statement.
+use Rattle.std.proofs.Common.{ℕ, [], Ok, refl, sym, subst}
+use Rattle.sqlite_schema.specs.declared.schema.Schema.{Schema}
+use Rattle.sqlite_schema.specs.declared.command.Command.TheVariants.{Nothing}
+use Rattle.sqlite_tied.specs.Compute.{everything}
+use Rattle.sqlite.specs.Effect.{Database}
+use Rattle.sqlite.specs.Listing.{understood}
+use Rattle.sqlite.specs.State.{State, Executes}
+use Rattle.sqlite.proofs.Callers.{runs_as}
+use Rattle.store_tables.specs.Schema.{MoreTables, store_with}
+use Rattle.store_tables.specs.Tables.{Tables, HoldsIn}
+use Rattle.store_tables.proofs.Compiles.{Compiles}
+
+module _ (more : MoreTables) where
+  abbrev schema : Schema
+  schema = store_with more
+
+  nothing_is : Compiles schema [] Nothing
+  unfolding understood everything
+  nothing_is = (refl, (refl, refl))
+
+  pub changes_nothing : (old new : State) (t : Tables) (count : ℕ) → HoldsIn schema old.now t → Executes [] [] old new (Ok count) → HoldsIn schema new.now t
+  changes_nothing old new t count h ran =
+      let it = runs_as [] [] old new schema h.schema Nothing nothing_is.0 nothing_is.1 count ran in
+      subst (λ (db : Database). HoldsIn schema db t) (sym it.0.0.now_is) h

@@ -1,0 +1,11 @@
+use Rattle.sqlite.specs.Held.{state}
+use Rattle.store_tables.proofs.StepLemmas.{finishes}
+use Rattle.store_tables.proofs.EmptyStatementLemmas.{changes_nothing}
+use Rattle.store_tables.proofs.writes.change_nothing.Goals as goal
+
+pub returns-clause-step : goal.returns-clause-step
+returns-clause-step g c =
+    let old = c.args.tx.now.conn.now in
+    let new = c.execute.new.self.conn.now in
+    finishes g.S.Store old new _ _ c.execute.result c.execute.ensures.ended c.execute.ensures.runs c.execute.ensures.survives (λ t. t)
+    c.in_ok-execute.field-0 c.in_ok-execute.was (λ more t h ran. changes_nothing more (state g.S.Store old) (state g.S.Store new) t _ h ran)
