@@ -3,10 +3,11 @@
 
 Usage: tests/refused_memory.py [PROGRAM]   (default: crates/hookhost/out/hookhost)
 
-Each refused run has to say `hookhost: refused: 4 OutOfMemory` (or `12 OutOfMemory` in `check`), write nothing to
-standard output and end with status 3, or else to answer just as with ample memory (a growth that was refused may be
-tried again with less). The allocator is stood in for by tests/refuse_allocation.c. Beside some plays of its own, each
-text of the tables of crates/yaml_profile is checked as a configuration.
+Each refused run has to say `hookhost: refused: NUMBER OutOfMemory`, write nothing to standard output and end with
+status 3, or else to answer just as with ample memory (a growth that was refused may be tried again with less). Each play
+names its numbers in the order in which they have to come as later allocations are refused: 4, and in `check` 4 while the
+words are read and then 12. The allocator is stood in for by tests/refuse_allocation.c. Beside some plays of its own,
+each text of the tables of crates/yaml_profile is checked as a configuration.
 """
 import os
 import subprocess
@@ -49,15 +50,18 @@ repos:
 
     stages: []
 """
-# A run's want of memory, and that of a configuration that is read alone.
-REFUSALS = [(3, b"", f"hookhost: refused: {number} OutOfMemory\n".encode()) for number in (4, 12)]
+# The numbers of want of memory: a run's, and those of `check`, whose words are read as a run's are.
+OF_RUN = (4,)
+OF_CHECK = (4, 12)
 
 
 @dataclass
 class Play:
-    """The words and the standard input of a run, its configuration, and the status it has to end with (None: any)."""
+    """The words and the standard input of a run, the numbers of its want of memory, its configuration, and the status
+    it has to end with (None: any)."""
     name: str
     words: list
+    numbers: tuple = OF_RUN
     stdin: bytes = b""
     configuration: bytes = CONFIGURATION
     status: int = None
@@ -68,7 +72,7 @@ PLAYS = [
     Play("a run over files", ["try", ".pre-commit-config.yaml", "b.txt", "a.txt", "dir/c.txt"], status=1),
     Play("a refused configuration", [], stdin=b"a: 1\na: 2\n", status=3),
     Play("words that name no command", ["try", "config.yaml"], status=2),
-    Play("the check of a configuration", ["check"], status=0),
+    Play("the check of a configuration", ["check"], OF_CHECK, status=0),
 ]
 
 
@@ -82,22 +86,32 @@ def run(play, refused, library, folder):
     return done.returncode, done.stdout, done.stderr, os.path.exists(mark)
 
 
+def refusal_of(answer):
+    """The number of the want of memory that a run answered, or None."""
+    for number in OF_CHECK:
+        if answer[:3] == (3, b"", f"hookhost: refused: {number} OutOfMemory\n".encode()):
+            return number
+    return None
+
+
 def refuse_each(play, library, folder):
     """How many allocations were refused in turn, at how many the program gave up, and what was wrong, if anything."""
     plain = run(play, 0, library, folder)
     if play.status not in (None, plain[0]):
         return 0, 0, f"status {plain[0]} with nothing refused, wanted {play.status}"
-    number, gave_up = 0, 0
+    allocation, gave_up, came = 0, 0, []
     while True:
-        number += 1
-        answer = run(play, number, library, folder)
+        allocation += 1
+        answer = run(play, allocation, library, folder)
         if not answer[3]:
             wrong = None if answer == plain else f"answered {answer} with nothing refused"
-            return number - 1, gave_up, wrong if gave_up else "no refused allocation was noticed"
-        if answer[:3] in REFUSALS:
+            return allocation - 1, gave_up, wrong or (None if tuple(came) == play.numbers else f"gave up with {came}, wanted {play.numbers}")
+        number = refusal_of(answer)
+        if number is not None:
             gave_up += 1
+            came += [number] if came[-1:] != [number] else []
         elif answer[:3] != plain[:3]:
-            return number, gave_up, f"answered {answer[:3]} where allocation {number} was refused"
+            return allocation, gave_up, f"answered {answer[:3]} where allocation {allocation} was refused"
 
 
 def play_alone(play, library):
@@ -119,7 +133,7 @@ def play_all(plays, library):
 
 def main():
     texts = [text for text, _ in read_rows() + refused_rows()]
-    checks = [Play(f"the check of {text!r}", ["check"], configuration=text.encode()) for text in texts]
+    checks = [Play(f"the check of {text!r}", ["check"], OF_CHECK, configuration=text.encode()) for text in texts]
     with tempfile.TemporaryDirectory() as folder:
         library = os.path.join(folder, "refuse.so")
         subprocess.run(["cc", "-shared", "-fPIC", "-O1", "-o", library, os.path.join(HERE, "refuse_allocation.c"), "-ldl"], check=True)

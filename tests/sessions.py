@@ -7,11 +7,13 @@ A session file holds cases. `== NAME` begins a case, in an empty folder. Within 
   -- file PATH      the lines that follow are the file's content
   -- bytes PATH     the same, with Python's escapes, for bytes that no text file keeps; line ends are as written
   -- fill PATH N    `#` after `#` is put at the file's end, until it has N bytes
+  -- repeat N PATH  the lines that follow are put at the file's end N times
   -- folder PATH    an empty folder
   -- demo           the files of demo/
   -- stdin          the lines that follow are the next command's standard input
-  -- stdin PATH     the file's content is
+  -- stdin PATH     the file's content is, or the folder itself, which can't be read
   -- run WORD ..    runs `hookhost WORD ..`, the words cut as a shell cuts them
+  -- run-bytes WORD ..   the same with Python's escapes, the words cut at blanks, for words that no text file keeps
   -- stdout, -- stderr   what that command printed there, to the byte (nothing where left out)
   -- shown in PATH  what it printed stands in that file of the repository, to the byte
   -- stderr contains TEXT   a part of what it printed there
@@ -29,6 +31,11 @@ HERE = os.path.dirname(os.path.abspath(__file__))
 TOP = os.path.dirname(HERE)
 PROGRAM = os.path.abspath(sys.argv[1] if len(sys.argv) > 1 else os.path.join(TOP, "crates/hookhost/out/hookhost"))
 CASE = sys.argv[2] if len(sys.argv) > 2 else ""
+
+
+def unescaped(text):
+    """The bytes that the text is with Python's escapes."""
+    return text.encode().decode("unicode_escape").encode("latin-1")
 
 
 def cases_of(path):
@@ -53,12 +60,13 @@ def commands_of(steps):
     stdin, command = b"", None
     for head, body in steps:
         word, _, rest = head.partition(" ")
-        if word in ("file", "bytes", "fill", "folder", "demo"):
+        if word in ("file", "bytes", "fill", "repeat", "folder", "demo"):
             yield word, rest, body
         elif word == "stdin":
             stdin = rest or body.encode()
-        elif word == "run":
-            command = {"words": shlex.split(rest), "stdin": stdin, "stdout": b"", "stderr": b"", "part": None, "status": 0,
+        elif word in ("run", "run-bytes"):
+            words = shlex.split(rest) if word == "run" else [unescaped(each) for each in rest.split()]
+            command = {"words": words, "stdin": stdin, "stdout": b"", "stderr": b"", "part": None, "status": 0,
                        "output": None, "shown": None}
             stdin = b""
             yield "run", command, None
@@ -85,9 +93,13 @@ def content(path):
 
 def run(command):
     """What is wrong with the command's answer, or None."""
-    stdin = command["stdin"] if isinstance(command["stdin"], bytes) else content(command["stdin"])
+    stdin = command["stdin"]
     stdout = open(command["output"], "wb") if command["output"] else subprocess.PIPE
-    done = subprocess.run([PROGRAM, *command["words"]], input=stdin, stdout=stdout, stderr=subprocess.PIPE, timeout=60)
+    if isinstance(stdin, str) and os.path.isdir(stdin):
+        given = {"stdin": os.open(stdin, os.O_RDONLY)}
+    else:
+        given = {"input": stdin if isinstance(stdin, bytes) else content(stdin)}
+    done = subprocess.run([PROGRAM, *command["words"]], **given, stdout=stdout, stderr=subprocess.PIPE, timeout=60)
     if done.returncode != command["status"]:
         return f"status {done.returncode}, wanted {command['status']}; printed {(done.stdout or b'')[:300]!r} {done.stderr[:300]!r}"
     if done.stdout is not None and done.stdout != command["stdout"]:
@@ -105,6 +117,10 @@ def lay(kind, what, body):
         os.makedirs(what)
     elif kind == "demo":
         shutil.copytree(os.path.join(TOP, "demo"), ".", dirs_exist_ok=True)
+    elif kind == "repeat":
+        count, path = what.split(" ", 1)
+        with open(path, "ab") as file:
+            file.write(body.encode() * int(count))
     elif kind == "fill":
         path, size = what.rsplit(" ", 1)
         with open(path, "ab") as file:
@@ -113,7 +129,7 @@ def lay(kind, what, body):
         if os.path.dirname(what):
             os.makedirs(os.path.dirname(what), exist_ok=True)
         with open(what, "wb") as file:
-            file.write(body.encode() if kind == "file" else body.replace("\n", "").encode().decode("unicode_escape").encode("latin-1"))
+            file.write(body.encode() if kind == "file" else unescaped(body.replace("\n", "")))
 
 
 def play(steps):
@@ -121,7 +137,7 @@ def play(steps):
         if kind != "run":
             lay(kind, what, body)
         elif wrong := run(what):
-            return f"hookhost {' '.join(what['words'])}: {wrong}"
+            return f"hookhost {' '.join(map(str, what['words']))}: {wrong}"
     return None
 
 

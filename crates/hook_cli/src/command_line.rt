@@ -1,3 +1,7 @@
+//! The command line: what a line of words asks for.
+//!
+//! The contracts cite `specs/CommandLine.antt`, which states the command line as `clap` sees it.
+
 ghost use Rattle.std.specs.Prelude.{◌≡◌, IfOk, Some, [], codes, map, false, unwrap_or};
 ghost use Rattle.clap.specs.Words.{FailsBy, all_of, app_of, fault_of, first_of, found_of, rows_of, rule_of, subcommand_name_of, subcommand_of, subcommand_rows_of};
 ghost use Rattle.clap.specs.declared.builder.Command.TheViews.{out-Command as fields_of};

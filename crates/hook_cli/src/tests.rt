@@ -1,3 +1,5 @@
+//! Readers, writers and trees that the tests share.
+
 mod checks;
 mod reading;
 mod refusals;
@@ -14,19 +16,19 @@ use std::alloc::Global;
 use std::io::{Read, Write};
 use std::test::Fail;
 
-/// A configuration of one hook, `names`.
+// A configuration of one hook, `names`.
 const NAMES: &str =
     "repos:\n- repo: local\n  hooks:\n  - id: names\n    name: Check names\n    language: fail\n    entry: no such names\n";
 
-/// What a run of it writes where there are no files.
+// What a run of it writes where there are no files.
 const SKIPPED: &str =
     "Check names..........................................(no files to check)Skipped\n";
 
-/// What a run of it writes over the file `bad.txt`.
+// What a run of it writes over the file `bad.txt`.
 const FAILED: &str =
     "Check names..............................................................Failed\n- hook id: names\n- exit code: 1\n\nno such names\n\nbad.txt\n\n";
 
-/// A reader that gives a few bytes a call, and an error at one call.
+// A reader that gives a few bytes a call, and an error at one call.
 #[derive(Drop)]
 struct Pieces<'a> {
     left: &'a [u8],
@@ -61,7 +63,7 @@ impl Read for Pieces<'_> {
     }
 }
 
-/// A writer that takes a few bytes a call, and gives an error at one call.
+// A writer that takes a few bytes a call, and gives an error at one call.
 #[derive(Drop)]
 struct Kept {
     bytes: Vec<u8>,
@@ -104,7 +106,7 @@ impl Write for Kept {
     }
 }
 
-/// Plain files without bytes at these paths.
+// Plain files without bytes at these paths.
 fn tree_of(alloc: Global, paths: &[&str]) -> Result<Tree, Fail> {
     let mut tree = Tree::new(alloc);
     for path in paths {
@@ -117,7 +119,7 @@ fn tree_of(alloc: Global, paths: &[&str]) -> Result<Tree, Fail> {
     Ok(tree)
 }
 
-/// The answer of a run over the tree, which needs no child.
+// The answer of a run over the tree, which needs no child.
 fn tried(
     alloc: Global,
     reader: &mut impl Read,

@@ -1,3 +1,7 @@
+//! The refusals of a run.
+//!
+//! The contracts cite `specs/TryFaults.antt`.
+
 use hook_base::OutOfMemory;
 use hook_config::{ConfigFault, ConfigKind};
 use std::alloc::{AllocError, AllocFailed};

@@ -1,1 +1,2 @@
+pub mod FileTrees
 pub mod Stops

@@ -2,6 +2,7 @@
 //! status.
 #![tactic(auto)]
 
+mod file_tree;
 mod files;
 mod stop;
 
@@ -16,10 +17,10 @@ use std::rt::{Env, Files};
 use std::{env, io, mem};
 use stop::{Stop, tell};
 
-/// The file that `check` reads, in the working folder.
+// The file that `check` reads, in the working folder.
 const CONFIGURATION: &str = ".pre-commit-config.yaml";
 
-/// The exit status of a run in which a hook failed.
+// The exit status of a run in which a hook failed.
 const HOOK_FAILED: u8 = 1;
 
 fn main(rt: HostRuntime) -> ExitCode {
@@ -30,7 +31,7 @@ fn main(rt: HostRuntime) -> ExitCode {
     }
 }
 
-/// Does what the process's words ask for, and answers whether every hook that was run passed.
+// Does what the process's words ask for, and answers whether every hook that was run passed.
 fn run<R: Env + Files + Input + Print + AllocGlobal>(rt: &R) -> Result<bool, Stop> {
     let mut words = env::args(rt).map_err(Stop::of_words)?;
     let _program = words.next();
@@ -51,7 +52,7 @@ fn run<R: Env + Files + Input + Print + AllocGlobal>(rt: &R) -> Result<bool, Sto
     }
 }
 
-/// `check`: reads the working folder's configuration, and prints how many hooks it has and which keys are ignored.
+// `check`: reads the working folder's configuration, and prints how many hooks it has and which keys are ignored.
 fn check<R: Files + Print + AllocGlobal>(rt: &R) -> Result<(), Stop> {
     let alloc = rt.alloc();
     let bytes = read_configuration(rt, Text::copy_of(alloc, CONFIGURATION)?)?;
@@ -69,7 +70,7 @@ fn print<R: Print>(rt: &R, text: &[u8]) -> io::Result<()> {
     writer.flush()
 }
 
-/// `try CONFIG PATH..`: the first word whose file can't be used decides, and the run comes last.
+// `try CONFIG PATH..`: the first word whose file can't be used decides, and the run comes last.
 fn try_files<R: Files + Print + AllocGlobal>(
     rt: &R,
     config: Text,
@@ -80,7 +81,7 @@ fn try_files<R: Files + Print + AllocGlobal>(
     report(rt, &mut bytes.as_slice(), &tree)
 }
 
-/// Runs the configuration over the tree and prints the report.
+// Runs the configuration over the tree and prints the report.
 fn report<R: Print + AllocGlobal>(
     rt: &R,
     reader: &mut impl Read,

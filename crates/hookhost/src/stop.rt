@@ -9,10 +9,10 @@ use hook_config::ConfigFault;
 use std::alloc::{AllocError, AllocFailed};
 use std::io;
 
-/// The exit status where the words name no command.
+// The exit status where the words name no command.
 const USAGE: u8 = 2;
 
-/// The exit status of a refusal.
+// The exit status of a refusal.
 const REFUSED: u8 = 3;
 
 /// Why what was asked for doesn't stand on standard output, or not the whole of it.
@@ -68,7 +68,7 @@ impl Stop {
     }
 }
 
-/// Whether the program itself was refused memory: the system's own want of memory has a number.
+// Whether the program itself was refused memory: the system's own want of memory has a number.
 fn is_memory(error: &io::Error) -> bool
     ensures { IsTrue result ↔ IsNoMemory error.now }
 {

@@ -1,3 +1,5 @@
+//! The first line of a hook's text.
+
 ghost use Rattle.std.specs.Prelude.{◌≡◌, ◌+◌, ◌≤◌, ◌++◌, OnOk, length, replicate};
 ghost use Rattle.hook_cli.specs.Report.{dots_of, first_line, postfix_of, width_of, word_of};
 

@@ -1,3 +1,5 @@
+//! What a run reports of a hook.
+
 use child_port::Fault;
 use hook_base::{Bytes, Items, Text};
 
@@ -6,9 +8,11 @@ use hook_base::{Bytes, Items, Text};
 pub struct HookResult {
     /// The hook's name, with which its text begins.
     pub name: Text,
+    /// The hook's id, which its details begin with.
     pub id: Text,
     /// Whether the hook's details are reported also where it did not fail.
     pub verbose: bool,
+    /// How it ended.
     pub ending: Ending,
 }
 

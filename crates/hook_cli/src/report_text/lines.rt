@@ -1,3 +1,5 @@
+//! The lines behind a hook's first: its id, and how it ended.
+
 ghost use Rattle.std.specs.Prelude.{◌≡◌, ◌++◌, OnOk};
 ghost use Rattle.hook_cli.specs.Report.{block_of, child_fault_text, ending_lines, fault_lines, fault_text, id_line, line, modified_line, status_line, trimmed};
 
@@ -108,6 +110,7 @@ pub fn push_line(report: &mut Vec<u8>, text: &[u8]) -> Result<(), OutOfMemory>
     push(report, b"\n")
 }
 
+/// The bytes as they are.
 pub fn push(report: &mut Vec<u8>, bytes: &[u8]) -> Result<(), OutOfMemory>
     ensures { OnOk result (report.new.items ≡ report.old.items ++ bytes.now) }
 {

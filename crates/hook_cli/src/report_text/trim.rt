@@ -1,3 +1,5 @@
+//! A text without the blanks at its ends.
+
 ghost use Rattle.std.specs.Prelude.{◌≡◌};
 ghost use Rattle.hook_cli.specs.Report.{is_blank, trimmed, without_blanks_after, without_blanks_before};
 

@@ -1,10 +1,12 @@
+//! What `check` prints.
+
 use crate::check_text;
 use hook_config::read_config;
 use std::alloc::Global;
 use std::process::Abort;
 use std::test::Fail;
 
-/// Configurations, and what a check prints of them.
+// Configurations, and what a check prints of them.
 const CASES: &[(&str, &str)] = &[
     (
         "x: 1\nrepos:\n- repo: local\n  hooks:\n  - id: a\n    name: A\n    language: fail\n    entry: e\n    foo: 2\n    description: d\n",

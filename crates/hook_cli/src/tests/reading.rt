@@ -10,7 +10,7 @@ use std::process::Abort;
 use std::test::Fail;
 use yaml_profile::YamlKind;
 
-/// A reader that fails at the call of this number ends the run.
+// A reader that fails at the call of this number ends the run.
 fn expect_read_refused(rt: &impl Abort, alloc: Global, tree: &Tree, fails_at: u32) {
     let mut reader = Pieces::failing(NAMES.as_bytes(), fails_at);
     let mut writer = Kept::new(alloc);
@@ -28,7 +28,7 @@ fn a_reader_that_fails_is_refused_and_nothing_is_written(rt: HostRuntime) -> Res
     Ok(())
 }
 
-/// A reader that gives one of its texts a call, an empty one too.
+// A reader that gives one of its texts a call, an empty one too.
 #[derive(Drop)]
 struct Texts<'a> {
     left: &'a [&'a str],
@@ -93,7 +93,7 @@ fn expect_too_large_a_text(rt: &impl Abort, refused: Result<bool, TryFault>) {
     }
 }
 
-/// So many line feeds are too many, and as many are left unread.
+// So many line feeds are too many, and as many are left unread.
 fn expect_too_large(
     rt: &impl Abort,
     alloc: Global,
@@ -117,7 +117,7 @@ fn a_reader_is_read_one_byte_past_the_limit(rt: HostRuntime) -> Result<(), Fail>
     expect_too_large(&rt, rt.alloc(), 1_060_000, 11_423)
 }
 
-/// A configuration behind empty lines, of 1,048,576 bytes together.
+// A configuration behind empty lines, of 1,048,576 bytes together.
 fn longest(alloc: Global) -> Result<Vec<u8>, AllocError> {
     let mut bytes = vec![in alloc; b'\n'; 1_048_466]?;
     bytes.extend_from_slice(NAMES.as_bytes())?;

@@ -8,7 +8,7 @@ use std::alloc::Global;
 use std::process::Abort;
 use std::test::Fail;
 
-/// Texts that are no configurations.
+// Texts that are no configurations.
 const REFUSED: &[&str] = &[
     "",
     "- a\n",
@@ -17,7 +17,7 @@ const REFUSED: &[&str] = &[
     "a: 1\na: 2\n",
 ];
 
-/// The text is refused as a configuration, and nothing is written.
+// The text is refused as a configuration, and nothing is written.
 fn expect_refused(rt: &impl Abort, alloc: Global, tree: &Tree, text: &str) {
     let mut reader = Pieces::new(text.as_bytes());
     let mut writer = Kept::new(alloc);
@@ -41,7 +41,7 @@ fn bytes_that_are_no_configuration_are_refused_and_nothing_is_written(
     expect_each_refused(&rt, rt.alloc(), REFUSED)
 }
 
-/// A refusal with its number, its name and its text.
+// A refusal with its number, its name and its text.
 struct Named {
     fault: TryFault,
     number: u8,

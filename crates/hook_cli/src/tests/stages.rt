@@ -5,16 +5,16 @@ use std::alloc::Global;
 use std::process::Abort;
 use std::test::Fail;
 
-/// Where a configuration's hooks stand after the default stages.
+// Where a configuration's hooks stand after the default stages.
 const REPOSITORY: &str = "repos:\n- repo: local\n  hooks:\n";
 
 const HOOK: &str =
     "  - id: names\n    name: Check names\n    language: fail\n    entry: no such names\n";
 
-/// A name of 60 columns, more than fit 80 columns with the dots.
+// A name of 60 columns, more than fit 80 columns with the dots.
 const WIDE: &str = "    name: 123456789012345678901234567890123456789012345678901234567890\n";
 
-/// What a run over `bad.txt` writes, and whether it passed.
+// What a run over `bad.txt` writes, and whether it passed.
 fn expect_report(
     rt: &impl Abort,
     alloc: Global,
@@ -34,7 +34,7 @@ fn expect_report(
     Ok(())
 }
 
-/// Default stages other than the run's, before and behind the only hook.
+// Default stages other than the run's, before and behind the only hook.
 fn expect_no_report(rt: &impl Abort, alloc: Global, stages: &[&str]) -> Result<(), Fail> {
     for stage in stages {
         let text = format!(in alloc; "default_stages:\n- {stage}\n{REPOSITORY}{HOOK}")?;
@@ -50,7 +50,7 @@ fn default_stages_of_push_leave_an_empty_report(rt: HostRuntime) -> Result<(), F
     expect_no_report(&rt, rt.alloc(), &["push", "pre-push", "manual"])
 }
 
-/// One hook has the run's stage of its own or by default, and the other is of another stage.
+// One hook has the run's stage of its own or by default, and the other is of another stage.
 fn expect_one_run(rt: &impl Abort, alloc: Global, stages: &[&str]) -> Result<(), Fail> {
     for stage in stages {
         let text = format!(in alloc;

@@ -1,3 +1,5 @@
+//! The text of one hook in a report, and what a `fail` hook answers.
+
 use crate::builtin_hooks::fail_answer;
 use crate::report_text::{Ending, HookResult, LineFault, columns, hook_text};
 use child_port::Fault;
@@ -16,7 +18,7 @@ struct Case {
     text: &'static str,
 }
 
-/// Hooks with the id `t` and the name `T` that ran, over 80 columns.
+// Hooks with the id `t` and the name `T` that ran, over 80 columns.
 const CASES: &[Case] = &[
     Case {
         verbose: false,
@@ -198,7 +200,7 @@ fn fail_names_the_files(rt: HostRuntime) -> Result<(), Fail> {
     expect_fail_answer(&rt, rt.alloc(), &[], "no\n\n\n")
 }
 
-/// A hook with the id `t`.
+// A hook with the id `t`.
 fn hook_of(
     alloc: Global,
     name: &str,
@@ -213,7 +215,7 @@ fn hook_of(
     })
 }
 
-/// The hook's text. Its name must fit the columns.
+// The hook's text. Its name must fit the columns.
 fn text_of(
     rt: &impl Abort,
     alloc: Global,
@@ -225,7 +227,7 @@ fn text_of(
     hook_text(alloc, columns, hook)
 }
 
-/// How a hook with the id `t` is shown.
+// How a hook with the id `t` is shown.
 #[derive(Clone, Copy)]
 struct Shown<'a> {
     columns: usize,
@@ -233,7 +235,7 @@ struct Shown<'a> {
     verbose: bool,
 }
 
-/// The hook that ended so has this text.
+// The hook that ended so has this text.
 fn expect_text(
     rt: &impl Abort,
     alloc: Global,
@@ -247,7 +249,7 @@ fn expect_text(
     Ok(())
 }
 
-/// A hook without output that passed.
+// A hook without output that passed.
 fn passed(alloc: Global) -> Ending {
     Ending::Ran {
         status: 0,

@@ -1,3 +1,5 @@
+//! Which words name a command, and what it asks for.
+
 use crate::{Line, line_of};
 use clap::error::ErrorKind;
 use hook_base::Text;
@@ -5,7 +7,7 @@ use std::alloc::Global;
 use std::process::Abort;
 use std::test::Fail;
 
-/// The texts are these.
+// The texts are these.
 fn expect_texts(rt: &impl Abort, texts: &[Text], expected: &[&str]) {
     assert_eq!(rt; texts.len(), expected.len());
     for (text, wanted) in texts.iter().zip(expected) {
@@ -13,7 +15,7 @@ fn expect_texts(rt: &impl Abort, texts: &[Text], expected: &[&str]) {
     }
 }
 
-/// The words ask for a run of this configuration over files at these paths.
+// The words ask for a run of this configuration over files at these paths.
 fn expect_try(
     rt: &impl Abort,
     alloc: Global,
@@ -53,7 +55,7 @@ fn one_word_asks_for_a_check(rt: HostRuntime) -> Result<(), Fail> {
     Ok(())
 }
 
-/// Words that ask for nothing, and why.
+// Words that ask for nothing, and why.
 const REFUSED: &[(&[&str], ErrorKind)] = &[
     (&[], ErrorKind::MissingSubcommand),
     (&["try"], ErrorKind::MissingRequiredArgument),

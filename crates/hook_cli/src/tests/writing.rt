@@ -8,7 +8,7 @@ use std::io::Write;
 use std::process::Abort;
 use std::test::Fail;
 
-/// How often a run calls its writer.
+// How often a run calls its writer.
 fn calls_of_a_run(alloc: Global, tree: &Tree) -> Result<u32, Fail> {
     let mut reader = Pieces::new(NAMES.as_bytes());
     let mut writer = Kept::new(alloc);
@@ -16,7 +16,7 @@ fn calls_of_a_run(alloc: Global, tree: &Tree) -> Result<u32, Fail> {
     Ok(writer.calls)
 }
 
-/// A writer that fails at the call of this number ends the run there.
+// A writer that fails at the call of this number ends the run there.
 fn expect_write_refused(rt: &impl Abort, alloc: Global, tree: &Tree, fails_at: u32) {
     let mut reader = Pieces::new(NAMES.as_bytes());
     let mut writer = Kept::failing(alloc, fails_at);
@@ -37,7 +37,7 @@ fn a_writer_that_fails_is_refused(rt: HostRuntime) -> Result<(), Fail> {
     Ok(())
 }
 
-/// A writer that hands out only what was flushed.
+// A writer that hands out only what was flushed.
 #[derive(Drop)]
 struct Flushed {
     held: Vec<u8>,
