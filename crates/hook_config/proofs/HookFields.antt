@@ -1,11 +1,10 @@
 -- A hook's fields: a value that is none leaves no hook, and all of them make it.
-use Rattle.std.proofs.Common.{◌≡◌, ℕ, List, [], Bool, true, false, Option, Some, None, option_and_then, refl}
+use Rattle.std.proofs.Common.{◌≡◌, List, [], true, false, Option, Some, None, option_and_then, refl}
 use Rattle.hook_config.specs.Rows.{Row}
-use Rattle.hook_config.specs.Kinds.{text_of, truth_of, language_of, texts_of, stages_of, empty_text_of, empty_texts_of, required, or_default, given}
+use Rattle.hook_config.specs.Kinds.{text_of, truth_of, language_of, texts_of, stages_of, empty_text_of, empty_texts_of, required, or_default}
 use Rattle.hook_config.specs.HookTable.{hook_of_fields}
 use Rattle.hook_config.specs.KnownKeys.{id_key, name_key, alias_key, language_key, entry_key, args_key, stages_key, always_run_key, verbose_key, pass_filenames_key, fail_fast_key, log_file_key, additional_dependencies_key}
 use Rattle.hook_config.specs.declared.configuration.Hook.{Hook}
-use Rattle.hook_config.specs.declared.configuration.Language.{Language}
 use Rattle.hook_config.specs.declared.stage.Stages.{Stages}
 
 none_inside : {A B : Type 0} (o : Option A) → let refused : A → Option B = λ _. None in option_and_then refused o ≡ None

@@ -1,5 +1,5 @@
 -- The hook that a table of a configuration describes (pre-commit.com, "Creating new hooks").
-use Rattle.std.specs.Prelude.{ℕ, List, [], true, false, if◌then◌else◌, Option, Some, None, option_and_then}
+use Rattle.std.specs.Prelude.{List, [], true, false, if◌then◌else◌, Option, Some, None, option_and_then}
 use Rattle.yaml_lines.specs.Meaning.{Meaning}
 use Rattle.hook_config.specs.Rows.{Row, has_key_among, table_of}
 use Rattle.hook_config.specs.Kinds.{text_of, truth_of, language_of, texts_of, stages_of, empty_text_of, empty_texts_of, required, or_default, given}

@@ -7,4 +7,4 @@ most_hooks = 500
 
 -- the greatest number of bytes of a text: a configuration has no more
 abbrev pub most_text_bytes : ℕ
-most_text_bytes = 1048576
+most_text_bytes = 1_048_576

@@ -3,7 +3,7 @@
 ghost use Rattle.std.specs.Prelude.{◌≡◌};
 ghost use Rattle.hook_config.specs.Refusals.{number_of, name_of};
 
-use crate::limits::MAX_HOOKS;
+use crate::limits::MOST_HOOKS;
 use hook_base::OutOfMemory;
 use std::alloc::{AllocError, AllocFailed};
 use thiserror::Error;
@@ -42,8 +42,8 @@ pub enum ConfigKind {
     /// A key or a language is known and not served, or a key is served only where its value is empty.
     #[error("a key or a language is not supported")]
     Unsupported,
-    /// There are more than `MAX_HOOKS` hooks.
-    #[error("there are more than {most} hooks", most = MAX_HOOKS)]
+    /// There are more than `MOST_HOOKS` hooks.
+    #[error("there are more than {most} hooks", most = MOST_HOOKS)]
     TooMany,
     /// Memory was refused.
     #[error("out of memory")]

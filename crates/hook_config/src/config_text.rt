@@ -3,11 +3,11 @@
 ghost use Rattle.std.specs.Prelude.{◌≡◌, ◌≢◌, ◌≤◌, ◌<◌, ◌↔◌, length, string_bytes, IsNone, IfSome, []};
 ghost use Rattle.hook_config.specs.Limits.{most_text_bytes};
 
-use crate::limits::MAX_TEXT_BYTES;
+use crate::limits::MOST_TEXT_BYTES;
 use std::alloc::{AllocError, Global};
 use std::marker::Model;
 
-/// A text of a configuration, of at most `MAX_TEXT_BYTES` bytes. Contracts see it as the list of its bytes in UTF-8.
+/// A text of a configuration, of at most `MOST_TEXT_BYTES` bytes. Contracts see it as the list of its bytes in UTF-8.
 #[derive(Debug, Drop)]
 pub struct ConfigText {
     text: String,
@@ -25,12 +25,12 @@ impl Model for ConfigText {
 }
 
 impl ConfigText {
-    /// The text, or nothing where it is longer than `MAX_TEXT_BYTES`.
+    /// The text, or nothing where it is longer than `MOST_TEXT_BYTES`.
     pub fn new(text: String) -> Option<Self>
         ensures long { IsNone result ↔ (most_text_bytes < length (string_bytes text)) }
         ensures same { IfSome result (λ owned. owned ≡ string_bytes text) }
     {
-        if text.len() <= MAX_TEXT_BYTES {
+        if text.len() <= MOST_TEXT_BYTES {
             Some(ConfigText { text })
         } else {
             None
@@ -46,7 +46,7 @@ impl ConfigText {
         }
     }
 
-    /// The text, of at most `MAX_TEXT_BYTES` bytes.
+    /// The text, of at most `MOST_TEXT_BYTES` bytes.
     pub fn as_str(&self) -> &str
         ensures same { result.now ≡ self.now }
         ensures within { length self.now ≤ most_text_bytes }

@@ -7,7 +7,7 @@ use hook_base::{Items, Text};
 /// What a `.pre-commit-config.yaml` asks for.
 #[derive(Debug, Drop)]
 pub struct Config {
-    /// The hooks of all repositories, in the order of the text, at most `MAX_HOOKS`.
+    /// The hooks of all repositories, in the order of the text, at most `MOST_HOOKS`.
     pub hooks: Items<Hook>,
     /// Whether a run stops after the first hook that failed.
     pub fail_fast: bool,

@@ -10,7 +10,7 @@ use crate::config_fault::ConfigKind;
 use crate::config_text::ConfigText;
 use crate::configuration::Language;
 use crate::known_keys::{FAIL, FALSE_WORDS, LATER_LANGUAGES, TRUE_WORDS};
-use crate::limits::MAX_TEXT_BYTES;
+use crate::limits::MOST_TEXT_BYTES;
 use std::alloc::Global;
 use yaml_profile::Node;
 
@@ -32,12 +32,12 @@ pub(crate) fn list_of<'a>(node: &'a Node) -> Result<&'a [Node], ConfigKind>
     }
 }
 
-/// A text, quoted or not, of at most `MAX_TEXT_BYTES` bytes. A text that is longer is `Shape`.
+/// A text, quoted or not, of at most `MOST_TEXT_BYTES` bytes. A text that is longer is `Shape`.
 pub(crate) fn text_in<'a>(node: &'a Node) -> Result<&'a str, ConfigKind>
     ensures { GivesSurely (λ text. text.now) result (text_of (view node.now)) }
 {
     match node {
-        Node::Text { text, .. } if text.len() <= MAX_TEXT_BYTES => Ok(text.as_str()),
+        Node::Text { text, .. } if text.len() <= MOST_TEXT_BYTES => Ok(text.as_str()),
         _ => Err(ConfigKind::Shape),
     }
 }

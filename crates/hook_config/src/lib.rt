@@ -28,6 +28,6 @@ mod unknown_keys;
 pub use config_fault::{ConfigFault, ConfigKind};
 pub use config_text::ConfigText;
 pub use configuration::{Config, Hook, Language};
-pub use limits::{MAX_HOOKS, MAX_TEXT_BYTES};
+pub use limits::{MOST_HOOKS, MOST_TEXT_BYTES};
 pub use reader::{ConfigWithNode, read_config, read_config_with_node};
 pub use stage::{Stage, Stages};

@@ -2,7 +2,7 @@
 //! where both are the same.
 
 /// The greatest number of hooks of a configuration.
-pub const MAX_HOOKS: usize = 500;
+pub const MOST_HOOKS: usize = 500;
 
 /// The greatest number of bytes of a text of a configuration: a configuration has no more.
-pub const MAX_TEXT_BYTES: usize = 1_048_576;
+pub const MOST_TEXT_BYTES: usize = 1_048_576;

@@ -24,7 +24,7 @@ use yaml_profile::{Node, read};
 /// A refusal is one of `ConfigKind`: `Yaml` where the bytes are no YAML of this profile; `Shape` where the text, or a
 /// repository or a hook, is no table, or a known key's value is of another kind; `MissingKey` where a required key isn't
 /// there; `BadStage`, `BadLanguage` and `RemoteRepo` for a stage, a language or a repository that isn't known;
-/// `Unsupported` for what is known and not served; `TooMany` for more than `MAX_HOOKS` hooks; `OutOfMemory` where memory
+/// `Unsupported` for what is known and not served; `TooMany` for more than `MOST_HOOKS` hooks; `OutOfMemory` where memory
 /// was refused.
 #[tactic(auto, unfolding(crate::specs::Configuration::configuration_of))]
 pub fn read_config(alloc: Global, bytes: &[u8]) -> Result<Config, ConfigFault>

@@ -13,7 +13,7 @@ use crate::fields::{required, required_list};
 use crate::hook_table::hook_of;
 use crate::kinds::{table_of, text_in};
 use crate::known_keys::{HOOKS, LOCAL, REPO};
-use crate::limits::MAX_HOOKS;
+use crate::limits::MOST_HOOKS;
 use crate::stage::Stages;
 use std::alloc::Global;
 use yaml_profile::Node;
@@ -80,7 +80,7 @@ fn add_hook(
 ) -> Result<(), ConfigKind>
     ensures { GivesValue (λ _. hooks.new.items) result (after hooks.old.items (hook_alone default (view table.now))) }
 {
-    if hooks.len() >= MAX_HOOKS {
+    if hooks.len() >= MOST_HOOKS {
         return Err(ConfigKind::TooMany);
     }
     let hook = hook_of(alloc, table, default)?;

@@ -13,7 +13,7 @@ mod unknown_keys;
 use crate::config_fault::ConfigFault;
 use crate::config_text::ConfigText;
 use crate::configuration::{Config, Hook};
-use crate::reader::read_config;
+use crate::reader::{ConfigWithNode, read_config, read_config_with_node};
 use std::alloc::{AllocError, Global};
 use std::process::Abort;
 use std::test::Fail;
@@ -83,6 +83,20 @@ fn outcome_of(alloc: Global, text: &str) -> Result<String, AllocError> {
     outcome_line(alloc, &read_config(alloc, text.as_bytes()))
 }
 
+// The same line where the text's node is read with its configuration.
+fn outcome_with_node(alloc: Global, text: &str) -> Result<String, AllocError> {
+    let outcome = match read_config_with_node(alloc, text.as_bytes()) {
+        Ok(
+            ConfigWithNode {
+                config,
+                node: _node,
+            },
+        ) => Ok(config),
+        Err(fault) => Err(fault),
+    };
+    outcome_line(alloc, &outcome)
+}
+
 fn expect_line(
     rt: &impl Abort,
     alloc: Global,
@@ -91,6 +105,8 @@ fn expect_line(
 ) -> Result<(), AllocError> {
     let line = outcome_of(alloc, text)?;
     assert_eq!(rt; line.as_str(), expected, "at {text:?}");
+    let line = outcome_with_node(alloc, text)?;
+    assert_eq!(rt; line.as_str(), expected, "with its node, at {text:?}");
     Ok(())
 }
 
