@@ -3,7 +3,7 @@ use Rattle.std.proofs.Common.{◌≡◌, ℕ, suc, ◌+◌, Bool, true, false, c
 use Rattle.std.proofs.lemmas.Bool.{eqb-true}
 use Rattle.std.specs.List.{prefix_len, list_all}
 use Rattle.yaml_lines.specs.Characters.{is_blank, is_space, blank_or_end, comment_or_end}
-use Rattle.yaml_lines.specs.Entries.{Place, KeyAndValue, is_item, rest_behind, rest_of, item_of, entry_of}
+use Rattle.yaml_lines.specs.Entries.{Place, KeyAndValue, is_item, rest_of, item_of, entry_of}
 use Rattle.yaml_lines.specs.Lines.{PlacedValue, value_at, last_value}
 use Rattle.yaml_lines.specs.Plain.{begins_plain}
 use Rattle.yaml_lines.proofs.Left.{last_value-tests, last_value-nil}

@@ -1,13 +1,12 @@
 -- Lines that are indented alike are the lines of a literal block text, and its text.
-use Rattle.std.proofs.Common.{◌≡◌, ℕ, zero, suc, ◌+◌, ◌<◌, ◌≤◌, Bool, true, false, cond, not, ◌&&◌, ◌||◌, eqb, ltb, leb, List, [], ◌∷◌, ◌++◌, length, drop, map, replicate, Option, Some, None, refl, sym, ap, ◌∙◌, arith, append_assoc}
+use Rattle.std.proofs.Common.{◌≡◌, ℕ, zero, suc, ◌+◌, ◌<◌, ◌≤◌, Bool, true, false, cond, not, ◌&&◌, ◌||◌, eqb, ltb, List, [], ◌∷◌, ◌++◌, length, drop, replicate, Option, Some, None, refl, sym, ap, ◌∙◌, arith, append_assoc}
 use Rattle.std.proofs.lemmas.Bool.{lt-ltb, le-leb}
 use Rattle.std.proofs.lemmas.List.{append-nil}
 use Rattle.std.specs.List.{prefix_len, list_all}
 use Rattle.std.specs.Str.{encode_utf8_all}
 use Rattle.yaml_lines.specs.BlockLaws.{literal, indented, all_indented, text_of_lines, begins_bare, ends_full}
 use Rattle.yaml_lines.specs.BlockTexts.{LineText, all_spaces, spaces, margin_of, belongs, extent, is_ragged, between, behind_last, begins_blank, joined, block_text}
-use Rattle.yaml_lines.specs.Characters.{is_space, is_nil, begins_with}
-use Rattle.yaml_lines.specs.declared.header.Chomping.{Chomping}
+use Rattle.yaml_lines.specs.Characters.{is_space, is_nil}
 use Rattle.yaml_lines.specs.declared.header.Chomping.TheVariants.{Clip, Keep}
 use Rattle.yaml_lines.specs.declared.header.Header.{Header}
 
