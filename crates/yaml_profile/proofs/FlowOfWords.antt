@@ -8,8 +8,8 @@ use Rattle.yaml_lines.specs.Characters.{is_blank}
 use Rattle.yaml_lines.specs.Meaning.{Meaning, text, list, meanings_of}
 use Rattle.yaml_lines.specs.Plain.{is_indicator, is_mark_character, trim_end}
 use Rattle.yaml_flows.specs.Flows.{Found, mapped, next_part, part, parts_within, list_at, table_at, text_node, text_node_at, node, whole, flow_meaning}
-use Rattle.yaml_flows.specs.Gaps.{blank_or_line_end, behind_gap, after_gap}
-use Rattle.yaml_flows.specs.Texts.{is_flow_indicator, ends_key, begins_plain, ends_plain, plain_extent, FlowText, plain_text, plain_at, quoted_at, text_at}
+use Rattle.yaml_lines.specs.FlowGaps.{blank_or_line_end, behind_gap, after_gap}
+use Rattle.yaml_lines.specs.FlowTexts.{is_flow_indicator, ends_key, begins_plain, ends_plain, plain_extent, FlowText, plain_text, plain_at, quoted_at, text_at}
 use Rattle.yaml_profile.specs.ListLaws.{is_word_character, is_word, AreWords, list_of_words, flow_of_words}
 use Rattle.yaml_profile.proofs.Words.{both, or_none, apart, IsOrdinary, ordinary, no_blank, no_feed, no_hash, no_colon, no_quote, word_trimmed, IsFirst, first_of_word}
 
