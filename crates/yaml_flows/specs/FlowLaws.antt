@@ -1,10 +1,9 @@
 -- What the law of a flow's lines speaks of: the lines of a flow, each with what is open behind it.
 use Rattle.std.specs.Prelude.{ℕ, Bool, false, not, ◌&&◌, List, [], ◌∷◌}
-use Rattle.yaml_lines.specs.FlowLines.{is_closed, skim}
-use Rattle.yaml_lines.specs.declared.flow_state.FlowState.{FlowState}
+use Rattle.yaml_lines.specs.FlowLines.{Open, is_closed, skim}
 
 -- the flow is open behind each of these lines but the last, and closed behind the last
-unfoldable pub closes_last : FlowState → List (List ℕ) → Bool
+unfoldable pub closes_last : Open → List (List ℕ) → Bool
 closes_last s [] = false
 closes_last s (line ∷ []) = is_closed (skim s line)
 closes_last s (line ∷ next ∷ lines) = not (is_closed (skim s line)) && closes_last (skim s line) (next ∷ lines)

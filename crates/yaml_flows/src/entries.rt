@@ -1,3 +1,4 @@
+//! What stands between the parts of a flow: commas, colons and closing brackets.
 ghost use Rattle.std.specs.Prelude.{◌≡◌, false, true, MatchOption, drop, option_map};
 ghost use Rattle.yaml_flows.specs.Flows as flows;
 ghost use Rattle.yaml_lines.specs.Characters.{begins_with};
@@ -52,10 +53,11 @@ pub(crate) fn no_next_item(item: &[char], rest: &[char]) -> FlowFault {
     fault_at(kind, rest)
 }
 
-/// Why no colon follows a key, behind whose gap `rest` stands: as `Unsupported` where the key stands alone.
+/// Why no colon follows a key, behind whose gap `rest` stands: as `Unsupported` where the key ends without a colon at one of
+/// `, [ ] { }`, as `Layout` where another text follows it or nothing.
 pub(crate) fn no_colon(rest: &[char]) -> FlowFault {
     let kind = match rest {
-        [',' | '}', ..] => YamlKind::Unsupported,
+        [',' | '[' | ']' | '{' | '}', ..] => YamlKind::Unsupported,
         _ => YamlKind::Layout,
     };
     fault_at(kind, rest)

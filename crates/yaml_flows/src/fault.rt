@@ -1,3 +1,4 @@
+//! Why a flow can't be read, and where.
 ghost use Rattle.std.specs.Prelude.{◌≡◌};
 
 use std::alloc::{AllocError, AllocFailed};

@@ -1,5 +1,7 @@
-ghost use Rattle.std.specs.Prelude.{◌≡◌, ℕ, List, [], ◌∷◌, IfOk, if◌then◌else◌, true, string_bytes, length};
+//! The nodes of a flow: lists, tables and texts.
+ghost use Rattle.std.specs.Prelude.{◌≡◌, ◌≤◌, ℕ, List, [], ◌∷◌, IfOk, if◌then◌else◌, true, string_bytes, length};
 ghost use Rattle.std.specs.BTreeSet.{contains_text};
+ghost use Rattle.yaml_lines.specs.Meaning.{most_nodes};
 ghost use Rattle.yaml_lines.specs.View.{view, member_view};
 ghost use Rattle.yaml_flows.specs.Faults.{Gives};
 ghost use Rattle.yaml_flows.specs.Flows as flows;
@@ -16,7 +18,8 @@ use std::collections::BTreeSet;
 use yaml_lines::{Node, YamlKind, after_gap};
 
 /// The node of a whole flow: of the content of its lines, the first from the bracket on, joined by line feeds. At most `room`
-/// nodes may lie within one another, the flow itself among them; keys aren't nodes.
+/// nodes may lie within one another, the flow itself among them; keys aren't nodes. There is room for
+/// [`MOST_NODES`](yaml_lines::MOST_NODES) at most, which bounds the depth of the calls.
 ///
 /// The text begins with `[` or `{`. Comments may stand in it behind a blank or at a line's start, and behind the flow's last
 /// bracket stand blanks and a comment at most. Any other text is a fault, at the first place at which it can't be read:
@@ -31,6 +34,7 @@ use yaml_lines::{Node, YamlKind, after_gap};
 /// (YAML 1.2.2, sections 7.3.3 "Plain Style", 7.4.1 "Flow Sequences" and 7.4.2 "Flow Mappings".)
 #[tactic(auto, unfolding(crate::specs::Flows::flow_meaning))]
 pub fn read_flow(alloc: Global, text: &[char], room: usize) -> Result<Node, FlowFault>
+    requires { room ≤ most_nodes }
     ensures { Gives view result (flows.flow_meaning room text.now) }
 {
     if !begins_flow(text) {

@@ -1,3 +1,5 @@
+//! What was read, with the characters that follow it.
+
 /// A value that was read, and the characters that follow it.
 #[derive(Drop)]
 pub(crate) struct Found<'a, T> {

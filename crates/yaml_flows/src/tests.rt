@@ -1,4 +1,7 @@
 // Nodes, and kinds and places of faults, which no clause gives.
+ghost use Rattle.std.specs.Prelude.{◌≤◌};
+ghost use Rattle.yaml_lines.specs.Meaning.{most_nodes};
+
 use crate::{FaultPlace, FlowFault, read_flow};
 use std::alloc::{AllocError, Global};
 use std::test::Fail;
@@ -95,7 +98,6 @@ const REFUSED: &[(&str, YamlKind, usize)] = &[
     ("{a: b]", YamlKind::Layout, 1),
     ("[}", YamlKind::Layout, 1),
     ("{]", YamlKind::Layout, 1),
-    ("{a]", YamlKind::Layout, 1),
     ("[a [b]]", YamlKind::Layout, 1),
     ("[[a] [b]]", YamlKind::Layout, 1),
     ("[[a]\nb]", YamlKind::Layout, 2),
@@ -154,6 +156,10 @@ const REFUSED: &[(&str, YamlKind, usize)] = &[
     ("{a}", YamlKind::Unsupported, 1),
     ("{a, b: c}", YamlKind::Unsupported, 1),
     ("{b: c, 'a'\n}", YamlKind::Unsupported, 2),
+    ("{a]", YamlKind::Unsupported, 1),
+    ("{a [b]}", YamlKind::Unsupported, 1),
+    ("{a\"]", YamlKind::Unsupported, 1),
+    ("{'a'\n{b: c}}", YamlKind::Unsupported, 2),
     ("[&a b]", YamlKind::Unsupported, 1),
     ("[a,\n *a]", YamlKind::Unsupported, 2),
     ("[!a]", YamlKind::Unsupported, 1),
@@ -168,6 +174,10 @@ const REFUSED: &[(&str, YamlKind, usize)] = &[
     ("[\n 'a\n ']", YamlKind::Quote, 2),
     ("[\"\\ud800\"]", YamlKind::Quote, 1),
     ("{\"a", YamlKind::Quote, 1),
+    ("[\"a\nb\"]", YamlKind::Quote, 1),
+    ("[a,\n \"b\n \"]", YamlKind::Quote, 2),
+    ("{\"a\n\": b}", YamlKind::Quote, 1),
+    ("{a: \"b\\\n c\"}", YamlKind::Unsupported, 1),
     ("{a: 1, a: 2}", YamlKind::DoubledKey, 1),
     ("{a: 1,\n 'b': 2,\n b\n : 3}", YamlKind::DoubledKey, 3),
     ("{a: 1, \"\\x61\": , c}", YamlKind::DoubledKey, 1),
@@ -221,7 +231,9 @@ fn characters(alloc: Global, text: &str) -> Result<Vec<char>, AllocError> {
     text.chars().collect(alloc)
 }
 
-fn read(alloc: Global, text: &str, room: usize) -> Result<Node, FlowFault> {
+fn read(alloc: Global, text: &str, room: usize) -> Result<Node, FlowFault>
+    requires { room ≤ most_nodes }
+{
     let text = characters(alloc, text)?;
     read_flow(alloc, text.as_slice(), room)
 }
@@ -348,6 +360,27 @@ fn an_empty_place_is_no_node(rt: HostRuntime) -> Result<(), Fail> {
     for text in ["[,]", "{a:,}", "{a:}"] {
         let fault = read(rt.alloc(), text, 1).err().ok_or("read")?;
         assert_eq!(rt; fault.kind, YamlKind::Layout, "of {text:?}");
+    }
+    Ok(())
+}
+
+// Each kind of fault that a flow may have, and how it is told.
+const TOLD: [(YamlKind, &str); 6] = [
+    (YamlKind::Unsupported, "not supported"),
+    (YamlKind::Layout, "bad layout"),
+    (YamlKind::Quote, "bad quoted text"),
+    (YamlKind::DoubledKey, "doubled key"),
+    (YamlKind::TooDeep, "nested too deeply"),
+    (YamlKind::OutOfMemory, "out of memory"),
+];
+
+#[test]
+fn tells_each_kind_of_fault(rt: HostRuntime) -> Result<(), Fail> {
+    for (kind, wanted) in TOLD {
+        let place = FaultPlace::End;
+        let fault = FlowFault { kind, place };
+        let told = format!(in rt.alloc(); "{fault}")?;
+        assert_eq!(rt; told.as_str(), wanted);
     }
     Ok(())
 }

@@ -5,26 +5,28 @@
 use Rattle.std.specs.Prelude.{ℕ, zero, suc, Bool, false, ◌-◌, ◌||◌, List, [], ◌∷◌, Option, Some, None, length, nat_lt, ◌==◌, if◌then◌else◌}
 use Rattle.yaml_lines.specs.FlowGaps.{after_gap, after_start}
 use Rattle.yaml_lines.specs.FlowTexts.{FlowText, is_key_end, text_at}
+use Rattle.yaml_lines.specs.Meaning.{most_nodes}
 use Rattle.yaml_lines.specs.declared.flow_state.FlowState.{FlowState}
 
--- so many brackets are counted, and no more: in no flow that is read are more of them open
-abbrev pub most_open : ℕ
-most_open = 64
+-- what is open at a place of a flow
+abbrev pub Open : Type 0
+Open = FlowState
 
 -- so many brackets are open, and the last token was a quoted text or another one
-abbrev pub state : ℕ → Bool → FlowState
+abbrev pub state : ℕ → Bool → Open
 state depth quoted = record { depth = depth; quoted = quoted }
 
 -- no flow has begun, or it is over
-abbrev pub outside : FlowState
+abbrev pub outside : Open
 outside = state 0 false
 
 -- no bracket is open
-abbrev pub is_closed : FlowState → Bool
+abbrev pub is_closed : Open → Bool
 is_closed s = s.depth == 0
 
+-- one bracket more: in no flow that is read are more open than nodes may lie within one another, and no more are counted
 abbrev pub one_deeper : ℕ → ℕ
-one_deeper depth = if nat_lt depth most_open then suc depth else depth
+one_deeper depth = if nat_lt depth most_nodes then suc depth else depth
 
 -- `[` or `{`
 abbrev pub is_opening : ℕ → Bool
@@ -36,7 +38,7 @@ is_closing c = c == 93 || c == 125
 
 -- what is open behind a token, and the characters that follow it
 pub record Behind : Type 0 where
-  pub state : FlowState
+  pub state : Open
   pub rest : List ℕ
 
 -- behind the text, if one stands first, else behind one character
@@ -46,7 +48,7 @@ behind_text depth cs (Some text) = record { state = state depth text.quoted; res
 
 -- Behind the token that the characters begin with: a bracket, a comma, the colon of a key, or a text. A character that
 -- begins none of them is passed over.
-unfoldable pub behind_token : FlowState → List ℕ → Behind
+unfoldable pub behind_token : Open → List ℕ → Behind
 behind_token s [] = record { state = s; rest = [] }
 behind_token s (c ∷ cs) =
     if is_opening c then record { state = state (one_deeper s.depth) false; rest = cs }
@@ -55,7 +57,7 @@ behind_token s (c ∷ cs) =
     else behind_text s.depth cs (text_at (c ∷ cs))))
 
 -- Behind these tokens, of which there are at most so many. Where no bracket is open any more the flow is over.
-unfoldable pub behind_tokens : ℕ → FlowState → List ℕ → Behind
+unfoldable pub behind_tokens : ℕ → Open → List ℕ → Behind
 behind_tokens zero s cs = record { state = s; rest = cs }
 behind_tokens (suc most) s [] = record { state = s; rest = [] }
 behind_tokens (suc most) s (c ∷ cs) =
@@ -63,11 +65,11 @@ behind_tokens (suc most) s (c ∷ cs) =
     if is_closed next.state then next else behind_tokens most next.state (after_gap next.rest)
 
 -- behind all tokens of these characters, each of which takes a character, or behind the flow's last bracket
-abbrev pub behind_all : FlowState → List ℕ → Behind
+abbrev pub behind_all : Open → List ℕ → Behind
 behind_all s cs = behind_tokens (length cs) s cs
 
 -- what is open behind a line with these characters, of a flow of which so much was open before it
-unfoldable pub skim : FlowState → List ℕ → FlowState
+unfoldable pub skim : Open → List ℕ → Open
 skim s line = (behind_all s (after_start line)).state
 
 abbrev pub begins_flow : List ℕ → Bool
@@ -75,5 +77,5 @@ begins_flow [] = false
 begins_flow (c ∷ _) = is_opening c
 
 -- what is open behind a line that stands in no flow and has this as its last value
-abbrev pub state_behind : List ℕ → FlowState
+abbrev pub state_behind : List ℕ → Open
 state_behind value = if begins_flow value then skim outside value else outside

@@ -26,6 +26,10 @@ abbrev pub members_of : List (List ℕ × Meaning) → Members
 members_of [] = no_members
 members_of (m ∷ ms) = member m.0 m.1 (members_of ms)
 
+-- the most nodes that may lie within one another, keys not among them: a node lies within at most 32 others
+abbrev pub most_nodes : ℕ
+most_nodes = 33
+
 -- the nodes of a list, in order
 abbrev pub nodes : Meanings → List Meaning
 nodes no_meanings = []

@@ -3,6 +3,7 @@ ghost use Rattle.std.specs.Prelude.{◌≡◌, option_map};
 ghost use Rattle.yaml_lines.specs.FlowLines as flows;
 ghost use Rattle.yaml_lines.specs.FlowTexts.{text_at};
 
+use crate::MOST_NODES;
 use crate::flow_text::{behind_text, ends_key};
 use crate::gap::{after_gap, after_start};
 use crate::quoted_text::begins_quoted;
@@ -14,9 +15,6 @@ pub(crate) struct FlowState {
     depth: usize,
     quoted: bool,
 }
-
-// The most brackets that are counted: more than may lie within one another.
-const MOST_OPEN: usize = 64;
 
 impl FlowState {
     // Before a flow, or behind its end.
@@ -65,10 +63,11 @@ impl<'a> Behind<'a> {
     }
 }
 
+// No more brackets are counted than may be open in a flow that is read.
 fn one_deeper(depth: usize) -> usize
     ensures { result ≡ flows.one_deeper depth }
 {
-    if depth < MOST_OPEN { depth + 1 } else { depth }
+    if depth < MOST_NODES { depth + 1 } else { depth }
 }
 
 // Behind the text that the characters begin with, else behind the first of them, which `others` follow.

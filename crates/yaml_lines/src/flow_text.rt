@@ -134,7 +134,7 @@ fn behind_plain<'a>(text: &'a [char]) -> Option<&'a [char]>
     Some(skip(text, part.len()))
 }
 
-/// What follows the text, plain or quoted, that the characters of a flow begin with. None where they begin with no text.
+// What follows the text, plain or quoted, that the characters of a flow begin with. None where they begin with no text.
 #[tactic(auto, unfolding(crate::specs::FlowTexts::text_at))]
 pub(crate) fn behind_text<'a>(text: &'a [char]) -> Option<&'a [char]>
     ensures { option_map (λ rest. rest.now) result ≡ option_map (λ t. t.rest) (text_at text.now) }

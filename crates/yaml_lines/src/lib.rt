@@ -2,11 +2,12 @@
 //!
 //! [`characters`] decodes the bytes, [`raw_lines`] cuts them at line ends, and [`read_lines`] leaves the lines that hold
 //! something, each a place: where its content begins, the content, and the block text that follows it. [`is_item`],
-//! [`after_dash`], [`read_entry`], [`scalar`] and [`read_quoted`] read one content. What a text means is a [`Node`]. The
-//! contracts cite `specs/Characters.antt`, `specs/Lines.antt`, `specs/FlowLines.antt`, `specs/BlockTexts.antt`,
-//! `specs/Entries.antt`, `specs/Scalars.antt`, `specs/Plain.antt` and `specs/Quoted.antt`; `Gives` of `specs/Faults.antt`
-//! and its like tie an answer to what a definition says of the text, and [`laws`] says of the definitions what a user of
-//! YAML would expect.
+//! [`after_dash`], [`read_entry`], [`scalar`] and [`read_quoted`] read one content; [`after_gap`], [`plain_part`] and
+//! [`ends_key`] are the scans of a flow's characters, for the reader of flows too. What a text means is a [`Node`]. The
+//! contracts cite `specs/Characters.antt`, `specs/Lines.antt`, `specs/FlowLines.antt`, `specs/FlowGaps.antt`,
+//! `specs/FlowTexts.antt`, `specs/BlockTexts.antt`, `specs/Entries.antt`, `specs/Scalars.antt`, `specs/Plain.antt` and
+//! `specs/Quoted.antt`; `Gives` of `specs/Faults.antt` and its like tie an answer to what a definition says of the text,
+//! and [`laws`] says of the definitions what a user of YAML would expect.
 #![tactic(auto)]
 
 mod block_lines;
@@ -42,7 +43,7 @@ pub use gap::after_gap;
 pub use header::{Chomping, Header};
 pub use item::{after_dash, is_item};
 pub use line::Line;
-pub use node::Node;
+pub use node::{MOST_NODES, Node};
 pub use places::{Lines, read_lines};
 pub use plain_text::refusal;
 pub use quoted_text::{QuotedText, begins_quoted, read_quoted};
@@ -50,5 +51,7 @@ pub use raw_line::{RawLine, raw_lines};
 pub use scan::{skip, text_of};
 pub use text_scalar::scalar;
 
+#[cfg(test)]
+mod flow_tests;
 #[cfg(test)]
 mod tests;

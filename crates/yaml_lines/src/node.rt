@@ -1,6 +1,10 @@
 //! What a text means, as a value.
 //!
 //! Contracts see it by `view` of `specs/View.antt`.
+
+/// The most nodes that may lie within one another, keys not among them: a node lies within at most 32 others.
+pub const MOST_NODES: usize = 33;
+
 /// A node of a YAML text, in this project's profile of YAML 1.2.2.
 #[derive(Debug, Drop)]
 pub enum Node {

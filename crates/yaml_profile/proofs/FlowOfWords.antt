@@ -7,9 +7,9 @@ use Rattle.yaml_lines.specs.Characters.{is_blank, begins_with}
 use Rattle.yaml_lines.specs.Meaning.{Meaning, text, list, table, meanings_of, members_of}
 use Rattle.yaml_lines.specs.Plain.{is_indicator, is_mark_character, trim_end}
 use Rattle.yaml_flows.specs.Flows.{Found, mapped, next_part, parts, parts_within, list_at, table_at, entry, row_of, distinct, text_node, text_node_at, node, whole, flow_meaning}
-use Rattle.yaml_flows.specs.Gaps.{blank_or_line_end, behind_gap, after_gap}
+use Rattle.yaml_lines.specs.FlowGaps.{blank_or_line_end, behind_gap, after_gap}
 use Rattle.yaml_flows.specs.Keys.{Row, keys_differ}
-use Rattle.yaml_flows.specs.Texts.{is_flow_indicator, ends_key, begins_plain, ends_plain, plain_extent, FlowText, plain_text, plain_at, quoted_at, text_at}
+use Rattle.yaml_lines.specs.FlowTexts.{is_flow_indicator, ends_key, begins_plain, ends_plain, plain_extent, FlowText, plain_text, plain_at, quoted_at, text_at}
 use Rattle.yaml_profile.specs.Words.{is_word_character, is_word, AreWords, list_of_words, flow_of_words, WordEntry, is_word_entry, AreWordEntries, entry_text, flow_of_entries, word_row, table_of_entries}
 use Rattle.yaml_profile.proofs.FlowParts.{Begins, no_gap, behind_space, behind, all_parts}
 use Rattle.yaml_profile.proofs.Words.{both, or_none, apart, IsOrdinary, ordinary, no_feed, no_hash, no_colon, no_quote, word_trimmed, IsFirst, first_of_word}

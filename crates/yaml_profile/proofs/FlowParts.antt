@@ -7,8 +7,8 @@ use Rattle.std.specs.List.{list_all}
 use Rattle.yaml_lines.specs.Characters.{is_blank, begins_with}
 use Rattle.yaml_lines.specs.Plain.{is_indicator}
 use Rattle.yaml_flows.specs.Flows.{Found, mapped, next_part, part, parts, parts_within}
-use Rattle.yaml_flows.specs.Gaps.{behind_gap, after_gap}
-use Rattle.yaml_flows.specs.Texts.{is_flow_indicator}
+use Rattle.yaml_lines.specs.FlowGaps.{behind_gap, after_gap}
+use Rattle.yaml_lines.specs.FlowTexts.{is_flow_indicator}
 use Rattle.yaml_profile.proofs.Words.{both, or_none, apart, IsOrdinary, no_blank, no_feed, no_hash}
 
 -- ---- where a part begins

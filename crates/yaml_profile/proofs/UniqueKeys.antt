@@ -16,8 +16,8 @@ use Rattle.yaml_lines.specs.Plain.{plain_of}
 use Rattle.yaml_lines.specs.Scalars.{alone, scalar_meaning}
 use Rattle.yaml_flows.specs.Flows as flows
 use Rattle.yaml_flows.specs.Flows.{Found, mapped, part, parts_within, list_at, table_at, text_node, begins_flow, is_end, flow_meaning}
-use Rattle.yaml_flows.specs.Gaps.{after_gap}
-use Rattle.yaml_flows.specs.Texts.{text_at}
+use Rattle.yaml_lines.specs.FlowGaps.{after_gap}
+use Rattle.yaml_lines.specs.FlowTexts.{text_at}
 use Rattle.yaml_flows.specs.Keys.{Row, keys_differ}
 use Rattle.yaml_profile.specs.Blocks as blocks
 use Rattle.yaml_profile.specs.Blocks.{Part, all_of, block, list_of, table_of, node, line_node, whole}
