@@ -17,7 +17,7 @@ TOP = os.path.abspath(sys.argv[1] if len(sys.argv) > 1 else os.path.join(os.path
 # say more than it.
 LIMITS = [
     ("configuration", "1 MiB ({} bytes)", "yaml_lines", "most_bytes", 0),
-    ("configuration", "a node within at most {} others", "yaml_profile", "most_nodes", -1),
+    ("configuration", "a node within at most {} others", "yaml_lines", "most_nodes", -1),
     ("file, message", "16 MiB ({} bytes)", "repo_store", "content_limit", 0),
     ("staged tree of a store", "{} files", "repo_store", "file_limit", 0),
     ("staged tree of a store", "8 MiB ({} bytes) together", "repo_store", "path_limit", 0),

@@ -4,7 +4,7 @@ import os
 import re
 
 HERE = os.path.dirname(os.path.abspath(__file__))
-SOURCE = os.path.join(HERE, "..", "crates/yaml_profile/src")
+CRATES = os.path.join(HERE, "..", "crates")
 
 
 def literal(text):
@@ -20,20 +20,20 @@ def rows_of(source, second):
 
 
 def source_of(name):
-    with open(os.path.join(SOURCE, name), encoding="utf-8") as file:
+    with open(os.path.join(CRATES, name), encoding="utf-8") as file:
         return file.read()
 
 
 def read_rows():
     """The rows of texts that are read: the text, and its node as the tests show it."""
-    return rows_of(source_of("text/cases.rt"), r'"((?:[^"\\]|\\.)*)"')
+    return rows_of(source_of("yaml_profile/src/text/cases.rt"), r'"((?:[^"\\]|\\.)*)"')
 
 
 def refused_rows():
     """The rows of texts that are refused: the text, and the kind of its fault."""
-    return rows_of(source_of("text/refused_cases.rt"), r"YamlKind::(\w+)")
+    return rows_of(source_of("yaml_profile/src/text/refused_cases.rt"), r"YamlKind::(\w+)")
 
 
 def most_nodes():
     """How many nodes may lie within one another."""
-    return int(re.search(r"MOST_NODES: usize = (\d+);", source_of("text.rt"))[1])
+    return int(re.search(r"MOST_NODES: usize = (\d+);", source_of("yaml_lines/src/node.rt"))[1])

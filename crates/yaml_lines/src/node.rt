@@ -2,7 +2,8 @@
 //!
 //! Contracts see it by `view` of `specs/View.antt`.
 
-/// The most nodes that may lie within one another, keys not among them: a node lies within at most 32 others.
+/// The most nodes that may lie within one another: a node lies within at most 32 others. Texts and empty places are nodes
+/// too; keys aren't.
 pub const MOST_NODES: usize = 33;
 
 /// A node of a YAML text, in this project's profile of YAML 1.2.2.

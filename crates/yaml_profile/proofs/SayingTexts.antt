@@ -1,11 +1,12 @@
 -- Texts whose lines leave the same places mean the same.
 use Rattle.std.proofs.Common.{◌≡◌, ℕ, List, Option, Some, option_and_then, sym, ap, ◌∙◌}
+use Rattle.yaml_lines.specs.Meaning.{most_nodes}
 use Rattle.yaml_lines.specs.BlockTexts.{LineText}
 use Rattle.yaml_lines.specs.Characters.{characters_of}
 use Rattle.yaml_lines.specs.Entries.{Place}
 use Rattle.yaml_lines.specs.Lines.{line_texts, places_from, places_of, places_of_bytes}
 use Rattle.yaml_profile.specs.Blocks.{whole}
-use Rattle.yaml_profile.specs.Text.{most_nodes, meaning_of}
+use Rattle.yaml_profile.specs.Text.{meaning_of}
 
 by_lines : (bytes characters : List ℕ) → characters_of bytes ≡ Some characters → meaning_of bytes ≡ option_and_then (whole most_nodes) (places_from (line_texts characters))
 unfolding meaning_of places_of_bytes places_of

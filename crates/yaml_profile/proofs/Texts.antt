@@ -1,9 +1,10 @@
 -- What bytes mean, by their characters.
 use Rattle.std.proofs.Common.{◌≡◌, ℕ, List, Some, None, option_and_then, ap}
+use Rattle.yaml_lines.specs.Meaning.{most_nodes}
 use Rattle.yaml_lines.specs.Characters.{characters_of}
 use Rattle.yaml_lines.specs.Lines.{places_of, places_of_bytes}
 use Rattle.yaml_profile.specs.Blocks.{whole}
-use Rattle.yaml_profile.specs.Text.{meaning_of, most_nodes}
+use Rattle.yaml_profile.specs.Text.{meaning_of}
 
 pub meaning_of-characters : (bytes text : List ℕ) → characters_of bytes ≡ Some text → meaning_of bytes ≡ option_and_then (whole most_nodes) (places_of text)
 unfolding meaning_of places_of_bytes

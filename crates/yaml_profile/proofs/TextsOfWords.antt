@@ -8,12 +8,12 @@ use Rattle.yaml_lines.specs.Characters.{characters_of, is_allowed, begins_with, 
 use Rattle.yaml_lines.specs.Entries.{Place, entry_of}
 use Rattle.yaml_lines.specs.FlowLines.{outside, state_behind, skim}
 use Rattle.yaml_lines.specs.Lines.{before_lines, line_texts, PlacedValue, value_at, last_value, Left, standing, bare, with_text, with_value, with_flow, left_of, left_at, before_places, all_places, is_mark, document, places_from, places_of, places_of_bytes}
-use Rattle.yaml_lines.specs.Meaning.{Meaning}
+use Rattle.yaml_lines.specs.Meaning.{Meaning, most_nodes}
 use Rattle.yaml_lines.specs.Plain.{is_indicator, begins_plain}
 use Rattle.yaml_profile.specs.Blocks.{further, node, whole}
 use Rattle.yaml_flows.specs.Flows.{flow_meaning}
 use Rattle.yaml_profile.specs.Words.{is_word_character, is_word, AreWords, list_of_words, item_line, flow_of_words, lines_of_words}
-use Rattle.yaml_profile.specs.Text.{most_nodes, meaning_of}
+use Rattle.yaml_profile.specs.Text.{meaning_of}
 use Rattle.yaml_profile.proofs.FlowOfWords.{flow_words}
 use Rattle.yaml_profile.proofs.LinesOfWords.{line_words}
 use Rattle.yaml_profile.proofs.Words.{both, or_none, apart, ordinary, no_blank, no_feed, no_return, no_dash, allowed, IsFirst, first_of_word, word_no_entry}

@@ -10,7 +10,7 @@ use Rattle.yaml_lines.specs.BlockTexts.{begins_block}
 use Rattle.yaml_lines.specs.FlowLines.{begins_flow as begins_flow_line}
 use Rattle.yaml_lines.specs.Entries.{Place, is_item, item_of, entry_of}
 use Rattle.yaml_lines.specs.Lines.{places_of_bytes}
-use Rattle.yaml_lines.specs.Meaning.{Meaning, text, list, table, meanings_of, members_of}
+use Rattle.yaml_lines.specs.Meaning.{Meaning, text, list, table, meanings_of, members_of, most_nodes}
 use Rattle.yaml_lines.specs.Quoted.{begins_quoted, quoted_of}
 use Rattle.yaml_lines.specs.Plain.{plain_of}
 use Rattle.yaml_lines.specs.Scalars.{alone, scalar_meaning}
@@ -21,7 +21,7 @@ use Rattle.yaml_lines.specs.FlowTexts.{text_at}
 use Rattle.yaml_flows.specs.Keys.{Row, keys_differ}
 use Rattle.yaml_profile.specs.Blocks as blocks
 use Rattle.yaml_profile.specs.Blocks.{Part, all_of, block, list_of, table_of, node, line_node, whole}
-use Rattle.yaml_profile.specs.Text.{most_nodes, meaning_of}
+use Rattle.yaml_profile.specs.Text.{meaning_of}
 use Rattle.yaml_profile.specs.UniqueKeys.{keys, HasUniqueKeys, ItemsHaveUniqueKeys, ValuesHaveUniqueKeys}
 
 -- ---- what holds of a value, if there is one

@@ -3,11 +3,11 @@
 ghost use Rattle.std.specs.Prelude.{◌≡◌, ℕ, List, [], ◌∷◌, ◌<◌, ◌≤◌, length, map, IfOk, if◌then◌else◌, true, string_bytes, IsOk, ◌↔◌};
 ghost use Rattle.std.specs.BTreeSet.{contains_text};
 ghost use Rattle.std.specs.Str.{bytes_eq};
+ghost use Rattle.yaml_lines.specs.Meaning.{most_nodes};
 ghost use Rattle.yaml_lines.specs.Faults.{Gives};
 ghost use Rattle.yaml_lines.specs.View.{view, member_view};
 ghost use Rattle.yaml_profile.specs.Blocks as blocks;
 ghost use Rattle.yaml_profile.specs.Rows.{fresh, rows_of};
-ghost use Rattle.yaml_profile.specs.Text.{most_nodes};
 
 use crate::inline::{Inline, fault, line_node};
 use crate::keys::see;

@@ -2,12 +2,12 @@
 
 ghost use Rattle.std.specs.Prelude.{◌≡◌, ◌≤◌, ◌++◌, IfOk, if◌then◌else◌};
 ghost use Rattle.std.specs.List.{list_all};
+ghost use Rattle.yaml_lines.specs.Meaning.{most_nodes};
 ghost use Rattle.yaml_flows.specs.Faults.{Gives as FlowGives};
 ghost use Rattle.yaml_lines.specs.Faults.{Gives};
 ghost use Rattle.yaml_lines.specs.View.{view};
 ghost use Rattle.yaml_lines.specs.declared.fault.YamlKind.TheVariants.{OutOfMemory};
 ghost use Rattle.yaml_profile.specs.Blocks as blocks;
-ghost use Rattle.yaml_profile.specs.Text.{most_nodes};
 
 use crate::inline::{Inline, fault};
 use crate::parts::count_in_flow;

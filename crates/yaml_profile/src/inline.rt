@@ -3,9 +3,8 @@
 ghost use Rattle.std.specs.Prelude.{◌≡◌, ◌≤◌, Some, false, option_copied, option_map};
 ghost use Rattle.yaml_lines.specs.Faults.{Gives};
 ghost use Rattle.yaml_lines.specs.View.{view};
-ghost use Rattle.yaml_lines.specs.Meaning.{text};
+ghost use Rattle.yaml_lines.specs.Meaning.{text, most_nodes};
 ghost use Rattle.yaml_profile.specs.Blocks as blocks;
-ghost use Rattle.yaml_profile.specs.Text.{most_nodes};
 
 use crate::flow::flow_node;
 use std::alloc::Global;

@@ -14,5 +14,5 @@ pub mod laws;
 mod parts;
 mod text;
 
-pub use text::{MOST_NODES, read};
-pub use yaml_lines::{Node, YamlFault, YamlKind};
+pub use text::read;
+pub use yaml_lines::{MOST_BYTES, MOST_NODES, Node, YamlFault, YamlKind};

@@ -1,24 +1,22 @@
 //! A whole text, from its bytes on.
 
 ghost use Rattle.std.specs.Prelude.{◌≡◌, ◌≤◌, length, option_and_then};
+ghost use Rattle.yaml_lines.specs.Meaning.{most_nodes};
 ghost use Rattle.yaml_lines.specs.Characters.{most_bytes};
 ghost use Rattle.yaml_lines.specs.Faults.{Gives};
 ghost use Rattle.yaml_lines.specs.Lines.{places_from, places_of};
 ghost use Rattle.yaml_lines.specs.View.{view};
 ghost use Rattle.yaml_lines.specs.declared.fault.YamlKind.TheVariants.{OutOfMemory};
 ghost use Rattle.yaml_profile.specs.Blocks.{whole};
-ghost use Rattle.yaml_profile.specs.Text.{meaning_of, most_nodes};
+ghost use Rattle.yaml_profile.specs.Text.{meaning_of};
 
 use crate::blocks::block;
 use crate::flow::flow_over;
 use std::alloc::Global;
 use yaml_lines::{
-    Line, Lines, Node, RawLine, YamlFault, YamlKind, begins_block, begins_flow, characters,
+    Line, Lines, MOST_NODES, Node, RawLine, YamlFault, YamlKind, begins_block, begins_flow, characters,
     raw_lines, read_lines,
 };
-
-/// The most nodes that may lie within one another. Texts and empty places are nodes too; keys aren't.
-pub const MOST_NODES: usize = 33;
 
 /// The node of a text of at most [`MOST_BYTES`](yaml_lines::MOST_BYTES) bytes.
 ///
