@@ -5,10 +5,10 @@ use Rattle.std.specs.List.{list_any, join_with_byte}
 use Rattle.yaml_lines.specs.Characters.{begins_with, is_blank, is_nil}
 use Rattle.yaml_lines.specs.FlowGaps.{is_feed, blank_or_line_end, is_of_gap, in_comment, behind_gap, after_gap, after_start}
 use Rattle.yaml_lines.specs.FlowLines.{Open, state, outside, is_closed, one_deeper, is_opening, is_closing, Behind, behind_text, behind_token, behind_all, skim}
-use Rattle.yaml_lines.specs.FlowTexts.{is_flow_indicator, ends_key, is_key_end, begins_plain, plain_extent, FlowText, plain_text, plain_at, quoted_text, quoted_at, text_at}
+use Rattle.yaml_lines.specs.FlowTexts.{is_flow_indicator, ends_key, is_key_end, begins_plain, plain_extent, FlowText, plain_text, plain_at, quoted_at, text_at}
 use Rattle.yaml_lines.specs.Meaning.{Meaning, list, table, meanings_of, members_of, most_nodes}
 use Rattle.yaml_lines.specs.Plain.{is_indicator, is_mark_character, trim_end}
-use Rattle.yaml_lines.specs.Quoted.{is_quote, begins_quoted}
+use Rattle.yaml_lines.specs.Quoted.{is_quote}
 use Rattle.yaml_lines.proofs.FlowSeams.{then_all, all_step, then_lines, lines_seam, longer_behind}
 use Rattle.yaml_lines.proofs.FlowTokens.{token_by, token_tests}
 use Rattle.yaml_lines.proofs.QuotedSeams.{line_before}

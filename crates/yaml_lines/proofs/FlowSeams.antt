@@ -1,11 +1,11 @@
 -- No token of a flow goes over a line's end: what is open behind some lines is what is open behind the first of them, and
 -- then behind the others.
-use Rattle.std.proofs.Common.{◌≡◌, ℕ, zero, suc, ◌+◌, ◌-◌, ◌<◌, ◌≤◌, Bool, true, false, cond, not, ◌&&◌, ◌||◌, eqb, List, [], ◌∷◌, ◌++◌, length, take, drop, Option, Some, None, option_map, refl, sym, ap, ◌∙◌, arith, length-drop}
+use Rattle.std.proofs.Common.{◌≡◌, ℕ, zero, suc, ◌+◌, ◌-◌, ◌≤◌, Bool, true, false, cond, not, ◌&&◌, ◌||◌, eqb, List, [], ◌∷◌, length, take, drop, Option, Some, None, option_map, refl, sym, ap, ◌∙◌, arith, length-drop}
 use Rattle.std.proofs.lemmas.List.{length-take-le, take-append-le, drop-append-le}
 use Rattle.std.specs.Str.{encode_utf8_all}
 use Rattle.yaml_lines.specs.Characters.{is_blank, is_nil}
 use Rattle.yaml_lines.specs.FlowGaps.{is_feed, blank_or_line_end, is_of_gap, in_comment, behind_gap, after_gap, after_start}
-use Rattle.yaml_lines.specs.FlowLines.{state, is_closed, one_deeper, is_opening, is_closing, Behind, behind_text, behind_token, behind_tokens, behind_all, skim}
+use Rattle.yaml_lines.specs.FlowLines.{state, is_closed, is_opening, is_closing, Behind, behind_text, behind_token, behind_tokens, behind_all}
 use Rattle.yaml_lines.specs.FlowTexts.{is_flow_indicator, ends_key, is_key_end, begins_plain, ends_plain, plain_extent, FlowText, plain_text, plain_at, quoted_text, quoted_at, text_at}
 use Rattle.yaml_lines.specs.Plain.{is_indicator, is_mark_character, trim_end}
 use Rattle.yaml_lines.specs.Quoted.{Quoted, begins_quoted, quoted_of}

@@ -1,5 +1,5 @@
-use Rattle.std.proofs.Common.{◌≡◌, ◌∙◌, sym, ap, ℕ, Bool, List, Option, option_map, Some, None}
-use Rattle.yaml_lines.specs.FlowLines.{state, Behind}
+use Rattle.std.proofs.Common.{◌≡◌, ◌∙◌, sym, ap, Bool, option_map, Some, None}
+use Rattle.yaml_lines.specs.FlowLines.{state}
 use Rattle.yaml_lines.specs.FlowTexts.{text_at}
 use Rattle.yaml_lines.proofs.FlowTokens.{text_some, text_none}
 use Rattle.yaml_lines.proofs.flow_state.text_token.Goals as goal
