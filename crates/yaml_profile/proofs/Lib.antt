@@ -10,6 +10,7 @@ pub mod Nodes
 mod SayingTexts
 pub mod Tables
 pub mod Texts
+mod TextsOfEntries
 mod TextsOfWords
 pub mod Turns
 mod UniqueKeys

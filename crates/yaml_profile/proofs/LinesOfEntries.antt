@@ -40,7 +40,7 @@ value_is d ds w =
 abbrev keyed : List ℕ → List ℕ → Option KeyAndValue
 keyed key value = Some (record { key = encode_utf8_all key; value = value })
 
-key_entry : (c : ℕ) (cs : List ℕ) (d : ℕ) (ds : List ℕ) → IsFirst c cs → IsFirst d ds → entry_of (c ∷ (cs ++ 58 ∷ 32 ∷ d ∷ ds)) ≡ keyed (c ∷ cs) (d ∷ ds)
+pub key_entry : (c : ℕ) (cs : List ℕ) (d : ℕ) (ds : List ℕ) → IsFirst c cs → IsFirst d ds → entry_of (c ∷ (cs ++ 58 ∷ 32 ∷ d ∷ ds)) ≡ keyed (c ∷ cs) (d ∷ ds)
 unfolding entry_of
 key_entry c cs d ds k w =
     let rest : List ℕ = cs ++ 58 ∷ 32 ∷ d ∷ ds in

@@ -7,7 +7,7 @@ use Rattle.yaml_lines.specs.BlockTexts.{LineText, margin_of, header_of}
 use Rattle.yaml_lines.specs.Characters.{characters_of, is_allowed, begins_with, blank_or_end}
 use Rattle.yaml_lines.specs.Entries.{Place, entry_of}
 use Rattle.yaml_lines.specs.FlowLines.{outside, state_behind, skim}
-use Rattle.yaml_lines.specs.Lines.{before_lines, line_texts, PlacedValue, value_at, last_value, Left, standing, bare, with_text, with_value, with_flow, left_of, left_at, before_places, all_places, is_mark, document, places_from, places_of, places_of_bytes}
+use Rattle.yaml_lines.specs.Lines.{before_lines, line_texts, PlacedValue, value_at, last_value, Left, standing, bare, with_text, with_value, with_flow, left_of, left_at, before_places, all_places, is_mark, document, places_from, places_of}
 use Rattle.yaml_lines.specs.Meaning.{Meaning, most_nodes}
 use Rattle.yaml_lines.specs.Plain.{is_indicator, begins_plain}
 use Rattle.yaml_profile.specs.Blocks.{further, node, whole}
@@ -16,26 +16,27 @@ use Rattle.yaml_profile.specs.Words.{is_word_character, is_word, AreWords, list_
 use Rattle.yaml_profile.specs.Text.{meaning_of}
 use Rattle.yaml_profile.proofs.FlowOfWords.{flow_words}
 use Rattle.yaml_profile.proofs.LinesOfWords.{line_words}
+use Rattle.yaml_profile.proofs.Texts.{meaning_of-characters}
 use Rattle.yaml_profile.proofs.Words.{both, or_none, apart, ordinary, no_blank, no_feed, no_return, no_dash, allowed, IsFirst, first_of_word, word_no_entry}
 
 -- ---- characters that stay on their line
 
 -- neither a line feed nor a carriage return, and allowed on a line
-stays : ℕ → Bool
+unfoldable pub stays : ℕ → Bool
 stays c = not (eqb c 10 || eqb c 13) && is_allowed c
 
-weaker : (p q : ℕ → Bool) → ((c : ℕ) → p c ≡ true → q c ≡ true) → (cs : List ℕ) → list_all p cs ≡ true → list_all q cs ≡ true
+pub weaker : (p q : ℕ → Bool) → ((c : ℕ) → p c ≡ true → q c ≡ true) → (cs : List ℕ) → list_all p cs ≡ true → list_all q cs ≡ true
 weaker p q implies [] all = refl
 weaker p q implies (c ∷ cs) all =
     let parts = both (p c) (list_all p cs) all in ap₂ (λ (a b : Bool). a && b) (implies c parts.0) (weaker p q implies cs parts.1)
 
-word_stays : (c : ℕ) → is_word_character c ≡ true → stays c ≡ true
+pub word_stays : (c : ℕ) → is_word_character c ≡ true → stays c ≡ true
 unfolding stays
 word_stays c e =
     let o = ordinary c e in
     ap₂ (λ (a b : Bool). not a && b) (or_none (eqb c 10) (eqb c 13) (no_feed c o) (no_return c o)) (allowed c o)
 
-stays_allowed : (c : ℕ) → stays c ≡ true → is_allowed c ≡ true
+pub stays_allowed : (c : ℕ) → stays c ≡ true → is_allowed c ≡ true
 unfolding stays
 stays_allowed c e = (both (not (eqb c 10 || eqb c 13)) (is_allowed c) e).1
 
@@ -46,7 +47,7 @@ neither false false e = (refl, refl)
 
 -- ---- the lines of a text
 
-one_line : (cs rest : List ℕ) → list_all stays cs ≡ true → line_texts (cs ++ 10 ∷ rest) ≡ record { text = cs; ended = true } ∷ line_texts rest
+pub one_line : (cs rest : List ℕ) → list_all stays cs ≡ true → line_texts (cs ++ 10 ∷ rest) ≡ record { text = cs; ended = true } ∷ line_texts rest
 unfolding line_texts stays
 one_line [] rest all = refl
 one_line (c ∷ cs) rest all =
@@ -82,11 +83,10 @@ dashed_value c cs w =
     ∙ (ap (λ (b : Bool). cond (b && blank_or_end cs) (last_value 3 (Some 2) cs) here) (no_dash c w.first)
     ∙ ap (value_at 2 (Some 0) (c ∷ cs)) (word_no_entry c cs w))
 
-dashed_with : (c : ℕ) (cs : List ℕ) (later : List LineText) → IsFirst c cs → with_value 0 (45 ∷ 32 ∷ c ∷ cs) later (Some (record { column = 0; content = c ∷ cs })) ≡ Some (bare 0 (45 ∷ 32 ∷ c ∷ cs) outside)
+pub word_with : (content : List ℕ) (c : ℕ) (cs : List ℕ) (later : List LineText) → IsFirst c cs → with_value 0 content later (Some (record { column = 0; content = c ∷ cs })) ≡ Some (bare 0 content outside)
 unfolding with_value
-dashed_with c cs later w =
+word_with content c cs later w =
     let far : (k : ℕ) → is_indicator k ≡ true → eqb c k ≡ false = λ k e. apart c k is_indicator w.first.no_indicator e in
-    let content : List ℕ = 45 ∷ 32 ∷ c ∷ cs in
     ap (λ (b : Bool). cond b (option_and_then (with_text 0 content later (margin_of 0 later)) (header_of (c ∷ cs))) (Some (bare 0 content (state_behind (c ∷ cs))))) (or_none (eqb c 124) (eqb c 62) (far 124 refl) (far 62 refl))
     ∙ ap (λ (b : Bool). Some (bare 0 content (cond b (skim outside (c ∷ cs)) outside))) (or_none (eqb c 91) (eqb c 123) (far 91 refl) (far 123 refl))
 
@@ -96,7 +96,7 @@ dashed_left c cs later w =
     let content : List ℕ = 45 ∷ 32 ∷ c ∷ cs in
     let value : Option Left = with_value 0 content later (last_value 0 None content) in
     ap (λ (b : Bool). cond (not b) None value) (weaker stays is_allowed stays_allowed content (dashed_stays (c ∷ cs) w.all))
-    ∙ (ap (with_value 0 content later) (dashed_value c cs w) ∙ dashed_with c cs later w)
+    ∙ (ap (with_value 0 content later) (dashed_value c cs w) ∙ word_with content c cs later w)
 
 dashed_places : (words : List (List ℕ)) → list_all is_word words ≡ true → all_places (standing 0 outside) (map dashed words) ≡ Some (map (item_line 0) words)
 unfolding all_places
@@ -136,7 +136,7 @@ lines_text words are =
 
 -- ---- the line of a flow
 
-word_all : (word : List ℕ) → is_word word ≡ true → list_all is_word_character word ≡ true
+pub word_all : (word : List ℕ) → is_word word ≡ true → list_all is_word_character word ≡ true
 word_all [] e = refl
 word_all (c ∷ cs) e = e
 
@@ -174,7 +174,7 @@ flow_whole : (room : ℕ) (cs : List ℕ) → whole room (flow_line cs ∷ []) �
 unfolding whole further
 flow_whole room cs = ap (λ (ds : List ℕ). flow_meaning room (91 ∷ ds)) (append-nil cs)
 
-no_line_behind : (cs : List ℕ) → ◌≡◌ {A = List LineText} (record { text = cs; ended = true } ∷ line_texts []) (record { text = cs; ended = true } ∷ [])
+pub no_line_behind : (cs : List ℕ) → ◌≡◌ {A = List LineText} (record { text = cs; ended = true } ∷ line_texts []) (record { text = cs; ended = true } ∷ [])
 unfolding line_texts
 no_line_behind cs = refl
 
@@ -191,12 +191,8 @@ flow_text words are =
 
 -- ---- the bytes
 
-meaning_by : (bytes characters : List ℕ) → characters_of bytes ≡ Some characters → meaning_of bytes ≡ option_and_then (whole most_nodes) (places_of characters)
-unfolding meaning_of places_of_bytes
-meaning_by bytes characters e = ap (λ (o : Option (List ℕ)). option_and_then (whole most_nodes) (option_and_then places_of o)) e
-
 pub text_of_lines : (words : List (List ℕ)) (bytes : List ℕ) → AreWords words → characters_of bytes ≡ Some (lines_of_words words) → meaning_of bytes ≡ Some (list_of_words words)
-text_of_lines words bytes are e = meaning_by bytes (lines_of_words words) e ∙ lines_text words are
+text_of_lines words bytes are e = meaning_of-characters bytes (lines_of_words words) e ∙ lines_text words are
 
 pub text_of_flow : (words : List (List ℕ)) (bytes : List ℕ) → AreWords words → characters_of bytes ≡ Some (flow_of_words words ++ 10 ∷ []) → meaning_of bytes ≡ Some (list_of_words words)
-text_of_flow words bytes are e = meaning_by bytes (flow_of_words words ++ 10 ∷ []) e ∙ flow_text words are
+text_of_flow words bytes are e = meaning_of-characters bytes (flow_of_words words ++ 10 ∷ []) e ∙ flow_text words are

@@ -69,6 +69,11 @@ entry_line indent entry = record { indent = indent; content = entry_text entry; 
 abbrev pub flow_of_entries : List WordEntry → List ℕ
 flow_of_entries entries = 123 ∷ (join_with_byte 44 (map entry_text entries) ++ 125 ∷ [])
 
+-- the text of lines `key: value`, each ended by a line feed
+abbrev pub lines_of_entries : List WordEntry → List ℕ
+lines_of_entries [] = []
+lines_of_entries (entry ∷ entries) = entry_text entry ++ 10 ∷ lines_of_entries entries
+
 -- the key with its value, which isn't quoted
 abbrev pub word_row : WordEntry → Row
 word_row entry = (encode_utf8_all entry.key, text (encode_utf8_all entry.value) false)

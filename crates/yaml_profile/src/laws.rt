@@ -11,7 +11,7 @@ ghost use Rattle.yaml_lines.specs.Meaning.{Meaning};
 ghost use Rattle.yaml_lines.specs.Entries.{Place};
 ghost use Rattle.yaml_profile.specs.Blocks.{node, whole};
 ghost use Rattle.yaml_profile.specs.Moved.{moved};
-ghost use Rattle.yaml_profile.specs.Words.{AreWords, list_of_words, item_line, flow_of_words, lines_of_words, WordEntry, AreWordEntries, entry_line, flow_of_entries, table_of_entries};
+ghost use Rattle.yaml_profile.specs.Words.{AreWords, list_of_words, item_line, flow_of_words, lines_of_words, WordEntry, AreWordEntries, entry_line, flow_of_entries, lines_of_entries, table_of_entries};
 ghost use Rattle.yaml_profile.specs.Text.{meaning_of};
 ghost use Rattle.yaml_profile.specs.UniqueKeys.{HasUniqueKeys};
 
@@ -46,10 +46,13 @@ pub fn a_list_has_one_meaning_in_both_forms()
 /// ```
 ///
 /// and `{id: names,language: fail}` are both the table with these keys and values, and neither is read where a key stands
-/// twice. `lines` says so of the lines of such a table, at any indentation; `braces` of the characters of the flow.
+/// twice. `lines` says so of the lines of such a table, at any indentation; `braces` of the characters of the flow;
+/// `text_of_lines` and `text_in_braces` of the bytes of whole texts. Room for two nodes within one another is enough.
 pub fn a_table_has_one_meaning_in_both_forms()
     ensures lines { (room indent : ℕ) (entries : List WordEntry) → 2 ≤ room → AreWordEntries entries → node room (map (entry_line indent) entries) ≡ table_of_entries entries }
     ensures braces { (room : ℕ) (entries : List WordEntry) → 2 ≤ room → AreWordEntries entries → flow_meaning room (flow_of_entries entries) ≡ table_of_entries entries }
+    ensures text_of_lines { (entries : List WordEntry) (bytes : List ℕ) → AreWordEntries entries → characters_of bytes ≡ Some (lines_of_entries entries) → meaning_of bytes ≡ table_of_entries entries }
+    ensures text_in_braces { (entries : List WordEntry) (bytes : List ℕ) → AreWordEntries entries → characters_of bytes ≡ Some (flow_of_entries entries ++ 10 ∷ []) → meaning_of bytes ≡ table_of_entries entries }
 {}
 
 /// Lines that all stand the same number of columns further to the right mean the same, and where the one can't be read,
