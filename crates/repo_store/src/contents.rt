@@ -108,10 +108,8 @@ impl Contents {
         if let Some(content) = self.find(&digest) {
             return shared(content, bytes);
         }
-        match self.add(digest, bytes) {
-            Ok(content) => Ok(content),
-            Err(OutOfMemory) => Err(StoreFault::OutOfMemory),
-        }
+        let content = self.add(digest, bytes)?;
+        Ok(content)
     }
 
     /// Takes in contents that stand under their own digest, without a copy of the bytes.
@@ -131,13 +129,9 @@ impl Contents {
         if self.find(&found).is_some() {
             return Err(StoreFault::Sql(Error::InvalidQuery));
         }
-        match Content::of(*self.items.allocator(), found, bytes) {
-            Ok(content) => match self.push(content) {
-                Ok(()) => Ok(()),
-                Err(OutOfMemory) => Err(StoreFault::OutOfMemory),
-            },
-            Err(OutOfMemory) => Err(StoreFault::OutOfMemory),
-        }
+        let content = Content::of(*self.items.allocator(), found, bytes)?;
+        self.push(content)?;
+        Ok(())
     }
 
     fn add(&mut self, digest: [u8; 32], bytes: &[u8]) -> Result<Content, OutOfMemory>
@@ -179,8 +173,5 @@ fn shared(content: &Content, bytes: &[u8]) -> Result<Content, StoreFault>
     if content.as_slice() != bytes {
         return Err(StoreFault::Collision);
     }
-    match content.clone() {
-        Ok(made) => Ok(made),
-        Err(_) => Err(StoreFault::OutOfMemory),
-    }
+    Ok(content.clone()?)
 }

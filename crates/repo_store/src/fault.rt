@@ -1,6 +1,8 @@
 //! The refusals of the calls on a store.
 
+use hook_base::OutOfMemory;
 use sqlite::ErrorCode;
+use std::alloc::{AllocError, AllocFailed};
 use thiserror::Error;
 
 /// Why a call on a store is refused. What the store shows is as before the call, and so are the tables while the connection
@@ -60,6 +62,39 @@ impl From<sqlite::Error> for StoreFault {
     /// Want of memory is `OutOfMemory`, and every other error of the database is `Sql`.
     fn from(error: sqlite::Error) -> StoreFault {
         fault_of(error)
+    }
+}
+
+impl From<OutOfMemory> for StoreFault {
+    ghost use Rattle.std.specs.Prelude.{◌≡◌};
+    ghost use Rattle.repo_store.specs.declared.fault.StoreFault.TheVariants.{OutOfMemory as Wanting};
+
+    ghost from_gives = { λ _ fault. fault ≡ Wanting };
+
+    fn from(_refused: OutOfMemory) -> StoreFault {
+        StoreFault::OutOfMemory
+    }
+}
+
+impl From<AllocError> for StoreFault {
+    ghost use Rattle.std.specs.Prelude.{◌≡◌};
+    ghost use Rattle.repo_store.specs.declared.fault.StoreFault.TheVariants.{OutOfMemory};
+
+    ghost from_gives = { λ _ fault. fault ≡ OutOfMemory };
+
+    fn from(_refused: AllocError) -> StoreFault {
+        StoreFault::OutOfMemory
+    }
+}
+
+impl<T: Drop> From<AllocFailed<T>> for StoreFault {
+    ghost use Rattle.std.specs.Prelude.{◌≡◌};
+    ghost use Rattle.repo_store.specs.declared.fault.StoreFault.TheVariants.{OutOfMemory};
+
+    ghost from_gives = { λ _ fault. fault ≡ OutOfMemory };
+
+    fn from(_refused: AllocFailed<T>) -> StoreFault {
+        StoreFault::OutOfMemory
     }
 }
 

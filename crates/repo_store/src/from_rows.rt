@@ -41,20 +41,9 @@ pub(crate) fn lists_of(alloc: Global, rows: StoreRows) -> Result<Lists, StoreFau
     if !answers.is_empty() {
         return Err(StoreFault::Damaged);
     }
-    let contents = match contents_of(alloc, blobs) {
-        Ok(contents) => contents,
-        Err(fault) => return Err(fault),
-    };
-    let staged = match staged_of(alloc, &contents, staged) {
-        Ok(staged) => staged,
-        Err(fault) => return Err(fault),
-    };
-    let fixes = match fixes_of(alloc, &contents, staged.as_slice(), fixes) {
-        Ok(fixes) => fixes,
-        Err(fault) => return Err(fault),
-    };
-    match commits_of(alloc, &contents, commits, entries) {
-        Ok(history) => Ok(Lists::of(contents, history, staged, fixes)),
-        Err(fault) => Err(fault),
-    }
+    let contents = contents_of(alloc, blobs)?;
+    let staged = staged_of(alloc, &contents, staged)?;
+    let fixes = fixes_of(alloc, &contents, staged.as_slice(), fixes)?;
+    let history = commits_of(alloc, &contents, commits, entries)?;
+    Ok(Lists::of(contents, history, staged, fixes))
 }

@@ -155,20 +155,14 @@ impl Lists {
         if !fits {
             return Err(StoreFault::TooMany);
         }
-        let Ok(path) = path.clone() else {
-            return Err(StoreFault::OutOfMemory);
-        };
-        if self.reserve().is_err() {
-            return Err(StoreFault::OutOfMemory);
-        }
-        match self.keep(bytes) {
-            Ok(content) => Ok(SharedFile {
-                path,
-                mode,
-                content,
-            }),
-            Err(fault) => Err(fault),
-        }
+        let path = path.clone()?;
+        self.reserve()?;
+        let content = self.keep(bytes)?;
+        Ok(SharedFile {
+            path,
+            mode,
+            content,
+        })
     }
 
     /// Stages a file, for which there is room, and forgets the fixes.
@@ -202,13 +196,9 @@ impl Lists {
         if self.history.len() >= COMMIT_LIMIT {
             return Err(StoreFault::TooMany);
         }
-        if self.reserve().is_err() {
-            return Err(StoreFault::OutOfMemory);
-        }
-        match commit_with(message, &self.staged) {
-            Ok(commit) => Ok(commit),
-            Err(OutOfMemory) => Err(StoreFault::OutOfMemory),
-        }
+        self.reserve()?;
+        let commit = commit_with(message, &self.staged)?;
+        Ok(commit)
     }
 
     /// Adds the next commit, for which there is room, and forgets the fixes.
@@ -231,18 +221,16 @@ impl Lists {
         ensures apart { OnOk result (¬ MatchOption change.entry.now.now ⊥ (λ bytes. Collides bytes self.old.kept.contents)) }
         ensures why { IfErr result (IsRefusal (MatchOption change.entry.now.now ⊥ (λ bytes. ¬ IsSmall bytes)) ⊥ (MatchOption change.entry.now.now ⊥ (λ bytes. Collides bytes self.old.kept.contents))) }
     {
-        let Ok(path) = change.path.clone() else {
-            return Err(StoreFault::OutOfMemory);
-        };
+        let path = change.path.clone()?;
         match &change.now {
             None => Ok(SharedFix { path, now: None }),
-            Some(bytes) => match self.keep(bytes.as_slice()) {
-                Ok(content) => Ok(SharedFix {
+            Some(bytes) => {
+                let content = self.keep(bytes.as_slice())?;
+                Ok(SharedFix {
                     path,
                     now: Some(content),
-                }),
-                Err(fault) => Err(fault),
-            },
+                })
+            }
         }
     }
 

@@ -133,10 +133,7 @@ impl<S: Alter> Store<S> {
         ensures why { IfErr result (IsRefusal (¬ IsSmall bytes.now) (IsSmall bytes.now × (¬ Fits (put_file path.now (record { mode = mode; bytes = bytes.now }) self.old.kept.repo.staged))) (Fits (put_file path.now (record { mode = mode; bytes = bytes.now }) self.old.kept.repo.staged) × Collides bytes.now self.old.kept.contents)) }
     {
         let before = self.lists.count();
-        let file = match self.lists.prepare(path, mode, bytes) {
-            Ok(file) => file,
-            Err(fault) => return Err(fault),
-        };
+        let file = self.lists.prepare(path, mode, bytes)?;
         if let Err(error) = stage_rows(&mut self.conn, self.lists.since(before), &file) {
             self.lists.forget_since(before);
             return Err(fault_of(error));
@@ -171,10 +168,7 @@ impl<S: Alter> Store<S> {
         ensures why { IfErr result (IsRefusal (HasLarge (staged_changes changes.now self.old.kept.repo.staged)) ⊥ (FixCollides (staged_changes changes.now self.old.kept.repo.staged) self.old.kept.contents)) }
     {
         let before = self.lists.count();
-        let fixes = match self.lists.prepare_fixes(changes) {
-            Ok(fixes) => fixes,
-            Err(fault) => return Err(fault),
-        };
+        let fixes = self.lists.prepare_fixes(changes)?;
         if let Err(error) = set_rows(&mut self.conn, self.lists.since(before), fixes.as_slice()) {
             self.lists.forget_since(before);
             return Err(fault_of(error));
@@ -192,10 +186,7 @@ impl<S: Alter> Store<S> {
         ensures why { IfErr result (IsRefusal ⊥ ⊥ ⊥) }
     {
         let number = self.lists.count_fixes();
-        let files = match self.lists.prepare_accept() {
-            Ok(files) => files,
-            Err(OutOfMemory) => return Err(StoreFault::OutOfMemory),
-        };
+        let files = self.lists.prepare_accept()?;
         if let Err(error) = accept_rows(&mut self.conn, files.as_slice()) {
             return Err(fault_of(error));
         }
@@ -213,10 +204,7 @@ impl<S: Alter> Store<S> {
         ensures within { OnOk result (IsSmall message.now × (length self.old.kept.repo.history < commit_limit)) }
         ensures why { IfErr result (IsRefusal (¬ IsSmall message.now) (IsSmall message.now × (commit_limit ≤ length self.old.kept.repo.history)) ⊥) }
     {
-        let commit = match self.lists.prepare_commit(message) {
-            Ok(commit) => commit,
-            Err(fault) => return Err(fault),
-        };
+        let commit = self.lists.prepare_commit(message)?;
         let number = self.lists.commits() + 1;
         if let Err(error) = commit_rows(&mut self.conn, number, &commit) {
             return Err(fault_of(error));
@@ -236,10 +224,7 @@ impl<S: Alter> Store<S> {
         ensures why { IfErr result (IsRefusal (¬ IsSmall bytes.now) ⊥ (Collides bytes.now self.old.kept.contents)) }
     {
         let before = self.lists.count();
-        let content = match self.lists.keep(bytes) {
-            Ok(content) => content,
-            Err(fault) => return Err(fault),
-        };
+        let content = self.lists.keep(bytes)?;
         if let Err(error) = keep_rows(&mut self.conn, self.lists.since(before)) {
             self.lists.forget_since(before);
             return Err(fault_of(error));

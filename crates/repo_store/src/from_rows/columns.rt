@@ -39,10 +39,7 @@ pub(crate) fn content_at(contents: &Contents, digest: &[u8]) -> Result<Content, 
     ensures missing { IfErr result (IsDamage (is_kept (map blob_row contents.now) digest.now ≡ false)) }
 {
     match find(contents, digest) {
-        Some(content) => match content.clone() {
-            Ok(content) => Ok(content),
-            Err(_) => Err(StoreFault::OutOfMemory),
-        },
+        Some(content) => Ok(content.clone()?),
         None => Err(StoreFault::Damaged),
     }
 }

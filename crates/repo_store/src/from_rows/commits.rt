@@ -81,14 +81,8 @@ fn history_of(alloc: Global, rows: Vec<CommitRow>) -> Result<Vec<SharedCommit>, 
     }
     let mut history = Vec::new(alloc);
     'rows: for row in rows {
-        match commit_at(alloc, history.len(), row) {
-            Ok(commit) => {
-                if let Err(_) = history.push(commit) {
-                    return Err(StoreFault::OutOfMemory);
-                }
-            }
-            Err(fault) => return Err(fault),
-        }
+        let commit = commit_at(alloc, history.len(), row)?;
+        history.push(commit)?;
     }
     Ok(history)
 }
@@ -141,20 +135,14 @@ fn add_entries(
         let Some(place) = place_of(row.n, history.len()) else {
             return Err(StoreFault::Damaged);
         };
-        match file_at(
+        let file = file_at(
             alloc,
             contents,
             row.path.as_slice(),
             row.mode,
             row.digest.as_slice(),
-        ) {
-            Ok(file) => {
-                if let Err(fault) = add_entry(history, place, file) {
-                    return Err(fault);
-                }
-            }
-            Err(fault) => return Err(fault),
-        }
+        )?;
+        add_entry(history, place, file)?;
     }
     Ok(())
 }
@@ -173,14 +161,7 @@ pub(crate) fn commits_of(
     ensures obeys { OnOk result (AreCommitRows commits.items × AllByRecursion (IsEntryRow (map blob_row contents.now) (length commits.items)) entries.items) }
     ensures broken { IfErr result (IsDamage (¬ (AreCommitRows commits.items × AllByRecursion (IsEntryRow (map blob_row contents.now) (length commits.items)) entries.items))) }
 {
-    match history_of(alloc, commits) {
-        Ok(history) => {
-            let mut history = history;
-            match add_entries(alloc, contents, &mut history, entries) {
-                Ok(()) => Ok(history),
-                Err(fault) => Err(fault),
-            }
-        }
-        Err(fault) => Err(fault),
-    }
+    let mut history = history_of(alloc, commits)?;
+    add_entries(alloc, contents, &mut history, entries)?;
+    Ok(history)
 }

@@ -59,17 +59,12 @@ fn fix_of_row(
     ensures obeys { OnOk result (IsFixRow (map blob_row contents.now) (map staged_row (map file_of staged.now)) row.now) }
     ensures broken { IfErr result (IsDamage (¬ IsFixRow (map blob_row contents.now) (map staged_row (map file_of staged.now)) row.now)) }
 {
-    let path = match path_at(alloc, row.path.as_slice()) {
-        Ok(path) => path,
-        Err(fault) => return Err(fault),
-    };
+    let path = path_at(alloc, row.path.as_slice())?;
     if !has_path(staged, &path) {
         return Err(StoreFault::Damaged);
     }
-    match now_of(contents, row) {
-        Ok(now) => Ok(SharedFix { path, now }),
-        Err(fault) => Err(fault),
-    }
+    let now = now_of(contents, row)?;
+    Ok(SharedFix { path, now })
 }
 
 // Whether a path comes after those of all fixes.
@@ -93,9 +88,7 @@ fn add_fix(fixes: &mut Vec<SharedFix>, fix: SharedFix) -> Result<(), StoreFault>
     if !follows_fixes(fixes.as_slice(), &fix.path) {
         return Err(StoreFault::Sql(Error::InvalidQuery));
     }
-    if let Err(_) = fixes.push(fix) {
-        return Err(StoreFault::OutOfMemory);
-    }
+    fixes.push(fix)?;
     Ok(())
 }
 
@@ -115,14 +108,8 @@ pub(crate) fn fixes_of(
 {
     let mut fixes = Vec::new(alloc);
     'rows: for row in rows {
-        match fix_of_row(alloc, contents, staged, &row) {
-            Ok(fix) => {
-                if let Err(fault) = add_fix(&mut fixes, fix) {
-                    return Err(fault);
-                }
-            }
-            Err(fault) => return Err(fault),
-        }
+        let fix = fix_of_row(alloc, contents, staged, &row)?;
+        add_fix(&mut fixes, fix)?;
     }
     Ok(fixes)
 }

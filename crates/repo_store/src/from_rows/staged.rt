@@ -43,9 +43,7 @@ pub(crate) fn add_file(files: &mut Vec<SharedFile>, file: SharedFile) -> Result<
     if !follows_files(files.as_slice(), &file.path) {
         return Err(StoreFault::Sql(Error::InvalidQuery));
     }
-    if let Err(_) = files.push(file) {
-        return Err(StoreFault::OutOfMemory);
-    }
+    files.push(file)?;
     Ok(())
 }
 
@@ -63,20 +61,14 @@ fn files_of(
 {
     let mut files = Vec::new(alloc);
     'rows: for row in rows {
-        match file_at(
+        let file = file_at(
             alloc,
             contents,
             row.path.as_slice(),
             row.mode,
             row.digest.as_slice(),
-        ) {
-            Ok(file) => {
-                if let Err(fault) = add_file(&mut files, file) {
-                    return Err(fault);
-                }
-            }
-            Err(fault) => return Err(fault),
-        }
+        )?;
+        add_file(&mut files, file)?;
     }
     Ok(files)
 }

@@ -13,36 +13,36 @@ use Rattle.repo_store.proofs.from_rows.lists_of.Goals as goal
 pub of-requires : goal.of-requires
 of-requires c =
     let rows = c.args.rows in
-    let staged = c.in-Ok-staged_of.staged.items in
-    let blobs = map blob_row c.in-Ok.contents in
-    let fixes = subst (λ (l : List SharedFile). AllByRecursion (IsFixRow blobs (map staged_row (map file_of l))) rows.fixes.items) c.as_slice.ensures.value c.in-Ok-fixes_of.ensures.obeys in
-    lists_sound c.in-Ok-commits_of.history.items staged c.in-Ok-fixes_of.fixes.items blobs rows.fixes.items rows.commits.items c.in-Ok-staged_of.ensures.rising c.in-Ok-staged_of.ensures.fits
-    c.in-Ok-fixes_of.ensures.rising c.in-Ok-fixes_of.ensures.fixes fixes c.in-Ok-commits_of.ensures.rising c.in-Ok-commits_of.ensures.commits c.in-Ok-commits_of.ensures.obeys.0
+    let staged = c.in_ok-staged.staged.items in
+    let blobs = map blob_row c.in_ok-contents.contents in
+    let fixes = subst (λ (l : List SharedFile). AllByRecursion (IsFixRow blobs (map staged_row (map file_of l))) rows.fixes.items) c.as_slice.ensures.value c.in_ok-fixes.ensures.obeys in
+    lists_sound c.in_ok-history.history.items staged c.in_ok-fixes.fixes.items blobs rows.fixes.items rows.commits.items c.in_ok-staged.ensures.rising c.in_ok-staged.ensures.fits
+    c.in_ok-fixes.ensures.rising c.in_ok-fixes.ensures.fixes fixes c.in_ok-history.ensures.rising c.in_ok-history.ensures.commits c.in_ok-history.ensures.obeys.0
 
-pub returns-in-Ok-commits_of-clause-complete : goal.returns-in-Ok-commits_of-clause-complete
-returns-in-Ok-commits_of-clause-complete c =
+pub returns-clause-complete : goal.returns-clause-complete
+returns-clause-complete c =
     let rows = c.args.rows in
-    let staged = c.in-Ok-staged_of.staged.items in
-    let blobs = map blob_row c.in-Ok.contents in
-    let fixes = subst (λ (l : List SharedFile). AllByRecursion (IsFixRow blobs (map staged_row (map file_of l))) rows.fixes.items) c.as_slice.ensures.value c.in-Ok-fixes_of.ensures.obeys in
+    let staged = c.in_ok-staged.staged.items in
+    let blobs = map blob_row c.in_ok-contents.contents in
+    let fixes = subst (λ (l : List SharedFile). AllByRecursion (IsFixRow blobs (map staged_row (map file_of l))) rows.fixes.items) c.as_slice.ensures.value c.in_ok-fixes.ensures.obeys in
     let sound =
-    lists_sound c.in-Ok-commits_of.history.items staged c.in-Ok-fixes_of.fixes.items blobs rows.fixes.items rows.commits.items c.in-Ok-staged_of.ensures.rising c.in-Ok-staged_of.ensures.fits
-    c.in-Ok-fixes_of.ensures.rising c.in-Ok-fixes_of.ensures.fixes fixes c.in-Ok-commits_of.ensures.rising c.in-Ok-commits_of.ensures.commits c.in-Ok-commits_of.ensures.obeys.0 in
+    lists_sound c.in_ok-history.history.items staged c.in_ok-fixes.fixes.items blobs rows.fixes.items rows.commits.items c.in_ok-staged.ensures.rising c.in_ok-staged.ensures.fits
+    c.in_ok-fixes.ensures.rising c.in_ok-fixes.ensures.fixes fixes c.in_ok-history.ensures.rising c.in_ok-history.ensures.commits c.in_ok-history.ensures.obeys.0 in
     let apart = subst HaveDistinctDigests c.contents.view_is (index_apart c.contents.inside.places c.contents.inside.items.items c.contents.invariant) in
-    subst IsComplete (sym c.of.ensures) (record { sound = sound; staged = c.in-Ok-staged_of.ensures.among; fixes = c.in-Ok-fixes_of.ensures.among; trees = c.in-Ok-commits_of.ensures.among; apart = apart })
+    subst IsComplete (sym c.of.ensures) (record { sound = sound; staged = c.in_ok-staged.ensures.among; fixes = c.in_ok-fixes.ensures.among; trees = c.in_ok-history.ensures.among; apart = apart })
 
-pub returns-in-Ok-commits_of-clause-same : goal.returns-in-Ok-commits_of-clause-same
-returns-in-Ok-commits_of-clause-same c =
+pub returns-clause-same : goal.returns-clause-same
+returns-clause-same c =
     let rows = c.args.rows in
     let none = none_there rows.answers.items (let empty = eqb-true (vec_len rows.answers) 0 (sym c.is_empty.ensures ∙ c.if-not-is_empty.false) in let long = rows.answers.ok.0 in omega arith) in
-    lists_same rows c.in-Ok.contents c.in-Ok-commits_of.history.items c.in-Ok-staged_of.staged.items c.in-Ok-fixes_of.fixes.items c.of.result.kept c.in-Ok.ensures.contents c.in-Ok-staged_of.ensures.files
-    c.in-Ok-fixes_of.ensures.fixes c.in-Ok-commits_of.ensures.commits c.in-Ok-commits_of.ensures.entries none c.of.ensures
+    lists_same rows c.in_ok-contents.contents c.in_ok-history.history.items c.in_ok-staged.staged.items c.in_ok-fixes.fixes.items c.of.result.kept c.in_ok-contents.ensures.contents c.in_ok-staged.ensures.files
+    c.in_ok-fixes.ensures.fixes c.in_ok-history.ensures.commits c.in_ok-history.ensures.entries none c.of.ensures
 
-pub returns-in-Ok-commits_of-clause-obeys : goal.returns-in-Ok-commits_of-clause-obeys
-returns-in-Ok-commits_of-clause-obeys c =
+pub returns-clause-obeys : goal.returns-clause-obeys
+returns-clause-obeys c =
     let rows = c.args.rows in
-    let blobs = map blob_row c.in-Ok.contents in
+    let blobs = map blob_row c.in_ok-contents.contents in
     let none = none_there rows.answers.items (let empty = eqb-true (vec_len rows.answers) 0 (sym c.is_empty.ensures ∙ c.if-not-is_empty.false) in let long = rows.answers.ok.0 in omega arith) in
-    let fixes = subst (λ (l : List SharedFile). AllByRecursion (IsFixRow blobs (map staged_row (map file_of l))) rows.fixes.items) c.as_slice.ensures.value c.in-Ok-fixes_of.ensures.obeys in
-    lists_obey rows blobs (map staged_row (map file_of c.in-Ok-staged_of.staged.items)) c.in-Ok.ensures.contents c.in-Ok-staged_of.ensures.files c.in-Ok.ensures.obeys c.in-Ok-staged_of.ensures.obeys
-    fixes c.in-Ok-commits_of.ensures.obeys.0 c.in-Ok-commits_of.ensures.obeys.1 none
+    let fixes = subst (λ (l : List SharedFile). AllByRecursion (IsFixRow blobs (map staged_row (map file_of l))) rows.fixes.items) c.as_slice.ensures.value c.in_ok-fixes.ensures.obeys in
+    lists_obey rows blobs (map staged_row (map file_of c.in_ok-staged.staged.items)) c.in_ok-contents.ensures.contents c.in_ok-staged.ensures.files c.in_ok-contents.ensures.obeys c.in_ok-staged.ensures.obeys
+    fixes c.in_ok-history.ensures.obeys.0 c.in_ok-history.ensures.obeys.1 none

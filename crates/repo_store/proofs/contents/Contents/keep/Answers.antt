@@ -9,14 +9,14 @@ pub returns-in-Some-clause-kept : goal.returns-in-Some-clause-kept
 returns-in-Some-clause-kept c =
     IfOk-weaker c.shared.result _ _ (λ made same. kept_known c.args.bytes.now c.args.self.now (known c.args.bytes.now c.in-Some.content.now c.args.self.now (c.in-Some.ensures).found same.1)) c.shared.ensures.same
 
-pub returns-in-Ok-clause-kept : goal.returns-in-Ok-clause-kept
-returns-in-Ok-clause-kept c = (c.in-Ok.ensures).kept ∙ kept_unknown c.args.bytes.now c.args.self.now (unknown c.args.bytes.now c.args.self.now (rw (← c.digest-digest.ensures) (c.in_default.ensures).absent))
+pub returns-clause-kept : goal.returns-clause-kept
+returns-clause-kept c = (c.in_ok-content.ensures).kept ∙ kept_unknown c.args.bytes.now c.args.self.now (unknown c.args.bytes.now c.args.self.now (rw (← c.digest-digest.ensures) (c.in_default.ensures).absent))
 
 pub returns-in-Some-clause-apart : goal.returns-in-Some-clause-apart
 returns-in-Some-clause-apart c = IfOk-weaker c.shared.result _ _ (λ made same. subst (λ (b : List ℕ). ¬ Collides b c.args.self.now) same.1 (c.in-Some.ensures).alone) c.shared.ensures.same
 
-pub returns-in-Ok-clause-apart : goal.returns-in-Ok-clause-apart
-returns-in-Ok-clause-apart c = none_under c.args.bytes.now c.args.self.now (rw (← c.digest-digest.ensures) (c.in_default.ensures).absent)
+pub returns-clause-apart : goal.returns-clause-apart
+returns-clause-apart c = none_under c.args.bytes.now c.args.self.now (rw (← c.digest-digest.ensures) (c.in_default.ensures).absent)
 
 pub returns-in-Some-clause-why : goal.returns-in-Some-clause-why
 returns-in-Some-clause-why c =

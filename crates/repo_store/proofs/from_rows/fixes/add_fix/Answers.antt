@@ -13,6 +13,6 @@ change_path change = change.path
 pub returns-clause-rising : goal.returns-clause-rising
 returns-clause-rising c =
     let old = c.args.fixes.now.items in
-    let pushed = ap (map fix_of) c.in_default.ensures.items ∙ map-append fix_of old (c.args.fix ∷ []) in
+    let pushed = ap (map fix_of) c.in_ok-push.ensures.items ∙ map-append fix_of old (c.args.fix ∷ []) in
     let follows = subst (λ l. AllByRecursion (λ y. IsBelow (change_path y) c.args.fix.path) (map fix_of l)) c.as_slice.ensures.value (c.if-not-follows_fixes.ensures refl) in
     subst (IsRisingBy change_path) (sym pushed) (rising_pushed change_path (map fix_of old) (fix_of c.args.fix) c.requires follows)

@@ -10,6 +10,6 @@ use Rattle.repo_store.proofs.from_rows.staged.add_file.Goals as goal
 pub returns-clause-rising : goal.returns-clause-rising
 returns-clause-rising c =
     let old = c.args.files.now.items in
-    let pushed = ap (map file_of) c.in_default.ensures.items ∙ map-append file_of old (c.args.file ∷ []) in
+    let pushed = ap (map file_of) c.in_ok-push.ensures.items ∙ map-append file_of old (c.args.file ∷ []) in
     let follows = subst (λ l. AllByRecursion (λ y. IsBelow (path_of y) c.args.file.path) (map file_of l)) c.as_slice.ensures.value (c.if-not-follows_files.ensures refl) in
     subst (IsRisingBy path_of) (sym pushed) (rising_pushed path_of (map file_of old) (file_of c.args.file) c.requires follows)

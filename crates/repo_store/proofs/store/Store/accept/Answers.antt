@@ -14,35 +14,35 @@ pub invariant_of-self : goal.invariant_of-self
 invariant_of-self g c =
     let new = c.accept_rows.new.conn in
     let kept = c.self.inside.lists.kept in
-    let files : map file_of c.as_slice.result.now ≡ apply_changes kept.repo.fixes kept.repo.staged = ap (map file_of) c.as_slice.ensures.value ∙ c.in-Ok.ensures in
+    let files : map file_of c.as_slice.result.now ≡ apply_changes kept.repo.fixes kept.repo.staged = ap (map file_of) c.as_slice.ensures.value ∙ c.in_ok-files.ensures in
     let same = accepting_handed (map file_of c.as_slice.result.now) kept files in
     let complete = complete_accepted kept c.self.invariant.complete in
     let obeys = obeys_accepted kept c.self.invariant.obeys complete in
     refused_stands g.S.Store c.self.inside.conn new kept (accepting kept) _ c.self.invariant same (g.met.S.Store.shut_if_dirty new.store) complete obeys
-    kept refl c.in-Err-accept_rows.error (c.in-Err-accept_rows.ensures (tables_in kept))
+    kept refl c.in-Err.error (c.in-Err.ensures (tables_in kept))
 
-pub returns-in-Err-accept_rows-clause-change : goal.returns-in-Err-accept_rows-clause-change
-returns-in-Err-accept_rows-clause-change g c =
+pub returns-in-Err-clause-change : goal.returns-in-Err-clause-change
+returns-in-Err-clause-change g c =
     let kept = c.self.inside.lists.kept in
     subst (λ (s : Shown g.row.S.Denot). IsAllOrNothing s.kept kept (Err c.fault_of.result) (accepting s.kept)) c.self.view_is (record { done = tt; same = refl })
 
-pub returns-in-Err-accept_rows-clause-transaction : goal.returns-in-Err-accept_rows-clause-transaction
-returns-in-Err-accept_rows-clause-transaction g c =
+pub returns-in-Err-clause-transaction : goal.returns-in-Err-clause-transaction
+returns-in-Err-clause-transaction g c =
     let new = c.accept_rows.new.conn in
     let kept = c.self.inside.lists.kept in
-    let files : map file_of c.as_slice.result.now ≡ apply_changes kept.repo.fixes kept.repo.staged = ap (map file_of) c.as_slice.ensures.value ∙ c.in-Ok.ensures in
+    let files : map file_of c.as_slice.result.now ≡ apply_changes kept.repo.fixes kept.repo.staged = ap (map file_of) c.as_slice.ensures.value ∙ c.in_ok-files.ensures in
     let same = accepting_handed (map file_of c.as_slice.result.now) kept files in
     let complete = complete_accepted kept c.self.invariant.complete in
     let obeys = obeys_accepted kept c.self.invariant.obeys complete in
     subst (λ (s : Shown g.row.S.Denot). IsOneTransaction g.S.Store s (record { conn = new; kept = kept }) (Err c.fault_of.result) (accepting s.kept)) c.self.view_is
     (refused_transaction g.S.Store c.self.inside.conn new kept (accepting kept) _ c.self.invariant same (g.met.S.Store.shut_if_dirty new.store) complete obeys
-    kept refl c.in-Err-accept_rows.error (c.in-Err-accept_rows.ensures (tables_in kept)) c.fault_of.result)
+    kept refl c.in-Err.error (c.in-Err.ensures (tables_in kept)) c.fault_of.result)
 
 pub invariant_of-self-2 : goal.invariant_of-self-2
 invariant_of-self-2 g c =
     let new = c.accept_rows.new.conn in
     let kept = c.self.inside.lists.kept in
-    let files : map file_of c.as_slice.result.now ≡ apply_changes kept.repo.fixes kept.repo.staged = ap (map file_of) c.as_slice.ensures.value ∙ c.in-Ok.ensures in
+    let files : map file_of c.as_slice.result.now ≡ apply_changes kept.repo.fixes kept.repo.staged = ap (map file_of) c.as_slice.ensures.value ∙ c.in_ok-files.ensures in
     let same = accepting_handed (map file_of c.as_slice.result.now) kept files in
     let complete = complete_accepted kept c.self.invariant.complete in
     let obeys = obeys_accepted kept c.self.invariant.obeys complete in
@@ -57,7 +57,7 @@ pub returns-clause-transaction : goal.returns-clause-transaction
 returns-clause-transaction g c =
     let new = c.accept_rows.new.conn in
     let kept = c.self.inside.lists.kept in
-    let files : map file_of c.as_slice.result.now ≡ apply_changes kept.repo.fixes kept.repo.staged = ap (map file_of) c.as_slice.ensures.value ∙ c.in-Ok.ensures in
+    let files : map file_of c.as_slice.result.now ≡ apply_changes kept.repo.fixes kept.repo.staged = ap (map file_of) c.as_slice.ensures.value ∙ c.in_ok-files.ensures in
     let same = accepting_handed (map file_of c.as_slice.result.now) kept files in
     let complete = complete_accepted kept c.self.invariant.complete in
     let obeys = obeys_accepted kept c.self.invariant.obeys complete in

@@ -18,44 +18,44 @@ use Rattle.repo_store.proofs.store.Store.stage.Goals as goal
 legal : (path : List ℕ) → IsUtf8 path → IsRepoPath path → path ≢ message_path → IsPathText path
 legal path utf8 is other = record { utf8 = utf8; legal = elim is [ inl none ↦ none | inr message ↦ absurd (other message) ] }
 
-pub invariant_of-self-in-Err-stage_rows : goal.invariant_of-self-in-Err-stage_rows
-invariant_of-self-in-Err-stage_rows g c =
+pub invariant_of-self-in-Err : goal.invariant_of-self-in-Err
+invariant_of-self-in-Err g c =
     let new = c.stage_rows.new.conn in
     let kept = c.self.inside.lists.kept in
     let entry : FileEntry = record { mode = c.args.mode; bytes = c.args.bytes.now } in
     let file : File = record { path = c.args.path.now; entry = entry } in
-    let prepared = c.in-Ok.ensures in
+    let prepared = c.in_ok-file.ensures in
     let news = c.since.ensures ∙ ap₂ (λ (n : ℕ) (k : Kept). drop n k.contents) c.count-before.ensures prepared.kept in
-    let same = staging_handed file (file_of c.in-Ok.file) c.in-Ok.file.path c.since.result.now kept prepared.rising prepared.file (ap (λ (f : File). f.path) prepared.file) news in
+    let same = staging_handed file (file_of c.in_ok-file.file) c.in_ok-file.file.path c.since.result.now kept prepared.rising prepared.file (ap (λ (f : File). f.path) prepared.file) news in
     let now = forgotten c.args.bytes.now kept c.prepare.new.self.kept c.forget_since.new.self.kept c.count-before.result c.count-before.ensures prepared.kept (ap (λ (m : Mirror). m.kept) c.forget_since.ensures) in
     let complete = complete_staged c.args.path.now entry kept c.self.invariant.complete prepared.within.1 prepared.apart in
     let obeys = obeys_staged kept c.self.invariant.obeys c.args.path.now entry (legal c.args.path.now prepared.utf8 prepared.path c.requires) prepared.within.0 complete in
     refused_stands g.S.Store c.self.inside.conn new kept (staging c.args.path.now entry kept) _ c.self.invariant same (g.met.S.Store.shut_if_dirty new.store) complete obeys
-    c.forget_since.new.self.kept now c.in-Err-stage_rows.error (c.in-Err-stage_rows.ensures (tables_in kept))
+    c.forget_since.new.self.kept now c.in-Err.error (c.in-Err.ensures (tables_in kept))
 
-pub returns-in-Err-stage_rows-clause-change : goal.returns-in-Err-stage_rows-clause-change
-returns-in-Err-stage_rows-clause-change g c =
+pub returns-in-Err-clause-change : goal.returns-in-Err-clause-change
+returns-in-Err-clause-change g c =
     let kept = c.self.inside.lists.kept in
     let entry : FileEntry = record { mode = c.args.mode; bytes = c.args.bytes.now } in
-    let prepared = c.in-Ok.ensures in
+    let prepared = c.in_ok-file.ensures in
     let now = forgotten c.args.bytes.now kept c.prepare.new.self.kept c.forget_since.new.self.kept c.count-before.result c.count-before.ensures prepared.kept (ap (λ (m : Mirror). m.kept) c.forget_since.ensures) in
     subst (λ (s : Shown g.row.S.Denot). IsAllOrNothing s.kept c.forget_since.new.self.kept (Err c.fault_of.result) (staging c.args.path.now entry s.kept)) c.self.view_is (record { done = tt; same = now })
 
-pub returns-in-Err-stage_rows-clause-transaction : goal.returns-in-Err-stage_rows-clause-transaction
-returns-in-Err-stage_rows-clause-transaction g c =
+pub returns-in-Err-clause-transaction : goal.returns-in-Err-clause-transaction
+returns-in-Err-clause-transaction g c =
     let new = c.stage_rows.new.conn in
     let kept = c.self.inside.lists.kept in
     let entry : FileEntry = record { mode = c.args.mode; bytes = c.args.bytes.now } in
     let file : File = record { path = c.args.path.now; entry = entry } in
-    let prepared = c.in-Ok.ensures in
+    let prepared = c.in_ok-file.ensures in
     let news = c.since.ensures ∙ ap₂ (λ (n : ℕ) (k : Kept). drop n k.contents) c.count-before.ensures prepared.kept in
-    let same = staging_handed file (file_of c.in-Ok.file) c.in-Ok.file.path c.since.result.now kept prepared.rising prepared.file (ap (λ (f : File). f.path) prepared.file) news in
+    let same = staging_handed file (file_of c.in_ok-file.file) c.in_ok-file.file.path c.since.result.now kept prepared.rising prepared.file (ap (λ (f : File). f.path) prepared.file) news in
     let now = forgotten c.args.bytes.now kept c.prepare.new.self.kept c.forget_since.new.self.kept c.count-before.result c.count-before.ensures prepared.kept (ap (λ (m : Mirror). m.kept) c.forget_since.ensures) in
     let complete = complete_staged c.args.path.now entry kept c.self.invariant.complete prepared.within.1 prepared.apart in
     let obeys = obeys_staged kept c.self.invariant.obeys c.args.path.now entry (legal c.args.path.now prepared.utf8 prepared.path c.requires) prepared.within.0 complete in
     subst (λ (s : Shown g.row.S.Denot). IsOneTransaction g.S.Store s (record { conn = new; kept = c.forget_since.new.self.kept }) (Err c.fault_of.result) (staging c.args.path.now entry s.kept)) c.self.view_is
     (refused_transaction g.S.Store c.self.inside.conn new kept (staging c.args.path.now entry kept) _ c.self.invariant same (g.met.S.Store.shut_if_dirty new.store) complete obeys
-    c.forget_since.new.self.kept now c.in-Err-stage_rows.error (c.in-Err-stage_rows.ensures (tables_in kept)) c.fault_of.result)
+    c.forget_since.new.self.kept now c.in-Err.error (c.in-Err.ensures (tables_in kept)) c.fault_of.result)
 
 pub invariant_of-self-2 : goal.invariant_of-self-2
 invariant_of-self-2 g c =
@@ -63,9 +63,9 @@ invariant_of-self-2 g c =
     let kept = c.self.inside.lists.kept in
     let entry : FileEntry = record { mode = c.args.mode; bytes = c.args.bytes.now } in
     let file : File = record { path = c.args.path.now; entry = entry } in
-    let prepared = c.in-Ok.ensures in
+    let prepared = c.in_ok-file.ensures in
     let news = c.since.ensures ∙ ap₂ (λ (n : ℕ) (k : Kept). drop n k.contents) c.count-before.ensures prepared.kept in
-    let same = staging_handed file (file_of c.in-Ok.file) c.in-Ok.file.path c.since.result.now kept prepared.rising prepared.file (ap (λ (f : File). f.path) prepared.file) news in
+    let same = staging_handed file (file_of c.in_ok-file.file) c.in_ok-file.file.path c.since.result.now kept prepared.rising prepared.file (ap (λ (f : File). f.path) prepared.file) news in
     let now = c.stage.ensures ∙ ap₂ (λ (f : File) (k : Kept). record { repo = with_staged f.path f.entry k.repo; contents = k.contents }) prepared.file prepared.kept in
     let complete = complete_staged c.args.path.now entry kept c.self.invariant.complete prepared.within.1 prepared.apart in
     let obeys = obeys_staged kept c.self.invariant.obeys c.args.path.now entry (legal c.args.path.now prepared.utf8 prepared.path c.requires) prepared.within.0 complete in
@@ -75,7 +75,7 @@ invariant_of-self-2 g c =
 pub returns-clause-change : goal.returns-clause-change
 returns-clause-change g c =
     let entry : FileEntry = record { mode = c.args.mode; bytes = c.args.bytes.now } in
-    let prepared = c.in-Ok.ensures in
+    let prepared = c.in_ok-file.ensures in
     let now = c.stage.ensures ∙ ap₂ (λ (f : File) (k : Kept). record { repo = with_staged f.path f.entry k.repo; contents = k.contents }) prepared.file prepared.kept in
     subst (λ (s : Shown g.row.S.Denot). IsAllOrNothing s.kept c.stage.new.self.kept (Ok tt) (staging c.args.path.now entry s.kept)) c.self.view_is (record { done = now; same = tt })
 
@@ -85,9 +85,9 @@ returns-clause-transaction g c =
     let kept = c.self.inside.lists.kept in
     let entry : FileEntry = record { mode = c.args.mode; bytes = c.args.bytes.now } in
     let file : File = record { path = c.args.path.now; entry = entry } in
-    let prepared = c.in-Ok.ensures in
+    let prepared = c.in_ok-file.ensures in
     let news = c.since.ensures ∙ ap₂ (λ (n : ℕ) (k : Kept). drop n k.contents) c.count-before.ensures prepared.kept in
-    let same = staging_handed file (file_of c.in-Ok.file) c.in-Ok.file.path c.since.result.now kept prepared.rising prepared.file (ap (λ (f : File). f.path) prepared.file) news in
+    let same = staging_handed file (file_of c.in_ok-file.file) c.in_ok-file.file.path c.since.result.now kept prepared.rising prepared.file (ap (λ (f : File). f.path) prepared.file) news in
     let now = c.stage.ensures ∙ ap₂ (λ (f : File) (k : Kept). record { repo = with_staged f.path f.entry k.repo; contents = k.contents }) prepared.file prepared.kept in
     let complete = complete_staged c.args.path.now entry kept c.self.invariant.complete prepared.within.1 prepared.apart in
     let obeys = obeys_staged kept c.self.invariant.obeys c.args.path.now entry (legal c.args.path.now prepared.utf8 prepared.path c.requires) prepared.within.0 complete in
