@@ -8,12 +8,12 @@ use Rattle.yaml_lines.specs.Characters.{characters_of, is_allowed, is_space, is_
 use Rattle.yaml_lines.specs.Entries.{Place, entry_of}
 use Rattle.yaml_lines.specs.FlowLines.{outside, state_behind}
 use Rattle.yaml_lines.specs.Lines.{line_texts, PlacedValue, value_at, last_value, Left, standing, bare, with_value, with_flow, left_of, left_at, before_places, all_places, three, is_mark, is_start, unmarked, document, places_from, places_of}
-use Rattle.yaml_lines.specs.Meaning.{Meaning}
+use Rattle.yaml_lines.specs.Meaning.{Meaning, most_nodes}
 use Rattle.yaml_lines.specs.Plain.{is_indicator, begins_plain}
 use Rattle.yaml_profile.specs.Blocks.{further, flow, node, whole}
 use Rattle.yaml_flows.specs.Flows.{flow_meaning}
 use Rattle.yaml_profile.specs.Words.{is_word_character, is_word, WordEntry, is_word_entry, AreWordEntries, entry_text, entry_line, flow_of_entries, lines_of_entries, table_of_entries}
-use Rattle.yaml_profile.specs.Text.{most_nodes, meaning_of}
+use Rattle.yaml_profile.specs.Text.{meaning_of}
 use Rattle.yaml_profile.proofs.FlowOfWords.{flow_entries}
 use Rattle.yaml_profile.proofs.LinesOfEntries.{key_entry, line_entries}
 use Rattle.yaml_profile.proofs.LinesOfWords.{line_at}
