@@ -10,9 +10,10 @@ ghost use Rattle.hook_cli.specs.declared.try_fault.TryFault.TheVariants as fault
 use crate::TryFault;
 use std::alloc::Global;
 use std::io::Read;
+use yaml_lines::MOST_BYTES;
 
-/// The greatest number of bytes of a configuration.
-pub const MOST_CONFIGURATION_BYTES: usize = 1_048_576;
+/// The greatest number of bytes of a configuration, which is that of any text.
+pub const MOST_CONFIGURATION_BYTES: usize = MOST_BYTES;
 
 // How many bytes are asked of the reader at a time, at most.
 const PIECE: usize = 8192;

@@ -13,7 +13,7 @@ pub enum TryFault {
     /// The reader gave an error.
     #[error("the configuration cannot be read to its end")]
     Read,
-    /// The bytes that were read are no configuration, or are over 1,048,576.
+    /// The bytes that were read are no configuration, as those over the limit aren't.
     #[error("the configuration is refused: {0}")]
     Config(ConfigFault),
     /// The writer gave an error. Some bytes of the report may be out.
