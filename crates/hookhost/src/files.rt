@@ -5,14 +5,11 @@ ghost use Rattle.hookhost.specs.FileTrees.{AreFilesOf, IsFileOf, IsTreeOf};
 
 use crate::file_tree::{plain_file, tree_of};
 use crate::stop::Stop;
-use hook_base::{File, Items, PathFault, RepoPath, Text, Tree};
+use hook_base::{File, Items, MOST_FILE_BYTES, PathFault, RepoPath, Text, Tree};
 use hook_cli::{MOST_CONFIGURATION_BYTES, TryFault};
 use std::io::Read;
 use std::rt::Files;
 use std::{fs, io};
-
-// The greatest size of a file in bytes.
-const MOST_FILE_BYTES: usize = 16_777_216;
 
 /// The files of the words, as plain files of a tree. The first word whose path isn't allowed, or whose file can't be
 /// read or is over 16 MiB, is `Stop::CannotUse`.
