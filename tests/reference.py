@@ -18,10 +18,10 @@ TOP = os.path.abspath(sys.argv[1] if len(sys.argv) > 1 else os.path.join(os.path
 LIMITS = [
     ("configuration", "1 MiB ({} bytes)", "yaml_lines", "most_bytes", 0),
     ("configuration", "a node within at most {} others", "yaml_lines", "most_nodes", -1),
-    ("file, message", "16 MiB ({} bytes)", "repo_store", "content_limit", 0),
-    ("staged tree of a store", "{} files", "repo_store", "file_limit", 0),
-    ("staged tree of a store", "8 MiB ({} bytes) together", "repo_store", "path_limit", 0),
-    ("commits of a store", "{}", "repo_store", "commit_limit", 0),
+    ("file, message", "16 MiB ({} bytes)", "repo_store", "most_content_bytes", 0),
+    ("staged tree of a store", "{} files", "repo_store", "most_files", 0),
+    ("staged tree of a store", "8 MiB ({} bytes) together", "repo_store", "most_tree_path_bytes", 0),
+    ("commits of a store", "{}", "repo_store", "most_commits", 0),
 ]
 # What the table says of limits that have no name in specs/ yet.
 UNNAMED = [("configuration", "500 hooks"), ("path", "4,096 bytes")]

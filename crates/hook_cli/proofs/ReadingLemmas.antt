@@ -1,7 +1,7 @@
 -- What was read is a configuration, and more bytes than a configuration may have are none.
 use Rattle.std.proofs.Common.{◌≡◌, arith, inl, inr, lt-ltb, ℕ, ◌+◌, ◌<◌, List, length, Option, None, Some}
 use Rattle.yaml_lines.specs.Characters.{characters_of}
-use Rattle.yaml_lines.specs.Lines.{places_of_bytes}
+use Rattle.yaml_lines.specs.Lines.{content_lines_of_bytes}
 use Rattle.yaml_profile.specs.Text.{meaning_of}
 use Rattle.hook_config.specs.Configuration.{configuration_of}
 use Rattle.hook_config.specs.declared.configuration.Config.{Config}
@@ -14,13 +14,13 @@ characters_of-long : (bytes : List ℕ) → most_bytes < length bytes → charac
 unfolding characters_of
 characters_of-long bytes long = rw (lt-ltb most_bytes (length bytes) long)
 
-places_of_bytes-long : (bytes : List ℕ) → most_bytes < length bytes → places_of_bytes bytes ≡ None
-unfolding places_of_bytes
-places_of_bytes-long bytes long = rw (characters_of-long bytes long)
+content_lines_of_bytes-long : (bytes : List ℕ) → most_bytes < length bytes → content_lines_of_bytes bytes ≡ None
+unfolding content_lines_of_bytes
+content_lines_of_bytes-long bytes long = rw (characters_of-long bytes long)
 
 meaning_of-long : (bytes : List ℕ) → most_bytes < length bytes → meaning_of bytes ≡ None
 unfolding meaning_of
-meaning_of-long bytes long = rw (places_of_bytes-long bytes long)
+meaning_of-long bytes long = rw (content_lines_of_bytes-long bytes long)
 
 configuration_of-long : (bytes : List ℕ) → most_bytes < length bytes → configuration_of bytes ≡ None
 unfolding configuration_of

@@ -13,7 +13,6 @@ use Rattle.hook_cli.specs.declared.try_fault.TryFault.{TryFault}
 use Rattle.hook_cli.specs.declared.try_fault.TryFault.TheVariants.{Read, Config as BadConfig, Write, OutOfMemory, Spent}
 use Rattle.hook_cli.specs.Report.{report_text}
 use Rattle.hook_cli.specs.StageRun.{Ask, AllTold, IsStageRun, Part, all_parts, has_passed, names_of_run}
-
 -- ---- what is read. Of a reader that doesn't say its bytes nothing is claimed
 
 -- the greatest number of bytes of a configuration is that of any text

@@ -6,7 +6,7 @@ use Rattle.std.proofs.lemmas.List.Sorted.{All-permutation, Contains-permutation,
 use Rattle.std.specs.declared.cmp.Ordering.TheVariants.{Less, Equal, Greater}
 use Rattle.hook_base.specs.declared.file.File.{File}
 use Rattle.hook_base.specs.Rising.{path_cmp}
-use Rattle.hook_base.specs.RisingLaws.{greater_from_below, path_cases, path_itself}
+use Rattle.hook_base.specs.RisingLemmas.{greater_from_below, path_cases, path_itself}
 use Rattle.hook_base.specs.Trees.{put_before, put_row}
 use Rattle.hookhost.specs.FileTrees.{AreFilesOf, HasRowAt, HoldsFiles, IsFileOf}
 

@@ -1,11 +1,8 @@
 -- The tree that is made of the files that words name.
 use Rattle.std.specs.Prelude.{◌≡◌, ◌≤◌, ◌⊎◌, ℕ, All, Contains, List, [], ◌∷◌, length}
+use Rattle.hook_base.specs.Limits.{most_file_bytes}
 use Rattle.hook_base.specs.declared.file.File.{File}
 use Rattle.hook_base.specs.declared.file.Mode.TheVariants.{Plain}
-
--- the greatest size of a file in bytes
-abbrev pub most_file_bytes : ℕ
-most_file_bytes = 16777216
 
 -- the row of a file: under its path, plain, with its bytes
 abbrev pub plain_file : List ℕ → List ℕ → File

@@ -17,7 +17,7 @@ use Rattle.hook_base.specs.Trees.{IsRisingChanges, apply_at, apply_changes, put_
 use Rattle.repo_store.specs.Complete.{HaveDistinctDigests, HaveContents, HaveNewContents, IsAmong, IsComplete}
 use Rattle.repo_store.specs.Contents.{Collides, has_content, with_content, with_new, with_changes}
 use Rattle.repo_store.specs.Kept.{FixCollides, Kept, accepting, committing, keeping, setting, staging, unstaging}
-use Rattle.repo_store.specs.Limits.{Fits, commit_limit}
+use Rattle.repo_store.specs.Limits.{Fits, most_commits}
 use Rattle.repo_store.specs.FromRows.{AreBare, with_file}
 use Rattle.repo_store.specs.Repository.{Commit, Repository, empty, staged_changes}
 use Rattle.repo_store.proofs.FromRowsLemmas.{all_pushed}
@@ -196,7 +196,7 @@ complete_kept bytes kept it clear =
       apart = apart_with bytes kept.contents clear it.apart;
     }
 
-pub complete_committed : (message : List ℕ) (kept : Kept) → IsComplete kept → length kept.repo.history < commit_limit → IsComplete (committing message kept)
+pub complete_committed : (message : List ℕ) (kept : Kept) → IsComplete kept → length kept.repo.history < most_commits → IsComplete (committing message kept)
 complete_committed message kept it few = record {
   sound = sound_committed message kept.repo it.sound few;
   staged = it.staged;

@@ -37,7 +37,7 @@ use Rattle.repo_store.specs.Repository.{Commit}
 use Rattle.repo_store.specs.Rows.{blob_row, commit_rows, entry_row, entry_rows, fix_at, fix_row, staged_row, tables_of, version_row}
 use Rattle.repo_store.specs.RowRules.{AreCommitRows, AreStagedRows, IsBlobRow, IsEntryRow, IsFileRow, IsFixRow, AreStoreRows, is_staged, number_in, numbers_from}
 use Rattle.store_tables.specs.declared.rows.CommitRow.{CommitRow}
-use Rattle.repo_store.specs.Limits.{Fits, IsSmall, commit_limit}
+use Rattle.repo_store.specs.Limits.{Fits, IsSmall, most_commits}
 use Rattle.repo_store.proofs.SoundLemmas.{AreStaged, few}
 
 pub all_pushed : {X : Type 0} (P : X → Type 0) (xs : List X) (x : X) → AllByRecursion P xs → P x → AllByRecursion P (xs ++ x ∷ [])
@@ -221,7 +221,7 @@ numbered_numbers : (n : ℕ) (rows : List CommitRow) → AreNumbered n rows → 
 numbered_numbers n [] all = (refl, tt)
 numbered_numbers n (row ∷ rows) all = let rest = numbered_numbers (n + 1) rows all.1 in (ap₂ (λ (x : ℤ) (l : List ℤ). x ∷ l) all.0.0 rest.0, (all.0.1, rest.1))
 
-pub commits_obey : (rows : List CommitRow) → AreNumbered 1 rows → length rows ≤ commit_limit → AreCommitRows rows
+pub commits_obey : (rows : List CommitRow) → AreNumbered 1 rows → length rows ≤ most_commits → AreCommitRows rows
 commits_obey rows all few =
     let it = numbered_numbers 1 rows all in
     record { numbered = subst (IsPermutation (map number_in rows)) it.0 (IsPermutation-refl (map number_in rows)); few = few; messages_small = it.1 }

@@ -25,7 +25,7 @@ use Rattle.hook_base.specs.Trees.{IsRising, path_of, put_row, remove_file, entry
 use Rattle.hook_base.specs.TreeLemmas.{put_row-at, put_row-gap, gap_within, entry_of-at, entry_of-gap, rewrite_file-at, remove_file-at, rewrite_file-gap, remove_file-gap, apply_changes-append}
 use Rattle.hook_base.proofs.PlaceLemmas.{found}
 use Rattle.repo_store.specs.declared.shared.SharedFile.{SharedFile}
-use Rattle.repo_store.specs.Limits.{Fits, path_bytes, file_limit, path_limit}
+use Rattle.repo_store.specs.Limits.{Fits, path_bytes, most_files, most_tree_path_bytes}
 use Rattle.repo_store.specs.Lists.{file_of, fix_of}
 
 abbrev path_in : SharedFile → List ℕ
@@ -97,13 +97,13 @@ module _ (new : File) (rows : List File) (k : ℕ) (gap : IsGap new.path rows k)
   more_bytes : path_bytes (put_row new rows) ≡ path_bytes rows + length new.path
   more_bytes = ap path_bytes (put_row-gap new rows k gap) ∙ sum_by-insert (λ (file : File). length file.path) rows k new
 
-  pub fits_gap : (bytes : ℕ) → bytes ≡ path_bytes rows + length new.path → length rows < file_limit → (IsTrue (leb bytes path_limit) → Fits (put_row new rows)) × (Fits (put_row new rows) → IsTrue (leb bytes path_limit))
+  pub fits_gap : (bytes : ℕ) → bytes ≡ path_bytes rows + length new.path → length rows < most_files → (IsTrue (leb bytes most_tree_path_bytes) → Fits (put_row new rows)) × (Fits (put_row new rows) → IsTrue (leb bytes most_tree_path_bytes))
   fits_gap bytes is room = (
-    λ small. let most = leb-true bytes path_limit small in record { files_fit = omega (arith, one_more); paths_fit = omega (arith, more_bytes) },
-    λ fits. le-leb bytes path_limit (let paths_fit = fits.paths_fit in omega (arith, more_bytes)),
+    λ small. let most = leb-true bytes most_tree_path_bytes small in record { files_fit = omega (arith, one_more); paths_fit = omega (arith, more_bytes) },
+    λ fits. le-leb bytes most_tree_path_bytes (let paths_fit = fits.paths_fit in omega (arith, more_bytes)),
   )
 
-  pub full_gap : file_limit ≤ length rows → Fits (put_row new rows) → ⊥
+  pub full_gap : most_files ≤ length rows → Fits (put_row new rows) → ⊥
   full_gap full fits = let files_fit = fits.files_fit in omega (arith, one_more)
 
 -- the files of the other paths fit where all do

@@ -22,7 +22,7 @@ use Rattle.store_tables.specs.declared.rows.EntryRow.{EntryRow}
 use Rattle.repo_store.specs.Complete.{HaveContents, HaveNewContents, IsAmong, IsComplete}
 use Rattle.repo_store.specs.Contents.{has_content, with_content, with_new, with_changes}
 use Rattle.repo_store.specs.Kept.{HasLarge, Kept, accepting, committing, keeping, setting, staging, unstaging}
-use Rattle.repo_store.specs.Limits.{IsSmall, content_limit, path_limit}
+use Rattle.repo_store.specs.Limits.{IsSmall, most_content_bytes, most_tree_path_bytes}
 use Rattle.repo_store.specs.Repository.{Commit, empty, staged_changes}
 use Rattle.repo_store.specs.Rows.{blob_row, commit_rows, entry_row, entry_rows, fix_at, fix_row, mode_number, staged_row, tables_of}
 use Rattle.repo_store.specs.RowRules.{IsBlobRow, IsEntryRow, IsFileRow, IsFixRow, IsMarked, IsPathText, IsStagedRow, AreStoreRows, is_kept, is_staged}
@@ -157,7 +157,7 @@ obeys_by kept complete rules =
       staged = record {
         files = staged_rows kept.contents staged rules.staged_legal complete.staged;
         files_fit = let fit = complete.sound.staged_fit.files_fit in omega (arith, length-map staged staged_row);
-        paths_fit = subst (λ (n : ℕ). n ≤ path_limit) (sym (fold-map (λ a row. a + length row.path) staged_row 0 staged)) complete.sound.staged_fit.paths_fit;
+        paths_fit = subst (λ (n : ℕ). n ≤ most_tree_path_bytes) (sym (fold-map (λ a row. a + length row.path) staged_row 0 staged)) complete.sound.staged_fit.paths_fit;
       };
       fixes = fix_rows kept.contents staged kept.repo.fixes rules.staged_legal rules.fixes_staged complete.fixes;
       commits = commits_obey (commit_rows 1 history) (numbered_rows 1 history rules.messages_small) (let few = complete.sound.numbered in omega arith);
@@ -197,7 +197,7 @@ small_with bytes contents small all =
     elim (has_content bytes contents) as (λ b. AllByRecursion IsSmall (if b then contents else contents ++ bytes ∷ [])) [ true ↦ all | false ↦ all_pushed IsSmall contents bytes all small ]
 
 not_large : (bytes : List ℕ) → ¬ ¬ IsSmall bytes → IsSmall bytes
-not_large bytes none = elim (cases_lt content_limit (length bytes)) [ inl large ↦ absurd (none (λ small. absurd (omega arith))) | inr small ↦ small ]
+not_large bytes none = elim (cases_lt most_content_bytes (length bytes)) [ inl large ↦ absurd (none (λ small. absurd (omega arith))) | inr small ↦ small ]
 
 small_new : (now : Option (List ℕ)) (contents : List (List ℕ)) → ¬ MatchOption now ⊥ (λ bytes. ¬ IsSmall bytes) → AllByRecursion IsSmall contents → AllByRecursion IsSmall (with_new now contents)
 small_new None contents none all = all

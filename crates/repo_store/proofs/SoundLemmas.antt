@@ -8,7 +8,7 @@ use Rattle.hook_base.specs.declared.file.File.{File}
 use Rattle.hook_base.specs.declared.change.Change.{Change}
 use Rattle.hook_base.specs.Rising.{IsBelowAll}
 use Rattle.hook_base.specs.RisingLemmas.{path_cases, below_all_later, IsRisingBy-filter}
-use Rattle.repo_store.specs.Limits.{Fits, commit_limit, file_limit}
+use Rattle.repo_store.specs.Limits.{Fits, most_commits, most_files}
 use Rattle.repo_store.specs.Repository.{Commit, Repository, empty, with_staged, without_staged, with_new_commit, staged_changes, accepted}
 use Rattle.repo_store.specs.Sound.{IsSound}
 use Rattle.repo_store.proofs.PlaceLemmas.{fits_removed, fits_applied}
@@ -40,7 +40,7 @@ all_pushed : (history : List Commit) (commit : Commit) → AllByRecursion (λ (c
 all_pushed [] commit all one = (one, tt)
 all_pushed (first ∷ history) commit all one = (all.0, all_pushed history commit all.1 one)
 
-pub sound_committed : (message : List ℕ) (repo : Repository) → IsSound repo → length repo.history < commit_limit → IsSound (with_new_commit message repo)
+pub sound_committed : (message : List ℕ) (repo : Repository) → IsSound repo → length repo.history < most_commits → IsSound (with_new_commit message repo)
 sound_committed message repo sound room =
     let commit : Commit = record { message = message; tree = repo.staged } in
     record {
@@ -83,7 +83,7 @@ few (change ∷ changes) (row ∷ rows) up rising all =
           let rest = few (change ∷ changes) rows up rising.1 (staged_later row rows (change ∷ changes) (above, below_all_later change_path row.path change.path changes above up.0) all) in omega arith
     ]
 
-pub fixes_fit : (changes : List Change) (repo : Repository) → IsSound repo → IsRisingChanges changes → length (staged_changes changes repo.staged) ≤ file_limit
+pub fixes_fit : (changes : List Change) (repo : Repository) → IsSound repo → IsRisingChanges changes → length (staged_changes changes repo.staged) ≤ most_files
 fixes_fit changes repo sound rising =
     let tests : Change → Bool = λ change. is_some (entry_of change.path repo.staged) in
     let up = IsRisingBy-filter change_path tests changes rising in

@@ -10,7 +10,7 @@ use Rattle.store_tables.specs.declared.rows.FixRow.{FixRow}
 use Rattle.store_tables.specs.declared.rows.CommitRow.{CommitRow}
 use Rattle.store_tables.specs.declared.rows.EntryRow.{EntryRow}
 use Rattle.store_tables.specs.Tables.{Tables}
-use Rattle.repo_store.specs.Limits.{IsSmall, commit_limit, file_limit, path_limit}
+use Rattle.repo_store.specs.Limits.{IsSmall, most_commits, most_files, most_tree_path_bytes}
 use Rattle.repo_store.specs.Rows.{version_row}
 
 -- ---- single rows
@@ -91,13 +91,13 @@ pub record AreStagedRows (blobs : List BlobRow) (rows : List StagedRow) : Type 0
   -- each is a file
   pub files : AllByRecursion (IsStagedRow blobs) rows
   -- they are no more than a staged tree may have
-  pub files_fit : length rows ≤ file_limit
-  pub paths_fit : staged_path_bytes rows ≤ path_limit
+  pub files_fit : length rows ≤ most_files
+  pub paths_fit : staged_path_bytes rows ≤ most_tree_path_bytes
 
 pub record AreCommitRows (rows : List CommitRow) : Type 0 where
   -- they are numbered from 1 on
   pub numbered : IsPermutation (map number_in rows) (numbers_from 1 rows)
-  pub few : length rows ≤ commit_limit
+  pub few : length rows ≤ most_commits
   -- the message of each is within its limit
   pub messages_small : AllByRecursion (λ (row : CommitRow). IsSmall row.message) rows
 

@@ -2,7 +2,7 @@
 use Rattle.std.specs.Prelude.{◌≤◌, length}
 use Rattle.std.specs.List.{AllByRecursion}
 use Rattle.hook_base.specs.Trees.{IsRising, IsRisingChanges}
-use Rattle.repo_store.specs.Limits.{Fits, commit_limit, file_limit}
+use Rattle.repo_store.specs.Limits.{Fits, most_commits, most_files}
 use Rattle.repo_store.specs.Repository.{Commit, Repository}
 
 -- the trees and the fixes are in the order of their paths; the staged files, the fixes and the commits are within their
@@ -11,6 +11,6 @@ pub record IsSound (repo : Repository) : Type 0 where
   pub staged_rise : IsRising repo.staged
   pub staged_fit : Fits repo.staged
   pub fixes_rise : IsRisingChanges repo.fixes
-  pub fixes_fit : length repo.fixes ≤ file_limit
+  pub fixes_fit : length repo.fixes ≤ most_files
   pub trees_rise : AllByRecursion (λ (commit : Commit). IsRising commit.tree) repo.history
-  pub numbered : length repo.history ≤ commit_limit
+  pub numbered : length repo.history ≤ most_commits

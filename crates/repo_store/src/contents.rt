@@ -10,7 +10,7 @@ ghost use Rattle.repo_store.specs.RowRules.{IsBlobRow};
 
 use crate::StoreFault;
 use crate::content::Content;
-use crate::limits::CONTENT_LIMIT;
+use crate::limits::MOST_CONTENT_BYTES;
 use hook_base::OutOfMemory;
 use sha2::{Digest as _, Sha256};
 use sqlite::Error;
@@ -101,7 +101,7 @@ impl Contents {
         ensures small { OnOk result (IsSmall bytes.now) }
         ensures apart { OnOk result (¬ Collides bytes.now self.old) }
     {
-        if bytes.len() > CONTENT_LIMIT {
+        if bytes.len() > MOST_CONTENT_BYTES {
             return Err(StoreFault::TooLarge);
         }
         let digest = Sha256::digest(bytes);
@@ -118,7 +118,7 @@ impl Contents {
         ensures obeys { OnOk result (IsBlobRow row) }
         ensures broken { IfErr result (IsDamage (¬ IsBlobRow row)) }
     {
-        if row.bytes.len() > CONTENT_LIMIT {
+        if row.bytes.len() > MOST_CONTENT_BYTES {
             return Err(StoreFault::Damaged);
         }
         let BlobRow { digest, bytes } = row;

@@ -9,7 +9,7 @@ ghost use Rattle.hook_base.specs.Trees.{IsRising, apply_change, apply_changes, e
 ghost use Rattle.repo_store.specs.Limits.{Fits, path_bytes};
 ghost use Rattle.repo_store.specs.Lists.{file_of, fix_of};
 
-use crate::limits::{FILE_LIMIT, PATH_LIMIT};
+use crate::limits::{MOST_FILES, MOST_TREE_PATH_BYTES};
 use crate::shared::{SharedCommit, SharedFile, SharedFix};
 use hook_base::{Bytes, OutOfMemory, RepoPath};
 
@@ -41,10 +41,10 @@ fn count_path_bytes(files: &[SharedFile]) -> usize
 pub(crate) fn fit(files: &[SharedFile]) -> bool
     ensures { IsTrue result ↔ Fits (map file_of files.now) }
 {
-    if files.len() > FILE_LIMIT {
+    if files.len() > MOST_FILES {
         return false;
     }
-    let mut left = PATH_LIMIT;
+    let mut left = MOST_TREE_PATH_BYTES;
     'files: for file in files {
         let len = file.path.as_str().len();
         if len > left {
@@ -68,7 +68,7 @@ pub(crate) fn may_put(files: &[SharedFile], path: &RepoPath) -> bool
         Ok(_) => true,
         Err(_) => {
             let bytes = count_path_bytes(files) + text.len();
-            files.len() < FILE_LIMIT && bytes <= PATH_LIMIT
+            files.len() < MOST_FILES && bytes <= MOST_TREE_PATH_BYTES
         }
     }
 }

@@ -10,14 +10,14 @@ ghost use Rattle.repo_store.specs.declared.fault.StoreFault.{StoreFault};
 ghost use Rattle.repo_store.specs.declared.fault.StoreFault.TheVariants.{Damaged, NotAStore};
 ghost use Rattle.repo_store.specs.Faults.{IsRefusal};
 ghost use Rattle.repo_store.specs.Kept.{Kept};
-ghost use Rattle.repo_store.specs.Limits.{commit_limit, content_limit, file_limit, path_limit};
+ghost use Rattle.repo_store.specs.Limits.{most_commits, most_content_bytes, most_files, most_tree_path_bytes};
 ghost use Rattle.repo_store.specs.Repository.{empty};
 ghost use Rattle.repo_store.specs.Rows.{tables_of};
 ghost use Rattle.repo_store.specs.Shown.{Leaves};
 ghost use Rattle.repo_store.specs.Unfit.{IsUnfit};
 ghost use Rattle.repo_store.specs.RowRules.{AreStoreRows};
 
-use crate::limits::{COMMIT_LIMIT, CONTENT_LIMIT, FILE_LIMIT, PATH_LIMIT};
+use crate::limits::{MOST_COMMITS, MOST_CONTENT_BYTES, MOST_FILES, MOST_TREE_PATH_BYTES};
 
 /// A database holds one complete repository at most: if two stand in its tables, they have the same commits, staged files and
 /// fixes, and the same contents in some order. So trees that a crash leaves as a store with one of them (`trees`) are no
@@ -42,8 +42,8 @@ pub fn only_the_empty_store_is_like_it()
 
 /// The limits of the program are those that the contracts name.
 pub fn the_limits_are_those_of_the_contracts()
-    ensures contents { CONTENT_LIMIT ≡ content_limit }
-    ensures files { FILE_LIMIT ≡ file_limit }
-    ensures paths { PATH_LIMIT ≡ path_limit }
-    ensures commits { COMMIT_LIMIT ≡ commit_limit }
+    ensures contents { MOST_CONTENT_BYTES ≡ most_content_bytes }
+    ensures files { MOST_FILES ≡ most_files }
+    ensures paths { MOST_TREE_PATH_BYTES ≡ most_tree_path_bytes }
+    ensures commits { MOST_COMMITS ≡ most_commits }
 {}

@@ -38,6 +38,6 @@ mod unstage;
 
 pub use digest::Digest;
 pub use fault::StoreFault;
-pub use limits::{COMMIT_LIMIT, CONTENT_LIMIT, FILE_LIMIT, PATH_LIMIT};
+pub use limits::{MOST_COMMITS, MOST_CONTENT_BYTES, MOST_FILES, MOST_TREE_PATH_BYTES};
 pub use log_entry::LogEntry;
 pub use store::Store;

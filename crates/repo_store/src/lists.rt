@@ -8,7 +8,7 @@ ghost use Rattle.repo_store.specs.Kept.{FixCollides, HasLarge, accepting, commit
 ghost use Rattle.repo_store.specs.Lists.{commit_of, file_of, fix_of, repository_of};
 ghost use Rattle.repo_store.specs.Contents.{Collides, with_changes, with_new};
 ghost use Rattle.repo_store.specs.Faults.{IsRefusal};
-ghost use Rattle.repo_store.specs.Limits.{Fits, IsSmall, commit_limit, file_limit};
+ghost use Rattle.repo_store.specs.Limits.{Fits, IsSmall, most_commits, most_files};
 ghost use Rattle.repo_store.specs.Log.{log_from};
 ghost use Rattle.repo_store.specs.Repository.{Commit, commit_at, empty, last_tree, staged_changes, with_staged};
 ghost use Rattle.repo_store.specs.Sound.{IsSound};
@@ -16,7 +16,7 @@ ghost use Rattle.repo_store.specs.Sound.{IsSound};
 use crate::content::Content;
 use crate::contents::Contents;
 use crate::files::{commit_with, has_path, keep_others, may_put, put_file, with_fixes};
-use crate::limits::{COMMIT_LIMIT, CONTENT_LIMIT};
+use crate::limits::{MOST_COMMITS, MOST_CONTENT_BYTES};
 use crate::shared::{SharedCommit, SharedFile, SharedFix};
 use crate::trees::{changes_of, log_of, tree_of};
 use crate::{LogEntry, StoreFault};
@@ -149,7 +149,7 @@ impl Lists {
     {
         // The size of the contents goes before the number of the files.
         let fits = may_put(self.staged.as_slice(), path);
-        if bytes.len() > CONTENT_LIMIT {
+        if bytes.len() > MOST_CONTENT_BYTES {
             return Err(StoreFault::TooLarge);
         }
         if !fits {
@@ -186,14 +186,14 @@ impl Lists {
     pub(crate) fn prepare_commit(&mut self, message: &[u8]) -> Result<SharedCommit, StoreFault>
         ensures commit { IfOk result (λ commit. commit_of commit ≡ record { message = message.now; tree = self.old.kept.repo.staged }) }
         ensures room { OnOk result (self.new.has_room ≡ true) }
-        ensures within { OnOk result (IsSmall message.now × (length self.old.kept.repo.history < commit_limit)) }
+        ensures within { OnOk result (IsSmall message.now × (length self.old.kept.repo.history < most_commits)) }
         ensures same { self.new.kept ≡ self.old.kept }
-        ensures why { IfErr result (IsRefusal (¬ IsSmall message.now) (IsSmall message.now × (commit_limit ≤ length self.old.kept.repo.history)) ⊥) }
+        ensures why { IfErr result (IsRefusal (¬ IsSmall message.now) (IsSmall message.now × (most_commits ≤ length self.old.kept.repo.history)) ⊥) }
     {
-        if message.len() > CONTENT_LIMIT {
+        if message.len() > MOST_CONTENT_BYTES {
             return Err(StoreFault::TooLarge);
         }
-        if self.history.len() >= COMMIT_LIMIT {
+        if self.history.len() >= MOST_COMMITS {
             return Err(StoreFault::TooMany);
         }
         self.reserve()?;
@@ -205,7 +205,7 @@ impl Lists {
     pub(crate) fn commit(&mut self, commit: SharedCommit)
         requires next { commit_of commit ≡ record { message = commit.message; tree = self.old.kept.repo.staged } }
         requires room { self.old.has_room ≡ true }
-        requires few { length self.old.kept.repo.history < commit_limit }
+        requires few { length self.old.kept.repo.history < most_commits }
         ensures { self.new.kept ≡ committing commit.message self.old.kept }
     {
         let _done = self.history.push(commit);
@@ -273,7 +273,7 @@ impl Lists {
         requires { IsRisingChanges changes.now }
         ensures fixes { IfOk result (λ fixes. map fix_of fixes.items ≡ staged_changes changes.now self.old.kept.repo.staged) }
         ensures rising { IfOk result (λ fixes. IsRisingChanges (map fix_of fixes.items)) }
-        ensures few { IfOk result (λ fixes. length (map fix_of fixes.items) ≤ file_limit) }
+        ensures few { IfOk result (λ fixes. length (map fix_of fixes.items) ≤ most_files) }
         ensures kept { OnOk result (self.new.kept ≡ record self.old.kept { contents = with_changes (staged_changes changes.now self.old.kept.repo.staged) self.old.kept.contents }) }
         ensures same { OnErr result (self.new.kept ≡ self.old.kept) }
         ensures within { OnOk result (¬ HasLarge (staged_changes changes.now self.old.kept.repo.staged)) }
@@ -293,7 +293,7 @@ impl Lists {
     /// Sets the fixes.
     pub(crate) fn set_fixes(&mut self, fixes: Vec<SharedFix>)
         requires rising { IsRisingChanges (map fix_of fixes.items) }
-        requires few { length (map fix_of fixes.items) ≤ file_limit }
+        requires few { length (map fix_of fixes.items) ≤ most_files }
         ensures { self.new.kept ≡ record self.old.kept { repo = record self.old.kept.repo { fixes = map fix_of fixes.items } } }
     {
         self.fixes = fixes;

@@ -14,7 +14,7 @@ ghost use Rattle.repo_store.specs.Complete.{AreAlike};
 ghost use Rattle.repo_store.specs.Contents.{Collides};
 ghost use Rattle.repo_store.specs.Faults.{IsRefusal};
 ghost use Rattle.repo_store.specs.Kept.{FixCollides, HasLarge, Kept, accepting, committing, keeping, setting, staging, unstaging};
-ghost use Rattle.repo_store.specs.Limits.{Fits, IsSmall, commit_limit};
+ghost use Rattle.repo_store.specs.Limits.{Fits, IsSmall, most_commits};
 ghost use Rattle.repo_store.specs.Log.{log_from};
 ghost use Rattle.repo_store.specs.Repository.{Commit, commit_at, empty, last_tree, staged_changes};
 ghost use Rattle.repo_store.specs.Rows.{tables_of};
@@ -201,8 +201,8 @@ impl<S: Alter> Store<S> {
         ensures change { IsAllOrNothing self.old.kept self.new.kept result (committing message.now self.old.kept) }
         ensures transaction { IsOneTransaction S.Store self.old self.new result (committing message.now self.old.kept) }
         ensures number { IfOk result (λ n. n ≡ length self.old.kept.repo.history + 1) }
-        ensures within { OnOk result (IsSmall message.now × (length self.old.kept.repo.history < commit_limit)) }
-        ensures why { IfErr result (IsRefusal (¬ IsSmall message.now) (IsSmall message.now × (commit_limit ≤ length self.old.kept.repo.history)) ⊥) }
+        ensures within { OnOk result (IsSmall message.now × (length self.old.kept.repo.history < most_commits)) }
+        ensures why { IfErr result (IsRefusal (¬ IsSmall message.now) (IsSmall message.now × (most_commits ≤ length self.old.kept.repo.history)) ⊥) }
     {
         let commit = self.lists.prepare_commit(message)?;
         let number = self.lists.commits() + 1;

@@ -2,7 +2,7 @@
 
 ghost use Rattle.std.specs.Prelude.{◌≡◌, ◌≤◌, length, map, IfOk};
 ghost use Rattle.hook_base.specs.Trees.{IsRising};
-ghost use Rattle.repo_store.specs.Limits.{commit_limit};
+ghost use Rattle.repo_store.specs.Limits.{most_commits};
 ghost use Rattle.repo_store.specs.Lists.{commit_of, file_of, fix_of};
 ghost use Rattle.repo_store.specs.Log.{log_from};
 
@@ -57,7 +57,7 @@ pub(crate) fn changes_of(alloc: Global, fixes: &[SharedFix]) -> Result<Vec<Chang
 
 /// The log of the commits, which are numbered from 1 on.
 pub(crate) fn log_of(alloc: Global, history: &[SharedCommit]) -> Result<Vec<LogEntry>, OutOfMemory>
-    requires { length history.now ≤ commit_limit }
+    requires { length history.now ≤ most_commits }
     ensures { IfOk result (λ log. log.items ≡ log_from 1 (map commit_of history.now)) }
 {
     let mut log = Vec::new(alloc);

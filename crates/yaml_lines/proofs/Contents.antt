@@ -4,7 +4,7 @@ use Rattle.std.specs.List.{prefix_len, list_all}
 use Rattle.std.specs.Str.{encode_utf8_all}
 use Rattle.yaml_lines.specs.Plain.{begins_plain, plain_of, Sides, sides_of, trim_end, uncommented}
 use Rattle.yaml_lines.specs.Characters.{is_blank, is_space}
-use Rattle.yaml_lines.specs.Entries.{Place, is_item, rest_behind, rest_of, item_of}
+use Rattle.yaml_lines.specs.Entries.{ContentLine, is_item, rest_behind, rest_of, item_of}
 
 -- an item holds its dash
 pub is_item-length : (content : List ℕ) → is_item content ≡ true → 1 ≤ length content
@@ -13,18 +13,18 @@ is_item-length [] h = cc
 is_item-length (c ∷ cs) h = omega arith
 
 -- what stands behind the dash and the blanks, by the code's slices
-pub record Behind (p : Place) (found rest blanks follows : List ℕ) (n : ℕ) : Type 0 where
+pub record Behind (p : ContentLine) (found rest blanks follows : List ℕ) (n : ℕ) : Type 0 where
   pub same : found ≡ p.content
   pub behind : rest ≡ drop 1 found
   pub counted : n ≡ prefix_len is_blank rest
   pub follow : follows ≡ drop n rest
 
-pub item_of-behind : (p : Place) (found rest blanks follows : List ℕ) (n : ℕ) → Behind p found rest blanks follows n → blanks ≡ take n rest
+pub item_of-behind : (p : ContentLine) (found rest blanks follows : List ℕ) (n : ℕ) → Behind p found rest blanks follows n → blanks ≡ take n rest
     → item_of p ≡ rest_behind (p.indent + 1 + n) p.block (list_all is_space blanks) follows
 unfolding item_of rest_of
 item_of-behind p found rest blanks follows n b t =
     let is : rest ≡ drop 1 p.content = b.behind ∙ ap (λ (cs : List ℕ). drop 1 cs) b.same in
-    let f : ℕ → List ℕ → Option (List Place) = λ k cs. rest_behind (p.indent + 1 + k) p.block (list_all is_space (take k cs)) (drop k cs) in
+    let f : ℕ → List ℕ → Option (List ContentLine) = λ k cs. rest_behind (p.indent + 1 + k) p.block (list_all is_space (take k cs)) (drop k cs) in
     ap (f (prefix_len is_blank (drop 1 p.content))) (sym is)
     ∙ (ap (λ (k : ℕ). f k rest) (ap (prefix_len is_blank) (sym is) ∙ sym b.counted)
     ∙ (ap (λ (cs : List ℕ). rest_behind (p.indent + 1 + n) p.block (list_all is_space cs) (drop n rest)) (sym t)

@@ -6,7 +6,7 @@ use Rattle.yaml_lines.specs.BlockTexts.{LineText, spaces}
 use Rattle.yaml_lines.specs.Characters.{is_blank, blank_or_end, comment_or_end, trim_start}
 use Rattle.yaml_lines.specs.Entries.{KeyAndValue, value_behind, plain_entry, behind_colon, quoted_entry, entry_of}
 use Rattle.yaml_lines.specs.LineLaws.{is_block, begins_text, holds_no_bar}
-use Rattle.yaml_lines.specs.Lines.{PlacedValue, value_at, last_value}
+use Rattle.yaml_lines.specs.Lines.{ColumnValue, value_at, last_value}
 use Rattle.yaml_lines.specs.Plain.{begins_plain, Sides, before_side, sides_of}
 use Rattle.yaml_lines.specs.Quoted.{Step, Quoted, is_quote, behind, after_quote, single_step, coded, pair_of, two_digits, four_digits, named, escaped, double_step, step_of, quoted_within, quoted_of}
 
@@ -196,7 +196,7 @@ module _ (p : ℕ → Bool) where
 
   -- ---- the last value
 
-  abbrev OfValue : Option PlacedValue → Type 0
+  abbrev OfValue : Option ColumnValue → Type 0
   OfValue o = Each (λ value. value.content) o
 
   at_held : (at : ℕ) (dash : Option ℕ) (content : List ℕ) (o : Option KeyAndValue) → Held content → OfEntry o → OfValue (value_at at dash content o)
@@ -204,7 +204,7 @@ module _ (p : ℕ → Bool) where
   at_held at (Some column) content None h k = h
   at_held at dash content (Some entry) h k = k
 
-  last_by : (a b : Bool) (blank dashed here : Option PlacedValue) → OfValue blank → OfValue dashed → OfValue here → OfValue (cond a blank (cond b dashed here))
+  last_by : (a b : Bool) (blank dashed here : Option ColumnValue) → OfValue blank → OfValue dashed → OfValue here → OfValue (cond a blank (cond b dashed here))
   last_by true b blank dashed here f g h = f
   last_by false true blank dashed here f g h = g
   last_by false false blank dashed here f g h = h
@@ -226,7 +226,7 @@ negated : (b : Bool) → not b ≡ true → b ≡ false
 negated true e = absurd (cc)
 negated false e = refl
 
-no_block : (value : Option PlacedValue) → OfValue neither_bar value → is_block value ≡ false
+no_block : (value : Option ColumnValue) → OfValue neither_bar value → is_block value ≡ false
 unfolding neither_bar
 no_block None h = refl
 no_block (Some value) h = no_bar value.content h

@@ -3,8 +3,8 @@ use Rattle.std.proofs.Common.{◌≡◌, ℕ, suc, ◌+◌, Bool, true, false, c
 use Rattle.std.proofs.lemmas.Bool.{eqb-true}
 use Rattle.std.specs.List.{prefix_len, list_all}
 use Rattle.yaml_lines.specs.Characters.{is_blank, is_space, blank_or_end, comment_or_end}
-use Rattle.yaml_lines.specs.Entries.{Place, KeyAndValue, is_item, rest_of, item_of, entry_of}
-use Rattle.yaml_lines.specs.Lines.{PlacedValue, value_at, last_value}
+use Rattle.yaml_lines.specs.Entries.{ContentLine, KeyAndValue, is_item, rest_of, item_of, entry_of}
+use Rattle.yaml_lines.specs.Lines.{ColumnValue, value_at, last_value}
 use Rattle.yaml_lines.specs.Plain.{begins_plain}
 use Rattle.yaml_lines.proofs.Left.{last_value-tests, last_value-nil}
 
@@ -12,7 +12,7 @@ use Rattle.yaml_lines.proofs.Left.{last_value-tests, last_value-nil}
 abbrev passed : Bool → ℕ → ℕ
 passed blank more = cond blank (1 + more) 0
 
-abbrev moved : ℕ → Option ℕ → ℕ → List ℕ → Option PlacedValue
+abbrev moved : ℕ → Option ℕ → ℕ → List ℕ → Option ColumnValue
 moved at dash n cs = last_value (at + n) dash (drop n cs)
 
 stays : (at : ℕ) (dash : Option ℕ) (cs : List ℕ) → last_value at dash cs ≡ moved at dash 0 cs
@@ -49,19 +49,19 @@ behind_dash : (at : ℕ) (dash : Option ℕ) (c : ℕ) (cs : List ℕ) → (eqb 
 behind_dash at dash c cs e =
     last_value-tests at dash c cs false true (blank_by c (eqb-true c 45 (both (eqb c 45) (blank_or_end cs) e).0)) e ∙ skip_blanks (at + 1) (Some at) cs
 
-rest_is : (over spaces : Bool) (at : ℕ) (block : Option (List ℕ)) (cs : List ℕ) (rest : Place) → cond over (Some []) (cond spaces (Some (record { indent = at; content = cs; block = block } ∷ [])) None) ≡ Some (rest ∷ []) → (rest.indent ≡ at) × (rest.content ≡ cs)
+rest_is : (over spaces : Bool) (at : ℕ) (block : Option (List ℕ)) (cs : List ℕ) (rest : ContentLine) → cond over (Some []) (cond spaces (Some (record { indent = at; content = cs; block = block } ∷ [])) None) ≡ Some (rest ∷ []) → (rest.indent ≡ at) × (rest.content ≡ cs)
 rest_is true spaces at block cs rest e = cc
 rest_is false false at block cs rest e = cc
 rest_is false true at block cs rest e =
     let same : record { indent = at; content = cs; block = block } ≡ rest = cc in
-    (sym (ap (λ (p : Place). p.indent) same), sym (ap (λ (p : Place). p.content) same))
+    (sym (ap (λ (p : ContentLine). p.indent) same), sym (ap (λ (p : ContentLine). p.content) same))
 
-over_is : (over spaces : Bool) (place : Place) → cond over (Some []) (cond spaces (Some (place ∷ [])) None) ≡ Some [] → over ≡ true
+over_is : (over spaces : Bool) (place : ContentLine) → cond over (Some []) (cond spaces (Some (place ∷ [])) None) ≡ Some [] → over ≡ true
 over_is true spaces place e = refl
 over_is false false place e = cc
 over_is false true place e = cc
 
-of_item : (at : ℕ) (dash : Option ℕ) (content : List ℕ) (block : Option (List ℕ)) (rest : Place) → is_item content ≡ true → rest_of at block (drop 1 content) ≡ Some (rest ∷ [])
+of_item : (at : ℕ) (dash : Option ℕ) (content : List ℕ) (block : Option (List ℕ)) (rest : ContentLine) → is_item content ≡ true → rest_of at block (drop 1 content) ≡ Some (rest ∷ [])
     → last_value at dash content ≡ last_value rest.indent (Some at) rest.content
 unfolding is_item rest_of
 of_item at dash [] block rest e h = cc
@@ -71,13 +71,13 @@ of_item at dash (c ∷ cs) block rest e h =
     behind_dash at dash c cs e
     ∙ (ap (λ (k : ℕ). last_value k (Some at) (drop n cs)) (sym is.0) ∙ ap (last_value rest.indent (Some at)) (sym is.1))
 
-pub item_value : (p rest : Place) (dash : Option ℕ) → is_item p.content ≡ true → item_of p ≡ Some (rest ∷ []) → last_value p.indent dash p.content ≡ last_value rest.indent (Some p.indent) rest.content
+pub item_value : (p rest : ContentLine) (dash : Option ℕ) → is_item p.content ≡ true → item_of p ≡ Some (rest ∷ []) → last_value p.indent dash p.content ≡ last_value rest.indent (Some p.indent) rest.content
 unfolding item_of
 item_value p rest dash e h = of_item p.indent dash p.content p.block rest e h
 
 -- ---- a dash with nothing or a comment behind it
 
-abbrev IsComment : Option PlacedValue → Type 0
+abbrev IsComment : Option ColumnValue → Type 0
 IsComment o = IfSome o (λ value. comment_or_end value.content ≡ true)
 
 value_is_comment : (at : ℕ) (dash : ℕ) (cs : List ℕ) (o : Option KeyAndValue) → comment_or_end cs ≡ true → o ≡ None → IsComment (value_at at (Some dash) cs o)
@@ -109,7 +109,7 @@ of_empty at dash (c ∷ cs) block e h =
     let over = over_is (comment_or_end (drop n cs)) (list_all is_space (take n cs)) (record { indent = at + 1 + n; content = drop n cs; block = block }) h in
     rw (behind_dash at dash c cs e) (comment_value (at + 1 + n) at (drop n cs) over)
 
-pub empty_item_value : (p : Place) (dash : Option ℕ) → is_item p.content ≡ true → item_of p ≡ Some [] → IfSome (last_value p.indent dash p.content) (λ value. comment_or_end value.content ≡ true)
+pub empty_item_value : (p : ContentLine) (dash : Option ℕ) → is_item p.content ≡ true → item_of p ≡ Some [] → IfSome (last_value p.indent dash p.content) (λ value. comment_or_end value.content ≡ true)
 unfolding item_of
 empty_item_value p dash e h = of_empty p.indent dash p.content p.block e h
 
@@ -120,5 +120,5 @@ unfolding is_item
 of_other at dash [] some e = cc
 of_other at dash (c ∷ cs) some e = last_value-tests at dash c cs false false some e
 
-pub other_value : (p : Place) (dash : Option ℕ) (entry : Option KeyAndValue) → blank_or_end p.content ≡ false → is_item p.content ≡ false → entry_of p.content ≡ entry → last_value p.indent dash p.content ≡ value_at p.indent dash p.content entry
+pub other_value : (p : ContentLine) (dash : Option ℕ) (entry : Option KeyAndValue) → blank_or_end p.content ≡ false → is_item p.content ≡ false → entry_of p.content ≡ entry → last_value p.indent dash p.content ≡ value_at p.indent dash p.content entry
 other_value p dash entry some e h = of_other p.indent dash p.content some e ∙ ap (value_at p.indent dash p.content) h

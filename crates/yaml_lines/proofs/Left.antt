@@ -7,7 +7,7 @@ use Rattle.yaml_lines.specs.BlockTexts.{LineText}
 use Rattle.yaml_lines.specs.Characters.{is_allowed, is_blank, is_space, begins_with, blank_or_end, comment_or_end, trim_start}
 use Rattle.yaml_lines.specs.Entries.{entry_of}
 use Rattle.yaml_lines.specs.Faults.{Gives, GivesSurely}
-use Rattle.yaml_lines.specs.Lines.{PlacedValue, Left, standing, value_at, last_value, with_flow, left_of}
+use Rattle.yaml_lines.specs.Lines.{ColumnValue, Left, standing, value_at, last_value, with_flow, left_of}
 use Rattle.yaml_lines.specs.declared.flow_state.FlowState.{FlowState}
 use Rattle.yaml_lines.specs.declared.fault.YamlFault.{YamlFault}
 
@@ -18,7 +18,7 @@ Gives-from_surely see (Err fault) m n h e = λ _. e ∙ h
 
 abbrev by_tests : Bool → Bool → FlowState → ℕ → List ℕ → List LineText → Option Left
 by_tests allowed nothing flow n content later =
-    cond (not allowed) None (cond nothing (Some (record { place = None; next = standing 0 flow })) (cond (begins_with 9 content) None (with_flow flow n content later)))
+    cond (not allowed) None (cond nothing (Some (record { content_line = None; next = standing 0 flow })) (cond (begins_with 9 content) None (with_flow flow n content later)))
 
 left_of-tests : (flow : FlowState) (text : List ℕ) (later : List LineText) (a b : Bool) → list_all is_allowed text ≡ a → comment_or_end (trim_start text) ≡ b
     → left_of flow text later ≡ by_tests a b flow (prefix_len is_space text) (drop (prefix_len is_space text) text) later
@@ -31,7 +31,7 @@ pub left_of-bad : (flow : FlowState) (text : List ℕ) (later : List LineText) �
 left_of-bad flow text later h = left_of-tests flow text later false (comment_or_end (trim_start text)) h refl
 
 pub left_of-nothing : (flow : FlowState) (text : List ℕ) (later : List LineText) → list_all is_allowed text ≡ true → comment_or_end (trim_start text) ≡ true
-    → left_of flow text later ≡ Some (record { place = None; next = standing 0 flow })
+    → left_of flow text later ≡ Some (record { content_line = None; next = standing 0 flow })
 left_of-nothing flow text later h k = left_of-tests flow text later true true h k
 
 -- the content behind the indentation
@@ -54,7 +54,7 @@ pub last_value-tests : (at : ℕ) (dash : Option ℕ) (c : ℕ) (cs : List ℕ) 
     → last_value at dash (c ∷ cs) ≡ cond a (last_value (at + 1) dash cs) (cond b (last_value (at + 1) (Some at) cs) (value_at at dash (c ∷ cs) (entry_of (c ∷ cs))))
 unfolding last_value
 last_value-tests at dash c cs a b h k =
-    let f : Bool → Bool → Option PlacedValue = λ a b. cond a (last_value (at + 1) dash cs) (cond b (last_value (at + 1) (Some at) cs) (value_at at dash (c ∷ cs) (entry_of (c ∷ cs)))) in
+    let f : Bool → Bool → Option ColumnValue = λ a b. cond a (last_value (at + 1) dash cs) (cond b (last_value (at + 1) (Some at) cs) (value_at at dash (c ∷ cs) (entry_of (c ∷ cs)))) in
     ap (λ (x : Bool). f x (eqb c 45 && blank_or_end cs)) h ∙ ap (λ (x : Bool). f a x) k
 
 pub last_value-nil : (at : ℕ) (dash : Option ℕ) → last_value at dash [] ≡ None

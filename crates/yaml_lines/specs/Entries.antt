@@ -8,7 +8,7 @@ use Rattle.yaml_lines.specs.Quoted.{Quoted, begins_quoted, quoted_of}
 
 -- Where a line's content begins, the content, which begins with neither a blank nor a comment, and in UTF-8 the block
 -- text that its last value begins, if it begins one. Blanks and a comment may end the content.
-pub record Place : Type 0 where
+pub record ContentLine : Type 0 where
   pub indent : ℕ
   pub content : List ℕ
   pub block : Option (List ℕ)
@@ -18,21 +18,21 @@ unfoldable pub is_item : List ℕ → Bool
 is_item [] = false
 is_item (c ∷ cs) = c == 45 && blank_or_end cs
 
--- what follows a dash and blanks, all of them spaces or not: one place at the column `at`, or no place where nothing or
+-- what follows a dash and blanks, all of them spaces or not: one content line at the column `at`, or no content line where nothing or
 -- a comment follows; none where a tab stands before it
-abbrev pub rest_behind : ℕ → Option (List ℕ) → Bool → List ℕ → Option (List Place)
+abbrev pub rest_behind : ℕ → Option (List ℕ) → Bool → List ℕ → Option (List ContentLine)
 rest_behind at block spaces cs =
     if comment_or_end cs then Some []
     else (if spaces then Some (record { indent = at; content = cs; block = block } ∷ []) else None)
 
--- What follows the dash of an item whose dash stands at `column`: one place at the column where it stands, or no place
+-- What follows the dash of an item whose dash stands at `column`: one content line at the column where it stands, or no content line
 -- if only blanks and a comment follow. None where a tab stands between.
-unfoldable pub rest_of : ℕ → Option (List ℕ) → List ℕ → Option (List Place)
+unfoldable pub rest_of : ℕ → Option (List ℕ) → List ℕ → Option (List ContentLine)
 rest_of column block cs =
     let n = prefix_len is_blank cs in
     rest_behind (column + 1 + n) block (list_all is_space (take n cs)) (drop n cs)
 
-unfoldable pub item_of : Place → Option (List Place)
+unfoldable pub item_of : ContentLine → Option (List ContentLine)
 item_of p = rest_of p.indent p.block (drop 1 p.content)
 
 -- a key's text in UTF-8, a plain one without outer blanks, and the characters of the value that follows the blanks behind the key's

@@ -4,7 +4,7 @@ use Rattle.std.specs.Prelude.{ℕ, Bool, true, false, not, ◌&&◌, ◌||◌, �
 use Rattle.std.specs.List.{filter, list_all}
 use Rattle.yaml_lines.specs.BlockTexts.{LineText, begins_block, spaces}
 use Rattle.yaml_lines.specs.Characters.{is_allowed, comment_or_end, trim_start}
-use Rattle.yaml_lines.specs.Lines.{PlacedValue, last_value}
+use Rattle.yaml_lines.specs.Lines.{ColumnValue, last_value}
 
 -- blanks, or blanks and a comment, of characters that a line may hold
 abbrev pub says_nothing : LineText → Bool
@@ -14,7 +14,7 @@ says_nothing line = list_all is_allowed line.text && comment_or_end (trim_start 
 abbrev pub saying : List LineText → List LineText
 saying lines = filter (λ line. not (says_nothing line)) lines
 
-abbrev pub is_block : Option PlacedValue → Bool
+abbrev pub is_block : Option ColumnValue → Bool
 is_block None = false
 is_block (Some value) = begins_block value.content
 

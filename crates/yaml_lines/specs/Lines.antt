@@ -1,4 +1,4 @@
--- The lines of a text, and the places that they leave once comments, empty lines, the lines of block texts and the
+-- The lines of a text, and the content lines that they leave once comments, empty lines, the lines of block texts and the
 -- document's mark are gone. (YAML 1.2.2, sections 5.4 "Line Break Characters", 6.1 "Indentation Spaces", 6.6 "Comments"
 -- and 9.1 "Documents".)
 use Rattle.std.specs.Prelude.{ℕ, Bool, true, false, not, zero, suc, ◌+◌, ◌&&◌, ◌||◌, List, [], ◌∷◌, take, drop, Option, Some, None, option_map, option_and_then, ◌==◌, if◌then◌else◌}
@@ -8,7 +8,7 @@ use Rattle.yaml_lines.specs.Characters.{characters_of, is_space, is_blank, is_al
 use Rattle.yaml_lines.specs.declared.header.Header.{Header}
 use Rattle.yaml_lines.specs.declared.flow_state.FlowState.{FlowState}
 use Rattle.yaml_lines.specs.declared.standing.Standing.{Standing}
-use Rattle.yaml_lines.specs.Entries.{Place, KeyAndValue, entry_of}
+use Rattle.yaml_lines.specs.Entries.{ContentLine, KeyAndValue, entry_of}
 use Rattle.yaml_lines.specs.FlowLines.{outside, is_closed, skim, state_behind}
 
 -- one character more in front of the first line
@@ -29,55 +29,56 @@ line_texts (c ∷ cs) =
     else (if c == 13 && begins_with 10 cs then line_texts cs else before_lines c (line_texts cs))
 
 -- a value, and the column of the key or the dash that it belongs to
-pub record PlacedValue : Type 0 where
+pub record ColumnValue : Type 0 where
   pub column : ℕ
   pub content : List ℕ
 
 -- the value of the entry that stands at `at`, or of the last dash before it
-abbrev pub value_at : ℕ → Option ℕ → List ℕ → Option KeyAndValue → Option PlacedValue
+abbrev pub value_at : ℕ → Option ℕ → List ℕ → Option KeyAndValue → Option ColumnValue
 value_at at dash content (Some entry) = Some (record { column = at; content = entry.value })
 value_at at dash content None = option_map (λ column. record { column = column; content = content }) dash
 
 -- The value that stands last on a line, behind its dashes and its key. `at` is the column of the first character, `dash`
 -- that of the last dash before it. None where nothing follows, and where there is neither a dash nor a key.
-unfoldable pub last_value : ℕ → Option ℕ → List ℕ → Option PlacedValue
+unfoldable pub last_value : ℕ → Option ℕ → List ℕ → Option ColumnValue
 last_value at dash [] = None
 last_value at dash (c ∷ cs) =
     if is_blank c then last_value (at + 1) dash cs
     else (if c == 45 && blank_or_end cs then last_value (at + 1) (Some at) cs
     else value_at at dash (c ∷ cs) (entry_of (c ∷ cs)))
 
--- what a line leaves: its place, or no place if it holds only blanks or a comment, and where the next line stands
+-- what a line leaves: its content line, or none if it holds only blanks or a comment, and where the next line stands
 pub record Left : Type 0 where
-  pub place : Option Place
+  pub content_line : Option ContentLine
   pub next : Standing
 
 abbrev pub standing : ℕ → FlowState → Standing
 standing taken flow = record { taken = taken; flow = flow }
 
--- a place without a block text, behind which this flow is open
+-- a content line without a block text, behind which this flow is open
 abbrev pub bare : ℕ → List ℕ → FlowState → Left
-bare indent content flow = record { place = Some (record { indent = indent; content = content; block = None }); next = standing 0 flow }
+bare indent content flow = record { content_line = Some (record { indent = indent; content = content; block = None }); next = standing 0 flow }
 
--- a place whose last value is a block text with this header and margin; none where a line before its text is ragged
+-- a content line whose last value is a block text with this header and margin; none where a line before its text is
+-- ragged
 unfoldable pub with_text : ℕ → List ℕ → List LineText → Option ℕ → Header → Option Left
 with_text indent content later margin header =
     if is_ragged margin later then None
     else Some (record {
-      place = Some (record { indent = indent; content = content; block = Some (block_text header margin (take (extent margin later) later)) });
+      content_line = Some (record { indent = indent; content = content; block = Some (block_text header margin (take (extent margin later) later)) });
       next = standing (extent margin later) outside;
     })
 
--- a place with the block text or the flow that its last value begins, if it begins one; none where a header can't be
+-- a content line with the block text or the flow that its last value begins, if it begins one; none where a header can't be
 -- read
-unfoldable pub with_value : ℕ → List ℕ → List LineText → Option PlacedValue → Option Left
+unfoldable pub with_value : ℕ → List ℕ → List LineText → Option ColumnValue → Option Left
 with_value indent content later None = Some (bare indent content (state_behind content))
 with_value indent content later (Some value) =
     if begins_block value.content
     then option_and_then (with_text indent content later (margin_of value.column later)) (header_of value.content)
     else Some (bare indent content (state_behind value.content))
 
--- a place: within a flow no line has a value of its own
+-- a content line: within a flow no line has a value of its own
 unfoldable pub with_flow : FlowState → ℕ → List ℕ → List LineText → Option Left
 with_flow flow indent content later =
     if is_closed flow then with_value indent content later (last_value indent None content)
@@ -89,28 +90,28 @@ left_of flow text later =
     let n = prefix_len is_space text in
     let content = drop n text in
     if not (list_all is_allowed text) then None
-    else (if comment_or_end (trim_start text) then Some (record { place = None; next = standing 0 flow })
+    else (if comment_or_end (trim_start text) then Some (record { content_line = None; next = standing 0 flow })
     else (if begins_with 9 content then None else with_flow flow n content later))
 
 -- what a line leaves if the first `taken` lines from it on are a block text
 abbrev pub left_by : ℕ → FlowState → List ℕ → List LineText → Option Left
 left_by zero flow text later = left_of flow text later
 left_by (suc taken) flow text later =
-    if list_all is_allowed text then Some (record { place = None; next = standing taken flow }) else None
+    if list_all is_allowed text then Some (record { content_line = None; next = standing taken flow }) else None
 
 -- what a line leaves by where it stands
 unfoldable pub left_at : Standing → List ℕ → List LineText → Option Left
 left_at at text later = left_by at.taken at.flow text later
 
-abbrev pub before_places : Option Place → List Place → List Place
-before_places None later = later
-before_places (Some p) later = p ∷ later
+abbrev pub before_content_lines : Option ContentLine → List ContentLine → List ContentLine
+before_content_lines None later = later
+before_content_lines (Some p) later = p ∷ later
 
--- the places of all lines, of which the first stands so
-unfoldable pub all_places : Standing → List LineText → Option (List Place)
-all_places at [] = Some []
-all_places at (l ∷ ls) =
-    option_and_then (λ left. option_map (before_places left.place) (all_places left.next ls)) (left_at at l.text ls)
+-- the content lines of all lines, of which the first stands so
+unfoldable pub all_content_lines : Standing → List LineText → Option (List ContentLine)
+all_content_lines at [] = Some []
+all_content_lines at (l ∷ ls) =
+    option_and_then (λ left. option_map (before_content_lines left.content_line) (all_content_lines left.next ls)) (left_at at l.text ls)
 
 -- three times the character
 abbrev pub three : ℕ → List ℕ → Bool
@@ -118,31 +119,31 @@ three m (a ∷ b ∷ c ∷ cs) = a == m && b == m && c == m
 three m _ = false
 
 -- a line without indentation that marks a document: `---` or `...` before a blank or the end, or a directive
-abbrev pub is_mark : Place → Bool
+abbrev pub is_mark : ContentLine → Bool
 is_mark p =
     p.indent == 0
     && ((three 45 p.content && blank_or_end (drop 3 p.content)) || (three 46 p.content && blank_or_end (drop 3 p.content)) || begins_with 37 p.content)
 
 -- `---` alone, but for a comment
-abbrev pub is_start : Place → Bool
+abbrev pub is_start : ContentLine → Bool
 is_start p = p.indent == 0 && three 45 p.content && is_over (drop 3 p.content)
 
-abbrev pub unmarked : List Place → Option (List Place)
+abbrev pub unmarked : List ContentLine → Option (List ContentLine)
 unmarked ps = if list_any is_mark ps then None else Some ps
 
--- the places of the one document: `---` alone may stand first, and no other mark stands anywhere
-unfoldable pub document : List Place → Option (List Place)
+-- the content lines of the one document: `---` alone may stand first, and no other mark stands anywhere
+unfoldable pub document : List ContentLine → Option (List ContentLine)
 document [] = Some []
 document (p ∷ ps) = if is_start p then unmarked ps else unmarked (p ∷ ps)
 
--- the places that the lines of a text leave
-unfoldable pub places_from : List LineText → Option (List Place)
-places_from ls = option_and_then document (all_places (standing 0 outside) ls)
+-- the content lines that the lines of a text leave
+unfoldable pub content_lines_from : List LineText → Option (List ContentLine)
+content_lines_from ls = option_and_then document (all_content_lines (standing 0 outside) ls)
 
--- the places that a text of characters leaves
-unfoldable pub places_of : List ℕ → Option (List Place)
-places_of text = places_from (line_texts text)
+-- the content lines that a text of characters leaves
+unfoldable pub content_lines_of : List ℕ → Option (List ContentLine)
+content_lines_of text = content_lines_from (line_texts text)
 
--- the places that a text of bytes leaves
-unfoldable pub places_of_bytes : List ℕ → Option (List Place)
-places_of_bytes bytes = option_and_then places_of (characters_of bytes)
+-- the content lines that a text of bytes leaves
+unfoldable pub content_lines_of_bytes : List ℕ → Option (List ContentLine)
+content_lines_of_bytes bytes = option_and_then content_lines_of (characters_of bytes)

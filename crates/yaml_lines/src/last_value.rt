@@ -19,9 +19,9 @@ pub(crate) struct LastValue<'a> {
 }
 
 impl<'a> Model for LastValue<'a> {
-    ghost use Rattle.yaml_lines.specs.Lines.{PlacedValue};
+    ghost use Rattle.yaml_lines.specs.Lines.{ColumnValue};
 
-    ghost Value = { PlacedValue };
+    ghost Value = { ColumnValue };
 
     ghost view = { λ value. record { column = value.column; content = value.content.now } };
 }

@@ -6,9 +6,9 @@ ghost use Rattle.std.specs.List.{list_all, list_any};
 ghost use Rattle.yaml_lines.specs.BlockLaws.{literal, all_indented, text_of_lines, begins_bare, ends_full};
 ghost use Rattle.yaml_lines.specs.BlockTexts.{LineText, margin_of, extent, is_ragged, block_text};
 ghost use Rattle.yaml_lines.specs.Characters.{blank_or_end, comment_or_end, is_over, most_bytes};
-ghost use Rattle.yaml_lines.specs.Entries.{Place, KeyAndValue, entry_of, is_item, item_of, value_behind};
+ghost use Rattle.yaml_lines.specs.Entries.{ContentLine, KeyAndValue, entry_of, is_item, item_of, value_behind};
 ghost use Rattle.yaml_lines.specs.LineLaws.{saying, begins_text, holds_no_bar, ended};
-ghost use Rattle.yaml_lines.specs.Lines.{standing, all_places, last_value, places_from};
+ghost use Rattle.yaml_lines.specs.Lines.{standing, all_content_lines, last_value, content_lines_from};
 ghost use Rattle.yaml_lines.specs.declared.header.Chomping.TheVariants.{Clip, Keep};
 ghost use Rattle.yaml_lines.specs.declared.flow_state.FlowState.{FlowState};
 ghost use Rattle.yaml_lines.specs.Meaning.{Meaning, text};
@@ -51,7 +51,7 @@ pub fn every_text_can_be_quoted()
 {}
 
 /// Comments and empty lines say nothing: without the lines that hold only blanks, or blanks and a comment, a text leaves
-/// the same places, or can't be read for want of the same. So
+/// the same content lines, or can't be read for want of the same. So
 ///
 /// ```yaml
 /// # what is built
@@ -65,9 +65,9 @@ pub fn every_text_can_be_quoted()
 /// which neither `|` nor `>` stands is one where no line does, as `without_bars` says.
 pub fn comments_and_empty_lines_say_nothing()
     ensures lines { (flow : FlowState) (lines : List LineText) → list_any begins_text lines ≡ false
-        → all_places (standing 0 flow) (saying lines) ≡ all_places (standing 0 flow) lines }
-    ensures text { (lines : List LineText) → list_any begins_text lines ≡ false → places_from (saying lines) ≡ places_from lines }
-    ensures without_bars { (lines : List LineText) → list_all holds_no_bar lines ≡ true → places_from (saying lines) ≡ places_from lines }
+        → all_content_lines (standing 0 flow) (saying lines) ≡ all_content_lines (standing 0 flow) lines }
+    ensures text { (lines : List LineText) → list_any begins_text lines ≡ false → content_lines_from (saying lines) ≡ content_lines_from lines }
+    ensures without_bars { (lines : List LineText) → list_all holds_no_bar lines ≡ true → content_lines_from (saying lines) ≡ content_lines_from lines }
 {}
 
 /// A comment behind a text says nothing: `make # the default` and `'make'   # the default` are the texts `make` and
@@ -81,17 +81,17 @@ pub fn a_comment_behind_a_text_says_nothing()
 /// dash it is that of what follows the dash, which then is the dash's; an entry's is its value, at the key's column; and
 /// what is neither an item nor an entry is the value of the dash before it, if there is one. A comment alone behind a
 /// dash counts as the dash's value; it begins neither a block text nor a flow. `dash` is the column of the last dash
-/// before the place, which begins with no blank.
+/// before the content line, which begins with no blank.
 pub fn a_last_value_is_that_of_the_item_or_the_entry()
-    ensures item { (p rest : Place) (dash : Option ℕ) → is_item p.content ≡ true → item_of p ≡ Some (rest ∷ [])
+    ensures item { (p rest : ContentLine) (dash : Option ℕ) → is_item p.content ≡ true → item_of p ≡ Some (rest ∷ [])
         → last_value p.indent dash p.content ≡ last_value rest.indent (Some p.indent) rest.content }
-    ensures empty_item { (p : Place) (dash : Option ℕ) → is_item p.content ≡ true → item_of p ≡ Some []
+    ensures empty_item { (p : ContentLine) (dash : Option ℕ) → is_item p.content ≡ true → item_of p ≡ Some []
         → IfSome (last_value p.indent dash p.content) (λ value. comment_or_end value.content ≡ true) }
-    ensures entry { (p : Place) (dash : Option ℕ) (entry : KeyAndValue) → blank_or_end p.content ≡ false → is_item p.content ≡ false → entry_of p.content ≡ Some entry
+    ensures entry { (p : ContentLine) (dash : Option ℕ) (entry : KeyAndValue) → blank_or_end p.content ≡ false → is_item p.content ≡ false → entry_of p.content ≡ Some entry
         → last_value p.indent dash p.content ≡ Some (record { column = p.indent; content = entry.value }) }
-    ensures value { (p : Place) (column : ℕ) → blank_or_end p.content ≡ false → is_item p.content ≡ false → entry_of p.content ≡ None
+    ensures value { (p : ContentLine) (column : ℕ) → blank_or_end p.content ≡ false → is_item p.content ≡ false → entry_of p.content ≡ None
         → last_value p.indent (Some column) p.content ≡ Some (record { column = column; content = p.content }) }
-    ensures text { (p : Place) → blank_or_end p.content ≡ false → is_item p.content ≡ false → entry_of p.content ≡ None
+    ensures text { (p : ContentLine) → blank_or_end p.content ≡ false → is_item p.content ≡ false → entry_of p.content ≡ None
         → last_value p.indent None p.content ≡ None }
 {}
 
@@ -120,9 +120,9 @@ pub fn the_laws_ask_for_what_they_need()
     ensures colon { IsPlainAlone (codes "a") (codes "a") × (entry_of (codes "a" ++ codes ":b") ≡ None) }
     ensures behind { (scalar_meaning (codes "'a'") ≡ Some (text (codes "a") true)) × (scalar_meaning (codes "'a'b") ≡ None) }
     ensures hash { scalar_meaning (codes "a#b") ≡ Some (text (codes "a#b") false) }
-    ensures block_line { places_from (ended (codes "a: |") ∷ ended (codes " #") ∷ [])
+    ensures block_line { content_lines_from (ended (codes "a: |") ∷ ended (codes " #") ∷ [])
         ≡ Some (record { indent = 0; content = codes "a: |"; block = Some (35 ∷ 10 ∷ []) } ∷ []) }
-    ensures without_it { places_from (saying (ended (codes "a: |") ∷ ended (codes " #") ∷ []))
+    ensures without_it { content_lines_from (saying (ended (codes "a: |") ∷ ended (codes " #") ∷ []))
         ≡ Some (record { indent = 0; content = codes "a: |"; block = Some [] } ∷ []) }
 {}
 

@@ -1,7 +1,7 @@
 //! The base of the YAML reader: from bytes to characters, from characters to lines, and what one line's content says.
 //!
 //! [`characters`] decodes the bytes, [`raw_lines`] cuts them at line ends, and [`read_lines`] leaves the lines that hold
-//! something, each a place: where its content begins, the content, and the block text that follows it. [`is_item`],
+//! something, each a content line: where its content begins, the content, and the block text that follows it. [`is_item`],
 //! [`after_dash`], [`read_entry`], [`scalar`] and [`read_quoted`] read one content; [`after_gap`], [`plain_part`] and
 //! [`ends_key`] are the scans of a flow's characters, for the reader of flows too. What a text means is a [`Node`]. The
 //! contracts cite `specs/Characters.antt`, `specs/Lines.antt`, `specs/FlowLines.antt`, `specs/FlowGaps.antt`,
@@ -12,6 +12,7 @@
 
 mod block_lines;
 mod block_text;
+mod content_lines;
 mod decode;
 mod entries;
 mod fault;
@@ -24,7 +25,6 @@ mod last_value;
 pub mod laws;
 mod line;
 mod node;
-mod places;
 mod plain_text;
 mod quoted_text;
 mod raw_line;
@@ -34,6 +34,7 @@ mod text_scalar;
 
 pub use block_lines::begins_block;
 pub use block_text::BlockText;
+pub use content_lines::{Lines, read_lines};
 pub use decode::{MOST_BYTES, characters};
 pub use entries::{Entry, read_entry};
 pub use fault::{YamlFault, YamlKind};
@@ -44,7 +45,6 @@ pub use header::{Chomping, Header};
 pub use item::{after_dash, is_item};
 pub use line::Line;
 pub use node::{MOST_NODES, Node};
-pub use places::{Lines, read_lines};
 pub use plain_text::refusal;
 pub use quoted_text::{QuotedText, begins_quoted, read_quoted};
 pub use raw_line::{RawLine, raw_lines};

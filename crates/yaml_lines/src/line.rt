@@ -1,6 +1,6 @@
 //! A line that holds something.
 //!
-//! The contracts cite `Place` of `specs/Entries.antt`.
+//! The contracts cite `ContentLine` of `specs/Entries.antt`.
 ghost use Rattle.std.specs.Prelude.{◌≡◌, ◌+◌, ◌≤◌, length, option_copied};
 ghost use Rattle.yaml_lines.specs.Characters.{most_bytes};
 
@@ -9,7 +9,7 @@ use std::marker::Model;
 
 /// A line that holds something: its number from 1, where its content begins, the content, and the block text that
 /// follows it, if there is one. As [`read_lines`](crate::read_lines) gives it, the content begins with neither a blank
-/// nor a comment; both may stand at its end. Contracts see its place, so the number is shown by tests alone.
+/// nor a comment; both may stand at its end. Contracts see its content line, so the number is shown by tests alone.
 #[derive(Debug, Drop)]
 pub struct Line<'a, 'b> {
     number: usize,
@@ -21,9 +21,9 @@ pub struct Line<'a, 'b> {
 impl<'a, 'b> Model for Line<'a, 'b> {
     ghost use Rattle.std.specs.Prelude.{◌+◌, ◌≤◌, length};
     ghost use Rattle.yaml_lines.specs.Characters.{most_bytes};
-    ghost use Rattle.yaml_lines.specs.Entries.{Place};
+    ghost use Rattle.yaml_lines.specs.Entries.{ContentLine};
 
-    ghost Value = { Place };
+    ghost Value = { ContentLine };
 
     ghost view = { λ line. record { indent = line.indent; content = line.content.now; block = line.block } };
 

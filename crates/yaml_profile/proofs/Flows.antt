@@ -2,7 +2,7 @@
 use Rattle.std.proofs.Common.{◌≡◌, ℕ, suc, ◌+◌, ◌<◌, ◌≤◌, Bool, true, false, cond, ◌&&◌, List, [], ◌∷◌, ◌++◌, length, drop, get_or, refl, sym, ap, ◌∙◌, append_assoc, append-nil, arith}
 use Rattle.std.proofs.lemmas.List.{drop_more, drop_all}
 use Rattle.std.specs.List.{prefix_len, list_all}
-use Rattle.yaml_lines.specs.Entries.{Place}
+use Rattle.yaml_lines.specs.Entries.{ContentLine}
 use Rattle.yaml_profile.specs.Blocks.{further}
 
 -- all pass the test exactly if as many do as there are
@@ -29,19 +29,19 @@ further-nil : further [] ≡ []
 unfolding further
 further-nil = refl
 
-further-cons : (line : Place) (lines : List Place) → further (line ∷ lines) ≡ 10 ∷ (line.content ++ further lines)
+further-cons : (line : ContentLine) (lines : List ContentLine) → further (line ∷ lines) ≡ 10 ∷ (line.content ++ further lines)
 unfolding further
 further-cons line lines = refl
 
 -- one line more behind the text
-pub further-more : (text : List ℕ) (lines : List Place) (i : ℕ) (line : Place) → i < length lines → line ≡ get_or lines i line
+pub further-more : (text : List ℕ) (lines : List ContentLine) (i : ℕ) (line : ContentLine) → i < length lines → line ≡ get_or lines i line
     → text ++ further (drop i lines) ≡ ((text ++ 10 ∷ []) ++ line.content) ++ further (drop (i + 1) lines)
 further-more text lines i line within is =
     let rest = further (drop (i + 1) lines) in
-    ap (λ ls. text ++ further ls) (drop_more lines i line within ∙ ap (λ (x : Place). x ∷ drop (i + 1) lines) (sym is))
+    ap (λ ls. text ++ further ls) (drop_more lines i line within ∙ ap (λ (x : ContentLine). x ∷ drop (i + 1) lines) (sym is))
     ∙ (ap (λ cs. text ++ cs) (further-cons line (drop (i + 1) lines))
     ∙ (sym (append_assoc text (10 ∷ []) (line.content ++ rest)) ∙ sym (append_assoc (text ++ 10 ∷ []) line.content rest)))
 
-pub further-end : (text : List ℕ) (lines : List Place) (i : ℕ) → length lines ≤ i → text ++ further (drop i lines) ≡ text
+pub further-end : (text : List ℕ) (lines : List ContentLine) (i : ℕ) → length lines ≤ i → text ++ further (drop i lines) ≡ text
 further-end text lines i past =
     ap (λ ls. text ++ further ls) (drop_all i lines past) ∙ (ap (λ cs. text ++ cs) further-nil ∙ append-nil text)

@@ -4,7 +4,7 @@ use Rattle.std.proofs.lemmas.Bool.{eq-eqb, le-ltb}
 use Rattle.std.specs.List.{prefix_len, list_all}
 use Rattle.std.specs.Str.{encode_utf8_all}
 use Rattle.yaml_lines.specs.Characters.{is_blank, blank_or_end, comment_or_end, trim_start}
-use Rattle.yaml_lines.specs.Entries.{Place, KeyAndValue, is_item, entry_of, value_behind, plain_entry, quoted_entry}
+use Rattle.yaml_lines.specs.Entries.{ContentLine, KeyAndValue, is_item, entry_of, value_behind, plain_entry, quoted_entry}
 use Rattle.yaml_lines.specs.Meaning.{Meaning, text, table, members_of}
 use Rattle.yaml_lines.specs.Plain.{is_indicator, begins_plain, Sides, before_side, sides_of}
 use Rattle.yaml_lines.specs.Quoted.{quoted_of}
@@ -116,7 +116,7 @@ table_is : (rs : List Row) (b : Bool) → table_of (cond b (Some rs) None) ≡ c
 table_is rs true = refl
 table_is rs false = refl
 
-is_table : (room indent : ℕ) (key value : List ℕ) (later : List Place) → is_word key ≡ true → is_word value ≡ true
+is_table : (room indent : ℕ) (key value : List ℕ) (later : List ContentLine) → is_word key ≡ true → is_word value ≡ true
     → node (suc room) (line_at indent (key ++ 58 ∷ 32 ∷ value) ∷ later) ≡ table_of (rows (node room) (line_node room) (line_at indent (key ++ 58 ∷ 32 ∷ value)) later)
 unfolding node
 is_table room indent [] value later e f = absurd (cc)
@@ -124,7 +124,7 @@ is_table room indent (c ∷ cs) [] later e f = absurd (cc)
 is_table room indent (c ∷ cs) (d ∷ ds) later e f =
     let k = first_of_word c cs e in
     let rest : List ℕ = cs ++ 58 ∷ 32 ∷ d ∷ ds in
-    let first : Place = line_at indent (c ∷ rest) in
+    let first : ContentLine = line_at indent (c ∷ rest) in
     let found : is_some (entry_of (c ∷ rest)) ≡ true = ap (λ (o : Option KeyAndValue). is_some o) (key_entry c cs d ds k (first_of_word d ds f)) in
     ap₂ (λ (a b : Bool). block (node room) (line_node room) (line_node (suc room) first later) a b first later) (no_item c rest cs k) found
 

@@ -4,7 +4,7 @@ use Rattle.std.proofs.lemmas.Bool.{eq-eqb, le-ltb}
 use Rattle.std.specs.List.{prefix_len, list_all}
 use Rattle.std.specs.Str.{encode_utf8_all}
 use Rattle.yaml_lines.specs.Characters.{is_blank, is_space}
-use Rattle.yaml_lines.specs.Entries.{Place, KeyAndValue, is_item, rest_behind, rest_of, item_of, entry_of}
+use Rattle.yaml_lines.specs.Entries.{ContentLine, KeyAndValue, is_item, rest_behind, rest_of, item_of, entry_of}
 use Rattle.yaml_lines.specs.Meaning.{Meaning, text}
 use Rattle.yaml_lines.specs.Plain.{is_indicator}
 use Rattle.yaml_lines.specs.Scalars.{scalar_meaning}
@@ -31,24 +31,24 @@ item_parts indent word words =
 -- ---- one item
 
 -- a line of these characters, which begins no block text
-abbrev pub line_at : ℕ → List ℕ → Place
+abbrev pub line_at : ℕ → List ℕ → ContentLine
 line_at indent content = record { indent = indent; content = content; block = None }
 
 -- the word as a line of its own, behind the dash and a space
-abbrev own_line : ℕ → List ℕ → Place
+abbrev own_line : ℕ → List ℕ → ContentLine
 own_line indent word = line_at (indent + 1 + 1) word
 
 behind_dash : (indent c : ℕ) (cs : List ℕ) → IsFirst c cs → item_of (item_line indent (c ∷ cs)) ≡ Some (own_line indent (c ∷ cs) ∷ [])
 unfolding item_of rest_of
 behind_dash indent c cs w =
     let t : List ℕ = 32 ∷ c ∷ cs in
-    let f : ℕ → Option (List Place) = λ n. rest_behind (indent + 1 + n) None (list_all is_space (take n t)) (drop n t) in
+    let f : ℕ → Option (List ContentLine) = λ n. rest_behind (indent + 1 + n) None (list_all is_space (take n t)) (drop n t) in
     ap (λ (b : Bool). f (1 + cond b (1 + prefix_len is_blank cs) 0)) (no_blank c w.first)
     ∙ ap (λ (b : Bool). cond b (Some []) (Some (own_line indent (c ∷ cs) ∷ []))) (no_hash c w.first)
 
 pub word_line : (room indent c : ℕ) (cs : List ℕ) → IsFirst c cs → line_node (suc room) (line_at indent (c ∷ cs)) [] ≡ Some (text (encode_utf8_all (c ∷ cs)) false)
 word_line room indent c cs w =
-    let place : Place = line_at indent (c ∷ cs) in
+    let place : ContentLine = line_at indent (c ∷ cs) in
     let far : (k : ℕ) → is_indicator k ≡ true → eqb c k ≡ false = λ k e. apart c k is_indicator w.first.no_indicator e in
     ap (λ (b : Bool). cond b (flow (suc room) (c ∷ cs) []) (lone (text_of place) [])) (or_none (eqb c 91) (eqb c 123) (far 91 refl) (far 123 refl))
     ∙ (ap (λ (b : Bool). cond b None (scalar_meaning (c ∷ cs))) (or_none (eqb c 124) (eqb c 62) (far 124 refl) (far 62 refl)) ∙ word_meaning c cs w)
@@ -56,7 +56,7 @@ word_line room indent c cs w =
 own_node : (room indent c : ℕ) (cs : List ℕ) → IsFirst c cs → node (suc room) (own_line indent (c ∷ cs) ∷ []) ≡ Some (text (encode_utf8_all (c ∷ cs)) false)
 unfolding node
 own_node room indent c cs w =
-    let place : Place = own_line indent (c ∷ cs) in
+    let place : ContentLine = own_line indent (c ∷ cs) in
     let f : Bool → Bool → Option Meaning = λ a b. block (node room) (line_node room) (line_node (suc room) place []) a b place [] in
     ap (λ (b : Bool). f b (is_some (entry_of (c ∷ cs)))) (word_no_item c cs w)
     ∙ (ap (λ (o : Option KeyAndValue). f false (is_some o)) (word_no_entry c cs w) ∙ word_line room (indent + 1 + 1) c cs w)
@@ -64,7 +64,7 @@ own_node room indent c cs w =
 item_meaning : (room indent c : ℕ) (cs : List ℕ) → IsFirst c cs → item (node (suc room)) indent (item_part indent (c ∷ cs)) ≡ Some (text (encode_utf8_all (c ∷ cs)) false)
 unfolding is_item
 item_meaning room indent c cs w =
-    let inner : Option (List Place) → Option Meaning = λ o. option_and_then (λ front. node (suc room) (front ++ [])) o in
+    let inner : Option (List ContentLine) → Option Meaning = λ o. option_and_then (λ front. node (suc room) (front ++ [])) o in
     ap (λ (b : Bool). cond (b && true) (inner (item_of (item_line indent (c ∷ cs)))) None) (eq-eqb indent indent refl)
     ∙ (ap inner (behind_dash indent c cs w) ∙ own_node room indent c cs w)
 
@@ -82,7 +82,7 @@ items_meaning room indent ((c ∷ cs) ∷ words) all =
     ap (λ (o : Option Meaning). option_and_then (λ y. option_map (λ ys. y ∷ ys) later) o) (item_meaning room indent c cs (first_of_word c cs split.0))
     ∙ ap (λ (o : Option (List Meaning)). option_map (λ ys. value ∷ ys) o) (items_meaning room indent words split.1)
 
-list_step : (room indent : ℕ) (word : List ℕ) (later : List Place) → node (suc room) (item_line indent word ∷ later) ≡ list_of (items (node room) (item_line indent word) later)
+list_step : (room indent : ℕ) (word : List ℕ) (later : List ContentLine) → node (suc room) (item_line indent word ∷ later) ≡ list_of (items (node room) (item_line indent word) later)
 unfolding node is_item
 list_step room indent word later = refl
 
@@ -94,7 +94,7 @@ lines_by room indent (word ∷ words) some all =
 
 -- ---- where there is room for one node alone
 
-no_inner : (b : Bool) (o : Option (List Place)) (below : List Place) → cond b (option_and_then (λ front. node 0 (front ++ below)) o) None ≡ None
+no_inner : (b : Bool) (o : Option (List ContentLine)) (below : List ContentLine) → cond b (option_and_then (λ front. node 0 (front ++ below)) o) None ≡ None
 unfolding node
 no_inner true None below = refl
 no_inner true (Some front) below = refl

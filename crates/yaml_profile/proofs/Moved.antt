@@ -5,7 +5,7 @@ use Rattle.std.proofs.lemmas.List.{map-append}
 use Rattle.std.specs.List.{prefix_len, list_all}
 use Rattle.yaml_lines.specs.BlockTexts.{begins_block}
 use Rattle.yaml_lines.specs.Characters.{is_blank, is_space, is_nil, comment_or_end}
-use Rattle.yaml_lines.specs.Entries.{Place, KeyAndValue, is_item, rest_behind, rest_of, item_of, entry_of}
+use Rattle.yaml_lines.specs.Entries.{ContentLine, KeyAndValue, is_item, rest_behind, rest_of, item_of, entry_of}
 use Rattle.yaml_lines.specs.FlowLines.{begins_flow}
 use Rattle.yaml_lines.specs.Meaning.{Meaning}
 use Rattle.yaml_flows.specs.Flows.{flow_meaning}
@@ -29,14 +29,14 @@ same_by a b n false e = ne_eqb (a + n) (b + n) (λ f. let t = eq-eqb a b (omega 
 same_moved : (a b n : ℕ) → eqb (a + n) (b + n) ≡ eqb a b
 same_moved a b n = same_by a b n (eqb a b) refl
 
-deeper_moved : (n indent : ℕ) (p : Place) → is_deeper (indent + n) (moved n p) ≡ is_deeper indent p
+deeper_moved : (n indent : ℕ) (p : ContentLine) → is_deeper (indent + n) (moved n p) ≡ is_deeper indent p
 deeper_moved n indent p = below_moved indent p.indent n
 
-in_flow_moved : (n indent : ℕ) (p : Place) → is_in_flow (indent + n) (moved n p) ≡ is_in_flow indent p
+in_flow_moved : (n indent : ℕ) (p : ContentLine) → is_in_flow (indent + n) (moved n p) ≡ is_in_flow indent p
 in_flow_moved n indent p =
     ap₂ (λ (a b : Bool). a || (b && begins_closing p.content)) (below_moved indent p.indent n) (same_moved p.indent indent n)
 
-below_key_moved : (n indent : ℕ) (p : Place) → is_below_key (indent + n) (moved n p) ≡ is_below_key indent p
+below_key_moved : (n indent : ℕ) (p : ContentLine) → is_below_key (indent + n) (moved n p) ≡ is_below_key indent p
 below_key_moved n indent p =
     ap₂ (λ (a b : Bool). a || (b && (is_item p.content || begins_closing p.content))) (below_moved indent p.indent n) (same_moved p.indent indent n)
 
@@ -48,23 +48,23 @@ moved_part n part = record { head = moved n part.head; below = map (moved n) par
 moved_cut : ℕ → Cut → Cut
 moved_cut n c = record { before = map (moved n) c.before; parts = map (moved_part n) c.parts }
 
-put_moved : (n : ℕ) (b : Bool) (p : Place) (c : Cut) → put b (moved n p) (moved_cut n c) ≡ moved_cut n (put b p c)
+put_moved : (n : ℕ) (b : Bool) (p : ContentLine) (c : Cut) → put b (moved n p) (moved_cut n c) ≡ moved_cut n (put b p c)
 unfolding moved_cut moved_part
 put_moved n true p c = refl
 put_moved n false p c = refl
 
-module _ (n : ℕ) (test other : Place → Bool) (same : (p : Place) → test (moved n p) ≡ other p) where
-  cut_moved : (ps : List Place) → cut test (map (moved n) ps) ≡ moved_cut n (cut other ps)
+module _ (n : ℕ) (test other : ContentLine → Bool) (same : (p : ContentLine) → test (moved n p) ≡ other p) where
+  cut_moved : (ps : List ContentLine) → cut test (map (moved n) ps) ≡ moved_cut n (cut other ps)
   unfolding cut moved_cut
   cut_moved [] = refl
   cut_moved (p ∷ ps) = ap₂ (λ (b : Bool) (c : Cut). put b (moved n p) c) (same p) (cut_moved ps) ∙ put_moved n (other p) p (cut other ps)
 
-  parts_moved : (first : Place) (later : List Place) → parts test (moved n first ∷ map (moved n) later) ≡ map (moved_part n) (parts other (first ∷ later))
+  parts_moved : (first : ContentLine) (later : List ContentLine) → parts test (moved n first ∷ map (moved n) later) ≡ map (moved_part n) (parts other (first ∷ later))
   unfolding moved_cut moved_part
   parts_moved first later =
       let f : Cut → List Part = λ c. record { head = moved n first; below = c.before } ∷ c.parts in ap f (cut_moved later)
 
-  all_moved : (ps : List Place) → list_all test (map (moved n) ps) ≡ list_all other ps
+  all_moved : (ps : List ContentLine) → list_all test (map (moved n) ps) ≡ list_all other ps
   all_moved [] = refl
   all_moved (p ∷ ps) = ap₂ (λ (a b : Bool). a && b) (same p) (all_moved ps)
 
@@ -76,7 +76,7 @@ all_of_moved {B} n f g same (p ∷ ps) =
 
 -- ---- what follows a dash
 
-abbrev all_right : ℕ → Option (List Place) → Option (List Place)
+abbrev all_right : ℕ → Option (List ContentLine) → Option (List ContentLine)
 all_right n o = option_map (map (moved n)) o
 
 rest_by : (n at : ℕ) (block : Option (List ℕ)) (over spaces : Bool) (cs : List ℕ)
@@ -86,7 +86,7 @@ rest_by n at block true spaces cs = refl
 rest_by n at block false true cs = refl
 rest_by n at block false false cs = refl
 
-item_moved : (n : ℕ) (p : Place) → item_of (moved n p) ≡ all_right n (item_of p)
+item_moved : (n : ℕ) (p : ContentLine) → item_of (moved n p) ≡ all_right n (item_of p)
 unfolding item_of rest_of
 item_moved n p =
     let cs : List ℕ = drop 1 p.content in
@@ -97,19 +97,19 @@ item_moved n p =
 
 -- ---- flows and texts
 
-further_moved : (n : ℕ) (ps : List Place) → further (map (moved n) ps) ≡ further ps
+further_moved : (n : ℕ) (ps : List ContentLine) → further (map (moved n) ps) ≡ further ps
 unfolding further
 further_moved n [] = refl
 further_moved n (p ∷ ps) = ap (λ (cs : List ℕ). 10 ∷ (p.content ++ cs)) (further_moved n ps)
 
-flow_moved : (n room : ℕ) (content : List ℕ) (ps : List Place) → flow room content (map (moved n) ps) ≡ flow room content ps
+flow_moved : (n room : ℕ) (content : List ℕ) (ps : List ContentLine) → flow room content (map (moved n) ps) ≡ flow room content ps
 flow_moved n room content ps = ap (λ (cs : List ℕ). flow_meaning room (content ++ cs)) (further_moved n ps)
 
-lone_moved : (n : ℕ) (o : Option Meaning) (ps : List Place) → lone o (map (moved n) ps) ≡ lone o ps
+lone_moved : (n : ℕ) (o : Option Meaning) (ps : List ContentLine) → lone o (map (moved n) ps) ≡ lone o ps
 lone_moved n o [] = refl
 lone_moved n o (p ∷ ps) = refl
 
-line_moved : (n room : ℕ) (p : Place) (below : List Place) → line_node room (moved n p) (map (moved n) below) ≡ line_node room p below
+line_moved : (n room : ℕ) (p : ContentLine) (below : List ContentLine) → line_node room (moved n p) (map (moved n) below) ≡ line_node room p below
 line_moved n zero p below = refl
 line_moved n (suc room) p below =
     ap₂ (λ (a b : Option Meaning). cond (begins_flow p.content) a b)
@@ -118,10 +118,10 @@ line_moved n (suc room) p below =
 
 -- ---- items and entries
 
-module _ (n : ℕ) (node : List Place → Option Meaning) (line : Place → List Place → Option Meaning)
-    (same_node : (ps : List Place) → node (map (moved n) ps) ≡ node ps)
-    (same_line : (p : Place) (below : List Place) → line (moved n p) (map (moved n) below) ≡ line p below) where
-  inner_moved : (o : Option (List Place)) (below : List Place)
+module _ (n : ℕ) (node : List ContentLine → Option Meaning) (line : ContentLine → List ContentLine → Option Meaning)
+    (same_node : (ps : List ContentLine) → node (map (moved n) ps) ≡ node ps)
+    (same_line : (p : ContentLine) (below : List ContentLine) → line (moved n p) (map (moved n) below) ≡ line p below) where
+  inner_moved : (o : Option (List ContentLine)) (below : List ContentLine)
       → option_and_then (λ front. node (front ++ map (moved n) below)) (all_right n o) ≡ option_and_then (λ front. node (front ++ below)) o
   inner_moved None below = refl
   inner_moved (Some front) below = ap node (sym (map-append (moved n) front below)) ∙ same_node (front ++ below)
@@ -129,12 +129,12 @@ module _ (n : ℕ) (node : List Place → Option Meaning) (line : Place → List
   item_same : (indent : ℕ) (part : Part) → item node (indent + n) (moved_part n part) ≡ item node indent part
   unfolding moved_part
   item_same indent part =
-      let head : Place = part.head in
-      let below : List Place = part.below in
+      let head : ContentLine = part.head in
+      let below : List ContentLine = part.below in
       ap₂ (λ (b : Bool) (o : Option Meaning). cond (b && is_item head.content) o None) (same_moved head.indent indent n)
-      (ap (λ (o : Option (List Place)). option_and_then (λ front. node (front ++ map (moved n) below)) o) (item_moved n head) ∙ inner_moved (item_of head) below)
+      (ap (λ (o : Option (List ContentLine)). option_and_then (λ front. node (front ++ map (moved n) below)) o) (item_moved n head) ∙ inner_moved (item_of head) below)
 
-  value_same : (p : Place) (below : List Place) → value node line (moved n p) (map (moved n) below) ≡ value node line p below
+  value_same : (p : ContentLine) (below : List ContentLine) → value node line (moved n p) (map (moved n) below) ≡ value node line p below
   value_same p below = ap₂ (λ (a b : Option Meaning). cond (is_nil p.content) a b) (same_node below) (same_line p below)
 
   row_same : (part : Part) (o : Option KeyAndValue) → option_and_then (row node line (moved_part n part)) o ≡ option_and_then (row node line part) o
@@ -147,18 +147,18 @@ module _ (n : ℕ) (node : List Place → Option Meaning) (line : Place → List
   entry_same indent part =
       ap₂ (λ (b : Bool) (o : Option Row). cond b o None) (same_moved part.head.indent indent n) (row_same part (entry_of part.head.content))
 
-  items_same : (first : Place) (later : List Place) → items node (moved n first) (map (moved n) later) ≡ items node first later
+  items_same : (first : ContentLine) (later : List ContentLine) → items node (moved n first) (map (moved n) later) ≡ items node first later
   items_same first later =
       ap (all_of (item node (first.indent + n))) (parts_moved n (is_deeper (first.indent + n)) (is_deeper first.indent) (deeper_moved n first.indent) first later)
       ∙ all_of_moved n (item node (first.indent + n)) (item node first.indent) (item_same first.indent) (parts (is_deeper first.indent) (first ∷ later))
 
-  rows_same : (first : Place) (later : List Place) → rows node line (moved n first) (map (moved n) later) ≡ rows node line first later
+  rows_same : (first : ContentLine) (later : List ContentLine) → rows node line (moved n first) (map (moved n) later) ≡ rows node line first later
   rows_same first later =
       ap (option_and_then distinct)
       (ap (all_of (entry node line (first.indent + n))) (parts_moved n (is_below_key (first.indent + n)) (is_below_key first.indent) (below_key_moved n first.indent) first later)
       ∙ all_of_moved n (entry node line (first.indent + n)) (entry node line first.indent) (entry_same first.indent) (parts (is_below_key first.indent) (first ∷ later)))
 
-  block_same : (own other : Option Meaning) (listed keyed : Bool) (first : Place) (later : List Place) → own ≡ other
+  block_same : (own other : Option Meaning) (listed keyed : Bool) (first : ContentLine) (later : List ContentLine) → own ≡ other
       → block node line own listed keyed (moved n first) (map (moved n) later) ≡ block node line other listed keyed first later
   block_same own other true keyed first later e = ap list_of (items_same first later)
   block_same own other false true first later e = ap table_of (rows_same first later)
@@ -166,7 +166,7 @@ module _ (n : ℕ) (node : List Place → Option Meaning) (line : Place → List
 
 -- ---- nodes
 
-pub node_moved : (room n : ℕ) (ps : List Place) → node room (map (moved n) ps) ≡ node room ps
+pub node_moved : (room n : ℕ) (ps : List ContentLine) → node room (map (moved n) ps) ≡ node room ps
 unfolding node
 node_moved zero n ps = refl
 node_moved (suc room) n [] = refl
@@ -174,7 +174,7 @@ node_moved (suc room) n (first ∷ later) =
     block_same n (node room) (line_node room) (node_moved room n) (line_moved n room) (line_node (suc room) (moved n first) (map (moved n) later)) (line_node (suc room) first later)
     (is_item first.content) (is_some (entry_of first.content)) first later (line_moved n (suc room) first later)
 
-pub whole_moved : (room n : ℕ) (ps : List Place) → whole room (map (moved n) ps) ≡ whole room ps
+pub whole_moved : (room n : ℕ) (ps : List ContentLine) → whole room (map (moved n) ps) ≡ whole room ps
 unfolding whole
 whole_moved room n [] = node_moved room n []
 whole_moved room n (first ∷ later) =

@@ -3,16 +3,16 @@ use Rattle.std.proofs.Common.{◌≡◌, ℕ, List, Option, Some, option_and_the
 use Rattle.yaml_lines.specs.Meaning.{most_nodes}
 use Rattle.yaml_lines.specs.BlockTexts.{LineText}
 use Rattle.yaml_lines.specs.Characters.{characters_of}
-use Rattle.yaml_lines.specs.Entries.{Place}
-use Rattle.yaml_lines.specs.Lines.{line_texts, places_from, places_of, places_of_bytes}
+use Rattle.yaml_lines.specs.Entries.{ContentLine}
+use Rattle.yaml_lines.specs.Lines.{line_texts, content_lines_from, content_lines_of, content_lines_of_bytes}
 use Rattle.yaml_profile.specs.Blocks.{whole}
 use Rattle.yaml_profile.specs.Text.{meaning_of}
 
-by_lines : (bytes characters : List ℕ) → characters_of bytes ≡ Some characters → meaning_of bytes ≡ option_and_then (whole most_nodes) (places_from (line_texts characters))
-unfolding meaning_of places_of_bytes places_of
-by_lines bytes characters e = ap (λ (o : Option (List ℕ)). option_and_then (whole most_nodes) (option_and_then places_of o)) e
+by_lines : (bytes characters : List ℕ) → characters_of bytes ≡ Some characters → meaning_of bytes ≡ option_and_then (whole most_nodes) (content_lines_from (line_texts characters))
+unfolding meaning_of content_lines_of_bytes content_lines_of
+by_lines bytes characters e = ap (λ (o : Option (List ℕ)). option_and_then (whole most_nodes) (option_and_then content_lines_of o)) e
 
 pub same_places : (bytes others characters kept : List ℕ) (lines : List LineText) → characters_of bytes ≡ Some characters → characters_of others ≡ Some kept
-    → line_texts kept ≡ lines → places_from lines ≡ places_from (line_texts characters) → meaning_of others ≡ meaning_of bytes
+    → line_texts kept ≡ lines → content_lines_from lines ≡ content_lines_from (line_texts characters) → meaning_of others ≡ meaning_of bytes
 same_places bytes others characters kept lines e f are same =
-    by_lines others kept f ∙ (ap (λ (ls : List LineText). option_and_then (whole most_nodes) (places_from ls)) are ∙ (ap (λ (o : Option (List Place)). option_and_then (whole most_nodes) o) same ∙ sym (by_lines bytes characters e)))
+    by_lines others kept f ∙ (ap (λ (ls : List LineText). option_and_then (whole most_nodes) (content_lines_from ls)) are ∙ (ap (λ (o : Option (List ContentLine)). option_and_then (whole most_nodes) o) same ∙ sym (by_lines bytes characters e)))

@@ -5,9 +5,9 @@ use Rattle.std.proofs.lemmas.List.Folds.{list_all-append}
 use Rattle.std.specs.List.{prefix_len, list_all, list_any, join_with_byte}
 use Rattle.yaml_lines.specs.BlockTexts.{LineText}
 use Rattle.yaml_lines.specs.Characters.{characters_of, is_allowed, is_space, is_blank, begins_with, blank_or_end, comment_or_end, is_over}
-use Rattle.yaml_lines.specs.Entries.{Place, entry_of}
+use Rattle.yaml_lines.specs.Entries.{ContentLine, entry_of}
 use Rattle.yaml_lines.specs.FlowLines.{outside, state_behind}
-use Rattle.yaml_lines.specs.Lines.{line_texts, PlacedValue, value_at, last_value, Left, standing, bare, with_value, with_flow, left_of, left_at, before_places, all_places, three, is_mark, is_start, unmarked, document, places_from, places_of}
+use Rattle.yaml_lines.specs.Lines.{line_texts, ColumnValue, value_at, last_value, Left, standing, bare, with_value, with_flow, left_of, left_at, before_content_lines, all_content_lines, three, is_mark, is_start, unmarked, document, content_lines_from, content_lines_of}
 use Rattle.yaml_lines.specs.Meaning.{Meaning, most_nodes}
 use Rattle.yaml_lines.specs.Plain.{is_indicator, begins_plain}
 use Rattle.yaml_profile.specs.Blocks.{further, flow, node, whole}
@@ -50,7 +50,7 @@ module _ (c : ℕ) (cs : List ℕ) (d : ℕ) (ds : List ℕ) (k : IsFirst c cs) 
   unfolding last_value
   own_value =
       let rest : List ℕ = cs ++ 58 ∷ 32 ∷ d ∷ ds in
-      let here : Option PlacedValue = value_at 0 None content (entry_of content) in
+      let here : Option ColumnValue = value_at 0 None content (entry_of content) in
       ap (λ (b : Bool). cond b (last_value 1 None rest) (cond (eqb c 45 && blank_or_end rest) (last_value 1 (Some 0) rest) here)) (no_blank c k.first)
       ∙ (ap (λ (b : Bool). cond (b && blank_or_end rest) (last_value 1 (Some 0) rest) here) (no_dash c k.first)
       ∙ ap (value_at 0 None content) (key_entry c cs d ds k w))
@@ -73,7 +73,7 @@ module _ (c : ℕ) (cs : List ℕ) (d : ℕ) (ds : List ℕ) (k : IsFirst c cs) 
   unfolding left_at left_of with_flow
   own_left later allowed =
       let rest : List ℕ = cs ++ 58 ∷ 32 ∷ d ∷ ds in
-      let blank : Option Left = Some (record { place = None; next = standing 0 outside }) in
+      let blank : Option Left = Some (record { content_line = None; next = standing 0 outside }) in
       let f : ℕ → List ℕ → Option Left = λ n t.
       cond (not (list_all is_allowed content)) None (cond (comment_or_end t) blank (cond (begins_with 9 (drop n content)) None (with_flow outside n (drop n content) later))) in
       ap₂ f (ap (λ (b : Bool). cond b (1 + prefix_len is_space rest) 0) no_space) (ap (λ (b : Bool). drop (cond b (1 + prefix_len is_blank rest) 0) content) (no_blank c k.first))
@@ -88,16 +88,16 @@ entry_left [] value later e f allowed = absurd (cc)
 entry_left (c ∷ cs) [] later e f allowed = absurd (cc)
 entry_left (c ∷ cs) (d ∷ ds) later e f allowed = own_left c cs d ds (first_of_word c cs e) (first_of_word d ds f) later allowed
 
-own_places : (es : List WordEntry) → list_all is_word_entry es ≡ true → all_places (standing 0 outside) (map own_line es) ≡ Some (map (entry_line 0) es)
-unfolding all_places
+own_places : (es : List WordEntry) → list_all is_word_entry es ≡ true → all_content_lines (standing 0 outside) (map own_line es) ≡ Some (map (entry_line 0) es)
+unfolding all_content_lines
 own_places [] all = refl
 own_places (e ∷ es) all =
     let parts = both (is_word_entry e) (list_all is_word_entry es) all in
     let words = both (is_word e.key) (is_word e.value) parts.0 in
     let lines : List LineText = map own_line es in
-    ap (λ (o : Option Left). option_and_then (λ left. option_map (before_places left.place) (all_places left.next lines)) o)
+    ap (λ (o : Option Left). option_and_then (λ left. option_map (before_content_lines left.content_line) (all_content_lines left.next lines)) o)
     (entry_left e.key e.value lines words.0 words.1 (weaker stays is_allowed stays_allowed (entry_text e) (entry_stays e parts.0)))
-    ∙ ap (λ (o : Option (List Place)). option_map (before_places (Some (entry_line 0 e))) o) (own_places es parts.1)
+    ∙ ap (λ (o : Option (List ContentLine)). option_map (before_content_lines (Some (entry_line 0 e))) o) (own_places es parts.1)
 
 -- ---- no line marks a document
 
@@ -142,14 +142,14 @@ own_document : (es : List WordEntry) → list_all is_word_entry es ≡ true → 
 unfolding document
 own_document [] all = refl
 own_document (e ∷ es) all =
-    let ps : List Place = map (entry_line 0) (e ∷ es) in
+    let ps : List ContentLine = map (entry_line 0) (e ∷ es) in
     let parts = both (is_word_entry e) (list_all is_word_entry es) all in
     ap (λ (b : Bool). cond b (unmarked (map (entry_line 0) es)) (unmarked ps)) (no_start e.key e.value (both (is_word e.key) (is_word e.value) parts.0).0)
     ∙ ap (λ (b : Bool). cond b None (Some ps)) (no_marks (e ∷ es) all)
 
 -- ---- the text of the lines
 
-whole_by : (room : ℕ) (key value : List ℕ) (later : List Place) → is_word key ≡ true
+whole_by : (room : ℕ) (key value : List ℕ) (later : List ContentLine) → is_word key ≡ true
     → whole room (line_at 0 (key ++ 58 ∷ 32 ∷ value) ∷ later) ≡ node room (line_at 0 (key ++ 58 ∷ 32 ∷ value) ∷ later)
 unfolding whole
 whole_by room [] value later e = absurd (cc)
@@ -157,7 +157,7 @@ whole_by room (c ∷ cs) value later e =
     let w = first_of_word c cs e in
     let far : (k : ℕ) → is_indicator k ≡ true → eqb c k ≡ false = λ k e. apart c k is_indicator w.first.no_indicator e in
     let content : List ℕ = c ∷ (cs ++ 58 ∷ 32 ∷ value) in
-    let lines : List Place = line_at 0 content ∷ later in
+    let lines : List ContentLine = line_at 0 content ∷ later in
     ap (λ (b : Bool). cond b None (cond (eqb c 91 || eqb c 123) (flow room content later) (node room lines))) (or_none (eqb c 124) (eqb c 62) (far 124 refl) (far 62 refl))
     ∙ ap (λ (b : Bool). cond b (flow room content later) (node room lines)) (or_none (eqb c 91) (eqb c 123) (far 91 refl) (far 123 refl))
 
@@ -167,11 +167,11 @@ own_whole room [] all = refl
 own_whole room (e ∷ es) all =
     let good = (both (is_word_entry e) (list_all is_word_entry es) all).0 in whole_by room e.key e.value (map (entry_line 0) es) (both (is_word e.key) (is_word e.value) good).0
 
-lines_text : (es : List WordEntry) → AreWordEntries es → option_and_then (whole most_nodes) (places_of (lines_of_entries es)) ≡ table_of_entries es
-unfolding places_of places_from
+lines_text : (es : List WordEntry) → AreWordEntries es → option_and_then (whole most_nodes) (content_lines_of (lines_of_entries es)) ≡ table_of_entries es
+unfolding content_lines_of content_lines_from
 lines_text es are =
-    let read : Option (List Place) → Option Meaning = λ o. option_and_then (whole most_nodes) (option_and_then document o) in
-    ap (λ (ls : List LineText). read (all_places (standing 0 outside) ls)) (own_lines es are.all)
+    let read : Option (List ContentLine) → Option Meaning = λ o. option_and_then (whole most_nodes) (option_and_then document o) in
+    ap (λ (ls : List LineText). read (all_content_lines (standing 0 outside) ls)) (own_lines es are.all)
     ∙ (ap read (own_places es are.all)
     ∙ (ap (option_and_then (whole most_nodes)) (own_document es are.all)
     ∙ (own_whole most_nodes es are.all ∙ line_entries most_nodes 0 es (omega arith) are)))
@@ -194,9 +194,9 @@ flow_left : (cs : List ℕ) → list_all is_allowed (123 ∷ cs) ≡ true → le
 unfolding left_at left_of with_flow with_value last_value entry_of begins_plain
 flow_left cs all = ap (λ (b : Bool). cond (not b) None (Some (bare 0 (123 ∷ cs) (state_behind (123 ∷ cs))))) all
 
-flow_places : (cs : List ℕ) → list_all is_allowed (123 ∷ cs) ≡ true → all_places (standing 0 outside) (record { text = 123 ∷ cs; ended = true } ∷ []) ≡ Some (line_at 0 (123 ∷ cs) ∷ [])
-unfolding all_places
-flow_places cs all = ap (λ (o : Option Left). option_and_then (λ left. option_map (before_places left.place) (all_places left.next [])) o) (flow_left cs all)
+flow_places : (cs : List ℕ) → list_all is_allowed (123 ∷ cs) ≡ true → all_content_lines (standing 0 outside) (record { text = 123 ∷ cs; ended = true } ∷ []) ≡ Some (line_at 0 (123 ∷ cs) ∷ [])
+unfolding all_content_lines
+flow_places cs all = ap (λ (o : Option Left). option_and_then (λ left. option_map (before_content_lines left.content_line) (all_content_lines left.next [])) o) (flow_left cs all)
 
 flow_document : (cs : List ℕ) → document (line_at 0 (123 ∷ cs) ∷ []) ≡ Some (line_at 0 (123 ∷ cs) ∷ [])
 unfolding document
@@ -208,13 +208,13 @@ flow_whole : (room : ℕ) (cs : List ℕ) → whole room (line_at 0 (123 ∷ cs)
 unfolding whole further
 flow_whole room cs = ap (λ (ds : List ℕ). flow_meaning room (123 ∷ ds)) (append-nil cs)
 
-flow_text : (es : List WordEntry) → AreWordEntries es → option_and_then (whole most_nodes) (places_of (flow_of_entries es ++ 10 ∷ [])) ≡ table_of_entries es
-unfolding places_of places_from
+flow_text : (es : List WordEntry) → AreWordEntries es → option_and_then (whole most_nodes) (content_lines_of (flow_of_entries es ++ 10 ∷ [])) ≡ table_of_entries es
+unfolding content_lines_of content_lines_from
 flow_text es are =
     let inner : List ℕ = join_with_byte 44 (map entry_text es) ++ 125 ∷ [] in
     let keep = flow_stays es are.all in
-    let read : Option (List Place) → Option Meaning = λ o. option_and_then (whole most_nodes) (option_and_then document o) in
-    ap (λ (ls : List LineText). read (all_places (standing 0 outside) ls)) (one_line (123 ∷ inner) [] keep ∙ no_line_behind (123 ∷ inner))
+    let read : Option (List ContentLine) → Option Meaning = λ o. option_and_then (whole most_nodes) (option_and_then document o) in
+    ap (λ (ls : List LineText). read (all_content_lines (standing 0 outside) ls)) (one_line (123 ∷ inner) [] keep ∙ no_line_behind (123 ∷ inner))
     ∙ (ap read (flow_places inner (weaker stays is_allowed stays_allowed (123 ∷ inner) keep))
     ∙ (ap (option_and_then (whole most_nodes)) (flow_document inner)
     ∙ (flow_whole most_nodes inner ∙ flow_entries most_nodes es (omega arith) are)))

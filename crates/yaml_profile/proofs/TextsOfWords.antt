@@ -5,9 +5,9 @@ use Rattle.std.proofs.lemmas.List.Folds.{list_all-append}
 use Rattle.std.specs.List.{list_all, list_any, join_with_byte}
 use Rattle.yaml_lines.specs.BlockTexts.{LineText, margin_of, header_of}
 use Rattle.yaml_lines.specs.Characters.{characters_of, is_allowed, begins_with, blank_or_end}
-use Rattle.yaml_lines.specs.Entries.{Place, entry_of}
+use Rattle.yaml_lines.specs.Entries.{ContentLine, entry_of}
 use Rattle.yaml_lines.specs.FlowLines.{outside, state_behind, skim}
-use Rattle.yaml_lines.specs.Lines.{before_lines, line_texts, PlacedValue, value_at, last_value, Left, standing, bare, with_text, with_value, with_flow, left_of, left_at, before_places, all_places, is_mark, document, places_from, places_of}
+use Rattle.yaml_lines.specs.Lines.{before_lines, line_texts, ColumnValue, value_at, last_value, Left, standing, bare, with_text, with_value, with_flow, left_of, left_at, before_content_lines, all_content_lines, is_mark, document, content_lines_from, content_lines_of}
 use Rattle.yaml_lines.specs.Meaning.{Meaning, most_nodes}
 use Rattle.yaml_lines.specs.Plain.{is_indicator, begins_plain}
 use Rattle.yaml_profile.specs.Blocks.{further, node, whole}
@@ -78,7 +78,7 @@ dashed_lines ((c ∷ cs) ∷ words) all =
 dashed_value : (c : ℕ) (cs : List ℕ) → IsFirst c cs → last_value 0 None (45 ∷ 32 ∷ c ∷ cs) ≡ Some (record { column = 0; content = c ∷ cs })
 unfolding last_value
 dashed_value c cs w =
-    let here : Option PlacedValue = value_at 2 (Some 0) (c ∷ cs) (entry_of (c ∷ cs)) in
+    let here : Option ColumnValue = value_at 2 (Some 0) (c ∷ cs) (entry_of (c ∷ cs)) in
     ap (λ (b : Bool). cond b (last_value 3 (Some 0) cs) (cond (eqb c 45 && blank_or_end cs) (last_value 3 (Some 2) cs) here)) (no_blank c w.first)
     ∙ (ap (λ (b : Bool). cond (b && blank_or_end cs) (last_value 3 (Some 2) cs) here) (no_dash c w.first)
     ∙ ap (value_at 2 (Some 0) (c ∷ cs)) (word_no_entry c cs w))
@@ -98,15 +98,15 @@ dashed_left c cs later w =
     ap (λ (b : Bool). cond (not b) None value) (weaker stays is_allowed stays_allowed content (dashed_stays (c ∷ cs) w.all))
     ∙ (ap (with_value 0 content later) (dashed_value c cs w) ∙ word_with content c cs later w)
 
-dashed_places : (words : List (List ℕ)) → list_all is_word words ≡ true → all_places (standing 0 outside) (map dashed words) ≡ Some (map (item_line 0) words)
-unfolding all_places
+dashed_places : (words : List (List ℕ)) → list_all is_word words ≡ true → all_content_lines (standing 0 outside) (map dashed words) ≡ Some (map (item_line 0) words)
+unfolding all_content_lines
 dashed_places [] all = refl
 dashed_places ([] ∷ words) all = absurd (cc)
 dashed_places ((c ∷ cs) ∷ words) all =
     let parts = both (is_word (c ∷ cs)) (list_all is_word words) all in
     let lines : List LineText = map dashed words in
-    ap (λ (o : Option Left). option_and_then (λ left. option_map (before_places left.place) (all_places left.next lines)) o) (dashed_left c cs lines (first_of_word c cs parts.0))
-    ∙ ap (λ (o : Option (List Place)). option_map (before_places (Some (item_line 0 (c ∷ cs)))) o) (dashed_places words parts.1)
+    ap (λ (o : Option Left). option_and_then (λ left. option_map (before_content_lines left.content_line) (all_content_lines left.next lines)) o) (dashed_left c cs lines (first_of_word c cs parts.0))
+    ∙ ap (λ (o : Option (List ContentLine)). option_map (before_content_lines (Some (item_line 0 (c ∷ cs)))) o) (dashed_places words parts.1)
 
 no_marks : (words : List (List ℕ)) → list_all is_word words ≡ true → list_any is_mark (map (item_line 0) words) ≡ false
 no_marks [] all = refl
@@ -118,18 +118,18 @@ unfolding document
 dashed_document [] all = refl
 dashed_document ([] ∷ words) all = absurd (cc)
 dashed_document ((c ∷ cs) ∷ words) all =
-    let ps : List Place = map (item_line 0) ((c ∷ cs) ∷ words) in ap (λ (b : Bool). cond b None (Some ps)) (no_marks ((c ∷ cs) ∷ words) all)
+    let ps : List ContentLine = map (item_line 0) ((c ∷ cs) ∷ words) in ap (λ (b : Bool). cond b None (Some ps)) (no_marks ((c ∷ cs) ∷ words) all)
 
 item_whole : (room : ℕ) (words : List (List ℕ)) → list_all is_word words ≡ true → whole room (map (item_line 0) words) ≡ node room (map (item_line 0) words)
 unfolding whole
 item_whole room [] all = refl
 item_whole room (word ∷ words) all = refl
 
-lines_text : (words : List (List ℕ)) → AreWords words → option_and_then (whole most_nodes) (places_of (lines_of_words words)) ≡ Some (list_of_words words)
-unfolding places_of places_from
+lines_text : (words : List (List ℕ)) → AreWords words → option_and_then (whole most_nodes) (content_lines_of (lines_of_words words)) ≡ Some (list_of_words words)
+unfolding content_lines_of content_lines_from
 lines_text words are =
-    let read : Option (List Place) → Option Meaning = λ o. option_and_then (whole most_nodes) (option_and_then document o) in
-    ap (λ (ls : List LineText). read (all_places (standing 0 outside) ls)) (dashed_lines words are.all)
+    let read : Option (List ContentLine) → Option Meaning = λ o. option_and_then (whole most_nodes) (option_and_then document o) in
+    ap (λ (ls : List LineText). read (all_content_lines (standing 0 outside) ls)) (dashed_lines words are.all)
     ∙ (ap read (dashed_places words are.all)
     ∙ (ap (option_and_then (whole most_nodes)) (dashed_document words are.all)
     ∙ (item_whole most_nodes words are.all ∙ line_words most_nodes 0 words (omega arith) are)))
@@ -157,12 +157,12 @@ flow_left : (cs : List ℕ) → list_all is_allowed (91 ∷ cs) ≡ true → lef
 unfolding left_at left_of with_flow with_value last_value entry_of begins_plain
 flow_left cs all = ap (λ (b : Bool). cond (not b) None (Some (bare 0 (91 ∷ cs) (state_behind (91 ∷ cs))))) all
 
-abbrev flow_line : List ℕ → Place
+abbrev flow_line : List ℕ → ContentLine
 flow_line cs = record { indent = 0; content = 91 ∷ cs; block = None }
 
-flow_places : (cs : List ℕ) → list_all is_allowed (91 ∷ cs) ≡ true → all_places (standing 0 outside) (record { text = 91 ∷ cs; ended = true } ∷ []) ≡ Some (flow_line cs ∷ [])
-unfolding all_places
-flow_places cs all = ap (λ (o : Option Left). option_and_then (λ left. option_map (before_places left.place) (all_places left.next [])) o) (flow_left cs all)
+flow_places : (cs : List ℕ) → list_all is_allowed (91 ∷ cs) ≡ true → all_content_lines (standing 0 outside) (record { text = 91 ∷ cs; ended = true } ∷ []) ≡ Some (flow_line cs ∷ [])
+unfolding all_content_lines
+flow_places cs all = ap (λ (o : Option Left). option_and_then (λ left. option_map (before_content_lines left.content_line) (all_content_lines left.next [])) o) (flow_left cs all)
 
 flow_document : (cs : List ℕ) → document (flow_line cs ∷ []) ≡ Some (flow_line cs ∷ [])
 unfolding document
@@ -178,13 +178,13 @@ pub no_line_behind : (cs : List ℕ) → ◌≡◌ {A = List LineText} (record {
 unfolding line_texts
 no_line_behind cs = refl
 
-flow_text : (words : List (List ℕ)) → AreWords words → option_and_then (whole most_nodes) (places_of (flow_of_words words ++ 10 ∷ [])) ≡ Some (list_of_words words)
-unfolding places_of places_from
+flow_text : (words : List (List ℕ)) → AreWords words → option_and_then (whole most_nodes) (content_lines_of (flow_of_words words ++ 10 ∷ [])) ≡ Some (list_of_words words)
+unfolding content_lines_of content_lines_from
 flow_text words are =
     let inner : List ℕ = join_with_byte 44 words ++ 93 ∷ [] in
     let keep = flow_stays words are.all in
-    let read : Option (List Place) → Option Meaning = λ o. option_and_then (whole most_nodes) (option_and_then document o) in
-    ap (λ (ls : List LineText). read (all_places (standing 0 outside) ls)) (one_line (91 ∷ inner) [] keep ∙ no_line_behind (91 ∷ inner))
+    let read : Option (List ContentLine) → Option Meaning = λ o. option_and_then (whole most_nodes) (option_and_then document o) in
+    ap (λ (ls : List LineText). read (all_content_lines (standing 0 outside) ls)) (one_line (91 ∷ inner) [] keep ∙ no_line_behind (91 ∷ inner))
     ∙ (ap read (flow_places inner (weaker stays is_allowed stays_allowed (91 ∷ inner) keep))
     ∙ (ap (option_and_then (whole most_nodes)) (flow_document inner)
     ∙ (flow_whole most_nodes inner ∙ flow_words most_nodes words (omega arith) are)))

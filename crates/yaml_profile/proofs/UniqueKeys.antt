@@ -8,8 +8,8 @@ use Rattle.std.proofs.lemmas.Slice.Eq.{bytes_eq-Decides}
 use Rattle.yaml_lines.specs.Characters.{is_nil, is_over, begins_with}
 use Rattle.yaml_lines.specs.BlockTexts.{begins_block}
 use Rattle.yaml_lines.specs.FlowLines.{begins_flow as begins_flow_line}
-use Rattle.yaml_lines.specs.Entries.{Place, is_item, item_of, entry_of}
-use Rattle.yaml_lines.specs.Lines.{places_of_bytes}
+use Rattle.yaml_lines.specs.Entries.{ContentLine, is_item, item_of, entry_of}
+use Rattle.yaml_lines.specs.Lines.{content_lines_of_bytes}
 use Rattle.yaml_lines.specs.Meaning.{Meaning, text, list, table, meanings_of, members_of, most_nodes}
 use Rattle.yaml_lines.specs.Quoted.{begins_quoted, quoted_of}
 use Rattle.yaml_lines.specs.Plain.{plain_of}
@@ -164,25 +164,25 @@ scalar_unique content =
     (then_any HasUniqueKeys alone (λ quoted. if_true HasUniqueKeys (is_over quoted.rest) (text quoted.text true) (λ _. tt)) (quoted_of content))
     (of_map HasUniqueKeys (λ bytes. text bytes false) (λ bytes. tt) (plain_of content))
 
-lone_unique : (o : Option Meaning) (below : List Place) → Holds HasUniqueKeys o → Holds HasUniqueKeys (blocks.lone o below)
+lone_unique : (o : Option Meaning) (below : List ContentLine) → Holds HasUniqueKeys o → Holds HasUniqueKeys (blocks.lone o below)
 lone_unique o [] h = h
 lone_unique o (line ∷ lines) h = tt
 
-line_unique : (room : ℕ) (place : Place) (below : List Place) → Holds HasUniqueKeys (line_node room place below)
+line_unique : (room : ℕ) (place : ContentLine) (below : List ContentLine) → Holds HasUniqueKeys (line_node room place below)
 line_unique zero place below = tt
 line_unique (suc room) place below =
     either HasUniqueKeys (begins_flow_line place.content) _ _
     (either HasUniqueKeys (list_all (blocks.is_in_flow place.indent) below) _ None (flow_unique (suc room) _) tt)
     (lone_unique _ below (either HasUniqueKeys (begins_block place.content) _ _ (of_map HasUniqueKeys (λ bytes. text bytes false) (λ bytes. tt) place.block) (scalar_unique place.content)))
 
-module _ (node : List Place → Option Meaning) (line : Place → List Place → Option Meaning) (h : (lines : List Place) → Holds HasUniqueKeys (node lines))
-    (k : (place : Place) (below : List Place) → Holds HasUniqueKeys (line place below)) where
+module _ (node : List ContentLine → Option Meaning) (line : ContentLine → List ContentLine → Option Meaning) (h : (lines : List ContentLine) → Holds HasUniqueKeys (node lines))
+    (k : (place : ContentLine) (below : List ContentLine) → Holds HasUniqueKeys (line place below)) where
   item_unique : (indent : ℕ) (part : Part) → Holds HasUniqueKeys (blocks.item node indent part)
   item_unique indent part =
       either HasUniqueKeys (eqb part.head.indent indent && is_item part.head.content) _ None
       (then_any HasUniqueKeys (λ front. node (front ++ part.below)) (λ front. h (front ++ part.below)) (item_of part.head)) tt
 
-  value_unique : (place : Place) (below : List Place) → Holds HasUniqueKeys (blocks.value node line place below)
+  value_unique : (place : ContentLine) (below : List ContentLine) → Holds HasUniqueKeys (blocks.value node line place below)
   value_unique place below = either HasUniqueKeys (is_nil place.content) (node below) (line place below) (h below) (k place below)
 
   entry_unique : (indent : ℕ) (part : Part) → Holds IsUniqueRow (blocks.entry node line indent part)
@@ -192,7 +192,7 @@ module _ (node : List Place → Option Meaning) (line : Place → List Place →
       (λ entry. map_to HasUniqueKeys IsUniqueRow (λ v. (entry.key, v)) (λ v p. p) (blocks.value node line (blocks.value_place part.head entry) part.below) (value_unique (blocks.value_place part.head entry) part.below))
       (entry_of part.head.content)) tt
 
-  block_unique : (own : Option Meaning) (listed keyed : Bool) (first : Place) (later : List Place) → Holds HasUniqueKeys own → Holds HasUniqueKeys (block node line own listed keyed first later)
+  block_unique : (own : Option Meaning) (listed keyed : Bool) (first : ContentLine) (later : List ContentLine) → Holds HasUniqueKeys own → Holds HasUniqueKeys (block node line own listed keyed first later)
   block_unique own true keyed first later o =
       map_to (AllByRecursion HasUniqueKeys) HasUniqueKeys (λ ms. list (meanings_of ms)) (λ ms p. items_from ms p) (blocks.items node first later)
       (all_hold HasUniqueKeys (blocks.item node first.indent) (item_unique first.indent) (blocks.parts (blocks.is_deeper first.indent) (first ∷ later)))
@@ -203,7 +203,7 @@ module _ (node : List Place → Option Meaning) (line : Place → List Place →
       (all_hold IsUniqueRow (blocks.entry node line first.indent) (entry_unique first.indent) (blocks.parts (blocks.is_below_key first.indent) (first ∷ later))))
   block_unique own false false first later o = o
 
-node_unique : (room : ℕ) (lines : List Place) → Holds HasUniqueKeys (node room lines)
+node_unique : (room : ℕ) (lines : List ContentLine) → Holds HasUniqueKeys (node room lines)
 unfolding node
 node_unique zero lines = tt
 node_unique (suc room) [] = tt
@@ -211,7 +211,7 @@ node_unique (suc room) (first ∷ later) =
     block_unique (node room) (line_node room) (node_unique room) (line_unique room) (line_node (suc room) first later) (is_item first.content) (is_some (entry_of first.content)) first later
     (line_unique (suc room) first later)
 
-whole_unique : (room : ℕ) (lines : List Place) → Holds HasUniqueKeys (whole room lines)
+whole_unique : (room : ℕ) (lines : List ContentLine) → Holds HasUniqueKeys (whole room lines)
 unfolding whole
 whole_unique room [] = node_unique room []
 whole_unique room (first ∷ later) =
@@ -220,7 +220,7 @@ whole_unique room (first ∷ later) =
 
 text_unique : (bytes : List ℕ) → Holds HasUniqueKeys (meaning_of bytes)
 unfolding meaning_of
-text_unique bytes = then_any HasUniqueKeys (whole most_nodes) (whole_unique most_nodes) (places_of_bytes bytes)
+text_unique bytes = then_any HasUniqueKeys (whole most_nodes) (whole_unique most_nodes) (content_lines_of_bytes bytes)
 
 -- of a text that is read
 pub unique_keys : (bytes : List ℕ) (meant : Meaning) → meaning_of bytes ≡ Some meant → HasUniqueKeys meant

@@ -4,7 +4,7 @@
 use Rattle.std.specs.Prelude.{◌≡◌, ℕ, Bool, true, false, not, ◌≤◌, ◌&&◌, ◌||◌, ◌++◌, List, [], ◌∷◌, length, map, Option, Some, None, nat_lt, encode_utf8_all, if◌then◌else◌}
 use Rattle.std.specs.List.{list_all, join_with_byte}
 use Rattle.yaml_lines.specs.Characters.{is_nil}
-use Rattle.yaml_lines.specs.Entries.{Place}
+use Rattle.yaml_lines.specs.Entries.{ContentLine}
 use Rattle.yaml_lines.specs.Meaning.{Meaning, text, list, table, meanings_of, members_of}
 use Rattle.yaml_lines.specs.Plain.{is_indicator, is_mark_character}
 use Rattle.yaml_flows.specs.Keys.{Row, keys_differ}
@@ -30,7 +30,7 @@ abbrev pub list_of_words : List (List ℕ) → Meaning
 list_of_words words = list (meanings_of (map (λ word. text (encode_utf8_all word) false) words))
 
 -- the line `- word` at this indentation
-abbrev pub item_line : ℕ → List ℕ → Place
+abbrev pub item_line : ℕ → List ℕ → ContentLine
 item_line indent word = record { indent = indent; content = 45 ∷ 32 ∷ word; block = None }
 
 -- the text `[word,word,..]`
@@ -62,7 +62,7 @@ abbrev pub entry_text : WordEntry → List ℕ
 entry_text entry = entry.key ++ 58 ∷ 32 ∷ entry.value
 
 -- the line `key: value` at this indentation
-abbrev pub entry_line : ℕ → WordEntry → Place
+abbrev pub entry_line : ℕ → WordEntry → ContentLine
 entry_line indent entry = record { indent = indent; content = entry_text entry; block = None }
 
 -- the text `{key: value,key: value,..}`

@@ -17,7 +17,7 @@ pub(crate) fn fault(kind: YamlKind, line: usize) -> YamlFault {
 }
 
 /// What stands on one line: the number and the indentation of the line, the content, and the block text that it begins.
-/// Contracts see the place.
+/// Contracts see the content line.
 #[derive(Drop)]
 pub(crate) struct Inline<'a, 'b, 'c> {
     number: usize,
@@ -28,9 +28,9 @@ pub(crate) struct Inline<'a, 'b, 'c> {
 
 impl<'a, 'b, 'c> Model for Inline<'a, 'b, 'c> {
     ghost use Rattle.std.specs.Prelude.{option_copied};
-    ghost use Rattle.yaml_lines.specs.Entries.{Place};
+    ghost use Rattle.yaml_lines.specs.Entries.{ContentLine};
 
-    ghost Value = { Place };
+    ghost Value = { ContentLine };
 
     ghost view = { λ place. record { indent = place.indent; content = place.content.now; block = option_copied place.block } };
 }

@@ -8,7 +8,7 @@ ghost use Rattle.yaml_lines.specs.Characters.{characters_of};
 ghost use Rattle.yaml_lines.specs.LineLaws.{saying, begins_text};
 ghost use Rattle.yaml_lines.specs.Lines.{line_texts};
 ghost use Rattle.yaml_lines.specs.Meaning.{Meaning};
-ghost use Rattle.yaml_lines.specs.Entries.{Place};
+ghost use Rattle.yaml_lines.specs.Entries.{ContentLine};
 ghost use Rattle.yaml_profile.specs.Blocks.{node, whole};
 ghost use Rattle.yaml_profile.specs.Moved.{moved};
 ghost use Rattle.yaml_profile.specs.Words.{AreWords, list_of_words, item_line, flow_of_words, lines_of_words, WordEntry, AreWordEntries, entry_line, flow_of_entries, lines_of_entries, table_of_entries};
@@ -58,8 +58,8 @@ pub fn a_table_has_one_meaning_in_both_forms()
 /// Lines that all stand the same number of columns further to the right mean the same, and where the one can't be read,
 /// neither can the others. `lines` says so of the lines of a node within a text, `whole` of those of a whole text.
 pub fn indenting_every_line_changes_nothing()
-    ensures lines { (room columns : ℕ) (lines : List Place) → node room (map (moved columns) lines) ≡ node room lines }
-    ensures whole { (room columns : ℕ) (lines : List Place) → whole room (map (moved columns) lines) ≡ whole room lines }
+    ensures lines { (room columns : ℕ) (lines : List ContentLine) → node room (map (moved columns) lines) ≡ node room lines }
+    ensures whole { (room columns : ℕ) (lines : List ContentLine) → whole room (map (moved columns) lines) ≡ whole room lines }
 {}
 
 /// Comments and empty lines change no meaning. Two texts, of which the one has the lines of the other without those that

@@ -4,7 +4,7 @@ ghost use Rattle.std.specs.Prelude.{◌≡◌, ◌≤◌, length, option_and_the
 ghost use Rattle.yaml_lines.specs.Meaning.{most_nodes};
 ghost use Rattle.yaml_lines.specs.Characters.{most_bytes};
 ghost use Rattle.yaml_lines.specs.Faults.{Gives};
-ghost use Rattle.yaml_lines.specs.Lines.{places_from, places_of};
+ghost use Rattle.yaml_lines.specs.Lines.{content_lines_from, content_lines_of};
 ghost use Rattle.yaml_lines.specs.View.{view};
 ghost use Rattle.yaml_lines.specs.declared.fault.YamlKind.TheVariants.{OutOfMemory};
 ghost use Rattle.yaml_profile.specs.Blocks.{whole};
@@ -14,8 +14,8 @@ use crate::blocks::block;
 use crate::flow::flow_over;
 use std::alloc::Global;
 use yaml_lines::{
-    Line, Lines, MOST_NODES, Node, RawLine, YamlFault, YamlKind, begins_block, begins_flow, characters,
-    raw_lines, read_lines,
+    Line, Lines, MOST_NODES, Node, RawLine, YamlFault, YamlKind, begins_block, begins_flow,
+    characters, raw_lines, read_lines,
 };
 
 /// The node of a text of at most [`MOST_BYTES`](yaml_lines::MOST_BYTES) bytes.
@@ -34,10 +34,10 @@ pub fn read(alloc: Global, bytes: &[u8]) -> Result<Node, YamlFault>
 }
 
 // The node of a text, behind which a fault of the bytes may stand.
-#[tactic(auto, unfolding(yaml_lines::specs::Lines::places_of))]
+#[tactic(auto, unfolding(yaml_lines::specs::Lines::content_lines_of))]
 fn read_text(alloc: Global, text: &[char], behind: Option<YamlFault>) -> Result<Node, YamlFault>
     requires { length text.now ≤ most_bytes }
-    ensures { Gives view result (option_and_then (whole most_nodes) (places_of text.now)) }
+    ensures { Gives view result (option_and_then (whole most_nodes) (content_lines_of text.now)) }
 {
     let raws = raw_lines(alloc, text)?;
     read_raws(alloc, raws.as_slice(), behind)
@@ -49,7 +49,7 @@ fn read_raws(
     raws: &[RawLine<'_>],
     behind: Option<YamlFault>,
 ) -> Result<Node, YamlFault>
-    ensures { Gives view result (option_and_then (whole most_nodes) (places_from raws.now)) }
+    ensures { Gives view result (option_and_then (whole most_nodes) (content_lines_from raws.now)) }
 {
     let Lines { lines, fault } = read_lines(alloc, raws)?;
     let end = fault.or(behind).unwrap_or(layout_at_last(lines.as_slice()));

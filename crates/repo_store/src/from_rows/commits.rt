@@ -17,7 +17,7 @@ use super::columns::file_at;
 use super::staged::add_file;
 use crate::StoreFault;
 use crate::contents::Contents;
-use crate::limits::{COMMIT_LIMIT, CONTENT_LIMIT};
+use crate::limits::{MOST_COMMITS, MOST_CONTENT_BYTES};
 use crate::shared::{SharedCommit, SharedFile};
 use sqlite::Error;
 use std::alloc::Global;
@@ -57,7 +57,7 @@ fn commit_at(alloc: Global, commits: usize, row: CommitRow) -> Result<SharedComm
     if row.n != commits as i64 + 1 {
         return Err(StoreFault::Damaged);
     }
-    if row.message.len() > CONTENT_LIMIT {
+    if row.message.len() > MOST_CONTENT_BYTES {
         return Err(StoreFault::Damaged);
     }
     Ok(SharedCommit {
@@ -76,7 +76,7 @@ fn history_of(alloc: Global, rows: Vec<CommitRow>) -> Result<Vec<SharedCommit>, 
     if !commits_rise(rows.as_slice()) {
         return Err(StoreFault::Sql(Error::InvalidQuery));
     }
-    if rows.len() > COMMIT_LIMIT {
+    if rows.len() > MOST_COMMITS {
         return Err(StoreFault::Damaged);
     }
     let mut history = Vec::new(alloc);

@@ -2,7 +2,7 @@ use Rattle.std.proofs.Common.{◌≡◌, ◌∙◌, ◌+◌, ◌&&◌, eqb, sym,
 use Rattle.std.proofs.lemmas.Result.{IfOk-weaker}
 use Rattle.yaml_lines.specs.Characters.{is_blank, blank_or_end}
 use Rattle.yaml_lines.specs.Entries.{entry_of}
-use Rattle.yaml_lines.specs.Lines.{PlacedValue, value_at, last_value}
+use Rattle.yaml_lines.specs.Lines.{ColumnValue, value_at, last_value}
 use Rattle.yaml_lines.proofs.Left.{OnLine, last_value-blank, last_value-dash, last_value-value, last_value-end, no_dash, dash_in_word}
 use Rattle.yaml_lines.proofs.last_value.last_value.Goals as goal
 use Rattle.yaml_lines.proofs.last_value.last_value.Goals.{then-c-eq45+then-blank_or_end, else-c-eq45+else-not-is_blank, else-c-eq45-via-then-c-eq45+else-blank_or_end, else-c-eq45-via-else-c-eq45}
@@ -22,7 +22,7 @@ returns-then-not-is_blank c =
     ] in
     let all : last_value c.args.indent None t ≡ value_at (c.args.indent + i) c.loop-i.dash (drop i t) (entry_of (drop i t)) =
     c.loop-i.invariant ∙ last_value-value c.args.indent c.loop-i.dash t i x on blank word in
-    let f : List ℕ → Option PlacedValue = λ cs. value_at (c.args.indent + i) c.loop-i.dash cs (entry_of cs) in
+    let f : List ℕ → Option ColumnValue = λ cs. value_at (c.args.indent + i) c.loop-i.dash cs (entry_of cs) in
     IfOk-weaker c.value_at.result _ _ (λ v h. h ∙ (ap f c.skip-then-not-is_blank.ensures ∙ sym all)) c.value_at.ensures
 
 pub loop-i-preserved : goal.loop-i-preserved
@@ -31,7 +31,7 @@ loop-i-preserved c =
     let i = c.loop-i.i in
     let x = c.index-content-i.result in
     let on : OnLine t i x = record { within = c.loop-i-test.true; is = c.index-content-i.is } in
-    let next : Option ℕ → Option PlacedValue = λ d. last_value (c.args.indent + (i + 1)) d (drop (i + 1) t) in
+    let next : Option ℕ → Option ColumnValue = λ d. last_value (c.args.indent + (i + 1)) d (drop (i + 1) t) in
     elim c.if-c-eq45.branch [
       | then-c-eq45+then-blank_or_end w ↦
           (let after : blank_or_end (drop (i + 1) t) ≡ true = ap blank_or_end (sym w.skip.ensures) ∙ (sym w.blank_or_end.ensures ∙ w.if-blank_or_end.true) in

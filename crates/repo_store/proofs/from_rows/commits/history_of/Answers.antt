@@ -3,7 +3,7 @@ use Rattle.std.proofs.lemmas.Grind.{common_steps}
 use Rattle.std.proofs.lemmas.Result.{err_from_is_err_and}
 use Rattle.std.specs.Vec.Iter.{into_iter_items}
 use Rattle.store_tables.specs.Rowids.{IsRising as IsRisingNumbers}
-use Rattle.repo_store.specs.Limits.{commit_limit}
+use Rattle.repo_store.specs.Limits.{most_commits}
 use Rattle.repo_store.specs.RowRules.{number_in}
 use Rattle.repo_store.proofs.FromRowsLemmas.{AreNumbered, bare_more, commits_obey, history_broken, history_more, numbered_more}
 use Rattle.repo_store.proofs.from_rows.commits.history_of.Goals as goal
@@ -37,5 +37,5 @@ rows-preserved c =
 pub returns-clause-obeys : goal.returns-clause-obeys
 returns-clause-obeys c =
     let all : c.rows.yielded ≡ c.args.rows.items = grind (arith, common_steps) in
-    let few : length c.args.rows.items ≤ commit_limit = let limit = c.if-len-gt-COMMIT_LIMIT.false in let long = c.len.ensures in let kept = c.args.rows.ok.0 in omega arith in
+    let few : length c.args.rows.items ≤ most_commits = let limit = c.if-len-gt-MOST_COMMITS.false in let long = c.len.ensures in let kept = c.args.rows.ok.0 in omega arith in
     commits_obey c.args.rows.items (subst (AreNumbered 1) all c.rows.invariant.obeys) few

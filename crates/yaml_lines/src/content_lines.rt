@@ -1,8 +1,8 @@
 ghost use Rattle.std.specs.Prelude.{◌≡◌, ◌+◌, ◌^◌, ◌<◌, ◌≤◌, IfOk, IfErr, IfSome, length};
 ghost use Rattle.yaml_lines.specs.Characters.{most_bytes};
-ghost use Rattle.yaml_lines.specs.Entries.{Place};
+ghost use Rattle.yaml_lines.specs.Entries.{ContentLine};
 ghost use Rattle.yaml_lines.specs.Faults.{Gives, GivesSurely, GivesUpTo, IsInLines, StandsWithin};
-ghost use Rattle.yaml_lines.specs.Lines.{bare, is_mark, is_start, last_value, left_at, left_by, left_of, places_from, with_flow, with_text, with_value};
+ghost use Rattle.yaml_lines.specs.Lines.{bare, is_mark, is_start, last_value, left_at, left_by, left_of, content_lines_from, with_flow, with_text, with_value};
 
 use crate::block_lines::{begins_block, extent, header_of, margin_of, ragged_at};
 use crate::flow_state::{FlowState, skim, state_behind};
@@ -37,7 +37,7 @@ impl<'a, 'b> Model for LeftLine<'a, 'b> {
 
     ghost Value = { Left };
 
-    ghost view = { λ left. record { place = left.line; next = left.next } };
+    ghost view = { λ left. record { content_line = left.line; next = left.next } };
 }
 
 // A line without a block text, behind which this flow is open.
@@ -245,7 +245,7 @@ pub fn read_lines<'a, 'b>(
     alloc: Global,
     raws: &'a [RawLine<'b>],
 ) -> Result<Lines<'a, 'b>, AllocError>
-    ensures meant { IfOk result (λ read. GivesUpTo read.lines.items read.fault (places_from raws.now)) }
+    ensures meant { IfOk result (λ read. GivesUpTo read.lines.items read.fault (content_lines_from raws.now)) }
     ensures place { IfOk result (λ read. IfSome read.fault (IsInLines (length raws.now))) }
 {
     let mut lines = Vec::new(alloc);

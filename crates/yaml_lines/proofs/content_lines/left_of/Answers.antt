@@ -2,7 +2,7 @@ use Rattle.std.proofs.Common.{◌≡◌, ◌∙◌, sym, ap, true, false}
 use Rattle.std.specs.List.{list_all}
 use Rattle.yaml_lines.specs.Characters.{is_allowed, begins_with, comment_or_end, trim_start}
 use Rattle.yaml_lines.proofs.Left.{left_of-bad, left_of-nothing, left_of-some, Indented}
-use Rattle.yaml_lines.proofs.places.left_of.Goals as goal
+use Rattle.yaml_lines.proofs.content_lines.left_of.Goals as goal
 
 pub returns-then-not-all_allowed-clause-meant : goal.returns-then-not-all_allowed-clause-meant
 returns-then-not-all_allowed-clause-meant c = λ _. left_of-bad c.args.flow c.args.text.now c.args.later.now (let h : list_all is_allowed c.args.text.now ≡ false = cc in h)

@@ -2,12 +2,12 @@ use Rattle.std.proofs.Common.{◌≡◌, ◌∙◌, arith, length-drop, ◌&&◌
 use Rattle.std.proofs.lemmas.List.{take_rest}
 use Rattle.yaml_lines.specs.BlockTexts.{LineText}
 use Rattle.yaml_lines.specs.declared.standing.Standing.{Standing}
-use Rattle.yaml_lines.specs.Entries.{Place}
+use Rattle.yaml_lines.specs.Entries.{ContentLine}
 use Rattle.yaml_lines.specs.Lines.{Left, standing, is_mark, is_start, left_at}
 use Rattle.yaml_lines.specs.declared.flow_state.FlowState.{FlowState}
 use Rattle.yaml_lines.proofs.Walks.{Stands, walked, walked_start, walked_end, walked_fault, walked_nothing, walked_place, walked_mark, walked_begin}
-use Rattle.yaml_lines.proofs.places.read_lines.Goals as goal
-use Rattle.yaml_lines.proofs.places.read_lines.Goals.{in-OutOfMemory, in_default, then-not-is_mark+in_ok-push, else-not-is_mark+else-not-is_start, then-fresh, else-fresh}
+use Rattle.yaml_lines.proofs.content_lines.read_lines.Goals as goal
+use Rattle.yaml_lines.proofs.content_lines.read_lines.Goals.{in-OutOfMemory, in_default, then-not-is_mark+in_ok-push, else-not-is_mark+else-not-is_start, then-fresh, else-fresh}
 
 pub loop-i-init : goal.loop-i-init
 loop-i-init c =
@@ -52,7 +52,7 @@ returns-then-not-is_start-clause-place c = record { of_the_text = λ same. cc; f
 
 pub loop-i-preserved-in_default-line : goal.loop-i-preserved-in_default-line
 loop-i-preserved-in_default-line c =
-    let leaves : Option Place → Option Left = λ o. Some (record { place = o; next = c.line.inside.next }) in
+    let leaves : Option ContentLine → Option Left = λ o. Some (record { content_line = o; next = c.line.inside.next }) in
     c.loop-i.invariant
     ∙ walked_nothing c.loop-i.lines.items c.loop-i.fresh c.loop-i.at c.args.raws.now c.loop-i.i c.index-raws-i.result c.line.inside.next
     (stands c.loop-i.at c.args.raws.now c.loop-i.i c.index-raws-i.result c.text.result.now (leaves None) c.loop-i-test.true c.index-raws-i.is c.text.ensures.characters
@@ -61,7 +61,7 @@ loop-i-preserved-in_default-line c =
 pub returns-then-not-is_start-clause-meant : goal.returns-then-not-is_start-clause-meant
 returns-then-not-is_start-clause-meant c =
     let p = c.in-Some.line in
-    let leaves : Option Place → Option Left = λ o. Some (record { place = o; next = c.line.inside.next }) in
+    let leaves : Option ContentLine → Option Left = λ o. Some (record { content_line = o; next = c.line.inside.next }) in
     let mark : is_mark p ≡ true = sym c.is_mark.ensures ∙ c.if-not-is_mark.false in
     let other : (c.loop-i.fresh && is_start p) ≡ false =
     elim c.if-fresh.branch [
@@ -78,18 +78,18 @@ pub loop-i-preserved : goal.loop-i-preserved
 loop-i-preserved c =
     let p = c.in-Some.line in
     let more = c.line.inside.next in
-    let leaves : Option Place → Option Left = λ o. Some (record { place = o; next = more }) in
+    let leaves : Option ContentLine → Option Left = λ o. Some (record { content_line = o; next = more }) in
     let stands_at : Stands c.loop-i.at c.args.raws.now c.loop-i.i c.index-raws-i.result (leaves (Some p)) =
     stands c.loop-i.at c.args.raws.now c.loop-i.i c.index-raws-i.result c.text.result.now (leaves (Some p)) c.loop-i-test.true c.index-raws-i.is c.text.ensures.characters
     (c.in-Ok.ensures.meant ∙ (ap Some (sym c.line.view_is) ∙ ap leaves c.in-Some.is)) in
-    let next : List Place → Bool → Option (List Place) = λ ps b. walked ps b more c.args.raws.now (c.loop-i.i + 1) in
+    let next : List ContentLine → Bool → Option (List ContentLine) = λ ps b. walked ps b more c.args.raws.now (c.loop-i.i + 1) in
     elim c.if-not-is_mark.branch [
       | then-not-is_mark+in_ok-push w ↦
           (let other : is_mark p ≡ false = sym c.is_mark.ensures ∙ w.if-not-is_mark.true in
           let items : c.if-not-is_mark.lines.items ≡ c.loop-i.lines.items ++ p ∷ [] = ap (λ v. v.items) w.lines-is ∙ w.in_ok-push.ensures.items in
           c.loop-i.invariant
           ∙ (walked_place c.loop-i.lines.items c.loop-i.fresh c.loop-i.at c.args.raws.now c.loop-i.i c.index-raws-i.result p more stands_at other
-          ∙ (ap (λ (ps : List Place). next ps false) (sym items) ∙ ap (next c.if-not-is_mark.lines.items) (sym w.fresh-is))))
+          ∙ (ap (λ (ps : List ContentLine). next ps false) (sym items) ∙ ap (next c.if-not-is_mark.lines.items) (sym w.fresh-is))))
       | else-not-is_mark+else-not-is_start w ↦
           (let mark : is_mark p ≡ true = sym c.is_mark.ensures ∙ w.if-not-is_mark.false in
           let first : (c.loop-i.fresh && is_start p) ≡ true =
@@ -100,7 +100,7 @@ loop-i-preserved c =
           let items : c.if-not-is_mark.lines.items ≡ c.loop-i.lines.items = ap (λ v. v.items) w.lines-is in
           c.loop-i.invariant
           ∙ (walked_begin c.loop-i.lines.items c.loop-i.fresh c.loop-i.at c.args.raws.now c.loop-i.i c.index-raws-i.result p more stands_at mark first
-          ∙ (ap (λ (ps : List Place). next ps false) (sym items) ∙ ap (next c.if-not-is_mark.lines.items) (sym w.fresh-is))))
+          ∙ (ap (λ (ps : List ContentLine). next ps false) (sym items) ∙ ap (next c.if-not-is_mark.lines.items) (sym w.fresh-is))))
     ]
 
 pub returns-clause-meant : goal.returns-clause-meant

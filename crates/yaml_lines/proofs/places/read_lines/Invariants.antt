@@ -1,7 +1,0 @@
-use Rattle.std.proofs.Common.{◌≡◌}
-use Rattle.yaml_lines.specs.Lines.{places_from}
-use Rattle.yaml_lines.proofs.Walks.{walked}
-use Rattle.yaml_lines.proofs.places.read_lines.Given as goal
-
-abbrev pub invariant-loop-i : goal.invariant-loop-i
-invariant-loop-i l = places_from l.raws ≡ walked l.lines.items l.fresh l.at l.raws l.i
