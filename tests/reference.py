@@ -18,13 +18,14 @@ TOP = os.path.abspath(sys.argv[1] if len(sys.argv) > 1 else os.path.join(os.path
 LIMITS = [
     ("configuration", "1 MiB ({} bytes)", "yaml_lines", "most_bytes", 0),
     ("configuration", "a node within at most {} others", "yaml_lines", "most_nodes", -1),
-    ("file, message", "16 MiB ({} bytes)", "repo_store", "most_content_bytes", 0),
+    ("configuration", "{} hooks", "hook_config", "most_hooks", 0),
+    ("path", "{} bytes", "hook_base", "most_path_bytes", 0),
+    ("file, message", "16 MiB ({} bytes)", "hook_base", "most_file_bytes", 0),
+    ("output of a child", "1 MiB ({} bytes)", "child_port", "most_output_bytes", 0),
     ("staged tree of a store", "{} files", "repo_store", "most_files", 0),
     ("staged tree of a store", "8 MiB ({} bytes) together", "repo_store", "most_tree_path_bytes", 0),
     ("commits of a store", "{}", "repo_store", "most_commits", 0),
 ]
-# What the table says of limits that have no name in specs/ yet.
-UNNAMED = [("configuration", "500 hooks"), ("path", "4,096 bytes")]
 
 
 def read(*path):
@@ -91,7 +92,7 @@ def value_of(crate, name):
 def wrong_limits(reference):
     section = reference.partition("\n## Limits\n")[2].partition("\n## ")[0]
     rows = {row[0]: row[1] for rows in tables(section) for row in rows[2:]}
-    told = [*UNNAMED]
+    told = []
     for row, words, crate, name, more in LIMITS:
         value = value_of(crate, name)
         if value is None:
