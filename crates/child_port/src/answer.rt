@@ -1,4 +1,5 @@
 //! What became of a child.
+
 use crate::Fault;
 use hook_base::{Bytes, Changes};
 

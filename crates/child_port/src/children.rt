@@ -1,4 +1,5 @@
 //! The trait of whatever starts children.
+
 use crate::Outcome;
 use hook_base::{OutOfMemory, Text, Tree};
 

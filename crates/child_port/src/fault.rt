@@ -1,4 +1,5 @@
 //! How a child can fail.
+
 /// How a child failed. None of these is remembered.
 #[derive(Clone, Copy, Debug, PartialEq, Eq)]
 pub enum Fault {

@@ -1,4 +1,5 @@
 //! Laws of what the contracts cite. Each is a function that gives nothing: what it ensures is a theorem.
+
 ghost use Rattle.std.specs.Prelude.{◌≡◌};
 ghost use Rattle.child_port.specs.Limits.{most_output_bytes};
 

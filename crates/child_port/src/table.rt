@@ -1,4 +1,5 @@
 //! Children that answer by a table, for tests and for programs that start none.
+
 ghost use Rattle.std.specs.Prelude.{◌≡◌, ◌+◌, ◌<◌, ◌^◌};
 
 use crate::table_outcome::table_outcome;

@@ -1,4 +1,5 @@
 //! What a table answers: a look-up by words and seen files.
+
 ghost use Rattle.std.specs.Prelude.{IfOk};
 ghost use Rattle.child_port.specs.Tables.{TableTells};
 

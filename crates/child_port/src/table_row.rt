@@ -1,4 +1,5 @@
 //! A row of a table of answers.
+
 use crate::Answer;
 use hook_base::{Items, Text, Tree};
 

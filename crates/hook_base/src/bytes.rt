@@ -1,4 +1,5 @@
 //! Bytes of their own, as a list.
+
 ghost use Rattle.std.specs.Prelude.{◌≡◌, ◌↔◌, [], length, IfOk, IsTrue};
 
 use crate::OutOfMemory;

@@ -1,4 +1,5 @@
 //! One change of a file, and copies of changes.
+
 ghost use Rattle.std.specs.Prelude.{◌≡◌, IfOk};
 
 use crate::{Bytes, OutOfMemory, RepoPath};

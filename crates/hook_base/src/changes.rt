@@ -1,4 +1,5 @@
 //! The changes of a tree, in the order of their paths.
+
 ghost use Rattle.std.specs.Prelude.{◌≡◌, ◌↔◌, [], length, option_to_list, IfOk, IfErr, IsTrue};
 ghost use Rattle.std.specs.Option.{option_copied};
 ghost use Rattle.hook_base.specs.Trees.{IsRising, IsRisingChanges, change_to, changes_between};

@@ -1,4 +1,5 @@
 //! A file: its path, whether it is to be run, and its bytes.
+
 use crate::{Bytes, RepoPath};
 
 /// Whether a file is to be run as a program.

@@ -1,4 +1,5 @@
 //! Items of any type, as a list.
+
 ghost use Rattle.std.specs.Prelude.{◌≡◌, ◌↔◌, [], length, IsTrue};
 
 use std::alloc::{AllocError, Global};

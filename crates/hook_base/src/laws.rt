@@ -1,4 +1,5 @@
 //! Laws of what the contracts cite. Each is a function that gives nothing: what it ensures is a theorem.
+
 ghost use Rattle.std.specs.Prelude.{◌≡◌};
 ghost use Rattle.hook_base.specs.Limits.{most_file_bytes, most_path_bytes};
 

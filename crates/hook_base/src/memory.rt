@@ -1,4 +1,5 @@
 //! The refusal of memory.
+
 ghost use Rattle.std.specs.Prelude.{◌≡◌};
 
 use std::alloc::{AllocError, AllocFailed};

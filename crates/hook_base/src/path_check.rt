@@ -1,4 +1,5 @@
 //! Whether a text is a path inside a repository: one test a rule.
+
 ghost use Rattle.std.specs.Prelude.{◌≡◌};
 ghost use Rattle.std.specs.List.{list_any};
 ghost use Rattle.hook_base.specs.Paths.{begins_with_slash, is_control_byte, is_dot_part, is_empty_part, is_under_git, parts_of, path_fault};

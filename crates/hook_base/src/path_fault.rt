@@ -1,4 +1,5 @@
 //! The reasons why a text is not taken as a path.
+
 ghost use Rattle.std.specs.Prelude.{◌≡◌};
 ghost use Rattle.hook_base.specs.PathFaults.{number_of};
 ghost use Rattle.hook_base.specs.declared.path_fault.PathFault.TheVariants.{OutOfMemory};

@@ -1,4 +1,5 @@
 //! Where a path's row stands in rows that rise.
+
 ghost use Rattle.hook_base.specs.Trees.{IsRising};
 ghost use Rattle.hook_base.specs.Places.{IsPlace};
 

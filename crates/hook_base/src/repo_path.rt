@@ -1,4 +1,5 @@
 //! Paths inside a repository.
+
 ghost use Rattle.std.specs.Prelude.{◌≡◌, ◌⊎◌, None, Some, IfOk, IfErr};
 ghost use Rattle.hook_base.specs.Paths.{IsRepoPath, path_fault, message_path};
 

@@ -1,4 +1,5 @@
 //! Edits of rows that rise, each at the place of one path.
+
 ghost use Rattle.std.specs.Prelude.{◌≡◌, is_some, IfOk, OnOk, OnErr};
 ghost use Rattle.hook_base.specs.Trees.{IsRising, entry_of, put_row, remove_file, rewrite_file, apply_change, apply_changes};
 

@@ -1,4 +1,5 @@
 //! Texts of their own, as lists of bytes.
+
 ghost use Rattle.std.specs.Prelude.{◌≡◌, ◌↔◌, [], length, string_bytes, IfOk, IsTrue};
 
 use crate::{Items, OutOfMemory};

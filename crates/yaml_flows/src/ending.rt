@@ -1,4 +1,5 @@
 //! What may stand behind a flow.
+
 ghost use Rattle.std.specs.Prelude.{◌≡◌, ◌↔◌, IsOk, true};
 ghost use Rattle.std.specs.List.{list_any};
 ghost use Rattle.yaml_flows.specs.Flows.{is_end};

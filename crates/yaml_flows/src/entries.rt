@@ -1,4 +1,5 @@
 //! What stands between the parts of a flow: commas, colons and closing brackets.
+
 ghost use Rattle.std.specs.Prelude.{◌≡◌, false, true, MatchOption, drop, option_map};
 ghost use Rattle.yaml_flows.specs.Flows as flows;
 ghost use Rattle.yaml_lines.specs.Characters.{begins_with};

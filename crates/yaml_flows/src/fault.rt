@@ -1,4 +1,5 @@
 //! Why a flow can't be read, and where.
+
 ghost use Rattle.std.specs.Prelude.{◌≡◌};
 
 use std::alloc::{AllocError, AllocFailed};

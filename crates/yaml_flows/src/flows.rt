@@ -1,4 +1,5 @@
 //! The nodes of a flow: lists, tables and texts.
+
 ghost use Rattle.std.specs.Prelude.{◌≡◌, ◌≤◌, ℕ, List, [], ◌∷◌, IfOk, if◌then◌else◌, true, string_bytes, length};
 ghost use Rattle.std.specs.BTreeSet.{contains_text};
 ghost use Rattle.yaml_lines.specs.Meaning.{most_nodes};

@@ -1,4 +1,5 @@
 //! The keys of a table that were seen.
+
 ghost use Rattle.std.specs.Prelude.{◌≡◌, ◌≢◌, ℕ, List, length, take, true, false, OnOk, IfErr, if◌then◌else◌};
 ghost use Rattle.std.specs.BTreeSet.{contains_text};
 ghost use Rattle.std.specs.Str.{bytes_eq};

@@ -1,4 +1,5 @@
 //! The texts of a flow, plain or quoted.
+
 ghost use Rattle.std.specs.Prelude.{◌≡◌};
 ghost use Rattle.yaml_flows.specs.Faults.{Gives};
 ghost use Rattle.yaml_flows.specs.Views.{text_seen};

@@ -5,7 +5,7 @@ use Rattle.std.proofs.lemmas.List.{length-take-le, take-append-le, drop-append-l
 use Rattle.std.specs.Str.{encode_utf8_all}
 use Rattle.yaml_lines.specs.Characters.{is_blank, is_nil}
 use Rattle.yaml_lines.specs.FlowGaps.{is_feed, blank_or_line_end, is_of_gap, in_comment, behind_gap, after_gap, after_start}
-use Rattle.yaml_lines.specs.FlowLines.{state, is_closed, is_opening, is_closing, Behind, behind_text, behind_token, behind_tokens, behind_all}
+use Rattle.yaml_lines.specs.FlowLines.{is_closed, is_opening, is_closing, Behind, behind_text, behind_token, behind_tokens, behind_all}
 use Rattle.yaml_lines.specs.FlowTexts.{is_flow_indicator, ends_key, is_key_end, begins_plain, ends_plain, plain_extent, FlowText, plain_text, plain_at, quoted_text, quoted_at, text_at}
 use Rattle.yaml_lines.specs.Plain.{is_indicator, is_mark_character, trim_end}
 use Rattle.yaml_lines.specs.Quoted.{Quoted, begins_quoted, quoted_of}

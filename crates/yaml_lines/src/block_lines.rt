@@ -1,6 +1,7 @@
 //! The lines of a block text: its header, its indentation, and how far it goes.
 //!
 //! The contracts cite `specs/BlockTexts.antt`.
+
 ghost use Rattle.std.specs.Prelude.{◌≡◌, ◌<◌, ◌≤◌, length, is_some, IfSome};
 ghost use Rattle.yaml_lines.specs.BlockTexts.{begins_block, belongs, extent, header_behind, header_of, is_ragged, margin_of};
 ghost use Rattle.yaml_lines.specs.Faults.{GivesSurely};

@@ -1,6 +1,7 @@
 //! The text of a block text, from its lines.
 //!
 //! The contracts cite `specs/BlockTexts.antt`.
+
 ghost use Rattle.std.specs.Prelude.{◌≡◌, ◌^◌, ◌<◌, ◌≤◌, ◌++◌, if◌then◌else◌, IfOk, OnOk, encode_utf8_all, replicate, string_bytes};
 ghost use Rattle.yaml_lines.specs.BlockTexts.{begins_blank, behind_last, behind_margin, between, block_text};
 

@@ -1,3 +1,5 @@
+//! The content lines of a text: what its lines leave without comments, empty lines and the lines of block texts.
+
 ghost use Rattle.std.specs.Prelude.{◌≡◌, ◌+◌, ◌^◌, ◌<◌, ◌≤◌, IfOk, IfErr, IfSome, length};
 ghost use Rattle.yaml_lines.specs.Characters.{most_bytes};
 ghost use Rattle.yaml_lines.specs.Entries.{ContentLine};

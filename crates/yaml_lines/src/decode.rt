@@ -1,6 +1,7 @@
 //! From bytes to characters.
 //!
 //! The contracts cite `specs/Characters.antt` and `specs/Faults.antt`.
+
 ghost use Rattle.std.specs.Prelude.{◌≡◌, ◌⊎◌, ◌≤◌, IfOk, IfErr, Some, length, take, vec_len, chars};
 ghost use Rattle.yaml_lines.specs.Characters.{characters_of, most_bytes, without_mark};
 ghost use Rattle.yaml_lines.specs.Faults.{Gives, fault_of_bytes, line_behind, want_of_memory};

@@ -1,6 +1,7 @@
 //! A table's entry: a key and what stands behind its colon.
 //!
 //! The contracts cite `specs/Entries.antt`.
+
 ghost use Rattle.std.specs.Prelude.{◌≡◌, true, IfOk, option_and_then, option_copied, option_map, string_bytes};
 ghost use Rattle.yaml_lines.specs.Entries.{behind_colon, entry_of, plain_entry, quoted_entry, value_behind};
 ghost use Rattle.yaml_lines.specs.Plain.{sides_of};

@@ -1,6 +1,7 @@
 //! Why a text can't be read, and where.
 //!
 //! The contracts cite `specs/Faults.antt`.
+
 ghost use Rattle.std.specs.Prelude.{◌≡◌};
 
 use std::alloc::{AllocError, AllocFailed};

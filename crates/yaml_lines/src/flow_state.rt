@@ -1,4 +1,5 @@
 //! Where the lines of a flow end: how many of its brackets are open, kept from line to line.
+
 ghost use Rattle.std.specs.Prelude.{◌≡◌, option_map};
 ghost use Rattle.yaml_lines.specs.FlowLines as flows;
 ghost use Rattle.yaml_lines.specs.FlowTexts.{text_at};

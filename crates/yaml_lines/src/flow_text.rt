@@ -1,4 +1,5 @@
 //! The texts within a flow, plain or quoted: where they end.
+
 ghost use Rattle.std.specs.Prelude.{◌≡◌, ◌≤◌, ⊤, None, Some, false, MatchOption, drop, encode_utf8_all, length, option_map};
 ghost use Rattle.yaml_lines.specs.FlowGaps.{blank_or_line_end};
 ghost use Rattle.yaml_lines.specs.FlowTexts.{begins_plain, ends_key, ends_plain, is_flow_indicator, plain_at, plain_extent, text_at};

@@ -1,4 +1,5 @@
 //! The gaps between the tokens of a flow.
+
 ghost use Rattle.std.specs.Prelude.{◌≡◌, false};
 ghost use Rattle.yaml_lines.specs.FlowGaps.{after_gap, after_start, behind_gap, in_comment, is_of_gap};
 

@@ -1,4 +1,5 @@
 //! The header of a block text.
+
 /// What becomes of the line feeds at a block text's end.
 #[derive(Clone, Copy, Debug, PartialEq, Eq)]
 pub enum Chomping {

@@ -1,6 +1,7 @@
 //! A list's item: what stands behind its dash.
 //!
 //! The contracts cite `specs/Entries.antt`.
+
 ghost use Rattle.std.specs.Prelude.{◌≡◌, true, option_to_list};
 ghost use Rattle.yaml_lines.specs.Entries.{is_item, item_of};
 ghost use Rattle.yaml_lines.specs.Faults.{GivesSurely};

@@ -1,6 +1,7 @@
 //! The value that stands last on a line, which may begin a block text or a flow.
 //!
 //! The contracts cite `specs/Lines.antt`.
+
 ghost use Rattle.std.specs.Prelude.{◌≡◌, ◌+◌, ◌≤◌, IfOk, None, length};
 ghost use Rattle.yaml_lines.specs.Characters.{most_bytes};
 ghost use Rattle.yaml_lines.specs.Entries.{entry_of};

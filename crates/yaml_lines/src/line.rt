@@ -1,6 +1,7 @@
 //! A line that holds something.
 //!
 //! The contracts cite `ContentLine` of `specs/Entries.antt`.
+
 ghost use Rattle.std.specs.Prelude.{◌≡◌, ◌+◌, ◌≤◌, length, option_copied};
 ghost use Rattle.yaml_lines.specs.Characters.{most_bytes};
 

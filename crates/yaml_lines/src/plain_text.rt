@@ -1,6 +1,7 @@
 //! How a plain text begins, and where a key ends.
 //!
 //! The contracts cite `specs/Plain.antt`.
+
 ghost use Rattle.std.specs.Prelude.{◌≡◌, ◌⊎◌, ◌<◌, ◌+◌, Some, None, true, MatchOption, length, take, drop};
 ghost use Rattle.yaml_lines.specs.Plain.{begins_plain, is_indicator, is_mark_character, sides_of};
 

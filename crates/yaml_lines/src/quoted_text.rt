@@ -1,6 +1,7 @@
 //! Texts in single and double quotes.
 //!
 //! The contracts cite `specs/Quoted.antt`.
+
 ghost use Rattle.std.specs.Prelude.{◌≡◌, ◌+◌, ◌*◌, ◌^◌, ◌<◌, IfErr, IfSome, length, string_bytes};
 ghost use Rattle.yaml_lines.specs.Faults.{Gives, GivesSurely, StandsAt};
 ghost use Rattle.yaml_lines.specs.Quoted.{after_quote, begins_quoted, coded, double_step, escaped, four_digits, named, pair_of, quoted_of, quoted_within, single_step, step_of, two_digits};

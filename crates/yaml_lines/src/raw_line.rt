@@ -1,6 +1,7 @@
 //! From characters to lines as they stand in the text.
 //!
 //! The contracts cite `specs/Lines.antt`.
+
 ghost use Rattle.std.specs.Prelude.{◌≡◌, ◌<◌, ◌≤◌, ◌∷◌, IfOk, length};
 ghost use Rattle.yaml_lines.specs.Characters.{most_bytes};
 ghost use Rattle.yaml_lines.specs.Lines.{line_texts, without_return};

@@ -1,6 +1,7 @@
 //! Looks at the characters of one line: blanks, comments, line ends.
 //!
 //! The contracts cite `specs/Characters.antt` and `specs/Plain.antt`.
+
 ghost use Rattle.std.specs.Prelude.{◌≡◌, ◌==◌, ◌<◌, ◌≤◌, ◌&&◌, true, false, IfOk, MatchOption, length, take, drop, slice_index, string_bytes, encode_utf8_all};
 ghost use Rattle.std.specs.List.{list_all, list_any, prefix_len};
 ghost use Rattle.yaml_lines.specs.Characters.{begins_with, blank_or_end, comment_or_end, is_allowed, is_over, trim_start, is_blank, is_space};

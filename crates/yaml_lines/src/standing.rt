@@ -1,4 +1,5 @@
 //! Where a line of a text stands: in a block text, in a flow or in neither.
+
 use crate::flow_state::FlowState;
 
 // Where a line stands.

@@ -1,6 +1,7 @@
 //! Texts on one line, plain or quoted.
 //!
 //! The contracts cite `specs/Scalars.antt`.
+
 ghost use Rattle.std.specs.Prelude.{IfErr, option_and_then, option_map, false};
 ghost use Rattle.yaml_lines.specs.Faults.{Gives, StandsAt};
 ghost use Rattle.yaml_lines.specs.Meaning.{text};
