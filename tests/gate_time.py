@@ -19,7 +19,7 @@ import threading
 import time
 from collections import defaultdict
 
-# What the whole gate may take, in processor minutes. An issue that adds to the repository says what it adds to this.
+# What the whole gate may take, in processor minutes. Who adds a crate says what it adds to this.
 BUDGET = 130
 PAUSE = 0.5
 TICKS = os.sysconf("SC_CLK_TCK")

@@ -108,7 +108,7 @@ pub fn a_text_in_lines_of_a_literal_block_text_is_that_text()
     ensures kept { (margin : ℕ) (lines : List (List ℕ)) → block_text (literal Keep) (Some margin) (all_indented margin lines) ≡ text_of_lines lines }
 {}
 
-/// What the laws above ask for, they need. In single quotes `'it's'` is no text and no key; in double quotes neither
+/// What the laws on quotes, on keys, and on comments ask for, they need. In single quotes `'it's'` is no text and no key; in double quotes neither
 /// `"a"b"` nor `"a\b"` is a text; a line feed ends a quoted text's line; `'a'b` isn't `'a'` with a comment, and `a#b` is a
 /// text of three characters; `a:b` is no entry; and the comment's line below `a: |` is a line of the block text.
 pub fn the_laws_ask_for_what_they_need()

@@ -55,8 +55,9 @@ pub fn a_table_has_one_meaning_in_both_forms()
     ensures text_in_braces { (entries : List WordEntry) (bytes : List ℕ) → AreWordEntries entries → characters_of bytes ≡ Some (flow_of_entries entries ++ 10 ∷ []) → meaning_of bytes ≡ table_of_entries entries }
 {}
 
-/// Lines that all stand the same number of columns further to the right mean the same, and where the one can't be read,
-/// neither can the others. `lines` says so of the lines of a node within a text, `whole` of those of a whole text.
+/// Content lines that all stand the same number of columns further to the right mean the same, and where the one can't be
+/// read, neither can the others. `lines` says so of the lines of a node within a text, `whole` of all that a text leaves
+/// behind the document's mark.
 pub fn indenting_every_line_changes_nothing()
     ensures lines { (room columns : ℕ) (lines : List ContentLine) → node room (map (moved columns) lines) ≡ node room lines }
     ensures whole { (room columns : ℕ) (lines : List ContentLine) → whole room (map (moved columns) lines) ≡ whole room lines }
