@@ -2,7 +2,7 @@
 //! (`try_over`), what `check` prints of a configuration (`check_text`), and what a line of words asks for (`line_of`).
 //!
 //! Their contracts cite `specs/TryOver.antt`, which stands on `specs/StageRun.antt` and `specs/Report.antt`,
-//! `specs/CheckText.antt` and `specs/CommandLine.antt`.
+//! `specs/CheckText.antt`, `specs/CommandLine.antt` and `specs/TryFaults.antt` (the refusals of a run).
 #![tactic(auto)]
 
 mod builtin_hooks;

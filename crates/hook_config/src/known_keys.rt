@@ -5,12 +5,7 @@
 //! A key of the lists `LATER_..` is known and not served yet. The keys of `TOP_KEYS` and `HOOK_KEYS` without a name of
 //! their own are read and ignored, whatever their value. Any other key is ignored, and listed in `Config::unknown`.
 //!
-//! To serve a key of a hook that comes later:
-//! 1. here and in `specs/KnownKeys.antt` give it a name, and take it from the later keys to those that are read;
-//! 2. give `Hook` a field, and `docs/REFERENCE.md` a row in its table of keys;
-//! 3. give it a line in `hook_table.rt`, in its place among the faults, one in `specs/HookTable.antt`, and in the proof
-//!    its lemma `no_..` in `proofs/HookFields.antt` and its place in `hook_of-all`, which names every field in order;
-//! 4. a value of a new kind has its definition in `specs/Kinds.antt` and its function in `kinds.rt` and `fields.rt`.
+//! What a key of a hook touches that is to be served is listed in `docs/ARCHITECTURE.md`, "A hook key".
 //!
 //! To serve a language that comes later: take its word out of the later ones, here and in `specs/KnownKeys.antt`, and
 //! give it a name; give `Language` a variant, and `language_of_word` a case in `kinds.rt` and in `specs/Kinds.antt`.

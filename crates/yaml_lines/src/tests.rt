@@ -66,7 +66,7 @@ fn shown_content(alloc: Global, text: &str) -> Result<String, YamlFault> {
 }
 
 #[test]
-fn lines_leave_their_places(rt: HostRuntime) -> Result<(), Fail> {
+fn lines_leave_their_content_lines(rt: HostRuntime) -> Result<(), Fail> {
     let cases: [(&[u8], &str); 24] = [
         (b"", ""),
         (b"a", "1/0:a;"),
