@@ -1,0 +1,65 @@
+#!/usr/bin/env python3
+"""Plays the tables of tests/rows/ by the built programs for tests and compares each answer, to the byte.
+
+Usage: tests/rows.py [TABLE..]   (default: all tables, each by the name of its file without `.py`)
+
+A table is a Python file with two names: PROGRAM, the crate whose program plays it, and ROWS, one row a line:
+
+    ("read_path", "a//b", "4 EmptyPart"),
+
+A row is the call, its arguments and the answer, each a `str` (taken as UTF-8) or `bytes`. The program reads a line for
+each row on standard input, the call's name and its arguments in hexadecimal digits (`-` where there are none), parted
+by blanks, and answers by one line, the answer in hexadecimal digits. All rows of a table are played by one process.
+"""
+import importlib.util
+import os
+import subprocess
+import sys
+
+HERE = os.path.dirname(os.path.abspath(__file__))
+TOP = os.path.dirname(HERE)
+SHOWN = 400
+
+
+def as_bytes(word):
+    return word.encode() if isinstance(word, str) else word
+
+
+def table_of(name):
+    spec = importlib.util.spec_from_file_location(name, os.path.join(HERE, "rows", f"{name}.py"))
+    table = importlib.util.module_from_spec(spec)
+    spec.loader.exec_module(table)
+    return table
+
+
+def played(program, rows):
+    """The answers of one process to all rows, fewer where it ended before its input."""
+    path = os.path.join(TOP, "crates", program, "out", program)
+    if not os.path.exists(path):
+        sys.exit(f"rows: there is no {os.path.relpath(path, TOP)}: build it with `rt run` in crates/{program}")
+    lines = [" ".join([row[0], *(as_bytes(word).hex() or "-" for word in row[1:-1])]) for row in rows]
+    ran = subprocess.run([path], input="".join(f"{line}\n" for line in lines).encode(), capture_output=True)
+    if ran.returncode or ran.stderr:
+        print(f"rows: {program} ended with status {ran.returncode}: {ran.stderr.decode(errors='replace').strip()}")
+    return [bytes.fromhex(line) for line in ran.stdout.decode().splitlines()]
+
+
+def main():
+    names = sys.argv[1:] or sorted(name[:-3] for name in os.listdir(os.path.join(HERE, "rows")) if name.endswith(".py"))
+    sys.dont_write_bytecode = True
+    passed = failed = 0
+    for name in names:
+        table = table_of(name)
+        answers = played(table.PROGRAM, table.ROWS)
+        for number, row in enumerate(table.ROWS):
+            answer = answers[number] if number < len(answers) else None
+            if answer == as_bytes(row[-1]):
+                passed += 1
+                continue
+            failed += 1
+            print(f"rows: {name}: {str(row[:-1])[:SHOWN]}\n  wanted {str(as_bytes(row[-1]))[:SHOWN]}\n  got    {str(answer)[:SHOWN]}")
+    print(f"rows: {passed} passed, {failed} failed")
+    sys.exit(1 if failed or not passed else 0)
+
+
+main()
