@@ -1,5 +1,6 @@
 pub mod Configuration
 pub mod Gives
+pub mod HookParts
 pub mod HookTable
 pub mod Hooks
 pub mod Kinds

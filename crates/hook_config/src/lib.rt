@@ -12,6 +12,7 @@ mod config_fault;
 mod config_text;
 mod configuration;
 mod fields;
+mod hook_parts;
 mod hook_table;
 mod kinds;
 mod known_keys;

@@ -3,8 +3,10 @@ use Rattle.hook_config.proofs.hook_table.hook_of_fields.Goals as goal
 
 pub returns : goal.returns
 returns c =
-    hook_of-all _ _ _
-    c.in_ok-required_text.ensures c.in_ok-required_text-2.ensures c.in_ok-text_or_empty.ensures
-    c.in_ok-required_language.ensures c.in_ok-required_text-3.ensures c.in_ok-texts_or_none.ensures
-    c.in_ok-stages_or.ensures c.in_ok-truth_or.ensures c.in_ok-truth_or-2.ensures c.in_ok-truth_or-3.ensures
-    c.in_ok-truth_or-4.ensures c.in_ok-empty_text_at.ensures c.in_ok-empty_texts_at.ensures
+    let unserved = c.in_ok-unserved.ensures.read in
+    let names = c.in_ok-names.ensures.read in
+    let command = c.in_ok-command.ensures.read in
+    let switches = c.in_ok-switches.ensures.read in
+    hook_of-all _ _ _ names.id names.name names.alias command.language command.entry command.args
+    switches.stages switches.always_run switches.verbose switches.pass_filenames switches.fail_fast
+    unserved.log_file unserved.additional_dependencies

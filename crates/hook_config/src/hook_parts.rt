@@ -1,0 +1,103 @@
+//! The fields of a hook, in the groups in which they are read: of several faults the first in this order is told.
+
+ghost use Rattle.std.specs.Prelude.{IfOk, IfErr};
+ghost use Rattle.hook_config.specs.HookParts.{AreNames, AreSwitches, AreUnserved, IsCommand, IsNeverHook, IsNoHook};
+ghost use Rattle.hook_config.specs.Rows.{rows_of};
+
+use crate::config_fault::ConfigKind;
+use crate::config_text::ConfigText;
+use crate::configuration::Language;
+use crate::fields::{
+    empty_text_at, empty_texts_at, required_language, required_text, stages_or, text_or_empty,
+    texts_or_none, truth_or,
+};
+use crate::known_keys::{
+    ADDITIONAL_DEPENDENCIES, ALIAS, ALWAYS_RUN, ARGS, ENTRY, FAIL_FAST, ID, LANGUAGE, LOG_FILE,
+    NAME, PASS_FILENAMES, STAGES, VERBOSE,
+};
+use crate::stage::Stages;
+use hook_base::Items;
+use std::alloc::Global;
+use yaml_profile::Node;
+
+/// What isn't served, and so is empty.
+#[derive(Drop)]
+pub(crate) struct Unserved {
+    pub(crate) log_file: ConfigText,
+    pub(crate) additional_dependencies: Items<ConfigText>,
+}
+
+#[tactic(auto, using(crate::proofs::HookFields::fields_of_hook))]
+pub(crate) fn unserved_of(alloc: Global, rows: &[(String, Node)]) -> Result<Unserved, ConfigKind>
+    ensures read { IfOk result (AreUnserved (rows_of rows.now)) }
+    ensures refused { IfErr result (IsNeverHook (rows_of rows.now)) }
+{
+    Ok(Unserved {
+        log_file: empty_text_at(alloc, rows, LOG_FILE)?,
+        additional_dependencies: empty_texts_at(alloc, rows, ADDITIONAL_DEPENDENCIES)?,
+    })
+}
+
+/// What a hook is called by.
+#[derive(Drop)]
+pub(crate) struct Names {
+    pub(crate) id: ConfigText,
+    pub(crate) name: ConfigText,
+    pub(crate) alias: ConfigText,
+}
+
+#[tactic(auto, using(crate::proofs::HookFields::fields_of_hook))]
+pub(crate) fn names_of(alloc: Global, rows: &[(String, Node)]) -> Result<Names, ConfigKind>
+    ensures read { IfOk result (AreNames (rows_of rows.now)) }
+    ensures refused { IfErr result (IsNeverHook (rows_of rows.now)) }
+{
+    Ok(Names {
+        id: required_text(alloc, rows, ID)?,
+        name: required_text(alloc, rows, NAME)?,
+        alias: text_or_empty(alloc, rows, ALIAS)?,
+    })
+}
+
+/// What a hook runs.
+#[derive(Drop)]
+pub(crate) struct Command {
+    pub(crate) language: Language,
+    pub(crate) entry: ConfigText,
+    pub(crate) args: Items<ConfigText>,
+}
+
+#[tactic(auto, using(crate::proofs::HookFields::fields_of_hook))]
+pub(crate) fn command_of(alloc: Global, rows: &[(String, Node)]) -> Result<Command, ConfigKind>
+    ensures read { IfOk result (IsCommand (rows_of rows.now)) }
+    ensures refused { IfErr result (IsNeverHook (rows_of rows.now)) }
+{
+    Ok(Command {
+        language: required_language(rows, LANGUAGE)?,
+        entry: required_text(alloc, rows, ENTRY)?,
+        args: texts_or_none(alloc, rows, ARGS)?,
+    })
+}
+
+/// When a hook runs, and how.
+#[derive(Clone, Copy)]
+pub(crate) struct Switches {
+    pub(crate) stages: Stages,
+    pub(crate) always_run: bool,
+    pub(crate) verbose: bool,
+    pub(crate) pass_filenames: bool,
+    pub(crate) fail_fast: bool,
+}
+
+#[tactic(auto, using(crate::proofs::HookFields::fields_of_hook))]
+pub(crate) fn switches_of(rows: &[(String, Node)], default: Stages) -> Result<Switches, ConfigKind>
+    ensures read { IfOk result (AreSwitches default (rows_of rows.now)) }
+    ensures refused { IfErr result (IsNoHook default (rows_of rows.now)) }
+{
+    Ok(Switches {
+        stages: stages_or(rows, STAGES, default)?,
+        always_run: truth_or(rows, ALWAYS_RUN, false)?,
+        verbose: truth_or(rows, VERBOSE, false)?,
+        pass_filenames: truth_or(rows, PASS_FILENAMES, true)?,
+        fail_fast: truth_or(rows, FAIL_FAST, false)?,
+    })
+}
