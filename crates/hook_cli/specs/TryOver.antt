@@ -5,9 +5,11 @@ use Rattle.hook_base.specs.declared.file.File.{File}
 use Rattle.child_port.specs.declared.answer.Outcome.{Outcome}
 use Rattle.child_port.specs.Outcomes.{faults_in}
 use Rattle.hook_config.specs.declared.configuration.Config.{Config}
+use Rattle.hook_config.specs.declared.config_fault.ConfigFault.{ConfigFault}
 use Rattle.hook_config.specs.declared.config_fault.ConfigKind.TheVariants as kind
 use Rattle.hook_config.specs.declared.stage.Stage.TheVariants.{PreCommit}
 use Rattle.hook_config.specs.Configuration.{configuration_of}
+use Rattle.hook_config.specs.Refusals.{TellsTooLarge}
 use Rattle.hook_cli.specs.declared.report_text.hook_result.HookResult.{HookResult}
 use Rattle.hook_cli.specs.declared.try_fault.TryFault.{TryFault}
 use Rattle.hook_cli.specs.declared.try_fault.TryFault.TheVariants.{Read, Config as BadConfig, Write, OutOfMemory, Spent}
@@ -31,12 +33,14 @@ pub record ReadsConfiguration (given left : Option (List ℕ)) (config : Config)
   pub ended : IsAtEnd left
   pub meant : configuration_of bytes ≡ Some config
 
--- the bytes that were read are no configuration: they are all that there are, or one more than a configuration may have
-pub record ReadsNoConfiguration (given left : Option (List ℕ)) : Type 0 where
+-- The bytes that were read are no configuration: they are all that there are, or one more than a configuration may have,
+-- which is refused as such.
+pub record ReadsNoConfiguration (given left : Option (List ℕ)) (fault : ConfigFault) : Type 0 where
   pub bytes : List ℕ
   pub read : Consumes given left bytes
   pub ended : IsAtEnd left ⊎ (length bytes ≡ most_bytes + 1)
   pub none : configuration_of bytes ≡ None
+  pub large : TellsTooLarge bytes fault
 
 -- ---- what is run
 
@@ -72,7 +76,7 @@ pub record IsTriedOver (given left held holds : Option (List ℕ)) (tells : List
 abbrev pub IsRefusedBy : Option (List ℕ) → Option (List ℕ) → ℕ → ℕ → TryFault → Type 0
 IsRefusedBy given left calls calls_after Read = calls_after ≡ calls
 IsRefusedBy given left calls calls_after (BadConfig fault) =
-    (fault.kind ≢ kind.OutOfMemory) × ReadsNoConfiguration given left × (calls_after ≡ calls)
+    (fault.kind ≢ kind.OutOfMemory) × ReadsNoConfiguration given left fault × (calls_after ≡ calls)
 IsRefusedBy given left calls calls_after Write = (config : Config) × ReadsConfiguration given left config
 IsRefusedBy given left calls calls_after OutOfMemory = Unit {0}
 IsRefusedBy given left calls calls_after Spent =

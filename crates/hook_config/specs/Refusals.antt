@@ -1,5 +1,7 @@
 -- The numbers and the printed names of a configuration's refusals, and the refusal of a text that is no YAML.
-use Rattle.std.specs.Prelude.{ℕ, List, codes}
+use Rattle.std.specs.Prelude.{◌≡◌, ◌≤◌, ◌+◌, ℕ, List, codes, length}
+use Rattle.yaml_lines.specs.Characters.{most_bytes}
+use Rattle.yaml_lines.specs.Faults.{too_large as too_large_text}
 use Rattle.yaml_lines.specs.declared.fault.YamlFault.{YamlFault}
 use Rattle.yaml_lines.specs.declared.fault.YamlKind.{YamlKind}
 use Rattle.yaml_lines.specs.declared.fault.YamlKind.TheVariants.{NotUtf8, TabIndent, Unsupported as NotSupported, Layout, Quote, DoubledKey, TooDeep, TooLarge, OutOfMemory as YamlOutOfMemory}
@@ -54,3 +56,11 @@ refusal_of_yaml YamlOutOfMemory fault = record { kind = OutOfMemory; at = 0 }
 -- what a fault of the text is as a refusal of the configuration
 abbrev pub of_yaml : YamlFault → ConfigFault
 of_yaml fault = refusal_of_yaml fault.kind fault
+
+-- a text of more bytes than a text may have
+abbrev pub too_large : ConfigFault
+too_large = in_line too_large_text
+
+-- more bytes than a text may have are refused as that
+abbrev pub TellsTooLarge : List ℕ → ConfigFault → Type 0
+TellsTooLarge bytes fault = most_bytes + 1 ≤ length bytes → fault ≡ too_large

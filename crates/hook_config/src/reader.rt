@@ -1,10 +1,11 @@
 //! The configuration of a text, from its bytes on.
 
-ghost use Rattle.std.specs.Prelude.{◌≡◌, Some, IfOk};
+ghost use Rattle.std.specs.Prelude.{◌≡◌, Some, IfErr, IfOk};
 ghost use Rattle.yaml_lines.specs.View.{view};
 ghost use Rattle.yaml_profile.specs.Text.{meaning_of};
 ghost use Rattle.hook_config.specs.Configuration.{configuration_of, configuration_of_meaning, configuration_of_rows};
 ghost use Rattle.hook_config.specs.Gives.{Gives};
+ghost use Rattle.hook_config.specs.Refusals.{TellsTooLarge};
 ghost use Rattle.hook_config.specs.Rows.{rows_of};
 
 use crate::config_fault::{ConfigFault, ConfigKind};
@@ -25,10 +26,11 @@ use yaml_profile::{Node, read};
 /// repository or a hook, is no table, or a known key's value is of another kind; `MissingKey` where a required key isn't
 /// there; `BadStage`, `BadLanguage` and `RemoteRepo` for a stage, a language or a repository that isn't known;
 /// `Unsupported` for what is known and not served; `TooMany` for more than `MOST_HOOKS` hooks; `OutOfMemory` where memory
-/// was refused.
+/// was refused. More bytes than a text may have are `Yaml` of `TooLarge` at 1.
 #[tactic(auto, unfolding(crate::specs::Configuration::configuration_of))]
 pub fn read_config(alloc: Global, bytes: &[u8]) -> Result<Config, ConfigFault>
-    ensures { Gives (λ config. config) result (configuration_of bytes.now) }
+    ensures meant { Gives (λ config. config) result (configuration_of bytes.now) }
+    ensures large { IfErr result (TellsTooLarge bytes.now) }
 {
     match read(alloc, bytes) {
         Ok(node) => config_of_node(alloc, &node),
@@ -51,6 +53,7 @@ pub struct ConfigWithNode {
 pub fn read_config_with_node(alloc: Global, bytes: &[u8]) -> Result<ConfigWithNode, ConfigFault>
     ensures config { Gives (λ read. read.config) result (configuration_of bytes.now) }
     ensures node { IfOk result (λ read. meaning_of bytes.now ≡ Some (view read.node)) }
+    ensures large { IfErr result (TellsTooLarge bytes.now) }
 {
     let node = read(alloc, bytes)?;
     let config = config_of_node(alloc, &node)?;

@@ -63,6 +63,14 @@ fault_of_bytes bytes =
     if nat_lt most_bytes (length bytes) then Some (record { kind = TooLarge; line = 1 })
     else (if is_utf8 bytes then None else Some (record { kind = NotUtf8; line = line_behind (take (utf8_valid_len bytes) bytes) }))
 
+-- there are more bytes than a text may have
+abbrev pub too_large : YamlFault
+too_large = record { kind = TooLarge; line = 1 }
+
+-- more bytes than a text may have are refused as that
+abbrev pub TellsTooLarge : List ℕ → YamlFault → Type 0
+TellsTooLarge bytes fault = most_bytes + 1 ≤ length bytes → fault ≡ too_large
+
 -- a fault of the text itself stands in one of these lines
 abbrev pub StandsWithin : ℕ → ℕ → YamlFault → Type 0
 StandsWithin first last fault = fault.kind ≢ OutOfMemory → (first ≤ fault.line) × (fault.line ≤ last)

@@ -4,7 +4,7 @@
 
 ghost use Rattle.std.specs.Prelude.{◌≡◌, ◌⊎◌, ◌≤◌, IfOk, IfErr, Some, length, take, vec_len, chars};
 ghost use Rattle.yaml_lines.specs.Characters.{characters_of, most_bytes, without_mark};
-ghost use Rattle.yaml_lines.specs.Faults.{Gives, fault_of_bytes, line_behind, want_of_memory};
+ghost use Rattle.yaml_lines.specs.Faults.{Gives, TellsTooLarge, fault_of_bytes, line_behind, want_of_memory};
 
 use crate::{YamlFault, YamlKind};
 use std::alloc::{AllocError, Global};
@@ -70,7 +70,9 @@ fn without_mark(mut all: Vec<char>) -> Vec<char>
 pub fn characters(alloc: Global, bytes: &[u8]) -> Result<Vec<char>, YamlFault>
     ensures meant { Gives (λ v. v.items) result (characters_of bytes.now) }
     ensures few { IfOk result (λ v. vec_len v ≤ most_bytes) }
+    ensures within { IfOk result (λ _. length bytes.now ≤ most_bytes) }
     ensures refused { IfErr result (λ fault. (fault ≡ want_of_memory) ⊎ (fault_of_bytes bytes.now ≡ Some fault)) }
+    ensures large { IfErr result (TellsTooLarge bytes.now) }
 {
     if bytes.len() > MOST_BYTES {
         return Err(YamlFault {

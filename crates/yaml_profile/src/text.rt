@@ -1,12 +1,12 @@
 //! A whole text, from its bytes on.
 
-ghost use Rattle.std.specs.Prelude.{◌≡◌, ◌≤◌, length, option_and_then};
+ghost use Rattle.std.specs.Prelude.{◌≡◌, ◌≤◌, IfErr, IfOk, length, option_and_then};
 ghost use Rattle.yaml_lines.specs.Meaning.{most_nodes};
 ghost use Rattle.yaml_lines.specs.Characters.{most_bytes};
-ghost use Rattle.yaml_lines.specs.Faults.{Gives};
+ghost use Rattle.yaml_lines.specs.Faults.{Gives, TellsTooLarge};
 ghost use Rattle.yaml_lines.specs.Lines.{content_lines_from, content_lines_of};
 ghost use Rattle.yaml_lines.specs.View.{view};
-ghost use Rattle.yaml_lines.specs.declared.fault.YamlKind.TheVariants.{OutOfMemory};
+ghost use Rattle.yaml_lines.specs.declared.fault.YamlKind.TheVariants.{OutOfMemory, TooLarge};
 ghost use Rattle.yaml_profile.specs.Blocks.{whole};
 ghost use Rattle.yaml_profile.specs.Text.{meaning_of};
 
@@ -25,7 +25,9 @@ use yaml_lines::{
 /// the line of the second of two equal keys, or `TooDeep` at a node that would be one more than [`MOST_NODES`] within one
 /// another. `OutOfMemory` (in line 0) says nothing of the text.
 pub fn read(alloc: Global, bytes: &[u8]) -> Result<Node, YamlFault>
-    ensures { Gives view result (meaning_of bytes.now) }
+    ensures meant { Gives view result (meaning_of bytes.now) }
+    ensures within { IfOk result (λ _. length bytes.now ≤ most_bytes) }
+    ensures large { IfErr result (TellsTooLarge bytes.now) }
 {
     match characters(alloc, bytes) {
         Ok(text) => read_text(alloc, text.as_slice(), None),
@@ -95,7 +97,8 @@ fn whole(alloc: Global, lines: &[Line<'_, '_>], end: YamlFault) -> Result<Node, 
 
 // The fault of the bytes, or an earlier one, of the lines before the first that isn't UTF-8.
 fn first_fault(alloc: Global, bytes: &[u8], fault: YamlFault) -> YamlFault
-    ensures { fault.kind ≡ OutOfMemory → result.kind ≡ OutOfMemory }
+    ensures memory { fault.kind ≡ OutOfMemory → result.kind ≡ OutOfMemory }
+    ensures large { fault.kind ≡ TooLarge → result ≡ fault }
 {
     if fault.kind != YamlKind::NotUtf8 {
         return fault;

@@ -10,7 +10,7 @@ use Rattle.hook_cli.proofs.configuration_run.try_over.Goals as goal
 pub returns-clause-tried : goal.returns-clause-tried
 returns-clause-tried g c =
     let report = c.in_ok-report.ensures in
-    let meant = ap configuration_of (sym c.as_slice.ensures.value) ∙ c.in_ok-config.ensures in
+    let meant = ap configuration_of (sym c.as_slice.ensures.value) ∙ c.in_ok-config.ensures.meant in
     record {
       config = c.in_ok-config.config;
       trace = no_parts report.0;
@@ -30,7 +30,7 @@ pub returns-in_err-write_report-clause-refused : goal.returns-in_err-write_repor
 returns-in_err-write_report-clause-refused g c =
     let refusal = c.from_residual-in_err-write_report in
     let p = err_from_is_err_and refusal.result refusal.ensures.1 in
-    let meant = ap configuration_of (sym c.as_slice.ensures.value) ∙ c.in_ok-config.ensures in
+    let meant = ap configuration_of (sym c.as_slice.ensures.value) ∙ c.in_ok-config.ensures.meant in
     let read = read-configuration (g.R.Read.remaining c.args.reader.now) (g.R.Read.remaining c.read_bytes.new.reader) c.in_ok-bytes.bytes.items
     c.in_ok-config.config c.in_ok-bytes.ensures.read meant in
     rw (p.1, p.2)
