@@ -4,5 +4,4 @@ pub mod LineLemmas
 pub mod ReadingLemmas
 pub mod RunLemmas
 pub mod SelectionLemmas
-pub mod TrimLemmas
 pub mod ValueLemmas

@@ -9,9 +9,9 @@ use Rattle.hook_base.specs.declared.file.File.{File}
 use Rattle.child_port.specs.declared.answer.Outcome.{Outcome}
 use Rattle.hook_config.specs.declared.configuration.Config.{Config}
 use Rattle.hook_config.specs.declared.configuration.Hook.{Hook}
-use Rattle.hook_cli.specs.declared.report_text.hook_result.HookResult.{HookResult}
+use Rattle.report_text.specs.declared.hook_result.HookResult.{HookResult}
 use Rattle.std.specs.List.{flat_map}
-use Rattle.hook_cli.specs.Report.{columns_of, greatest_width, hook_text, report_text, width_of}
+use Rattle.report_text.specs.Report.{columns_of, greatest_width, hook_text, report_text, width_of}
 use Rattle.hook_cli.specs.TryOver.{ask_for_all, faults_of}
 use Rattle.hook_config.specs.declared.stage.Stage.TheVariants.{PreCommit}
 use Rattle.hook_cli.specs.StageRun.{Ask, AllTold, IsResult, IsRun, IsStageRun, Part, all_parts, hooks_of_stage, is_last, no_parts}

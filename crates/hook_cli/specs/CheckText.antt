@@ -3,7 +3,7 @@ use Rattle.std.specs.Prelude.{ℕ, List, ◌++◌, length, codes}
 use Rattle.std.specs.List.{flat_map}
 use Rattle.std.specs.Fmt.{decimal}
 use Rattle.hook_config.specs.declared.configuration.Config.{Config}
-use Rattle.hook_cli.specs.Report.{line}
+use Rattle.report_text.specs.Report.{line}
 
 -- how many hooks it has
 abbrev pub hooks_line : ℕ → List ℕ

@@ -2,7 +2,6 @@ pub mod CheckText
 pub mod CommandLine
 pub mod FailAnswer
 pub mod Reading
-pub mod Report
 pub mod StageRun
 pub mod TryFaults
 pub mod TryOver

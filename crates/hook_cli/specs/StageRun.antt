@@ -13,11 +13,11 @@ use Rattle.hook_config.specs.declared.configuration.Language.{Language}
 use Rattle.hook_config.specs.declared.configuration.Language.TheVariants.{Fail}
 use Rattle.hook_config.specs.declared.stage.Stage.{Stage}
 use Rattle.hook_config.specs.Stages.{has_stage}
-use Rattle.hook_cli.specs.declared.report_text.hook_result.Ending.{Ending}
-use Rattle.hook_cli.specs.declared.report_text.hook_result.Ending.TheVariants.{SkippedAsked, SkippedNoFiles, Ran}
-use Rattle.hook_cli.specs.declared.report_text.hook_result.HookResult.{HookResult}
+use Rattle.report_text.specs.declared.hook_result.Ending.{Ending}
+use Rattle.report_text.specs.declared.hook_result.Ending.TheVariants.{SkippedAsked, SkippedNoFiles, Ran}
+use Rattle.report_text.specs.declared.hook_result.HookResult.{HookResult}
 use Rattle.hook_cli.specs.FailAnswer.{fail_answer}
-use Rattle.hook_cli.specs.Report.{is_empty, is_failed}
+use Rattle.report_text.specs.Report.{is_empty, is_failed}
 
 -- one child of a hook: the words of its command, the files that it sees, and what became of it
 pub record Part : Type 0 where

@@ -10,10 +10,10 @@ use Rattle.hook_config.specs.declared.config_fault.ConfigKind.TheVariants as kin
 use Rattle.hook_config.specs.declared.stage.Stage.TheVariants.{PreCommit}
 use Rattle.hook_config.specs.Configuration.{configuration_of}
 use Rattle.hook_config.specs.Refusals.{TellsTooLarge}
-use Rattle.hook_cli.specs.declared.report_text.hook_result.HookResult.{HookResult}
+use Rattle.report_text.specs.declared.hook_result.HookResult.{HookResult}
 use Rattle.hook_cli.specs.declared.try_fault.TryFault.{TryFault}
 use Rattle.hook_cli.specs.declared.try_fault.TryFault.TheVariants.{Read, Config as BadConfig, Write, OutOfMemory, Spent}
-use Rattle.hook_cli.specs.Report.{report_text}
+use Rattle.report_text.specs.Report.{report_text}
 use Rattle.hook_cli.specs.StageRun.{Ask, AllTold, IsStageRun, Part, all_parts, has_passed, names_of_run}
 -- ---- what is read. Of a reader that doesn't say its bytes nothing is claimed
 

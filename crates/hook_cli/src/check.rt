@@ -6,9 +6,9 @@ ghost use Rattle.std.specs.Prelude.{◌≡◌, ◌++◌, IfOk, OnOk};
 ghost use Rattle.std.specs.List.{flat_map};
 ghost use Rattle.hook_cli.specs.CheckText.{check_text, hooks_line, ignored_line};
 
-use crate::report_text::{push, push_line};
 use hook_base::{Bytes, OutOfMemory, Text};
 use hook_config::Config;
+use report_text::{push, push_line};
 use std::alloc::Global;
 
 /// What `check` says of a configuration: how many hooks it has, and each key that nothing knows, in the order of the

@@ -5,19 +5,19 @@
 ghost use Rattle.std.specs.Prelude.{◌≡◌, ◌≢◌, ◌≤◌, ◌+◌, All, IfOk, IfErr, OnOk, List, map, length};
 ghost use Rattle.std.specs.Io.KnownBytes.{Appends};
 ghost use Rattle.child_port.specs.Telling.{SameTells};
-ghost use Rattle.hook_cli.specs.Report.{report_text, greatest_width, width_of};
+ghost use Rattle.report_text.specs.Report.{report_text, greatest_width, width_of};
 ghost use Rattle.hook_cli.specs.StageRun.{IsStageRun, has_passed, names_of_run, no_parts};
 ghost use Rattle.hook_cli.specs.TryOver.{IsRefusedBy, IsTriedOver, ReadsWithin, ask_for_all, most_bytes};
-ghost use Rattle.hook_cli.specs.declared.report_text.hook_result.HookResult.{HookResult};
+ghost use Rattle.report_text.specs.declared.hook_result.HookResult.{HookResult};
 ghost use Rattle.hook_cli.specs.declared.try_fault.TryFault.TheVariants as fault;
 
 use crate::TryFault;
 use crate::configuration_bytes::read_bytes;
 use crate::hook_run::{has_passed, hooks_of_stage, run_hooks};
-use crate::report_text::{columns, hook_texts};
 use child_port::Children;
 use hook_base::{OutOfMemory, Tree};
 use hook_config::{Config, Hook, Stage, read_config};
+use report_text::{columns, hook_texts};
 use std::alloc::Global;
 use std::io::{Read, Write};
 

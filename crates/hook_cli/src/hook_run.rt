@@ -8,10 +8,10 @@ ghost use Rattle.hook_cli.specs.StageRun.{Ask, IsEnding, IsResult, IsRun, ending
 ghost use Rattle.hook_cli.specs.TryOver.{ask_for_all};
 
 use crate::builtin_hooks::fail_answer;
-use crate::report_text::{Ending, HookResult};
 use child_port::Answer;
 use hook_base::{Items, OutOfMemory, Text, Tree};
 use hook_config::{Config, Hook, Language, Stage};
+use report_text::{Ending, HookResult};
 use std::alloc::Global;
 
 /// The hooks of the stage, in the order of the configuration.

@@ -1,7 +1,7 @@
 //! The command line of `hookhost` as a library: the run of a configuration over a tree with its report written out
 //! (`try_over`), what `check` prints of a configuration (`check_text`), and what a line of words asks for (`line_of`).
 //!
-//! Their contracts cite `specs/TryOver.antt`, which stands on `specs/StageRun.antt` and `specs/Report.antt`,
+//! Their contracts cite `specs/TryOver.antt`, which stands on `specs/StageRun.antt` and on `Report` of `report_text`,
 //! `specs/CheckText.antt`, `specs/CommandLine.antt` and `specs/TryFaults.antt` (the refusals of a run).
 #![tactic(auto)]
 
@@ -11,7 +11,6 @@ mod command_line;
 mod configuration_bytes;
 mod configuration_run;
 mod hook_run;
-mod report_text;
 #[cfg(test)]
 mod tests;
 mod try_fault;

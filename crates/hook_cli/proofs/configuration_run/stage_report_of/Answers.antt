@@ -1,8 +1,8 @@
 use Rattle.std.proofs.Common.{◌≡◌, ◌∙◌, ap, sym, subst, List, All, map, ◌+◌, ◌≤◌}
-use Rattle.hook_cli.specs.Report.{columns_of, width_of}
+use Rattle.report_text.specs.Report.{columns_of, width_of}
 use Rattle.hook_cli.specs.StageRun.{has_passed}
 use Rattle.hook_cli.specs.TryOver.{ask_for_all}
-use Rattle.hook_cli.specs.declared.report_text.hook_result.HookResult.{HookResult}
+use Rattle.report_text.specs.declared.hook_result.HookResult.{HookResult}
 use Rattle.hook_config.specs.declared.configuration.Hook.{Hook}
 use Rattle.hook_cli.proofs.RunLemmas.{hooks_behind, names-behind, report-from, stage-names-fit, stage-run}
 use Rattle.hook_cli.proofs.SelectionLemmas.{texts}

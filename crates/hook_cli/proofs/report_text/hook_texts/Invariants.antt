@@ -1,7 +1,0 @@
-use Rattle.std.proofs.Common.{◌≡◌, take}
-use Rattle.std.specs.List.{flat_map}
-use Rattle.hook_cli.specs.Report.{hook_text}
-use Rattle.hook_cli.proofs.report_text.hook_texts.Given as goal
-
-abbrev pub invariant-loop-hook : goal.invariant-loop-hook
-invariant-loop-hook l = l.texts.items ≡ flat_map (hook_text l.columns) (take l.hook-index l.hooks)

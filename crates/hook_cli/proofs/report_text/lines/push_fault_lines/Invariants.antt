@@ -1,6 +1,0 @@
-use Rattle.std.proofs.Common.{◌≡◌, ◌++◌, take}
-use Rattle.hook_cli.specs.Report.{fault_lines}
-use Rattle.hook_cli.proofs.report_text.lines.push_fault_lines.Given as goal
-
-abbrev pub invariant-loop-fault : goal.invariant-loop-fault
-invariant-loop-fault l = l.report.items ≡ l.initial.report.items ++ fault_lines (take l.fault-index l.faults)
