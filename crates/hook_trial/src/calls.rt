@@ -2,13 +2,18 @@
 
 use crate::line::Line;
 use crate::stop::Stop;
-use crate::{config_kinds, config_texts, configurations, stages};
+use crate::{
+    checks, command_lines, config_kinds, config_texts, configurations, runs, stages, try_faults,
+};
 use std::alloc::Global;
 
 /// What a line's call answers.
 pub(crate) fn answer_to(alloc: Global, line: &Line) -> Result<Vec<u8>, Stop> {
     let (call, arguments) = (line.call.as_str(), line.arguments.as_slice());
     if let Some(answer) = of_hook_config(alloc, call, arguments) {
+        return answer;
+    }
+    if let Some(answer) = of_hook_cli(alloc, call, arguments) {
         return answer;
     }
     Err(Stop::NoCall)
@@ -31,6 +36,22 @@ fn of_hook_config(
         "hook_stages" => stages::of_hooks(alloc, arguments),
         "stage_of_word" => stages::of_word(alloc, arguments),
         "stages" => stages::of_set(alloc, arguments),
+        _ => return None,
+    })
+}
+
+fn of_hook_cli(alloc: Global, call: &str, arguments: &[Vec<u8>]) -> Option<Result<Vec<u8>, Stop>> {
+    Some(match call {
+        "try_over" => runs::over_files(alloc, arguments),
+        "try_failing_reader" => runs::with_failing_reader(alloc, arguments),
+        "try_failing_writer" => runs::with_failing_writer(alloc, arguments),
+        "try_texts" => runs::of_texts(alloc, arguments),
+        "try_left" => runs::with_bytes_left(alloc, arguments),
+        "try_flushed" => runs::with_flushes(alloc, arguments),
+        "try_fault" => try_faults::told(alloc, arguments),
+        "check_text" => checks::of_text(alloc, arguments),
+        "most_configuration_bytes" => checks::most_bytes(alloc, arguments),
+        "line_of" => command_lines::asked(alloc, arguments),
         _ => return None,
     })
 }

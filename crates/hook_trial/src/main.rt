@@ -6,12 +6,18 @@
 #![tactic(auto)]
 
 mod calls;
+mod checks;
+mod command_lines;
 mod config_kinds;
 mod config_texts;
 mod configurations;
 mod line;
+mod readers;
+mod runs;
 mod stages;
 mod stop;
+mod try_faults;
+mod writers;
 
 use calls::answer_to;
 use line::Line;
