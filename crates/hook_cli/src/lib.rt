@@ -3,6 +3,10 @@
 //!
 //! Their contracts cite `specs/TryOver.antt`, which stands on `specs/StageRun.antt` and `specs/Report.antt`,
 //! `specs/CheckText.antt`, `specs/CommandLine.antt` and `specs/TryFaults.antt` (the refusals of a run).
+//!
+//! Of the parts of a run two are public, which no configuration reaches in every case yet: what a report says of hooks
+//! that ended in any way (`columns`, `hook_texts`, by `specs/Report.antt`), and what a hook of the language `fail` answers
+//! (`fail_answer`, by `specs/FailAnswer.antt`).
 #![tactic(auto)]
 
 mod builtin_hooks;
@@ -12,12 +16,12 @@ mod configuration_bytes;
 mod configuration_run;
 mod hook_run;
 mod report_text;
-#[cfg(test)]
-mod tests;
 mod try_fault;
 
+pub use builtin_hooks::fail_answer;
 pub use check::check_text;
 pub use command_line::{Line, line_of};
 pub use configuration_bytes::MOST_CONFIGURATION_BYTES;
 pub use configuration_run::try_over;
+pub use report_text::{Ending, HookResult, LineFault, columns, hook_texts};
 pub use try_fault::TryFault;

@@ -33,16 +33,6 @@ pub fn columns(names: &[&str]) -> usize
     80.max(widest + 30)
 }
 
-/// What a report says of one hook.
-pub fn hook_text(alloc: Global, columns: usize, hook: &HookResult) -> Result<Vec<u8>, OutOfMemory>
-    requires { width_of hook.now.name + 30 ≤ columns }
-    ensures { IfOk result (λ text. text.items ≡ hook_text columns hook.now) }
-{
-    let mut text = Vec::new(alloc);
-    push_hook_text(alloc, &mut text, columns, hook)?;
-    Ok(text)
-}
-
 /// What a report says of hooks, one after another.
 pub fn hook_texts(
     alloc: Global,

@@ -3,7 +3,8 @@
 use crate::line::Line;
 use crate::stop::Stop;
 use crate::{
-    checks, command_lines, config_kinds, config_texts, configurations, runs, stages, try_faults,
+    checks, command_lines, config_kinds, config_texts, configurations, report_texts, runs, stages,
+    try_faults,
 };
 use std::alloc::Global;
 
@@ -52,6 +53,9 @@ fn of_hook_cli(alloc: Global, call: &str, arguments: &[Vec<u8>]) -> Option<Resul
         "check_text" => checks::of_text(alloc, arguments),
         "most_configuration_bytes" => checks::most_bytes(alloc, arguments),
         "line_of" => command_lines::asked(alloc, arguments),
+        "hook_texts" => report_texts::of_hook(alloc, arguments),
+        "columns" => report_texts::for_names(alloc, arguments),
+        "fail_answer" => report_texts::of_fail(alloc, arguments),
         _ => return None,
     })
 }

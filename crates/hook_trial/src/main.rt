@@ -13,6 +13,7 @@ mod config_texts;
 mod configurations;
 mod line;
 mod readers;
+mod report_texts;
 mod runs;
 mod stages;
 mod stop;

@@ -1,3 +1,0 @@
-//! What no public call reaches.
-
-mod texts;
