@@ -1,5 +1,5 @@
 -- What was read is a configuration, and more bytes than a configuration may have are none.
-use Rattle.std.proofs.Common.{◌≡◌, arith, inl, inr, lt-ltb, ℕ, ◌+◌, ◌<◌, List, length, Option, None, Some}
+use Rattle.std.proofs.Common.{◌≡◌, arith, inl, inr, lt-ltb, ℕ, ◌<◌, List, length, Option, None, Some}
 use Rattle.yaml_lines.specs.Characters.{characters_of}
 use Rattle.yaml_lines.specs.Lines.{content_lines_of_bytes}
 use Rattle.yaml_profile.specs.Text.{meaning_of}

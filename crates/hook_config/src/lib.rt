@@ -21,8 +21,6 @@ mod reader;
 mod repositories;
 mod stage;
 mod stage_lists;
-#[cfg(test)]
-mod tests;
 mod text_lists;
 mod unknown_keys;
 

@@ -1,0 +1,61 @@
+//! The calls by their names. Each library has a function of its own here.
+
+use crate::line::Line;
+use crate::stop::Stop;
+use crate::{
+    checks, command_lines, config_kinds, config_texts, configurations, report_texts, runs, stages,
+    try_faults,
+};
+use std::alloc::Global;
+
+/// What a line's call answers.
+pub(crate) fn answer_to(alloc: Global, line: &Line) -> Result<Vec<u8>, Stop> {
+    let (call, arguments) = (line.call.as_str(), line.arguments.as_slice());
+    if let Some(answer) = of_hook_config(alloc, call, arguments) {
+        return answer;
+    }
+    if let Some(answer) = of_hook_cli(alloc, call, arguments) {
+        return answer;
+    }
+    Err(Stop::NoCall)
+}
+
+fn of_hook_config(
+    alloc: Global,
+    call: &str,
+    arguments: &[Vec<u8>],
+) -> Option<Result<Vec<u8>, Stop>> {
+    Some(match call {
+        "read_config" => configurations::read_alone(alloc, arguments),
+        "read_config_with_node" => configurations::read_with_node(alloc, arguments),
+        "hooks" => configurations::hooks_alone(alloc, arguments),
+        "hooks_with_node" => configurations::hooks_with_node(alloc, arguments),
+        "node" => configurations::node(alloc, arguments),
+        "config_text" => config_texts::held(alloc, arguments),
+        "empty_config_text" => config_texts::empty(alloc, arguments),
+        "config_kind" => config_kinds::told(alloc, arguments),
+        "hook_stages" => stages::of_hooks(alloc, arguments),
+        "stage_of_word" => stages::of_word(alloc, arguments),
+        "stages" => stages::of_set(alloc, arguments),
+        _ => return None,
+    })
+}
+
+fn of_hook_cli(alloc: Global, call: &str, arguments: &[Vec<u8>]) -> Option<Result<Vec<u8>, Stop>> {
+    Some(match call {
+        "try_over" => runs::over_files(alloc, arguments),
+        "try_failing_reader" => runs::with_failing_reader(alloc, arguments),
+        "try_failing_writer" => runs::with_failing_writer(alloc, arguments),
+        "try_texts" => runs::of_texts(alloc, arguments),
+        "try_left" => runs::with_bytes_left(alloc, arguments),
+        "try_flushed" => runs::with_flushes(alloc, arguments),
+        "try_fault" => try_faults::told(alloc, arguments),
+        "check_text" => checks::of_text(alloc, arguments),
+        "most_configuration_bytes" => checks::most_bytes(alloc, arguments),
+        "line_of" => command_lines::asked(alloc, arguments),
+        "hook_texts" => report_texts::of_hook(alloc, arguments),
+        "columns" => report_texts::for_names(alloc, arguments),
+        "fail_answer" => report_texts::of_fail(alloc, arguments),
+        _ => return None,
+    })
+}

@@ -1,0 +1,45 @@
+//! What a line of words asks for.
+
+use crate::line::texts_of;
+use crate::stop::Stop;
+use hook_base::Text;
+use hook_cli::{Line, line_of};
+use std::alloc::{AllocError, Global};
+
+/// `line_of WORD..`: the command with its words, a line each; or the kind of `clap`'s error, and its text.
+pub(crate) fn asked(alloc: Global, arguments: &[Vec<u8>]) -> Result<Vec<u8>, Stop> {
+    let words = texts_of(alloc, arguments)?;
+    match line_of(alloc, words.as_slice()) {
+        Ok(line) => Ok(told(alloc, &line)?.into_bytes()),
+        Err(error) => refused(alloc, &error),
+    }
+}
+
+fn refused(alloc: Global, error: &clap::Error) -> Result<Vec<u8>, Stop> {
+    let kind = error.kind();
+    Ok(format!(in alloc; "refused {kind:?}\n{error}")?.into_bytes())
+}
+
+fn told(alloc: Global, line: &Line) -> Result<String, AllocError> {
+    match line {
+        Line::Check => String::from_str(alloc, "check\n"),
+        Line::Try { config, paths } => {
+            let mut text = String::from_str(alloc, "try\n")?;
+            push_line(&mut text, config)?;
+            push_lines(&mut text, paths.as_slice())?;
+            Ok(text)
+        }
+    }
+}
+
+fn push_lines(text: &mut String, words: &[Text]) -> Result<(), AllocError> {
+    for word in words {
+        push_line(text, word)?;
+    }
+    Ok(())
+}
+
+fn push_line(text: &mut String, word: &Text) -> Result<(), AllocError> {
+    text.push_str(word.as_str())?;
+    text.push_str("\n")
+}

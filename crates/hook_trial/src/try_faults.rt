@@ -1,0 +1,28 @@
+//! The refusals of a run.
+
+use crate::line::{only, text_of};
+use crate::stop::Stop;
+use hook_cli::TryFault;
+use hook_config::{ConfigFault, ConfigKind};
+use std::alloc::Global;
+
+/// `try_fault NAME`: the refusal's number and name, and what it is shown as.
+pub(crate) fn told(alloc: Global, arguments: &[Vec<u8>]) -> Result<Vec<u8>, Stop> {
+    let fault = fault_of(text_of(only(arguments)?)?).ok_or(Stop::BadLine)?;
+    let (number, name) = (fault.number(), fault.name());
+    Ok(format!(in alloc; "{number} {name}: {fault}")?.into_bytes())
+}
+
+fn fault_of(word: &str) -> Option<TryFault> {
+    match word {
+        "read" => Some(TryFault::Read),
+        "configuration" => Some(TryFault::Config(ConfigFault {
+            kind: ConfigKind::Shape,
+            at: 0,
+        })),
+        "write" => Some(TryFault::Write),
+        "out of memory" => Some(TryFault::OutOfMemory),
+        "spent" => Some(TryFault::Spent),
+        _ => None,
+    }
+}

@@ -1,0 +1,420 @@
+"""What no contract of hook_config says: which refusal a text has and where, what each is shown as, and that the words of a
+configuration are those of pre-commit."""
+
+PROGRAM = "hook_trial"
+
+# A configuration of one hook.
+ONE_HOOK = """\
+repos:
+- repo: local
+  hooks:
+  - id: names
+    name: Check names
+    language: fail
+    entry: no such names
+"""
+
+# What a hook's table stands after.
+START = """\
+repos:
+- repo: local
+  hooks:
+"""
+
+# A hook with the keys that it must have, and no further ones.
+PLAIN_HOOK = """\
+  - id: a
+    name: A
+    language: fail
+    entry: e
+"""
+
+
+def in_a_hook(keys):
+    """A configuration whose only hook has more keys than it must have."""
+    return f"repos: [{{repo: local, hooks: [{{id: a, name: A, language: fail, entry: e, {keys}}}]}}]\n"
+
+
+def in_hooks(hooks):
+    """A configuration of one repository with these hooks."""
+    return f"repos: [{{repo: local, hooks: [{hooks}]}}]\n"
+
+
+def in_repositories(repositories):
+    return f"repos: [{repositories}]\n"
+
+
+def with_language(language):
+    return f"repos: [{{repo: local, hooks: [{{id: a, name: A, language: {language}, entry: e}}]}}]\n"
+
+
+def both(cases):
+    """Each text is read alone and with its node, which gives the same."""
+    return [(call, *case) for case in cases for call in ("read_config", "read_config_with_node")]
+
+
+# Whole texts.
+TEXTS = [
+    ("", "2 Shape at 0"),
+    ("a", "2 Shape at 0"),
+    ("- a\n", "2 Shape at 0"),
+    ("repos: &a b\n", "1 Yaml at 1"),
+    ("a: 1\na: 2\n", "1 Yaml at 2"),
+    ("repos:\n\tb: 1\n", "1 Yaml at 2"),
+    ("fail_fast: true\n", "3 MissingKey at 0"),
+    ("repos:\n", "2 Shape at 0"),
+    ("repos: a\n", "2 Shape at 0"),
+    ("repos: {a: 1}\n", "2 Shape at 0"),
+    ("repos: []\n", "0 hooks, false"),
+    ("default_stages: push\n", "2 Shape at 0"),
+    ("default_stages:\n", "2 Shape at 0"),
+    ("default_stages:\n- push\n-\n", "2 Shape at 0"),
+    ("default_stages: [push, {a: b}]\n", "2 Shape at 0"),
+    ("default_stages: [push, pushes]\n", "4 BadStage at 0"),
+    ("default_stages: [push]\n", "3 MissingKey at 0"),
+    ("fail_fast: [true]\nrepos: []\n", "2 Shape at 0"),
+    ("x: 1\nrepos: []\n", "0 hooks, false x"),
+    ("x: 1\nrepos:\n", "2 Shape at 0"),
+    (f"{ONE_HOOK}default_stages:\n", "2 Shape at 0"),
+    (ONE_HOOK, "1 hooks, false"),
+]
+
+# Lists of repositories.
+REPOSITORIES = [
+    ("a", "2 Shape at 0"),
+    ("[]", "2 Shape at 0"),
+    ("{hooks: [{id: a}]}", "3 MissingKey at 0"),
+    ("{repo: local}", "3 MissingKey at 0"),
+    ("{repo: local, hooks: a}", "2 Shape at 0"),
+    ("{repo: [local], hooks: [{id: a}]}", "2 Shape at 0"),
+    ("{repo: local, hooks: []}", "0 hooks, false"),
+    ("{repo: meta, hooks: []}", "6 RemoteRepo at 0"),
+    ("{repo: Local, hooks: []}", "6 RemoteRepo at 0"),
+    ("{repo: meta, hooks: [{id: a, name: A, language: fail, entry: e}]}", "6 RemoteRepo at 0"),
+    ("{repo: https://example.com/a, rev: v1, hooks: [{id: a}]}", "6 RemoteRepo at 0"),
+]
+
+# Lists of hooks.
+HOOKS = [
+    ("a", "2 Shape at 1"),
+    ("[]", "2 Shape at 1"),
+    ("{id: a, name: A, language: fail}", "3 MissingKey at 1"),
+    ("{id: a, language: fail, entry: e}", "3 MissingKey at 1"),
+    ("{id: a, name: A, entry: e}", "3 MissingKey at 1"),
+    ("{name: A, language: fail, entry: e}", "3 MissingKey at 1"),
+    ("{id: a, name: A, language: fail, entry: e}, {id: a, name: A, language: fail, entry: e}", "2 hooks, false"),
+    ("{id: a, name: A, language: fail, entry: e}, {id: b}", "3 MissingKey at 2"),
+]
+
+# Keys of a hook beside those that it must have.
+KEYS = [
+    ("stages: push", "2 Shape at 1"),
+    ("stages: [[push]]", "2 Shape at 1"),
+    ("stages: [push, Push]", "4 BadStage at 1"),
+    ("stages: [never, []]", "4 BadStage at 1"),
+    ("stages: [[], never]", "2 Shape at 1"),
+    ("args: b", "2 Shape at 1"),
+    ("args: [b, []]", "2 Shape at 1"),
+    ("log_file: b", "10 Unsupported at 1"),
+    ("log_file: [b]", "2 Shape at 1"),
+    ("log_file: ''", "1 hooks, false"),
+    ("additional_dependencies: [x]", "10 Unsupported at 1"),
+    ("additional_dependencies: [x, y]", "10 Unsupported at 1"),
+    ("additional_dependencies: [x, [y]]", "2 Shape at 1"),
+    ("additional_dependencies: [[y], x]", "2 Shape at 1"),
+    ("additional_dependencies: x", "2 Shape at 1"),
+    ("additional_dependencies: []", "1 hooks, false"),
+    ('verbose: "true"', "2 Shape at 1"),
+]
+
+# Texts with two faults, in the order in which they are told: each row holds one fault and the next of its kind of place
+# that can be told apart from it.
+FIRST_AT_THE_TOP = [
+    ("files: a\nfiles: b\n", "1 Yaml at 2"),
+    ("files: a\ndefault_stages: [never]\n", "10 Unsupported at 0"),
+    ("fail_fast: [x]\ndefault_stages: [never]\n", "4 BadStage at 0"),
+    ("fail_fast: [x]\n", "2 Shape at 0"),
+    ("fail_fast: [x]\nrepos: [{}]\n", "2 Shape at 0"),
+    ("repos: [{}]\ndefault_stages: [never]\n", "4 BadStage at 0"),
+    ("repos: [{}, {repo: meta}]\n", "3 MissingKey at 0"),
+    ("repos: [{repo: meta}, {}]\n", "6 RemoteRepo at 0"),
+    ("repos: [{repo: []}]\n", "2 Shape at 0"),
+    ("repos: [{hooks: a}]\n", "3 MissingKey at 0"),
+    ("repos: [{hooks: a, repo: meta}]\n", "6 RemoteRepo at 0"),
+    ("repos: [{hooks: [{files: a}], repo: meta}]\n", "6 RemoteRepo at 0"),
+    ("repos: [{repo: local, hooks: [{}]}, {repo: meta}]\n", "3 MissingKey at 1"),
+]
+
+# The same of hooks.
+FIRST_IN_HOOKS = [
+    ("{}, {files: a}", "3 MissingKey at 1"),
+    ("{files: a}, {}", "10 Unsupported at 1"),
+    ("{log_file: [], files: a}", "10 Unsupported at 1"),
+    ("{additional_dependencies: x, log_file: b}", "10 Unsupported at 1"),
+    ("{log_file: [], additional_dependencies: [x]}", "2 Shape at 1"),
+    ("{additional_dependencies: [x]}", "10 Unsupported at 1"),
+    ("{id: []}", "2 Shape at 1"),
+    ("{name: []}", "3 MissingKey at 1"),
+    ("{id: a, alias: []}", "3 MissingKey at 1"),
+    ("{language: node}", "3 MissingKey at 1"),
+    ("{id: a, name: A, language: node, alias: []}", "2 Shape at 1"),
+    ("{id: a, name: A, entry: e, language: node, alias: b}", "5 BadLanguage at 1"),
+    ("{id: a, name: A, language: node}", "5 BadLanguage at 1"),
+    ("{id: a, name: A, language: script}", "10 Unsupported at 1"),
+    ("{id: a, name: A, language: fail, args: b}", "3 MissingKey at 1"),
+    ("{id: a, name: A, language: fail, entry: e, stages: [never], args: b}", "2 Shape at 1"),
+    ("{id: a, name: A, language: fail, entry: e, verbose: x, stages: [never]}", "4 BadStage at 1"),
+]
+
+# A fault has its hook's number over all repositories.
+THIRD_HOOK = f"{START}{PLAIN_HOOK}- repo: local\n  hooks:\n{PLAIN_HOOK}{PLAIN_HOOK}    verbose: maybe\n"
+
+# Keys at the top, and of a hook, that are not served yet.
+LATER_TOP_KEYS = ["files", "exclude"]
+LATER_HOOK_KEYS = ["files", "exclude", "types", "types_or", "exclude_types"]
+
+# Languages that are not served yet, quoted or not.
+LATER_LANGUAGES = ["system", "script", "pygrep", '"system"']
+
+# Languages of pre-commit that no configuration of this profile has, and other words.
+OTHER_LANGUAGES = ["node", "python", "docker", "Fail", "fails", "''", '"system "']
+
+LATER = [
+    *((f"{ONE_HOOK}{key}: a\n", "10 Unsupported at 0") for key in LATER_TOP_KEYS),
+    *((f"{ONE_HOOK}    {key}: a\n", "10 Unsupported at 1") for key in LATER_HOOK_KEYS),
+    *((with_language(word), "10 Unsupported at 1") for word in LATER_LANGUAGES),
+    *((with_language(word), "5 BadLanguage at 1") for word in OTHER_LANGUAGES),
+]
+
+# The configuration of one hook in pieces: each text that ends within a piece, or with it, has the piece's outcome.
+PIECES = [
+    ("repos:\n- repo: ", "2 Shape at 0"),
+    ("loca", "6 RemoteRepo at 0"),
+    ("l\n  ", "3 MissingKey at 0"),
+    ("hooks", "1 Yaml at 3"),
+    (":\n  ", "2 Shape at 0"),
+    ("- id: ", "2 Shape at 1"),
+    ("names\n    ", "3 MissingKey at 1"),
+    ("name", "1 Yaml at 5"),
+    (": ", "2 Shape at 1"),
+    ("Check names\n    ", "3 MissingKey at 1"),
+    ("language", "1 Yaml at 6"),
+    (": ", "2 Shape at 1"),
+    ("fai", "5 BadLanguage at 1"),
+    ("l\n    ", "3 MissingKey at 1"),
+    ("entry", "1 Yaml at 7"),
+    (": ", "2 Shape at 1"),
+    ("no such names", "1 hooks, false"),
+]
+
+
+def prefixes(pieces):
+    """Each text of one character and more that the pieces begin with."""
+    text = ""
+    for piece, said in pieces:
+        for character in piece:
+            text += character
+            yield text, said
+
+
+# Every kind of refusal: what it is called to the program, its number, its name and its words.
+KINDS = [
+    ("yaml", "1 Yaml: the text is not YAML that can be read"),
+    ("shape", "2 Shape: a value is of the wrong kind"),
+    ("missing key", "3 MissingKey: a required key is missing"),
+    ("bad stage", "4 BadStage: a stage is not known"),
+    ("bad language", "5 BadLanguage: a language is not known"),
+    ("remote repository", "6 RemoteRepo: a repository is not `local`"),
+    ("bad pattern", "7 BadPattern: a pattern cannot be read"),
+    ("bad entry", "8 BadEntry: an entry cannot be read"),
+    ("bad arguments", "9 BadArgs: an argument is not known"),
+    ("unsupported", "10 Unsupported: a key or a language is not supported"),
+    ("too many", "11 TooMany: there are more than 500 hooks"),
+    ("out of memory", "12 OutOfMemory: out of memory"),
+]
+
+# Keys of a hook beside those that it must have, and the hook's fields but its stages, in the order of the type.
+FIELDS = [
+    ("alias: b", "a|A|b|Fail|e|false|false|true|false||"),
+    ('alias: "true"', "a|A|true|Fail|e|false|false|true|false||"),
+    ("args: [b, c d]", "a|A||Fail|e+b+c d|false|false|true|false||"),
+    ("args: []", "a|A||Fail|e|false|false|true|false||"),
+    ("stages: [push]", "a|A||Fail|e|false|false|true|false||"),
+    ("language_version: b", "a|A||Fail|e|false|false|true|false||"),
+    ("require_serial: {b: c}", "a|A||Fail|e|false|false|true|false||"),
+    ("description: [d]", "a|A||Fail|e|false|false|true|false||"),
+    ("always_run: true", "a|A||Fail|e|true|false|true|false||"),
+    ("verbose: true", "a|A||Fail|e|false|true|true|false||"),
+    ("pass_filenames: false", "a|A||Fail|e|false|false|false|false||"),
+    ("fail_fast: true", "a|A||Fail|e|false|false|true|true||"),
+    ("log_file: ''", "a|A||Fail|e|false|false|true|false||"),
+    ("additional_dependencies: []", "a|A||Fail|e|false|false|true|false||"),
+]
+
+# The node that comes with a configuration.
+WITH_NODE = 'repos:\n- repo: local\n  hooks:\n  - {id: a, name: A, language: fail, entry: "e"}\n'
+NODE = (
+    'Table([("repos", List([Table([("repo", Text { text: "local", quoted: false }), ("hooks", List([Table(['
+    '("id", Text { text: "a", quoted: false }), ("name", Text { text: "A", quoted: false }), '
+    '("language", Text { text: "fail", quoted: false }), ("entry", Text { text: "e", quoted: true })])]))])]))])'
+)
+
+# The keys that a hook must have, with their values.
+REQUIRED = [("id", "a"), ("name", "A"), ("language", "fail"), ("entry", "e")]
+
+
+def with_a_list_at(listed):
+    """A configuration whose only hook has a list at one of the keys that it must have."""
+    keys = "".join(f"    {key}:\n    - {value}\n" if key == listed else f"    {key}: {value}\n" for key, value in REQUIRED)
+    return f"{START}  - x: 1\n{keys}"
+
+
+# Keys at the top, and of a hook, that are passed over.
+IGNORED_TOP_KEYS = ["ci", "default_install_hook_types", "default_language_version", "minimum_pre_commit_version"]
+IGNORED_HOOK_KEYS = ["language_version", "minimum_pre_commit_version", "require_serial", "description"]
+
+# Values of every kind, as they stand behind a key.
+VALUES = [" a", "", "\n      - b", "\n      c: d"]
+
+IGNORED = [
+    *((f"{ONE_HOOK}{key}:{value}\n", "1 hooks, false") for key in IGNORED_TOP_KEYS for value in VALUES),
+    *((f"{ONE_HOOK}    {key}:{value}\n", "1 hooks, false") for key in IGNORED_HOOK_KEYS for value in VALUES),
+]
+
+# Words that say true, false, and neither.
+TRUE = ["true", "yes", "on", "TRUE", "YES", "ON", "True", "Yes", "On"]
+FALSE = ["false", "no", "off", "FALSE", "NO", "OFF", "False", "No", "Off"]
+NEITHER = ["tRUE", "y", "n", "1", "0", "truee", '"true"']
+
+TRUTHS = [
+    *((f"fail_fast: {word}\n{ONE_HOOK}", "1 hooks, true") for word in TRUE),
+    *((f"fail_fast: {word}\n{ONE_HOOK}", "1 hooks, false") for word in FALSE),
+    *((f"fail_fast: {word}\n{ONE_HOOK}", "2 Shape at 0") for word in NEITHER),
+]
+
+# Keys that no table knows, in the order of the text.
+UNKNOWN_KEYS = [
+    (
+        "x: 1\nrepos:\n- repo: local\n  hooks:\n  - id: a\n    name: A\n    language: fail\n    entry: e\n    foo: 2\n    description: d\n",
+        "1 hooks, false x foo",
+    ),
+    (
+        "x: 1\nrepos:\n- rev: 2\n  repo: local\n  hooks:\n  - foo: 3\n    id: a\n    name: A\n    language: fail\n    entry: e\n    bar: 4\n  last: 5\ny: 6\n",
+        "1 hooks, false x rev foo bar last y",
+    ),
+    (
+        "repos:\n- repo: local\n  hooks:\n  - id: a\n    name: A\n    language: fail\n    entry: e\n    foo: 3\n  - id: b\n    name: B\n    language: fail\n    entry: e\n    foo: 3\n",
+        "2 hooks, false foo foo",
+    ),
+    (
+        "id: 1\nrepo: 2\nRepos: 3\nrepos:\n- repo: local\n  id: 4\n  fail_fast: 5\n  hooks:\n  - repo: 6\n    id: a\n    name: A\n    language: fail\n    entry: e\n",
+        "1 hooks, false id repo Repos id fail_fast repo",
+    ),
+]
+
+# 500 hooks in two repositories.
+FIVE_HUNDRED = f"{START}{PLAIN_HOOK * 300}- repo: local\n  hooks:\n{PLAIN_HOOK * 200}"
+
+# What stands behind 500 hooks: the number of hooks is looked at before the hook that is one too many.
+BEHIND = [
+    ("", "500 hooks, false"),
+    (PLAIN_HOOK, "11 TooMany at 501"),
+    ("  - id: a\n", "11 TooMany at 501"),
+    ("  - a\n", "11 TooMany at 501"),
+    ("  - files: a\n", "11 TooMany at 501"),
+    ("- repo: local\n  hooks: []\n", "500 hooks, false"),
+    ("- repo: local\n  hooks: [a]\n", "11 TooMany at 501"),
+    ("- repo: local\n  hooks: a\n", "2 Shape at 0"),
+    ("- repo: meta\n  hooks: [a]\n", "6 RemoteRepo at 0"),
+]
+
+# The longest text that is held.
+MEBIBYTE = "0123456789abcdef" * 65536
+
+# Every stage: its first name, and its own.
+STAGES = [
+    ("pre-commit", "PreCommit"),
+    ("pre-merge-commit", "PreMergeCommit"),
+    ("pre-push", "PrePush"),
+    ("prepare-commit-msg", "PrepareCommitMsg"),
+    ("commit-msg", "CommitMsg"),
+    ("post-checkout", "PostCheckout"),
+    ("post-commit", "PostCommit"),
+    ("post-merge", "PostMerge"),
+    ("post-rewrite", "PostRewrite"),
+    ("pre-rebase", "PreRebase"),
+    ("manual", "Manual"),
+]
+
+ALL_STAGES = (
+    "pre-commit pre-merge-commit pre-push prepare-commit-msg commit-msg post-checkout post-commit post-merge "
+    "post-rewrite pre-rebase manual "
+)
+
+# Names that older configurations have, the first names of their stages, and these stages.
+OLDER = [("commit", "pre-commit", "PreCommit"), ("merge-commit", "pre-merge-commit", "PreMergeCommit"), ("push", "pre-push", "PrePush")]
+
+# Words that name no stage.
+OTHER_WORDS = ["Pre-commit", "pre-commit-", "pre_commit", "commits", "merge", "update", "post-push", "pre commit"]
+
+# Two repositories of three hooks, of which the second has a stage of its own.
+THREE_HOOKS = f"{START}{PLAIN_HOOK}{PLAIN_HOOK}    stages:\n    - commit-msg\n- repo: local\n  hooks:\n{PLAIN_HOOK}"
+DEFAULTS = "default_stages:\n- push\n- manual\n"
+
+HOOK_STAGES = [
+    *((f"{ONE_HOOK}    stages:\n    - {word}\n", f"{word} \n") for word, _ in STAGES),
+    *((f"{ONE_HOOK}default_stages:\n- {word}\n", f"{word} \n") for word, _ in STAGES),
+    *((f"{ONE_HOOK}    stages:\n    - {word}\n", f"{name} \n") for word, name, _ in OLDER),
+    # A list of stages is a set.
+    (f"{ONE_HOOK}    stages:\n    - manual\n    - push\n    - commit\n    - pre-push\n", "pre-commit pre-push manual \n"),
+    # The default stages hold wherever they stand.
+    (f"{DEFAULTS}{THREE_HOOKS}", "pre-push manual \ncommit-msg \npre-push manual \n"),
+    (f"{THREE_HOOKS}{DEFAULTS}", "pre-push manual \ncommit-msg \npre-push manual \n"),
+    # Without default stages, or with none, a hook has all.
+    (ONE_HOOK, f"{ALL_STAGES}\n"),
+    (f"{ONE_HOOK}default_stages: []\n", f"{ALL_STAGES}\n"),
+    # A hook with an empty list of stages has the default ones.
+    (f"{START}  - {{id: a, name: A, language: fail, entry: e, stages: []}}\ndefault_stages: [push]\n", "pre-push \n"),
+    # A quoted word names a stage.
+    (in_a_hook('stages: ["manual"]'), "manual \n"),
+]
+
+OTHER_STAGES = [
+    *((f"{ONE_HOOK}    stages:\n    - {word}\n", "4 BadStage at 1") for word in OTHER_WORDS),
+    *((f"{ONE_HOOK}default_stages:\n- {word}\n", "4 BadStage at 0") for word in OTHER_WORDS),
+]
+
+ROWS = [
+    *both(TEXTS),
+    *both((in_repositories(repositories), said) for repositories, said in REPOSITORIES),
+    *both((in_hooks(hooks), said) for hooks, said in HOOKS),
+    *both((in_a_hook(keys), said) for keys, said in KEYS),
+    *both(FIRST_AT_THE_TOP),
+    *both((in_hooks(hooks), said) for hooks, said in FIRST_IN_HOOKS),
+    *both([(THIRD_HOOK, "2 Shape at 3")]),
+    *both(LATER),
+    *both(prefixes(PIECES)),
+    *(("config_kind", kind, f"{said}\n{said}\n") for kind, said in KINDS),
+    ("hooks", ONE_HOOK, "names|Check names||Fail|no such names|false|false|true|false||\n"),
+    *(("hooks", in_a_hook(keys), f"{said}\n") for keys, said in FIELDS),
+    ("node", WITH_NODE, NODE),
+    ("hooks_with_node", WITH_NODE, "a|A||Fail|e|false|false|true|false||\n"),
+    *both((with_a_list_at(key), "2 Shape at 1") for key, _ in REQUIRED),
+    *both(IGNORED),
+    *both(TRUTHS),
+    *both(UNKNOWN_KEYS),
+    *both((f"{FIVE_HUNDRED}{lines}", said) for lines, said in BEHIND),
+    ("config_text", MEBIBYTE, f"held {MEBIBYTE}"),
+    ("config_text", f"{MEBIBYTE}g", "too long"),
+    ("empty_config_text", "held "),
+    *(("hook_stages", *case) for case in HOOK_STAGES),
+    *both(OTHER_STAGES),
+    *(("stage_of_word", word, stage) for word, stage in STAGES),
+    *(("stage_of_word", word, stage) for word, _, stage in OLDER),
+    *(("stage_of_word", word, "none") for word in OTHER_WORDS),
+    ("stage_of_word", "", "none"),
+    ("stages", "all", ALL_STAGES),
+    ("stages", "none", ""),
+    ("stages", "none", "manual", "manual "),
+    ("stages", "all", "manual", ALL_STAGES),
+]
