@@ -95,20 +95,24 @@ fn read_paths(alloc: Global, texts: &[&str]) -> Result<Vec<RepoPath>, Stop> {
 // The tree of the files that follow one another as path and contents.
 fn tree_of(alloc: Global, words: &[Vec<u8>]) -> Result<Tree, Stop> {
     let mut tree = Tree::new(alloc);
-    let mut left = words;
-    while let [path, contents, others @ ..] = left {
-        let path = RepoPath::read(alloc, str::from_utf8(path.as_slice())?)?;
-        let bytes = Bytes::copy_of(alloc, contents.as_slice())?;
-        let entry = FileEntry {
-            mode: Mode::Plain,
-            bytes,
-        };
-        tree.put(path, entry)?;
-        left = others;
+    let mut pending = None;
+    for word in words {
+        match pending.take() {
+            None => pending = Some(RepoPath::read(alloc, str::from_utf8(word.as_slice())?)?),
+            Some(path) => put_file(alloc, &mut tree, path, word.as_slice())?,
+        }
     }
-    if left.is_empty() {
-        Ok(tree)
-    } else {
-        Err(Stop::BadLine)
+    match pending {
+        None => Ok(tree),
+        Some(_without_contents) => Err(Stop::BadLine),
     }
+}
+
+fn put_file(alloc: Global, tree: &mut Tree, path: RepoPath, contents: &[u8]) -> Result<(), Stop> {
+    let entry = FileEntry {
+        mode: Mode::Plain,
+        bytes: Bytes::copy_of(alloc, contents)?,
+    };
+    tree.put(path, entry)?;
+    Ok(())
 }
