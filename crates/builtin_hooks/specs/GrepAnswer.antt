@@ -1,0 +1,78 @@
+-- What a hook of the language `pygrep` answers (pre-commit.com, "pygrep").
+use Rattle.std.specs.Prelude.{ℕ, Bool, true, false, if◌then◌else◌, List, [], ◌∷◌, ◌++◌, Option, None, Some, codes, filter, slice_range}
+use Rattle.std.specs.Fmt.{decimal}
+use Rattle.std.specs.List.{flat_map}
+use Rattle.child_port.specs.declared.answer.Answer.{Answer}
+use Rattle.hook_base.specs.declared.file.File.{File}
+use Rattle.hook_base.specs.declared.file.FileEntry.{FileEntry}
+use Rattle.hook_base.specs.Trees.{entry_of}
+use Rattle.builtin_hooks.specs.Lines.{Line, from_line_feed, line_at, lines_of, numbered, without_returns_after}
+use Rattle.builtin_hooks.specs.Search.{Search, first_match, is_found}
+
+abbrev pub is_empty : List ℕ → Bool
+is_empty [] = true
+is_empty (byte ∷ bytes) = false
+
+-- a path and a line's number, each with a colon
+abbrev pub place_text : List ℕ → ℕ → List ℕ
+place_text path number = path ++ codes ":" ++ decimal number ++ codes ":"
+
+-- ---- line by line
+
+-- a line that is found, without the carriage returns at its end
+abbrev pub line_text : Line → List ℕ
+line_text line = place_text line.path line.number ++ without_returns_after line.bytes ++ codes "\n"
+
+-- those of the lines in which the pattern is found
+abbrev pub found_lines : Search → List Line → List Line
+found_lines search lines = filter (λ line. is_found search line.bytes) lines
+
+abbrev pub found_lines_text : Search → List Line → List ℕ
+found_lines_text search lines = flat_map line_text (found_lines search lines)
+
+-- ---- a whole file at once
+
+-- the line in which the match begins, whole, and the match from its first line feed on
+abbrev pub match_line_text : Line → List ℕ → List ℕ
+match_line_text line found = place_text line.path line.number ++ line.bytes ++ from_line_feed found ++ codes "\n"
+
+abbrev pub match_text : List ℕ → List ℕ → Option (ℕ × ℕ) → List ℕ
+match_text path bytes None = []
+match_text path bytes (Some (begin, end)) = match_line_text (line_at path begin bytes) (slice_range bytes begin end)
+
+-- ---- the answer
+
+-- what is printed of a file where the files with a match are asked for
+abbrev pub found_text : Search → List ℕ → List ℕ → List ℕ
+found_text search path bytes =
+    if search.multiline then match_text path bytes (first_match search bytes)
+    else found_lines_text search (numbered path 1 (lines_of bytes))
+
+-- the path of a file of which nothing is printed so
+abbrev pub unfound_text : List ℕ → List ℕ → List ℕ
+unfound_text path found = if is_empty found then path ++ codes "\n" else []
+
+abbrev pub file_text : Search → List ℕ → List ℕ → List ℕ
+file_text search path bytes =
+    if search.negate then unfound_text path (found_text search path bytes) else found_text search path bytes
+
+-- a file that the tree lacks prints nothing
+abbrev pub entry_text : Search → List ℕ → Option FileEntry → List ℕ
+entry_text search path None = []
+entry_text search path (Some entry) = file_text search path entry.bytes
+
+-- file by file, in the order in which they are asked for
+abbrev pub grep_output : Search → List (List ℕ) → List File → List ℕ
+grep_output search files tree = flat_map (λ path. entry_text search path (entry_of path tree)) files
+
+-- the hook fails where anything is printed
+abbrev pub status_of : List ℕ → ℕ
+status_of output = if is_empty output then 0 else 1
+
+-- it changes nothing
+abbrev pub grep_answer : Search → List (List ℕ) → List File → Answer
+grep_answer search files tree = record {
+  status = status_of (grep_output search files tree);
+  output = grep_output search files tree;
+  changes = [];
+}

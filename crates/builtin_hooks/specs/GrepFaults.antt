@@ -1,0 +1,18 @@
+-- Why an entry and its arguments make no `Grep`: the numbers of the reasons, and the reason for an error of `regex`.
+use Rattle.std.specs.Prelude.{ℕ}
+use Rattle.builtin_hooks.specs.declared.grep_fault.GrepFault.{GrepFault}
+use Rattle.builtin_hooks.specs.declared.grep_fault.GrepFault.TheVariants.{NotAPattern, BadArg, OutOfMemory}
+use Rattle.regex.specs.declared.error.Error.{Error}
+use Rattle.regex.specs.declared.error.Error.TheVariants as library
+
+abbrev pub number_of : GrepFault → ℕ
+number_of NotAPattern = 1
+number_of BadArg = 2
+number_of OutOfMemory = 3
+
+-- memory was refused, or else the entry isn't taken as a pattern
+abbrev pub of_pattern : Error → GrepFault
+of_pattern (library.Syntax error) = NotAPattern
+of_pattern library.CompiledTooBig = NotAPattern
+of_pattern library.Internal = NotAPattern
+of_pattern library.OutOfMemory = OutOfMemory

@@ -1,0 +1,33 @@
+-- What private functions say of a search: which pattern a searcher has, and the lines that it has found so far.
+use Rattle.std.specs.Prelude.{◌≡◌, ℕ, ◌+◌, List, [], ◌∷◌, Option, None, Some, IsSomeAnd}
+use Rattle.regex.specs.Patterns.{Re, SameCaptures}
+use Rattle.builtin_hooks.specs.declared.flags.Flags.{Flags}
+use Rattle.builtin_hooks.specs.declared.file_lines.FoundLine.{FoundLine}
+use Rattle.builtin_hooks.specs.GrepAnswer.{found_lines}
+use Rattle.builtin_hooks.specs.Lines.{Line, lines_of, numbered}
+use Rattle.builtin_hooks.specs.Search.{Search, pattern_of}
+
+abbrev pub search_with : List ℕ → Flags → Search
+search_with text flags = record {
+  text = text;
+  ignore_case = flags.ignore_case;
+  multiline = flags.multiline;
+  negate = flags.negate;
+}
+
+-- the pattern matches as the one that the grammar reads in the text
+abbrev pub SearchesFor : Search → Re → Type 0
+SearchesFor search pattern = IsSomeAnd (pattern_of search) (SameCaptures pattern)
+
+-- the lines of the bytes in which the pattern is found, where the first of the bytes' lines has this number
+abbrev pub found_from : Search → List ℕ → ℕ → List ℕ → List Line
+found_from search path number bytes = found_lines search (numbered path number (lines_of bytes))
+
+abbrev pub line_of : List ℕ → FoundLine → Line
+line_of path found = record { path = path; number = found.number; bytes = found.line.now }
+
+-- the first of these lines, with what stands behind it, or none where there is none
+abbrev pub IsFirstFound : Search → ℕ → List ℕ → Option FoundLine → Type 0
+IsFirstFound search number bytes None = (path : List ℕ) → found_from search path number bytes ≡ []
+IsFirstFound search number bytes (Some found) =
+    (path : List ℕ) → found_from search path number bytes ≡ line_of path found ∷ found_from search path (found.number + 1) found.after.now

@@ -1,0 +1,89 @@
+//! Why a play ends before its last line.
+
+use hex::FromHexError;
+use hook_base::{OutOfMemory, PathFault};
+use std::alloc::{AllocError, AllocFailed};
+use std::io;
+use std::str::Utf8Error;
+
+#[derive(Drop)]
+pub(crate) enum Stop {
+    /// The line is no row of a call.
+    BadLine,
+    /// Memory was refused.
+    OutOfMemory,
+    /// Standard input can't be read, or standard output takes nothing.
+    Io(io::Error),
+}
+
+impl Stop {
+    /// The exit status of the program.
+    pub(crate) fn status(&self) -> u8 {
+        match self {
+            Stop::Io(_) => 1,
+            Stop::BadLine => 2,
+            Stop::OutOfMemory => 3,
+        }
+    }
+
+    /// What is said on standard error.
+    pub(crate) fn message(&self) -> &'static str {
+        match self {
+            Stop::BadLine => "grep_trial: this line can't be played",
+            Stop::OutOfMemory => "grep_trial: out of memory",
+            Stop::Io(_) => "grep_trial: input or output failed",
+        }
+    }
+}
+
+impl From<io::Error> for Stop {
+    fn from(error: io::Error) -> Stop {
+        if error.kind() == io::ErrorKind::OutOfMemory {
+            Stop::OutOfMemory
+        } else {
+            Stop::Io(error)
+        }
+    }
+}
+
+impl From<PathFault> for Stop {
+    fn from(fault: PathFault) -> Stop {
+        match fault {
+            PathFault::OutOfMemory => Stop::OutOfMemory,
+            _ => Stop::BadLine,
+        }
+    }
+}
+
+impl From<FromHexError> for Stop {
+    fn from(error: FromHexError) -> Stop {
+        match error {
+            FromHexError::OutOfMemory => Stop::OutOfMemory,
+            _ => Stop::BadLine,
+        }
+    }
+}
+
+impl From<Utf8Error> for Stop {
+    fn from(_error: Utf8Error) -> Stop {
+        Stop::BadLine
+    }
+}
+
+impl From<OutOfMemory> for Stop {
+    fn from(_refused: OutOfMemory) -> Stop {
+        Stop::OutOfMemory
+    }
+}
+
+impl From<AllocError> for Stop {
+    fn from(_refused: AllocError) -> Stop {
+        Stop::OutOfMemory
+    }
+}
+
+impl<T: Drop> From<AllocFailed<T>> for Stop {
+    fn from(_refused: AllocFailed<T>) -> Stop {
+        Stop::OutOfMemory
+    }
+}
