@@ -1,0 +1,3 @@
+pub mod PatternFaults
+pub mod Patterns
+pub mod Regexes
