@@ -1,3 +1,4 @@
+pub mod Candidates
 pub mod PatternFaults
 pub mod Patterns
 pub mod Regexes

@@ -1,9 +1,13 @@
 //! placeholder
 #![tactic(auto)]
 
+mod candidates;
+mod ordered;
+mod path_filter;
 mod pattern;
 mod pattern_fault;
 mod search;
 
+pub use candidates::Candidates;
 pub use pattern::Pattern;
 pub use pattern_fault::PatternFault;
