@@ -1,0 +1,5 @@
+pub mod Contents
+pub mod Cuts
+pub mod FileTags
+pub mod Shebangs
+pub mod TagTables

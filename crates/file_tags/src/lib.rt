@@ -1,0 +1,11 @@
+//! Tags of files, after the library `identify`: what a file is by its mode, its name, its first line and its bytes.
+//!
+//! `tags_of` gives the [`Tags`] of a file, and `shebang` the words of a script's first line. The contracts cite
+//! `specs/FileTags.antt`, whose rules look names up in `specs/TagTables.antt`, and `specs/Shebangs.antt`. A caller sees
+//! `Tags` as the list of the tags.
+#![tactic(auto)]
+
+mod tables;
+mod tags;
+
+pub use tags::Tags;
