@@ -11,15 +11,20 @@ is_slash byte = byte == 47
 abbrev pub is_line_feed : ℕ → Bool
 is_line_feed byte = byte == 10
 
--- a space or a tab
-abbrev pub is_blank : ℕ → Bool
-is_blank byte = byte == 32 || byte == 9
+abbrev pub is_space : ℕ → Bool
+is_space byte = byte == 32
 
--- what follows the last byte that passes, or all bytes where none does
-abbrev pub after_last : (ℕ → Bool) → List ℕ → List ℕ
-after_last passes [] = []
-after_last passes (byte ∷ bytes) =
-    if list_any passes bytes then after_last passes bytes else (if passes byte then bytes else byte ∷ bytes)
+abbrev pub is_tab : ℕ → Bool
+is_tab byte = byte == 9
+
+abbrev pub is_blank : ℕ → Bool
+is_blank byte = is_space byte || is_tab byte
+
+-- the last of the parts between bytes that pass
+abbrev pub last_part : (ℕ → Bool) → List ℕ → List ℕ
+last_part passes [] = []
+last_part passes (byte ∷ bytes) =
+    if list_any passes bytes then last_part passes bytes else (if passes byte then bytes else byte ∷ bytes)
 
 -- what stands before each dot, the longest first
 abbrev pub before_dots : List ℕ → List (List ℕ)
@@ -31,4 +36,4 @@ before_dots (byte ∷ bytes) =
 abbrev pub extension_of : List ℕ → List ℕ
 extension_of [] = []
 extension_of (byte ∷ bytes) =
-    if is_dot byte then extension_of bytes else (if list_any is_dot bytes then after_last is_dot bytes else [])
+    if is_dot byte then extension_of bytes else (if list_any is_dot bytes then last_part is_dot bytes else [])

@@ -1,5 +1,5 @@
 -- The words of a script's first line: what follows `#!`, cut at spaces and tabs.
-use Rattle.std.specs.Prelude.{ℕ, Bool, true, false, ◌==◌, ◌&&◌, nat_le, if◌then◌else◌, List, [], ◌∷◌, length, codes}
+use Rattle.std.specs.Prelude.{ℕ, Bool, true, false, ◌==◌, ◌&&◌, nat_le, if◌then◌else◌, List, [], ◌∷◌, length, codes, Option, None, Some}
 use Rattle.std.specs.List.{filter, slice_split, before_first}
 use Rattle.std.specs.Str.{bytes_eq, is_utf8}
 use Rattle.file_tags.specs.Cuts.{is_blank, is_line_feed}
@@ -22,17 +22,21 @@ is_word (byte ∷ bytes) = true
 abbrev pub words_of : List ℕ → List (List ℕ)
 words_of line = filter is_word (slice_split is_blank line)
 
--- the words of what follows `#!` in the first line, none where it is too long or no text
-abbrev pub words_of_rest : List ℕ → List (List ℕ)
-words_of_rest rest =
-    if nat_le (length rest) most_shebang_bytes && is_utf8 rest then words_of (without_carriage_return rest) else []
+-- what follows `#!` in the first line, where it is short enough and text
+abbrev pub line_of : List ℕ → Option (List ℕ)
+line_of rest =
+    if nat_le (length rest) most_shebang_bytes && is_utf8 rest then Some (without_carriage_return rest) else None
+
+abbrev pub words_of_line : Option (List ℕ) → List (List ℕ)
+words_of_line None = []
+words_of_line (Some line) = words_of line
 
 -- what follows `#!` at the front of a file up to the first line feed; none where it doesn't begin so
 abbrev pub shebang_of : List ℕ → List (List ℕ)
 shebang_of [] = []
 shebang_of (first ∷ []) = []
 shebang_of (first ∷ second ∷ bytes) =
-    if first == 35 && second == 33 then words_of_rest (before_first is_line_feed bytes) else []
+    if first == 35 && second == 33 then words_of_line (line_of (before_first is_line_feed bytes)) else []
 
 -- `env` starts the program that its first word names, or the word after `-S`
 abbrev pub env_program : List (List ℕ) → List (List ℕ)

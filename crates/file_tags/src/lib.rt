@@ -5,7 +5,13 @@
 //! `Tags` as the list of the tags.
 #![tactic(auto)]
 
+mod cuts;
+mod first_line;
+mod look_up;
+mod rules;
 mod tables;
 mod tags;
 
+pub use first_line::{MOST_SHEBANG_BYTES, shebang};
+pub use rules::tags_of;
 pub use tags::Tags;

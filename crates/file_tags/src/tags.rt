@@ -24,6 +24,13 @@ impl Model for Tags {
 }
 
 impl Tags {
+    /// These tags.
+    pub(crate) fn new(tags: Vec<&'static str>) -> Self
+        ensures { result ≡ texts_of tags.entry.items }
+    {
+        Tags { tags }
+    }
+
     /// Whether a tag is among them. It takes no memory.
     pub fn has(&self, tag: &str) -> bool
         ensures { result ≡ has_tag tag.now self.now }
@@ -32,8 +39,8 @@ impl Tags {
     }
 }
 
-// Whether a tag is among tags.
-fn has_tag(tags: &[&'static str], tag: &str) -> bool
+/// Whether a tag is among tags.
+pub(crate) fn has_tag(tags: &[&'static str], tag: &str) -> bool
     ensures { result ≡ has_tag tag.now (texts_of tags.now) }
 {
     tags.iter().any(|other| *other == tag)
