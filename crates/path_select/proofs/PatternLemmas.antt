@@ -1,8 +1,8 @@
 -- What a compiled pattern and its text have to do with each other.
-use Rattle.std.proofs.Common.{◌≡◌, ℕ, ◌<◌, ◌≤◌, true, List, Option, None, Some, IsSome, IsSomeAnd, is_some, length, get_or, sym, ◌∙◌, refl}
+use Rattle.std.proofs.Common.{◌≡◌, ℕ, ◌<◌, ◌≤◌, true, List, Option, None, Some, IsSome, IsSomeAnd, is_some, length, get_or, refl}
 use Rattle.regex_syntax.specs.Brackets.{Nested}
 use Rattle.regex_syntax.specs.Grammar.{Names, read, group_count}
-use Rattle.regex.specs.Patterns.{Re, Reads, SameCaptures, default_config, find_str}
+use Rattle.regex.specs.Patterns.{Re, Reads, SameCaptures, find_str}
 use Rattle.regex.specs.Strings.{regex_pattern, matcher_pattern}
 use Rattle.regex.specs.declared.string.regex.Regex.{Regex}
 use Rattle.regex.specs.declared.string.matcher.Matcher.{Matcher}

@@ -1,9 +1,7 @@
 -- Lemmas: candidates looked up in a tree one by one are the files of the tree that are candidates.
-use Rattle.std.proofs.Common.{◌≡◌, ◌⊎◌, ℕ, zero, suc, slice_get, Bool, true, false, ◌&&◌, ◌||◌, if◌then◌else◌, List, [], ◌∷◌, Option, None, Some, map, filter, refl, ap, sym, ◌∙◌, inl, inr, subst}
-use Rattle.std.specs.Str.{bytes_eq}
+use Rattle.std.proofs.Common.{◌≡◌, ℕ, zero, suc, slice_get, Bool, true, false, ◌&&◌, if◌then◌else◌, List, [], ◌∷◌, Some, map, filter, refl, ap, sym, ◌∙◌, inl, inr, subst}
 use Rattle.std.specs.declared.cmp.Ordering.TheVariants.{Equal}
 use Rattle.hook_base.specs.declared.file.File.{File}
-use Rattle.hook_base.specs.declared.file.FileEntry.{FileEntry}
 use Rattle.hook_base.specs.Rising.{IsBelow, IsBelowAll, path_cmp}
 use Rattle.hook_base.specs.RisingLemmas.{path_tied, below_all_later, below_differs, above_differs, bytes_same, path_cases}
 use Rattle.hook_base.specs.Trees.{IsRising, entry_of, path_of}

@@ -1,5 +1,5 @@
 -- Lemmas: every file has the tag `file`.
-use Rattle.std.proofs.Common.{◌≡◌, ℕ, Bool, true, false, IsTrue, not, ◌&&◌, ◌||◌, List, [], ◌∷◌, ◌++◌, codes, refl, ap, sym, ◌∙◌, subst}
+use Rattle.std.proofs.Common.{◌≡◌, ℕ, true, IsTrue, List, [], ◌∷◌, ◌++◌, codes, refl, sym, subst}
 use Rattle.std.proofs.lemmas.Bool.{and_parts}
 use Rattle.std.specs.Cmp.Lexicographic.{bytes_decides}
 use Rattle.std.specs.Str.{bytes_eq}
@@ -8,7 +8,7 @@ use Rattle.hook_base.specs.declared.file.Mode.{Mode}
 use Rattle.hook_base.specs.declared.file.Mode.TheVariants.{Plain, Executable}
 use Rattle.file_tags.specs.FileTags.{has_tag, mode_tags, tags_of_file}
 use Rattle.path_select.specs.Chosen.{AsksForNone, every_file_has}
-use Rattle.path_select.specs.Selection.{RuleTexts, fits_types, has_all, has_one, has_one_if_any}
+use Rattle.path_select.specs.Selection.{RuleTexts, fits_types, has_all}
 
 by_mode : (mode : Mode) (told others : List (List ℕ)) → has_tag (codes "file") (mode_tags mode ++ told ++ others) ≡ true
 by_mode Plain told others = refl

@@ -1,5 +1,5 @@
 -- Which files of a tree a hook gets.
-use Rattle.std.specs.Prelude.{◌≡◌, ℕ, Bool, true, not, ◌&&◌, ◌||◌, List, [], ◌∷◌, map, filter}
+use Rattle.std.specs.Prelude.{ℕ, Bool, true, not, ◌&&◌, List, [], ◌∷◌, map, filter}
 use Rattle.std.specs.List.{list_any, list_all}
 use Rattle.hook_base.specs.declared.file.File.{File}
 use Rattle.hook_base.specs.Trees.{path_of}

@@ -22,10 +22,7 @@ pub(crate) fn in_order<'a>(
     Ok(ordered)
 }
 
-fn borrowed<'a>(
-    alloc: Global,
-    paths: &'a [RepoPath],
-) -> Result<Vec<&'a RepoPath>, OutOfMemory>
+fn borrowed<'a>(alloc: Global, paths: &'a [RepoPath]) -> Result<Vec<&'a RepoPath>, OutOfMemory>
     ensures { IfOk result (λ references. paths_of references.items ≡ paths.now) }
 {
     let mut references = Vec::with_capacity(alloc, paths.len())?;

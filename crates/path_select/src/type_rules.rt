@@ -15,7 +15,6 @@ const OF_EVERY_FILE: &str = "file";
 
 /// Whether a file has the tags that the hook asks for, or `OutOfMemory` where memory is refused. They aren't made where
 /// every file has those asked for.
-#[tactic(auto, using(crate::proofs::TypeLemmas::fits_types_of_every_file))]
 pub(crate) fn fits_types(
     alloc: Global,
     rules: &Rules,
@@ -28,9 +27,11 @@ pub(crate) fn fits_types(
         return Ok(true);
     }
     let tags = tags_of(alloc, path, entry)?;
-    Ok(has_all(&tags, rules.types)
-        && has_one_if_any(&tags, rules.types_or)
-        && !has_one(&tags, rules.exclude_types))
+    Ok(
+        has_all(&tags, rules.types)
+            && has_one_if_any(&tags, rules.types_or)
+            && !has_one(&tags, rules.exclude_types),
+    )
 }
 
 // Whether the hook asks for nothing but what every file has.

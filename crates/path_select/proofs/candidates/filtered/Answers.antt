@@ -1,6 +1,6 @@
-use Rattle.std.proofs.Common.{◌≡◌, ◌∙◌, ◌<◌, ◌++◌, ◌∷◌, [], length, sym, ap, arith}
+use Rattle.std.proofs.Common.{◌≡◌, ◌∙◌, ◌<◌, ◌∷◌, [], length, sym, arith}
 use Rattle.path_select.proofs.KeptLemmas.{kept_more, kept_same, paths_of_append}
-use Rattle.path_select.specs.Candidates.{paths_of, passes}
+use Rattle.path_select.specs.Candidates.{passes}
 use Rattle.path_select.proofs.candidates.filtered.Goals as goal
 use Rattle.path_select.proofs.candidates.filtered.Goals.{then-passes+in_ok-push, else-passes}
 

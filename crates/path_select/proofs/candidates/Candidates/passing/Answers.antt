@@ -1,9 +1,9 @@
-use Rattle.std.proofs.Common.{◌∙◌, ap, sym, ◌&&◌, subst}
+use Rattle.std.proofs.Common.{◌∙◌, ap, ◌&&◌}
 use Rattle.std.proofs.lemmas.Map.Views.{any-filter_same}
 use Rattle.std.specs.Str.{bytes_eq}
 use Rattle.std.specs.Cmp.Lexicographic.{bytes_decides}
 use Rattle.hook_base.specs.RisingLemmas.{IsRisingBy-filter}
-use Rattle.path_select.specs.Candidates.{AreRisingPaths, passes, is_candidate, paths_of}
+use Rattle.path_select.specs.Candidates.{passes, is_candidate, paths_of}
 use Rattle.path_select.proofs.candidates.Candidates.passing.Goals as goal
 
 pub invariant_of-result : goal.invariant_of-result
