@@ -1,0 +1,59 @@
+-- The tags of a file, rule by rule (the library `identify`).
+use Rattle.std.specs.Prelude.{ℕ, Bool, ◌||◌, if◌then◌else◌, List, [], ◌∷◌, ◌++◌, map, codes}
+use Rattle.std.specs.Char.{to_ascii_lowercase}
+use Rattle.std.specs.List.{list_any, slice_split}
+use Rattle.std.specs.Str.{bytes_eq}
+use Rattle.hook_base.specs.declared.file.FileEntry.{FileEntry}
+use Rattle.hook_base.specs.declared.file.Mode.{Mode}
+use Rattle.hook_base.specs.declared.file.Mode.TheVariants.{Plain, Executable}
+use Rattle.file_tags.specs.Cuts.{is_dot, is_slash, last_part, before_dots, extension_of}
+use Rattle.file_tags.specs.TagTables.{name_rows, extension_rows, interpreter_rows, tags_in, tags_of_first, or_else}
+use Rattle.file_tags.specs.Shebangs.{shebang_of, from_interpreter}
+use Rattle.file_tags.specs.Contents.{is_text}
+
+-- whether a tag is among tags
+abbrev pub has_tag : List ℕ → List (List ℕ) → Bool
+has_tag tag tags = list_any (λ other. bytes_eq other tag) tags
+
+-- every file has these, by its mode
+abbrev pub mode_tags : Mode → List (List ℕ)
+mode_tags Plain = codes "file" ∷ codes "non-executable" ∷ []
+mode_tags Executable = codes "file" ∷ codes "executable" ∷ []
+
+-- the last part of a path
+abbrev pub name_of : List ℕ → List ℕ
+name_of path = last_part is_slash path
+
+-- of the name, whole, and of its pieces between dots the first that is known
+abbrev pub name_tags : List ℕ → List (List ℕ)
+name_tags name = tags_of_first name_rows (name ∷ slice_split is_dot name)
+
+-- of the name's extension, A to Z made small
+abbrev pub extension_tags : List ℕ → List (List ℕ)
+extension_tags name = tags_in extension_rows (map to_ascii_lowercase (extension_of name))
+
+-- of an interpreter's name, or else of what stands before its last dot, and so on until one is known
+abbrev pub interpreter_tags : List (List ℕ) → List (List ℕ)
+interpreter_tags [] = []
+interpreter_tags (word ∷ words) =
+    tags_of_first interpreter_rows (last_part is_slash word ∷ before_dots (last_part is_slash word))
+
+-- of the program that an executable file names in its first line
+abbrev pub script_tags : Mode → List ℕ → List (List ℕ)
+script_tags Plain bytes = []
+script_tags Executable bytes = interpreter_tags (from_interpreter (shebang_of bytes))
+
+-- of the name and its extension, or where they give none, of the first line
+abbrev pub told_tags : List ℕ → FileEntry → List (List ℕ)
+told_tags name entry = or_else (name_tags name ++ extension_tags name) (script_tags entry.mode entry.bytes)
+
+-- where nothing has told whether the file is text or binary, its bytes do
+abbrev pub content_tags : List (List ℕ) → List ℕ → List (List ℕ)
+content_tags told bytes =
+    if has_tag (codes "text") told || has_tag (codes "binary") told then [] else
+    (if is_text bytes then codes "text" else codes "binary") ∷ []
+
+-- all tags of a file
+abbrev pub tags_of_file : List ℕ → FileEntry → List (List ℕ)
+tags_of_file path entry =
+    mode_tags entry.mode ++ told_tags (name_of path) entry ++ content_tags (told_tags (name_of path) entry) entry.bytes

@@ -1,0 +1,49 @@
+-- The words of a script's first line: what follows `#!`, cut at spaces and tabs.
+use Rattle.std.specs.Prelude.{ℕ, Bool, true, false, ◌==◌, ◌&&◌, nat_le, if◌then◌else◌, List, [], ◌∷◌, length, codes, Option, None, Some}
+use Rattle.std.specs.List.{filter, slice_split, before_first}
+use Rattle.std.specs.Str.{bytes_eq, is_utf8}
+use Rattle.file_tags.specs.Cuts.{is_blank, is_line_feed}
+
+-- the most bytes that may follow `#!` in the first line, a carriage return at its end among them
+abbrev pub most_shebang_bytes : ℕ
+most_shebang_bytes = 1_024
+
+-- without one carriage return at the end
+abbrev pub without_carriage_return : List ℕ → List ℕ
+without_carriage_return [] = []
+without_carriage_return (byte ∷ []) = if byte == 13 then [] else byte ∷ []
+without_carriage_return (byte ∷ next ∷ bytes) = byte ∷ without_carriage_return (next ∷ bytes)
+
+abbrev pub is_word : List ℕ → Bool
+is_word [] = false
+is_word (byte ∷ bytes) = true
+
+-- what stands between spaces and tabs
+abbrev pub words_of : List ℕ → List (List ℕ)
+words_of line = filter is_word (slice_split is_blank line)
+
+-- what follows `#!` in the first line, where it is short enough and text
+abbrev pub line_of : List ℕ → Option (List ℕ)
+line_of rest =
+    if nat_le (length rest) most_shebang_bytes && is_utf8 rest then Some (without_carriage_return rest) else None
+
+abbrev pub words_of_line : Option (List ℕ) → List (List ℕ)
+words_of_line None = []
+words_of_line (Some line) = words_of line
+
+-- what follows `#!` at the front of a file up to the first line feed; none where it doesn't begin so
+abbrev pub shebang_of : List ℕ → List (List ℕ)
+shebang_of [] = []
+shebang_of (first ∷ []) = []
+shebang_of (first ∷ second ∷ bytes) =
+    if first == 35 && second == 33 then words_of_line (line_of (before_first is_line_feed bytes)) else []
+
+-- `env` starts the program that its first word names, or the word after `-S`
+abbrev pub env_program : List (List ℕ) → List (List ℕ)
+env_program [] = []
+env_program (word ∷ words) = if bytes_eq word (codes "-S") then words else word ∷ words
+
+-- the words from the interpreter's on
+abbrev pub from_interpreter : List (List ℕ) → List (List ℕ)
+from_interpreter [] = []
+from_interpreter (word ∷ words) = if bytes_eq word (codes "/usr/bin/env") then env_program words else word ∷ words

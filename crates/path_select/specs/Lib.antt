@@ -1,0 +1,7 @@
+pub mod Candidates
+pub mod Chosen
+pub mod PatternFaults
+pub mod Patterns
+pub mod Regexes
+pub mod Selection
+pub mod SelectionLaws

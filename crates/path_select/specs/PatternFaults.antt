@@ -1,0 +1,26 @@
+-- Why a text isn't taken as a pattern, and the numbers of the reasons.
+use Rattle.std.specs.Prelude.{◌≡◌, ℕ, List}
+use Rattle.regex.specs.declared.error.Error.{Error}
+use Rattle.regex.specs.declared.error.Error.TheVariants as refused
+use Rattle.regex.specs.Failures.{IsRightKind}
+use Rattle.regex.specs.Sources.{IsRefusal}
+use Rattle.regex.specs.Patterns.{default_config}
+use Rattle.path_select.specs.declared.pattern_fault.PatternFault.{PatternFault}
+use Rattle.path_select.specs.declared.pattern_fault.PatternFault.TheVariants.{NotAPattern, OutOfMemory}
+
+abbrev pub number_of : PatternFault → ℕ
+number_of NotAPattern = 1
+number_of OutOfMemory = 2
+
+-- want of memory is told from every other refusal of `regex`
+abbrev pub fault_of : Error → PatternFault
+fault_of refused.OutOfMemory = OutOfMemory
+fault_of (refused.Syntax error) = NotAPattern
+fault_of refused.CompiledTooBig = NotAPattern
+fault_of refused.Internal = NotAPattern
+
+-- the fault is that of a refusal which `regex` may give for this text: one for its syntax only where the grammar reads
+-- no pattern there or a pattern that nests too deep, one for its size only where there is a pattern
+abbrev pub IsRefused : List ℕ → PatternFault → Type 0
+IsRefused text fault =
+    (error : Error) × IsRefusal default_config text error × IsRightKind default_config text error × (fault ≡ fault_of error)

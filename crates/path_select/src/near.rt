@@ -1,0 +1,38 @@
+//! The files of a tree at paths that rise.
+
+ghost use Rattle.std.specs.Prelude.{◌≡◌};
+ghost use Rattle.std.specs.Option.{option_copied};
+ghost use Rattle.hook_base.specs.Trees.{entry_of};
+
+use hook_base::{FileEntry, RepoPath, Tree};
+use std::cmp::Ordering;
+
+// How many files are looked at one after another before the whole tree is searched by halves.
+const NEAR: usize = 8;
+
+/// What the tree holds at the path, or `None` where it holds nothing. Where one path after another is asked for in their
+/// order, `next` is the place of the file after the last that was found: the file is looked for there first.
+#[tactic(auto, using(crate::proofs::SelectionLemmas::entry_of_held))]
+pub(crate) fn entry_near<'t>(
+    tree: &'t Tree,
+    next: &mut usize,
+    path: &RepoPath,
+) -> Option<&'t FileEntry>
+    ensures { option_copied result ≡ entry_of path.now tree.now }
+{
+    'near: for _ in 0..NEAR {
+        if *next >= tree.len() {
+            break;
+        }
+        let row = tree.entry(*next);
+        match row.path.cmp(path) {
+            Ordering::Less => *next += 1,
+            Ordering::Equal => {
+                *next += 1;
+                return Some(&row.entry);
+            }
+            Ordering::Greater => break,
+        }
+    }
+    tree.get(path)
+}

@@ -1,0 +1,46 @@
+//! The reasons why a text isn't taken as a pattern.
+
+ghost use Rattle.std.specs.Prelude.{◌≡◌};
+ghost use Rattle.path_select.specs.PatternFaults.{number_of};
+
+use regex::Error as RegexError;
+use thiserror::Error;
+
+/// Why a text isn't taken as a pattern.
+#[derive(Clone, Copy, Debug, PartialEq, Eq, Error)]
+pub enum PatternFault {
+    /// `regex` refuses the text for another cause than memory: it is no pattern, nests too deep, or is too big once it is
+    /// compiled.
+    #[error("the text is no pattern")]
+    NotAPattern,
+    /// Memory was refused.
+    #[error("out of memory")]
+    OutOfMemory,
+}
+
+impl PatternFault {
+    /// The refusal's number: 1 or 2.
+    pub fn number(&self) -> u8
+        ensures { result ≡ number_of self.now }
+    {
+        match self {
+            PatternFault::NotAPattern => 1,
+            PatternFault::OutOfMemory => 2,
+        }
+    }
+}
+
+impl From<RegexError> for PatternFault {
+    ghost use Rattle.path_select.specs.PatternFaults.{fault_of};
+
+    ghost from_gives = { λ error fault. fault ≡ fault_of error };
+
+    fn from(error: RegexError) -> Self {
+        match error {
+            RegexError::OutOfMemory => PatternFault::OutOfMemory,
+            RegexError::Syntax(_) | RegexError::CompiledTooBig | RegexError::Internal => {
+                PatternFault::NotAPattern
+            }
+        }
+    }
+}
