@@ -1,3 +1,4 @@
 pub mod CutLemmas
+pub mod ReasonLemmas
 pub mod TagLemmas
 pub mod WordLemmas

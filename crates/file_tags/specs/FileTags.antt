@@ -47,11 +47,17 @@ script_tags Executable bytes = interpreter_tags (from_interpreter (shebang_of by
 abbrev pub told_tags : List ℕ → FileEntry → List (List ℕ)
 told_tags name entry = or_else (name_tags name ++ extension_tags name) (script_tags entry.mode entry.bytes)
 
+-- whether one of the tags tells that the file is text, or that it is binary
+abbrev pub tell_encoding : List (List ℕ) → Bool
+tell_encoding tags = has_tag (codes "text") tags || has_tag (codes "binary") tags
+
+-- what the bytes look like
+abbrev pub encoding_of : List ℕ → List ℕ
+encoding_of bytes = if is_text bytes then codes "text" else codes "binary"
+
 -- where nothing has told whether the file is text or binary, its bytes do
 abbrev pub content_tags : List (List ℕ) → List ℕ → List (List ℕ)
-content_tags told bytes =
-    if has_tag (codes "text") told || has_tag (codes "binary") told then [] else
-    (if is_text bytes then codes "text" else codes "binary") ∷ []
+content_tags told bytes = if tell_encoding told then [] else encoding_of bytes ∷ []
 
 -- all tags of a file
 abbrev pub tags_of_file : List ℕ → FileEntry → List (List ℕ)

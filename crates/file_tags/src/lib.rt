@@ -7,6 +7,7 @@
 
 mod cuts;
 mod first_line;
+pub mod laws;
 mod look_up;
 mod rules;
 mod tables;

@@ -1,0 +1,62 @@
+//! The calls by their names.
+
+use crate::line::{Line, only, text_of};
+use crate::stop::Stop;
+use file_tags::{MOST_SHEBANG_BYTES, shebang, tags_of};
+use hook_base::{Bytes, FileEntry, Mode, RepoPath};
+use std::alloc::Global;
+
+/// What a line's call answers.
+pub(crate) fn answer_to(alloc: Global, line: &Line) -> Result<Vec<u8>, Stop> {
+    let arguments = line.arguments.as_slice();
+    match line.call.as_str() {
+        "tags_of" => tags_among(alloc, arguments),
+        "shebang" => words_of(alloc, arguments),
+        "most_shebang_bytes" => Ok(MOST_SHEBANG_BYTES.to_string(alloc)?.into_bytes()),
+        _ => Err(Stop::NoCall),
+    }
+}
+
+// `tags_of MODE PATH BYTES TAG..`: those of the given tags that the file has, a line each.
+fn tags_among(alloc: Global, arguments: &[Vec<u8>]) -> Result<Vec<u8>, Stop> {
+    let [mode, path, bytes, asked @ ..] = arguments else {
+        return Err(Stop::BadLine);
+    };
+    let path = RepoPath::read(alloc, text_of(path.as_slice())?)?;
+    let entry = FileEntry {
+        mode: mode_of(text_of(mode.as_slice())?)?,
+        bytes: Bytes::copy_of(alloc, bytes.as_slice())?,
+    };
+    let tags = tags_of(alloc, &path, &entry)?;
+    let mut lines = Vec::new(alloc);
+    for tag in asked {
+        if tags.has(text_of(tag.as_slice())?) {
+            push_line(&mut lines, tag.as_slice())?;
+        }
+    }
+    Ok(lines)
+}
+
+fn mode_of(word: &str) -> Result<Mode, Stop> {
+    match word {
+        "plain" => Ok(Mode::Plain),
+        "executable" => Ok(Mode::Executable),
+        _ => Err(Stop::BadLine),
+    }
+}
+
+// `shebang BYTES`: the words of the first line, a line each.
+fn words_of(alloc: Global, arguments: &[Vec<u8>]) -> Result<Vec<u8>, Stop> {
+    let words = shebang(alloc, only(arguments)?)?;
+    let mut lines = Vec::new(alloc);
+    for word in words.as_slice() {
+        push_line(&mut lines, word.as_str().as_bytes())?;
+    }
+    Ok(lines)
+}
+
+fn push_line(lines: &mut Vec<u8>, text: &[u8]) -> Result<(), Stop> {
+    lines.extend_from_slice(text)?;
+    lines.push(b'\n')?;
+    Ok(())
+}
