@@ -1,5 +1,5 @@
 #!/usr/bin/env python3
-"""Compares docs/REFERENCE.md with the code: each refusal's number and name, and each limit.
+"""Compares docs/REFERENCE.md with the code: each refusal's number and name, each limit, and each row of the tables of tags.
 
 Usage: tests/reference.py [FOLDER]   (default: the repository that this file stands in)
 
@@ -21,11 +21,15 @@ LIMITS = [
     ("configuration", "{} hooks", "hook_config", "most_hooks", 0),
     ("path", "{} bytes", "hook_base", "most_path_bytes", 0),
     ("file, message", "16 MiB ({} bytes)", "hook_base", "most_file_bytes", 0),
+    ("first line of a script, behind `#!`", "{} bytes", "file_tags", "most_shebang_bytes", 0),
+    ("name of a hook in a report", "1 MiB ({} bytes)", "report_text", "most_name_bytes", 0),
     ("output of a child", "1 MiB ({} bytes)", "child_port", "most_output_bytes", 0),
     ("staged tree of a store", "{} files", "repo_store", "most_files", 0),
     ("staged tree of a store", "8 MiB ({} bytes) together", "repo_store", "most_tree_path_bytes", 0),
     ("commits of a store", "{}", "repo_store", "most_commits", 0),
 ]
+# The tables of tags by the head of their first column, and the constants of the code.
+TAG_TABLES = {"name": "NAMES", "extension": "EXTENSIONS", "interpreter": "INTERPRETERS"}
 
 
 def read(*path):
@@ -65,13 +69,13 @@ def tables(text):
 
 
 def wrong_refusals(reference):
-    """How the numbered tables differ from the enums, each table beside the enum that it shares most names with."""
+    """How the numbered tables differ from the enums, each table beside the enum that it is of, or shares most names with."""
     left = refusals_of_code()
     for rows in (rows for rows in tables(reference) if rows[0][0] == "number"):
         told = {int(row[0]): row[1] for row in rows[2:]}
         if len(told) < len(rows) - 2:
             yield f"the table with {rows[2][1]} has a number twice"
-        enum = max(left, key=lambda it: len({*left[it].values()} & {*told.values()}), default=None)
+        enum = max(left, key=lambda it: (left[it] == told, len({*left[it].values()} & {*told.values()})), default=None)
         if enum is None:
             yield f"no enum is left for the table with {rows[2][1]}"
             continue
@@ -114,13 +118,31 @@ def wrong_limits(reference):
         yield f"{number} is none of the limits"
 
 
+def rows_of_code(name):
+    """The rows of a table of tags, from its constant."""
+    body = re.search(rf"pub static {name}: .*?= \[\n(.*?)\n\];", read("crates", "file_tags", "src", "tables.rt"), re.DOTALL)[1]
+    return [(name, re.findall(r'"([^"]+)"', tags)) for name, tags in re.findall(r'\(\s*"([^"]+)",\s*&\[(.*?)\],?\s*\)', body, re.DOTALL)]
+
+
+def wrong_tags(reference):
+    """How the tables of tags differ from the code's."""
+    for head, constant in TAG_TABLES.items():
+        told = [(row[0].strip("`"), row[1].split(", ")) for rows in tables(reference) if rows[0] == [head, "tags"] for row in rows[2:]]
+        code = rows_of_code(constant)
+        if not code:
+            yield f"{constant} has no rows"
+        for row in [*(it for it in told if it not in code), *(it for it in code if it not in told)]:
+            yield f"the row of {row[0]!r} in {constant} differs"
+
+
 def main():
     reference = read("docs", "REFERENCE.md")
-    wrong = [*wrong_refusals(reference), *wrong_limits(reference)]
+    wrong = [*wrong_refusals(reference), *wrong_limits(reference), *wrong_tags(reference)]
     for each in wrong:
         print(f"FAILED docs/REFERENCE.md: {each}")
     kinds = refusals_of_code()
-    print(f"reference: {sum(map(len, kinds.values()))} refusals of {len(kinds)} kinds and {len(LIMITS)} limits compared, {len(wrong)} differ")
+    rows = sum(len(rows_of_code(constant)) for constant in TAG_TABLES.values())
+    print(f"reference: {sum(map(len, kinds.values()))} refusals of {len(kinds)} kinds, {len(LIMITS)} limits and {rows} rows of tags compared, {len(wrong)} differ")
     sys.exit(1 if wrong or not kinds else 0)
 
 
