@@ -1,4 +1,13 @@
-//! placeholder
+//! Patterns over paths, and which files of a tree a hook gets.
+//!
+//! [`Pattern`] is a pattern in the syntax of `regex` (`PatternFault` says why a text is none). [`select`] gives the files
+//! that [`Rules`] select: candidates whose paths pass the patterns of the whole configuration and of the hook, and that
+//! have the tags that the hook asks for. A run with many hooks makes the [`Candidates`] once and calls [`select_among`] for
+//! each hook; [`laws`] says that this selects the same.
+//!
+//! The contracts cite `specs/Patterns.antt`, `specs/PatternFaults.antt`, `specs/Candidates.antt` and
+//! `specs/Selection.antt`; `specs/SelectionLaws.antt` is for callers' proofs, and `specs/Regexes.antt` and
+//! `specs/Chosen.antt` serve private fields and functions alone.
 #![tactic(auto)]
 
 mod candidates;

@@ -4,7 +4,7 @@ use crate::Pattern;
 use hook_base::Text;
 
 /// The patterns of the whole configuration, and the patterns and tags of one hook.
-#[derive(Clone, Copy, Debug)]
+#[derive(Clone, Copy)]
 pub struct Rules<'a> {
     /// Found in the path of each file, of whatever hook.
     pub top_files: &'a Pattern,

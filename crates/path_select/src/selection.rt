@@ -80,11 +80,9 @@ fn fits(
     ensures fits { IfOk result (λ fits. fits ≡ fits_entry (texts_of_rules rules.now) path.now (option_copied entry.entry)) }
     ensures same { test.new ≡ test.old }
 {
-    let Some(entry) = entry else {
-        return Ok(false);
-    };
-    if !test.passes(path.as_str()) {
-        return Ok(false);
+    match entry {
+        None => Ok(false),
+        Some(entry) if test.passes(path.as_str()) => fits_types(alloc, rules, path, entry),
+        Some(_) => Ok(false),
     }
-    fits_types(alloc, rules, path, entry)
 }
