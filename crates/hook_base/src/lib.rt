@@ -36,6 +36,3 @@ pub use path_fault::PathFault;
 pub use repo_path::RepoPath;
 pub use text::{Text, copy_texts};
 pub use tree::Tree;
-
-#[cfg(test)]
-mod tests;

@@ -1,0 +1,61 @@
+//! The rows of a table of children, their parts parted by `|`.
+
+use crate::steps::{entry_of, read_change};
+use crate::stop::Stop;
+use child_port::{Answer, TableRow};
+use hook_base::{Bytes, Changes, Items, RepoPath, Text, Tree};
+use std::alloc::Global;
+
+/// A row: the words, the path and the bytes of the file that was seen, the status, the output, and a change.
+pub(crate) fn row_of(alloc: Global, row: &str) -> Result<TableRow, Stop> {
+    let (words, rest) = row.split_once('|').ok_or(Stop::BadLine)?;
+    let (path, rest) = rest.split_once('|').ok_or(Stop::BadLine)?;
+    let (bytes, rest) = rest.split_once('|').ok_or(Stop::BadLine)?;
+    Ok(TableRow {
+        words: words_of(alloc, words)?,
+        seen: tree_with(alloc, path, bytes)?,
+        answer: answer_of(alloc, rest)?,
+    })
+}
+
+fn answer_of(alloc: Global, rest: &str) -> Result<Answer, Stop> {
+    let (status, rest) = rest.split_once('|').ok_or(Stop::BadLine)?;
+    let (output, change) = rest.split_once('|').ok_or(Stop::BadLine)?;
+    Ok(Answer {
+        status: status.parse().ok().ok_or(Stop::BadLine)?,
+        output: Bytes::copy_of(alloc, output.as_bytes())?,
+        changes: changes_of(alloc, change)?,
+    })
+}
+
+/// No change, or the one that the text is.
+fn changes_of(alloc: Global, text: &str) -> Result<Changes, Stop> {
+    if text.is_empty() {
+        return Ok(Changes::new(alloc));
+    }
+    let changes = vec![in alloc; read_change(alloc, text)?]?;
+    Changes::from_rising(changes).ok().ok_or(Stop::BadLine)
+}
+
+/// The words of a command, parted by blanks.
+pub(crate) fn words_of(alloc: Global, text: &str) -> Result<Items<Text>, Stop> {
+    let mut words = Vec::new(alloc);
+    for word in text.split(' ') {
+        words.push(Text::copy_of(alloc, word)?)?;
+    }
+    Ok(Items::from(words))
+}
+
+/// The tree of one plain file, whose path and bytes these are.
+pub(crate) fn tree_of(alloc: Global, text: &str) -> Result<Tree, Stop> {
+    let (path, bytes) = text.split_once('|').ok_or(Stop::BadLine)?;
+    tree_with(alloc, path, bytes)
+}
+
+fn tree_with(alloc: Global, path: &str, bytes: &str) -> Result<Tree, Stop> {
+    let path = RepoPath::read(alloc, path)?;
+    let entry = entry_of(alloc, "plain", bytes.as_bytes())?;
+    let mut tree = Tree::new(alloc);
+    tree.put(path, entry)?;
+    Ok(tree)
+}

@@ -1,0 +1,60 @@
+//! The calls on bytes and texts that contracts see as lists.
+
+use crate::call::text_of;
+use crate::stop::Stop;
+use hook_base::{Bytes, Items, Text, copy_texts};
+use std::alloc::Global;
+
+/// The answer to a call of this name, if it is one on such bytes or texts.
+pub(crate) fn answer(alloc: Global, name: &str, words: &[Vec<u8>]) -> Result<Option<String>, Stop> {
+    match (name, words) {
+        ("copy_bytes", [bytes, other]) => {
+            Ok(Some(copy_bytes(alloc, bytes.as_slice(), other.as_slice())?))
+        }
+        ("copy_text", [text]) => Ok(Some(copy_text(alloc, text_of(text.as_slice())?)?)),
+        ("copy_texts", _) => Ok(Some(copy_all(alloc, words)?)),
+        _ => Ok(None),
+    }
+}
+
+/// The length of copied bytes, whether their copy is the same, and whether the other bytes are.
+fn copy_bytes(alloc: Global, bytes: &[u8], other: &[u8]) -> Result<String, Stop> {
+    let copy = Bytes::copy_of(alloc, bytes)?;
+    let other = Bytes::copy_of(alloc, other)?;
+    let len = copy.len();
+    let is_same = copy.clone()? == copy && copy.as_slice() == bytes;
+    let is_other = copy == other;
+    Ok(format!(in alloc; "{len} {is_same} {is_other}")?)
+}
+
+/// A copied text, and whether its copy is the same.
+fn copy_text(alloc: Global, text: &str) -> Result<String, Stop> {
+    let copy = Text::copy_of(alloc, text)?;
+    let is_same = copy.clone()? == copy;
+    let text = copy.as_str();
+    Ok(format!(in alloc; "{text} {is_same}")?)
+}
+
+/// The texts that are copied together, and whether their copy and a copy of one by one are the same.
+fn copy_all(alloc: Global, words: &[Vec<u8>]) -> Result<String, Stop> {
+    let texts = texts_of(alloc, words)?;
+    let copy = copy_texts(alloc, texts.as_slice())?;
+    let mut shown = String::new(alloc);
+    for text in copy.as_slice() {
+        shown.push_str(text.as_str())?;
+        shown.push(' ')?;
+    }
+    let is_same = copy == texts;
+    let is_clone = texts.clone()? == texts;
+    write!(shown, "{is_same} {is_clone}")?;
+    Ok(shown)
+}
+
+/// The arguments as texts.
+pub(crate) fn texts_of(alloc: Global, words: &[Vec<u8>]) -> Result<Items<Text>, Stop> {
+    let mut texts = Vec::new(alloc);
+    for word in words {
+        texts.push(Text::copy_of(alloc, text_of(word.as_slice())?)?)?;
+    }
+    Ok(Items::from(texts))
+}
