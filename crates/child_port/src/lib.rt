@@ -20,6 +20,3 @@ pub use fault::Fault;
 pub use limits::MOST_OUTPUT_BYTES;
 pub use table::TableChildren;
 pub use table_row::TableRow;
-
-#[cfg(test)]
-mod tests;
