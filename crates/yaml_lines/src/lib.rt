@@ -50,8 +50,3 @@ pub use quoted_text::{QuotedText, begins_quoted, read_quoted};
 pub use raw_line::{RawLine, raw_lines};
 pub use scan::{skip, text_of};
 pub use text_scalar::scalar;
-
-#[cfg(test)]
-mod flow_tests;
-#[cfg(test)]
-mod tests;
