@@ -18,6 +18,3 @@ mod texts;
 
 pub use fault::{FaultPlace, FlowFault};
 pub use flows::read_flow;
-
-#[cfg(test)]
-mod tests;
