@@ -5,16 +5,16 @@ Usage: tests/compare_yaml.py
 PyYAML (Debian's python3-yaml) must be there, for the Python that runs this or for /usr/bin/python3, which Debian's packages
 serve; where it is missing, nothing can be compared, and that is a failure.
 
-The rows are those of cases.rt and refused_cases.rt in crates/yaml_profile/src/text, which the tests of that crate hold
-the reader to. Where PyYAML takes a text, the values must agree. Each text that only one of the two takes is printed
-with its reason. A reason has a test of the text: a text for which no test holds is a failure.
+The rows are those of yaml_profile.py and yaml_profile_refused.py in tests/rows, which the reader is held to. Where PyYAML
+takes a text, the values must agree. Each text that only one of the two takes is printed with its reason. A reason has a
+test of the text: a text for which no test holds is a failure.
 """
 import ast
 import os
 import re
 import sys
 
-from yaml_texts import literal, most_nodes, read_rows, refused_rows
+from yaml_texts import most_nodes, read_rows, refused_rows
 
 # The Python that Debian's packages serve, which may be another than the first `python3` of the path.
 DEBIANS_PYTHON = "/usr/bin/python3"
@@ -134,7 +134,7 @@ def main():
     read, refused = read_rows(), refused_rows()
     wrong, agreed, only_here, only_there = [], 0, 0, 0
     for text, shown in read:
-        ours = value_of(ast.literal_eval(literal(shown)))
+        ours = value_of(ast.literal_eval(shown))
         try:
             theirs = yaml.load(text, Loader=yaml.BaseLoader)
         except yaml.YAMLError:

@@ -1,5 +1,6 @@
-"""The tables of YAML texts that the tests of crates/yaml_profile hold its reader to: cases.rt has the texts that are read,
-refused_cases.rt those that are refused."""
+"""The tables of YAML texts that the reader of crates/yaml_profile is held to: tests/rows/yaml_profile.py has the texts that
+are read, tests/rows/yaml_profile_refused.py those that are refused."""
+import importlib.util
 import os
 import re
 
@@ -7,33 +8,24 @@ HERE = os.path.dirname(os.path.abspath(__file__))
 CRATES = os.path.join(HERE, "..", "crates")
 
 
-def literal(text):
-    """The value of a string literal of Rust."""
-    text = re.sub(r"\\u\{([0-9a-f]+)\}", lambda found: chr(int(found[1], 16)), text)
-    return re.sub(r"\\(.)", lambda found: {"n": "\n", "t": "\t", "r": "\r", "0": "\0"}.get(found[1], found[1]), text)
-
-
-def rows_of(source, second):
-    """The rows whose first part is a string: that string, and what stands behind it."""
-    string = r'"((?:[^"\\]|\\.)*)"'
-    return [(literal(found[1]), found[2]) for found in re.finditer(r"\(\s*" + string + r",\s*" + second, source)]
-
-
-def source_of(name):
-    with open(os.path.join(CRATES, name), encoding="utf-8") as file:
-        return file.read()
+def table_of(name):
+    spec = importlib.util.spec_from_file_location(name, os.path.join(HERE, "rows", f"{name}.py"))
+    table = importlib.util.module_from_spec(spec)
+    spec.loader.exec_module(table)
+    return table
 
 
 def read_rows():
-    """The rows of texts that are read: the text, and its node as the tests show it."""
-    return rows_of(source_of("yaml_profile/src/text/cases.rt"), r'"((?:[^"\\]|\\.)*)"')
+    """The rows of texts that are read: the text, and its node as the table shows it."""
+    return table_of("yaml_profile").READ
 
 
 def refused_rows():
     """The rows of texts that are refused: the text, and the kind of its fault."""
-    return rows_of(source_of("yaml_profile/src/text/refused_cases.rt"), r"YamlKind::(\w+)")
+    return [(text, kind) for text, kind, _ in table_of("yaml_profile_refused").REFUSED]
 
 
 def most_nodes():
     """How many nodes may lie within one another."""
-    return int(re.search(r"MOST_NODES: usize = (\d+);", source_of("yaml_lines/src/node.rt"))[1])
+    with open(os.path.join(CRATES, "yaml_lines/src/node.rt"), encoding="utf-8") as file:
+        return int(re.search(r"MOST_NODES: usize = (\d+);", file.read())[1])

@@ -121,10 +121,3 @@ fn lines_before(bytes: &[u8], line: usize) -> &[u8] {
     }
     bytes
 }
-
-#[cfg(test)]
-mod cases;
-#[cfg(test)]
-mod refused_cases;
-#[cfg(test)]
-mod tests;

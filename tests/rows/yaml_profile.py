@@ -1,9 +1,22 @@
-// Texts with their nodes. `tests/compare_yaml.py` reads these rows too, and compares them with PyYAML. The sections are of
-// YAML 1.2.2.
+"""YAML texts with their nodes. The sections are of YAML 1.2.2.
 
-// A row is a text and its node: `'a'` is an unquoted text or a key, `"a"` a quoted text, and `None` an empty place.
-// Comments, blank lines and indentation: 6.1 to 6.7
-pub(super) const COMMENTS: &[(&str, &str)] = &[
+The calls, each on one text:
+
+    read_yaml               the node, or the fault as `KIND in line LINE`
+    debug_yaml              the node as `Debug` has it
+    count_beginnings        how many beginnings of its bytes, itself left out, are read or refused at one of their lines
+    count_open_beginnings   how many of them are read, or refused as `Layout` in their last line
+    read_twice              `same`, where a flow is read as the text that it is and by the reader of flows, which looks for
+                            no block texts, and both give the same node or none
+
+`tests/compare_yaml.py` compares the rows of READ with PyYAML.
+"""
+
+PROGRAM = "yaml_trial"
+
+# A row is a text and its node: `'a'` is an unquoted text or a key, `"a"` a quoted text, and `None` an empty place.
+# Comments, blank lines and indentation: 6.1 to 6.7
+COMMENTS = [
     ("# Comment only.\n", "None"),
     ("key:    # Comment\n  value\n", "{'key': 'value'}"),
     (
@@ -33,17 +46,17 @@ pub(super) const COMMENTS: &[(&str, &str)] = &[
         "a:\r\n  - 1\r\n  - 2\r\nb: 3\r\n",
         "{'a': ['1', '2'], 'b': '3'}",
     ),
-    ("\u{feff}a: 1\n", "{'a': '1'}"),
-    ("\u{feff}# c\r\na: 1", "{'a': '1'}"),
+    ("\ufeffa: 1\n", "{'a': '1'}"),
+    ("\ufeff# c\r\na: 1", "{'a': '1'}"),
     ("---\na: 1\n", "{'a': '1'}"),
     ("--- # a comment\n- a\n", "['a']"),
     ("# before\n---\n# after\na: 1\n", "{'a': '1'}"),
     ("\n\n---   \n\n[a]\n", "['a']"),
     ("\t\na: 1\n\t# c\n \t \nb: 2\n", "{'a': '1', 'b': '2'}"),
-];
+]
 
-// Single and double quotes: 5.7, 7.3.1, 7.3.2
-pub(super) const QUOTED_TEXTS: &[(&str, &str)] = &[
+# Single and double quotes: 5.7, 7.3.1, 7.3.2
+QUOTED_TEXTS = [
     ("a: 'it''s'\n", "{'a': \"it's\"}"),
     ("a: ''\nb: \"\"\n", "{'a': \"\", 'b': \"\"}"),
     ("a: ''''\nb: ''''''\n", "{'a': \"'\", 'b': \"''\"}"),
@@ -59,7 +72,7 @@ pub(super) const QUOTED_TEXTS: &[(&str, &str)] = &[
     ),
     (
         "a: \"\\x41\\u00e9\\u65e5\\x00\\0\"\n",
-        "{'a': \"A\u{e9}\u{65e5}\\0\\0\"}",
+        "{'a': \"A\u00e9\u65e5\\0\\0\"}",
     ),
     ("a: 'no \\n escape'\n", "{'a': \"no \\\\n escape\"}"),
     ("a: \"tab\there\"\n", "{'a': \"tab\\there\"}"),
@@ -68,8 +81,8 @@ pub(super) const QUOTED_TEXTS: &[(&str, &str)] = &[
     ("a: '  outer  blanks  '\n", "{'a': \"  outer  blanks  \"}"),
     ("a: \"'\"\nb: '\"'\n", "{'a': \"'\", 'b': \"\\\"\"}"),
     (
-        "a: '\u{65e5}\u{672c}'\n\"\u{e9}\": 1\n",
-        "{'a': \"\u{65e5}\u{672c}\", '\u{e9}': '1'}",
+        "a: '\u65e5\u672c'\n\"\u00e9\": 1\n",
+        "{'a': \"\u65e5\u672c\", '\u00e9': '1'}",
     ),
     ("- \"a\": 1\n  'b': 2\n", "[{'a': '1', 'b': '2'}]"),
     ("- 'a'\n- \"b\"   # c\n", "[\"a\", \"b\"]"),
@@ -99,10 +112,10 @@ pub(super) const QUOTED_TEXTS: &[(&str, &str)] = &[
         "\"\\u0061\": \"\\\\ \\\" \\/ \\t\"\n",
         "{'a': \"\\\\ \\\" / \\t\"}",
     ),
-];
+]
 
-// Plain texts on one line: 7.3.3
-pub(super) const PLAIN_TEXTS: &[(&str, &str)] = &[
+# Plain texts on one line: 7.3.3
+PLAIN_TEXTS = [
     ("a: b c  d\n", "{'a': 'b c  d'}"),
     (
         "- ::vector\n- Up, up, and away!\n- -123\n- http://example.com/foo#bar\n",
@@ -127,14 +140,14 @@ pub(super) const PLAIN_TEXTS: &[(&str, &str)] = &[
     ),
     ("a:    b   \n", "{'a': 'b'}"),
     (
-        "a: \u{e9}\u{65e5}\u{1f600}\n",
-        "{'a': '\u{e9}\u{65e5}\u{1f600}'}",
+        "a: \u00e9\u65e5\U0001f600\n",
+        "{'a': '\u00e9\u65e5\U0001f600'}",
     ),
     (
-        "a: b\u{85}c\u{2028}d\u{7f}\n",
-        "{'a': 'b\u{85}c\u{2028}d\u{7f}'}",
+        "a: b\u0085c\u2028d\u007f\n",
+        "{'a': 'b\u0085c\u2028d\u007f'}",
     ),
-    ("a: b\u{feff}c\n", "{'a': 'b\u{feff}c'}"),
+    ("a: b\ufeffc\n", "{'a': 'b\ufeffc'}"),
     ("a!: b\n", "{'a!': 'b'}"),
     (
         "a: b & c * d ! e | f > g % h @ i ` j\n",
@@ -148,10 +161,10 @@ pub(super) const PLAIN_TEXTS: &[(&str, &str)] = &[
     ("a: b|\nc: d >\n", "{'a': 'b|', 'c': 'd >'}"),
     ("a: b [c]\nd: e, f\n", "{'a': 'b [c]', 'd': 'e, f'}"),
     ("a[b]: c]\n", "{'a[b]': 'c]'}"),
-];
+]
 
-// Block lists and tables: 8.2.1 to 8.2.3
-pub(super) const LISTS_AND_TABLES: &[(&str, &str)] = &[
+# Block lists and tables: 8.2.1 to 8.2.3
+LISTS_AND_TABLES = [
     (
         "block sequence:\n  - one\n  - two : three\n",
         "{'block sequence': ['one', {'two': 'three'}]}",
@@ -238,17 +251,17 @@ pub(super) const LISTS_AND_TABLES: &[(&str, &str)] = &[
         "{'a': {'b': '1', 'c': '2'}}",
     ),
     ("a: 1\nA: 2\n", "{'a': '1', 'A': '2'}"),
-    ("\u{e9}: \u{65e5}\n", "{'\u{e9}': '\u{65e5}'}"),
-    ("\u{feff}a: 1\r\nb:\r\n", "{'a': '1', 'b': None}"),
+    ("\u00e9: \u65e5\n", "{'\u00e9': '\u65e5'}"),
+    ("\ufeffa: 1\r\nb:\r\n", "{'a': '1', 'b': None}"),
     ("a: b #c\nd: e#f\n", "{'a': 'b', 'd': 'e#f'}"),
     ("a: # b\n", "{'a': None}"),
     ("---\t# a\n- b\n", "['b']"),
     ("a: -b\nc: ?d\ne: :f\n", "{'a': '-b', 'c': '?d', 'e': ':f'}"),
     ("a: b:c\n", "{'a': 'b:c'}"),
-];
+]
 
-// Flow lists and flow tables on one line: 7.4.1, 7.4.2
-pub(super) const FLOWS: &[(&str, &str)] = &[
+# Flow lists and flow tables on one line: 7.4.1, 7.4.2
+FLOWS = [
     ("[]\n", "[]"),
     ("{}\n", "{}"),
     (
@@ -293,10 +306,10 @@ pub(super) const FLOWS: &[(&str, &str)] = &[
         "a: [-1, :b, ?c, d:e, f#g]\n",
         "{'a': ['-1', ':b', '?c', 'd:e', 'f#g']}",
     ),
-];
+]
 
-// Flows over lines, and beside other nodes: 7.4
-pub(super) const FLOWS_OVER_LINES: &[(&str, &str)] = &[
+# Flows over lines, and beside other nodes: 7.4
+FLOWS_OVER_LINES = [
     ("a: []\nb: {}\n", "{'a': [], 'b': {}}"),
     (
         "- [one, two, ]\n- [three ,four]\n",
@@ -374,11 +387,11 @@ pub(super) const FLOWS_OVER_LINES: &[(&str, &str)] = &[
         "{'a': [['b'], {'c': ['d', 'e']}]}",
     ),
     ("a:\n  {b: c}\n", "{'a': {'b': 'c'}}"),
-];
+]
 
-// Flows that mislead a reader that counts their brackets, each before a block text: 7.4, 8.1. A reader that still takes the
-// flow for open behind its last line finds no block text below it.
-pub(super) const FLOWS_BEFORE_BLOCK_TEXTS: &[(&str, &str)] = &[
+# Flows that mislead a reader that counts their brackets, each before a block text: 7.4, 8.1. A reader that still takes the
+# flow for open behind its last line finds no block text below it.
+FLOWS_BEFORE_BLOCK_TEXTS = [
     ("a: ['\"']\nb: |\n  z\n", "{'a': [\"\\\"\"], 'b': 'z\\n'}"),
     ("a: [x:'y]\nb: |\n  z\n", "{'a': ['x:\\'y'], 'b': 'z\\n'}"),
     ("a: ['# [']\nb: |\n  z\n", "{'a': [\"# [\"], 'b': 'z\\n'}"),
@@ -419,10 +432,10 @@ pub(super) const FLOWS_BEFORE_BLOCK_TEXTS: &[(&str, &str)] = &[
         "a: {x:\n  'y[' # {\n  }\nb: |\n  z\n",
         "{'a': {'x': \"y[\"}, 'b': 'z\\n'}",
     ),
-];
+]
 
-// Literal block texts, and block texts of all kinds: 8.1.1, 8.1.2
-pub(super) const LITERAL_TEXTS: &[(&str, &str)] = &[
+# Literal block texts, and block texts of all kinds: 8.1.1, 8.1.2
+LITERAL_TEXTS = [
     ("e: |\n  a\n", "{'e': 'a\\n'}"),
     ("e: |\n  a", "{'e': 'a'}"),
     ("a: |\n  b\n  c\nd: e\n", "{'a': 'b\\nc\\n', 'd': 'e'}"),
@@ -490,10 +503,10 @@ pub(super) const LITERAL_TEXTS: &[(&str, &str)] = &[
     ),
     ("a: |+\n  b\n\n  ", "{'a': 'b\\n\\n'}"),
     ("a: |\n\nb: |+\n\nc: 1\n", "{'a': '', 'b': '\\n', 'c': '1'}"),
-];
+]
 
-// Folded block texts: 8.1.3
-pub(super) const FOLDED_TEXTS: &[(&str, &str)] = &[
+# Folded block texts: 8.1.3
+FOLDED_TEXTS = [
     (
         "e: >\n  (?x)^(\n      a/.*|\n      b/.*\n  )$\n",
         "{'e': '(?x)^(\\n    a/.*|\\n    b/.*\\n)$\\n'}",
@@ -519,10 +532,10 @@ pub(super) const FOLDED_TEXTS: &[(&str, &str)] = &[
     ("a: >\n  \tb\n  c\n", "{'a': '\\tb\\nc\\n'}"),
     ("a: >\n  b\n", "{'a': 'b\\n'}"),
     ("a: >-\n  b\n  c", "{'a': 'b c'}"),
-];
+]
 
-// As teams write them in `.pre-commit-config.yaml`
-pub(super) const CONFIGURATIONS: &[(&str, &str)] = &[
+# As teams write them in `.pre-commit-config.yaml`
+CONFIGURATIONS = [
     (
         "repos:\n-   repo: local\n    hooks:\n    -   id: a\n        name: A\n        entry: a b\n        language: system\n        types: [python]\n        args: [\"--fix\", '--x=y']\n",
         "{'repos': [{'repo': 'local', 'hooks': [{'id': 'a', 'name': 'A', 'entry': 'a b', 'language': 'system', 'types': ['python'], 'args': [\"--fix\", \"--x=y\"]}]}]}",
@@ -595,22 +608,88 @@ pub(super) const CONFIGURATIONS: &[(&str, &str)] = &[
         "entry: ./run.sh --pattern '{}' -- [x]\n",
         "{'entry': './run.sh --pattern \\'{}\\' -- [x]'}",
     ),
-];
+]
 
-// Flows on one line, with what misleads a reader that looks for their last bracket or for the header of a block text.
-pub(super) const BROKEN: &[&str] = &[
-    "[a, 'c: |', \"d: >\", e]",
-    "[a, 'b: | # c', \"d: > # e\", {f: g}]",
-    "[ 'it''s ]: |', \"\\\"]: |\", \"\\\\\", a'b:c, a\"]",
-    "[a', 'b: |', c\"]",
-    "[a , 'b: |' , -d, -, ?e]",
-    "{a: 'b: |', \"c\":'d: |', e: [f, 'g: |'], h: i}",
-    "{a: 'b: |', \"c\" : [ ], 'd':{ }, e:[f], g :  h}",
-    "{'a: |': b, c#d: 'e: |', f: :g, :h : 'i: |'}",
-    "[[[ 'a: |' ], { }], {b: {c: 'd: |'}}, ]",
-    "[:a, :'b, a:'c, ?d, 'e: |']",
-    "[a#b, c 'd, # ' f: |\n 'e: |' ]",
-    "{a: b # ' [ { \n , c: 'd: |'}",
-    "[\"a\\\": |\", 'b''c: |', '', \"\", 'd']",
-    "{ '': '', \"y\": 'x: |', a: \"\\u005d: |\" }",
-];
+READ = [
+    *COMMENTS,
+    *QUOTED_TEXTS,
+    *PLAIN_TEXTS,
+    *LISTS_AND_TABLES,
+    *FLOWS,
+    *FLOWS_OVER_LINES,
+    *FLOWS_BEFORE_BLOCK_TEXTS,
+    *LITERAL_TEXTS,
+    *FOLDED_TEXTS,
+    *CONFIGURATIONS,
+]
+
+# Flows on one line, with what misleads a reader that looks for their last bracket or for the header of a block text.
+BROKEN = [
+    ("[a, 'c: |', \"d: >\", e]", "['a', \"c: |\", \"d: >\", 'e']"),
+    ("[a, 'b: | # c', \"d: > # e\", {f: g}]", "['a', \"b: | # c\", \"d: > # e\", {'f': 'g'}]"),
+    (
+        "[ 'it''s ]: |', \"\\\"]: |\", \"\\\\\", a'b:c, a\"]",
+        "[\"it's ]: |\", \"\\\"]: |\", \"\\\\\", 'a\\'b:c', 'a\"']",
+    ),
+    ("[a', 'b: |', c\"]", "['a\\'', \"b: |\", 'c\"']"),
+    ("[a , 'b: |' , -d, -, ?e]", "['a', \"b: |\", '-d', '-', '?e']"),
+    (
+        "{a: 'b: |', \"c\":'d: |', e: [f, 'g: |'], h: i}",
+        "{'a': \"b: |\", 'c': \"d: |\", 'e': ['f', \"g: |\"], 'h': 'i'}",
+    ),
+    ("{a: 'b: |', \"c\" : [ ], 'd':{ }, e:[f], g :  h}", "{'a': \"b: |\", 'c': [], 'd': {}, 'e': ['f'], 'g': 'h'}"),
+    ("{'a: |': b, c#d: 'e: |', f: :g, :h : 'i: |'}", "{'a: |': 'b', 'c#d': \"e: |\", 'f': ':g', ':h': \"i: |\"}"),
+    ("[[[ 'a: |' ], { }], {b: {c: 'd: |'}}, ]", "[[[\"a: |\"], {}], {'b': {'c': \"d: |\"}}]"),
+    ("[:a, :'b, a:'c, ?d, 'e: |']", "[':a', ':\\'b', 'a:\\'c', '?d', \"e: |\"]"),
+    ("[a#b, c 'd, # ' f: |\n 'e: |' ]", "['a#b', 'c \\'d', \"e: |\"]"),
+    ("{a: b # ' [ { \n , c: 'd: |'}", "{'a': 'b', 'c': \"d: |\"}"),
+    ("[\"a\\\": |\", 'b''c: |', '', \"\", 'd']", "[\"a\\\": |\", \"b'c: |\", \"\", \"\", \"d\"]"),
+    ("{ '': '', \"y\": 'x: |', a: \"\\u005d: |\" }", "{'': \"\", 'y': \"x: |\", 'a': \"]: |\"}"),
+]
+
+# Why the law of comments and empty lines leaves out texts with block texts: of those, such lines are a part. A row is a
+# text with such a line and one without, each with its node.
+LINES_OF_BLOCK_TEXTS = [
+    ("a: |\n  b\n  # c\n", "{'a': 'b\\n# c\\n'}", "a: |\n  b\n", "{'a': 'b\\n'}"),
+    ("a: |\n  b\n\n  c\n", "{'a': 'b\\n\\nc\\n'}", "a: |\n  b\n  c\n", "{'a': 'b\\nc\\n'}"),
+    ("- >+\n  a\n\n", "['a\\n\\n']", "- >+\n  a\n", "['a\\n']"),
+]
+
+CONFIGURATION = """repos:
+- repo: local
+  hooks:
+  - id: names
+    name: Check names
+    language: fail
+    entry: no such names
+"""
+
+CONFIGURATIONS_DEBUG = (
+    'Table([("repos", List([Table(['
+    '("repo", Text { text: "local", quoted: false }), ("hooks", List([Table(['
+    '("id", Text { text: "names", quoted: false }), '
+    '("name", Text { text: "Check names", quoted: false }), '
+    '("language", Text { text: "fail", quoted: false }), '
+    '("entry", Text { text: "no such names", quoted: false })])]))])]))])'
+)
+
+def beginnings(text):
+    return str(len(text.encode()))
+
+
+def cut(text):
+    """The text on two lines, broken at each place."""
+    return [f"{text[:at]}\n{text[at:]}" for at in range(1, len(text))]
+
+
+ROWS = [
+    *(("read_yaml", text, node) for text, node in READ),
+    *(("count_beginnings", text, beginnings(text)) for text, _ in READ),
+    # A flow that is broken anywhere is read if it is one.
+    *(("read_yaml", text, node) for text, node in BROKEN),
+    *(("read_twice", broken, "same") for text, _ in BROKEN for broken in cut(text)),
+    *(("read_yaml", text, node) for text, node, _, _ in LINES_OF_BLOCK_TEXTS),
+    *(("read_yaml", text, node) for _, _, text, node in LINES_OF_BLOCK_TEXTS),
+    ("debug_yaml", CONFIGURATION, CONFIGURATIONS_DEBUG),
+    ("count_open_beginnings", CONFIGURATION, beginnings(CONFIGURATION)),
+]
