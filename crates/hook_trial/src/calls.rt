@@ -9,7 +9,7 @@ use crate::{
 use std::alloc::Global;
 
 /// What a line's call answers.
-pub(crate) fn answer_to(alloc: Global, line: &Line) -> Result<Vec<u8>, Stop> {
+pub(crate) fn answer_of(alloc: Global, line: &Line) -> Result<Vec<u8>, Stop> {
     let (call, arguments) = (line.call.as_str(), line.arguments.as_slice());
     if let Some(answer) = of_hook_config(alloc, call, arguments) {
         return answer;

@@ -4,15 +4,19 @@ use crate::configurations::refusal;
 use crate::line::only;
 use crate::stop::Stop;
 use hook_cli::{MOST_CONFIGURATION_BYTES, check_text};
-use hook_config::read_config;
+use hook_config::{Config, read_config};
 use std::alloc::Global;
 
 /// `check_text TEXT`: what is printed of the configuration, or its refusal.
 pub(crate) fn of_text(alloc: Global, arguments: &[Vec<u8>]) -> Result<Vec<u8>, Stop> {
     match read_config(alloc, only(arguments)?) {
-        Ok(config) => Ok(check_text(alloc, &config)?.as_slice().to_vec(alloc)?),
+        Ok(config) => printed(alloc, &config),
         Err(fault) => refusal(alloc, fault),
     }
+}
+
+fn printed(alloc: Global, config: &Config) -> Result<Vec<u8>, Stop> {
+    Ok(check_text(alloc, config)?.as_slice().to_vec(alloc)?)
 }
 
 /// `most_configuration_bytes`: the greatest number of bytes of a configuration.

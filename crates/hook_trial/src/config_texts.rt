@@ -9,7 +9,7 @@ use std::alloc::Global;
 pub(crate) fn held(alloc: Global, arguments: &[Vec<u8>]) -> Result<Vec<u8>, Stop> {
     let text = String::from_str(alloc, text_of(only(arguments)?)?)?;
     match ConfigText::new(text) {
-        Some(held) => shown(alloc, &held.clone()?),
+        Some(held) => copy_shown(alloc, &held),
         None => Ok(b"too long".to_vec(alloc)?),
     }
 }
@@ -20,6 +20,10 @@ pub(crate) fn empty(alloc: Global, arguments: &[Vec<u8>]) -> Result<Vec<u8>, Sto
         [] => shown(alloc, &ConfigText::empty(alloc)),
         _ => Err(Stop::BadLine),
     }
+}
+
+fn copy_shown(alloc: Global, held: &ConfigText) -> Result<Vec<u8>, Stop> {
+    shown(alloc, &held.clone()?)
 }
 
 fn shown(alloc: Global, text: &ConfigText) -> Result<Vec<u8>, Stop> {

@@ -7,6 +7,7 @@ use hook_config::{
     Config, ConfigFault, ConfigText, ConfigWithNode, Hook, read_config, read_config_with_node,
 };
 use std::alloc::{AllocError, Global};
+use yaml_profile::Node;
 
 /// `read_config TEXT`: the number of hooks, `fail_fast` and the unknown keys; or the refusal's number, name and place.
 pub(crate) fn read_alone(alloc: Global, arguments: &[Vec<u8>]) -> Result<Vec<u8>, Stop> {
@@ -31,12 +32,13 @@ pub(crate) fn hooks_with_node(alloc: Global, arguments: &[Vec<u8>]) -> Result<Ve
 /// `node TEXT`: the node that is read with the configuration, as `Debug` shows it, or the refusal.
 pub(crate) fn node(alloc: Global, arguments: &[Vec<u8>]) -> Result<Vec<u8>, Stop> {
     match read_config_with_node(alloc, only(arguments)?) {
-        Ok(read) => {
-            let node = &read.node;
-            Ok(format!(in alloc; "{node:?}")?.into_bytes())
-        }
+        Ok(read) => Ok(shown(alloc, &read.node)?.into_bytes()),
         Err(fault) => refusal(alloc, fault),
     }
+}
+
+fn shown(alloc: Global, node: &Node) -> Result<String, AllocError> {
+    format!(in alloc; "{node:?}")
 }
 
 fn configuration_with_node(alloc: Global, bytes: &[u8]) -> Result<Config, ConfigFault> {

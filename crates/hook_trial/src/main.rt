@@ -20,10 +20,10 @@ mod stop;
 mod try_faults;
 mod writers;
 
-use calls::answer_to;
+use calls::answer_of;
 use line::Line;
-use std::io;
-use std::io::{BufRead, BufReader, Write};
+use std::alloc::Global;
+use std::io::Read;
 use std::process::ExitCode;
 use stop::Stop;
 
@@ -38,20 +38,17 @@ fn main(rt: HostRuntime) -> ExitCode {
 }
 
 fn run<R: Input + Print + AllocGlobal>(rt: &R) -> Result<(), Stop> {
-    let alloc = rt.alloc();
-    for line in BufReader::new(alloc, rt.reader())?.lines(alloc) {
-        let line = line?;
-        let answer = answer_to(alloc, &Line::read(alloc, line.as_str())?)?;
-        print_answer(rt, answer.as_slice())?;
+    let mut lines = String::new(rt.alloc());
+    rt.reader().read_to_string(&mut lines)?;
+    for line in lines.as_str().lines() {
+        let answer = answer_to(rt.alloc(), line)?;
+        rt.println(answer.as_str())?;
     }
     Ok(())
 }
 
-fn print_answer<R: Print + AllocGlobal>(rt: &R, answer: &[u8]) -> Result<(), Stop> {
-    let mut line = hex::encode(rt.alloc(), answer)?;
-    line.push_str("\n")?;
-    let mut writer = io::writer(rt);
-    writer.write_all(line.as_str().as_bytes())?;
-    writer.flush()?;
-    Ok(())
+// The line that answers a line.
+fn answer_to(alloc: Global, line: &str) -> Result<String, Stop> {
+    let answer = answer_of(alloc, &Line::read(alloc, line)?)?;
+    Ok(hex::encode(alloc, answer.as_slice())?)
 }

@@ -2,27 +2,33 @@
 
 use crate::line::{number_of, text_of, texts_of};
 use crate::stop::Stop;
-use child_port::Fault;
+use child_port::{Answer, Fault};
 use hook_base::{Bytes, Items, Text};
 use hook_cli::fail_answer;
 use report_text::{Ending, HookResult, LineFault, MOST_NAME_BYTES, columns, hook_text, hook_texts};
 use std::alloc::Global;
 use unicode_width::UnicodeWidthStr;
 
-/// `hook_texts COLUMNS NAME VERBOSE ENDING..`: the text of a hook with the id `t`, whose name must fit the columns. It is
-/// verbose where that argument is `verbose`. An ending is `asked`, `no files` or `ran STATUS MODIFIED OUTPUT FAULT..`, and
-/// it modified files where that argument is `modified`.
+/// `hook_texts COLUMNS NAME VERBOSE ENDING..`: the text of a hook with the id `t`, whose name must fit the columns. An
+/// ending is `asked`, `no files` or `ran STATUS MODIFIED OUTPUT FAULT..`. VERBOSE is `verbose` or has no bytes, and
+/// MODIFIED likewise.
 pub(crate) fn of_hook(alloc: Global, arguments: &[Vec<u8>]) -> Result<Vec<u8>, Stop> {
     let [columns, name, verbose, ending @ ..] = arguments else {
         return Err(Stop::BadLine);
     };
-    let hook = HookResult {
-        name: Text::copy_of(alloc, text_of(name.as_slice())?)?,
-        id: Text::copy_of(alloc, "t")?,
-        verbose: verbose.as_slice() == b"verbose".as_slice(),
-        ending: ending_of(alloc, ending)?,
-    };
+    let name = text_of(name.as_slice())?;
+    let verbose = says("verbose", verbose.as_slice())?;
+    let hook = hook_of(alloc, name, verbose, ending_of(alloc, ending)?)?;
     fitting(alloc, number_of(columns.as_slice())?, hook)
+}
+
+fn hook_of(alloc: Global, name: &str, verbose: bool, ending: Ending) -> Result<HookResult, Stop> {
+    Ok(HookResult {
+        name: Text::copy_of(alloc, name)?,
+        id: Text::copy_of(alloc, "t")?,
+        verbose,
+        ending,
+    })
 }
 
 fn fitting(alloc: Global, columns: u32, hook: HookResult) -> Result<Vec<u8>, Stop> {
@@ -40,12 +46,28 @@ fn ending_of(alloc: Global, arguments: &[Vec<u8>]) -> Result<Ending, Stop> {
     match (text_of(word.as_slice())?, details) {
         ("asked", []) => Ok(Ending::SkippedAsked),
         ("no files", []) => Ok(Ending::SkippedNoFiles),
-        ("ran", [status, modified, output, faults @ ..]) => Ok(Ending::Ran {
-            status: status_of(status.as_slice())?,
-            faults: faults_of(alloc, faults)?,
-            modified: modified.as_slice() == b"modified".as_slice(),
-            output: Bytes::from(output.as_slice().to_vec(alloc)?),
-        }),
+        ("ran", _) => ran(alloc, details),
+        _ => Err(Stop::BadLine),
+    }
+}
+
+fn ran(alloc: Global, details: &[Vec<u8>]) -> Result<Ending, Stop> {
+    let [status, modified, output, faults @ ..] = details else {
+        return Err(Stop::BadLine);
+    };
+    Ok(Ending::Ran {
+        status: status_of(status.as_slice())?,
+        faults: faults_of(alloc, faults)?,
+        modified: says("modified", modified.as_slice())?,
+        output: Bytes::from(output.as_slice().to_vec(alloc)?),
+    })
+}
+
+// Whether an argument is the word. One without bytes isn't, and another is refused.
+fn says(word: &str, argument: &[u8]) -> Result<bool, Stop> {
+    match text_of(argument)? {
+        "" => Ok(false),
+        text if text == word => Ok(true),
         _ => Err(Stop::BadLine),
     }
 }
@@ -92,7 +114,13 @@ pub(crate) fn of_fail(alloc: Global, arguments: &[Vec<u8>]) -> Result<Vec<u8>, S
         return Err(Stop::BadLine);
     };
     let names = texts_of(alloc, names)?;
-    let answer = fail_answer(alloc, text_of(entry.as_slice())?, names.as_slice())?;
+    told(
+        alloc,
+        &fail_answer(alloc, text_of(entry.as_slice())?, names.as_slice())?,
+    )
+}
+
+fn told(alloc: Global, answer: &Answer) -> Result<Vec<u8>, Stop> {
     let (status, changes) = (answer.status, answer.changes.as_slice().len());
     let mut line = format!(in alloc; "status {status}, {changes} changes\n")?.into_bytes();
     line.extend_from_slice(answer.output.as_slice())?;
