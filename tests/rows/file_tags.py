@@ -1,7 +1,7 @@
 """The tags of files and the words of first lines. Each row of tags asks for every tag that is named here, so that none is
 given that isn't expected. The lists of names, extensions and interpreters are whole."""
 
-PROGRAM = "tags_trial"
+PROGRAM = "selection_trial"
 
 # Extensions with the tags that they give.
 EXTENSIONS = {

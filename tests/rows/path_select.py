@@ -1,7 +1,7 @@
 """Patterns over paths, and the selection of a hook's files. Every selection is played twice by the program, among all
 candidates and among those that pass the patterns of the whole configuration first."""
 
-PROGRAM = "path_trial"
+PROGRAM = "selection_trial"
 
 NO_PATTERN = "1 the text is no pattern"
 

@@ -1,16 +1,15 @@
 //! The calls by their names. Each library has a function of its own here.
 
-use crate::line::Line;
-use crate::stop::Stop;
 use crate::{
     checks, command_lines, config_kinds, config_texts, configurations, report_texts, runs, stages,
     try_faults,
 };
 use std::alloc::Global;
+use trial_rows::{Row, Stop};
 
-/// What a line's call answers.
-pub(crate) fn answer_of(alloc: Global, line: &Line) -> Result<Vec<u8>, Stop> {
-    let (call, arguments) = (line.call.as_str(), line.arguments.as_slice());
+/// What a row's call answers.
+pub(crate) fn answer_of(alloc: Global, row: &Row) -> Result<Vec<u8>, Stop> {
+    let (call, arguments) = (row.call.as_str(), row.arguments.as_slice());
     if let Some(answer) = of_hook_config(alloc, call, arguments) {
         return answer;
     }

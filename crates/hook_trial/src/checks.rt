@@ -1,11 +1,10 @@
 //! What `check` prints, and the limit of what it reads.
 
 use crate::configurations::refusal;
-use crate::line::only;
-use crate::stop::Stop;
 use hook_cli::{MOST_CONFIGURATION_BYTES, check_text};
 use hook_config::{Config, read_config};
 use std::alloc::Global;
+use trial_rows::{Stop, only};
 
 /// `check_text TEXT`: what is printed of the configuration, or its refusal.
 pub(crate) fn of_text(alloc: Global, arguments: &[Vec<u8>]) -> Result<Vec<u8>, Stop> {

@@ -1,10 +1,9 @@
 //! What a line of words asks for.
 
-use crate::line::texts_of;
-use crate::stop::Stop;
 use hook_base::Text;
 use hook_cli::{Line, line_of};
 use std::alloc::{AllocError, Global};
+use trial_rows::{Stop, texts_of};
 
 /// `line_of WORD..`: the command with its words, a line each; or the kind of `clap`'s error, and its text.
 pub(crate) fn asked(alloc: Global, arguments: &[Vec<u8>]) -> Result<Vec<u8>, Stop> {

@@ -1,9 +1,8 @@
 //! The refusals of a configuration.
 
-use crate::line::{only, text_of};
-use crate::stop::Stop;
 use hook_config::{ConfigFault, ConfigKind};
 use std::alloc::Global;
+use trial_rows::{Stop, only, text_of};
 use yaml_profile::{YamlFault, YamlKind};
 
 /// `config_kind NAME`: the kind's number and name, what it is shown as, and what a fault of it is shown as; then the

@@ -1,9 +1,8 @@
 //! The texts of a configuration.
 
-use crate::line::{only, text_of};
-use crate::stop::Stop;
 use hook_config::ConfigText;
 use std::alloc::Global;
+use trial_rows::{Stop, only, text_of};
 
 /// `config_text TEXT`: a copy of the text that is held, after `held`, or `too long`.
 pub(crate) fn held(alloc: Global, arguments: &[Vec<u8>]) -> Result<Vec<u8>, Stop> {

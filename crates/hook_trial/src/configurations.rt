@@ -1,12 +1,11 @@
 //! What a text is read to as a configuration.
 
-use crate::line::only;
-use crate::stop::Stop;
 use hook_base::Text;
 use hook_config::{
     Config, ConfigFault, ConfigText, ConfigWithNode, Hook, read_config, read_config_with_node,
 };
 use std::alloc::{AllocError, Global};
+use trial_rows::{Stop, only};
 use yaml_profile::Node;
 
 /// `read_config TEXT`: the number of hooks, `fail_fast` and the unknown keys; or the refusal's number, name and place.

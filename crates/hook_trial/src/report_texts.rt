@@ -1,12 +1,11 @@
 //! What a report says of hooks that ended in every way, and what a hook of the language `fail` answers.
 
-use crate::line::{number_of, text_of, texts_of};
-use crate::stop::Stop;
 use child_port::{Answer, Fault};
 use hook_base::{Bytes, Items, Text};
 use hook_cli::fail_answer;
 use report_text::{Ending, HookResult, LineFault, MOST_NAME_BYTES, columns, hook_text, hook_texts};
 use std::alloc::Global;
+use trial_rows::{Stop, number_of, text_of, texts_of};
 use unicode_width::UnicodeWidthStr;
 
 /// `hook_texts COLUMNS NAME VERBOSE ENDING..`: the text of a hook with the id `t`, whose name must fit the columns. An
@@ -99,10 +98,7 @@ fn fault_of(word: &str) -> Option<LineFault> {
 /// `columns NAME..`: the columns of a report on hooks of these names.
 pub(crate) fn for_names(alloc: Global, arguments: &[Vec<u8>]) -> Result<Vec<u8>, Stop> {
     let names = texts_of(alloc, arguments)?;
-    if names
-        .iter()
-        .any(|name| MOST_NAME_BYTES < name.len())
-    {
+    if names.iter().any(|name| MOST_NAME_BYTES < name.len()) {
         return Err(Stop::BadLine);
     }
     Ok(columns(names.as_slice()).to_string(alloc)?.into_bytes())

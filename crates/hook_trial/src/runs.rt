@@ -3,15 +3,14 @@
 //! A run's answer is a line with `passed`, `failed` or `refused`, and what was written. A refused run's line has the
 //! refusal, as `Debug` shows it, and how often the writer was called.
 
-use crate::line::{number_of, text_of};
 use crate::readers::{Pieces, Texts};
-use crate::stop::Stop;
 use crate::writers::{Flushed, Kept};
 use child_port::TableChildren;
 use hook_base::{Bytes, FileEntry, Items, Mode, RepoPath, Tree};
 use hook_cli::{TryFault, try_over};
 use std::alloc::{AllocError, Global};
 use std::io::{Read, Write};
+use trial_rows::{Stop, number_of, text_of};
 
 /// `try_over CONFIGURATION PATH..`: a run over plain files at these paths.
 pub(crate) fn over_files(alloc: Global, arguments: &[Vec<u8>]) -> Result<Vec<u8>, Stop> {

@@ -1,10 +1,9 @@
 //! The names of stages, and the stages that hooks have.
 
 use crate::configurations::refusal;
-use crate::line::{only, text_of};
-use crate::stop::Stop;
 use hook_config::{Hook, Stage, Stages, read_config};
 use std::alloc::{AllocError, Global};
+use trial_rows::{Stop, only, text_of};
 
 // All stages, with their first names.
 const EVERY: &[(Stage, &str)] = &[

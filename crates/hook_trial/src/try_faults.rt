@@ -1,10 +1,9 @@
 //! The refusals of a run.
 
-use crate::line::{only, text_of};
-use crate::stop::Stop;
 use hook_cli::TryFault;
 use hook_config::{ConfigFault, ConfigKind};
 use std::alloc::Global;
+use trial_rows::{Stop, only, text_of};
 
 /// `try_fault NAME`: the refusal's number and name, and what it is shown as.
 pub(crate) fn told(alloc: Global, arguments: &[Vec<u8>]) -> Result<Vec<u8>, Stop> {

@@ -3,9 +3,7 @@
 use crate::stop::Stop;
 use std::alloc::Global;
 
-/// The answer in hexadecimal digits, with a line feed.
+/// The line that answers so, without its end: the answer in hexadecimal digits. `OutOfMemory` where memory is refused.
 pub fn answer_line(alloc: Global, answer: &[u8]) -> Result<String, Stop> {
-    let mut line = hex::encode(alloc, answer)?;
-    line.push_str("\n")?;
-    Ok(line)
+    Ok(hex::encode(alloc, answer)?)
 }

@@ -1,43 +1,49 @@
-//! The calls that a line can name.
+//! Calls on the hooks that start no child.
 
-use crate::stop::Stop;
 use builtin_hooks::{Grep, GrepFault, fail_answer};
 use child_port::Answer;
 use hook_base::{Bytes, FileEntry, Mode, RepoPath, Tree};
 use std::alloc::Global;
+use trial_rows::{Stop, text_of, texts_of};
 
-/// What the call of a row answers:
-///
-/// - `fail ENTRY PATH..`: the answer's status, a line end, and its output;
-/// - `build ENTRY ARGS`: `built`, or the refusal's number and name;
-/// - `grep ENTRY ARGS PATHS (PATH CONTENTS)..`: the same as `fail` for the paths asked for, over a tree of the files
-///   behind them, or the refusal.
-///
-/// `ARGS` and `PATHS` are parted by line ends.
-pub(crate) fn answer_to(alloc: Global, row: &[Vec<u8>]) -> Result<Vec<u8>, Stop> {
-    let [call, entry, words @ ..] = row else {
+/// `fail_answer ENTRY PATH..`: the answer's status, a line end, and its output.
+pub(crate) fn of_fail(alloc: Global, arguments: &[Vec<u8>]) -> Result<Vec<u8>, Stop> {
+    let [entry, paths @ ..] = arguments else {
         return Err(Stop::BadLine);
     };
-    let entry = str::from_utf8(entry.as_slice())?;
-    match (call.as_slice(), words) {
-        (b"fail", paths) => {
-            let files = paths_of(alloc, paths)?;
-            shown(alloc, fail_answer(alloc, entry, files.as_slice())?)
+    let paths = texts_of(alloc, paths)?;
+    let files = read_paths(alloc, paths.as_slice())?;
+    shown(
+        alloc,
+        fail_answer(alloc, text_of(entry.as_slice())?, files.as_slice())?,
+    )
+}
+
+/// `grep_build ENTRY ARGS`: `built`, or the refusal's number and name. The arguments are parted by line ends.
+pub(crate) fn built(alloc: Global, arguments: &[Vec<u8>]) -> Result<Vec<u8>, Stop> {
+    let [entry, args] = arguments else {
+        return Err(Stop::BadLine);
+    };
+    match build(alloc, text_of(entry.as_slice())?, args.as_slice())? {
+        Ok(_grep) => Ok(b"built".to_vec(alloc)?),
+        Err(fault) => refusal(alloc, fault),
+    }
+}
+
+/// `grep_answer ENTRY ARGS PATHS (PATH CONTENTS)..`: the same as `fail_answer` for the paths asked for, over a tree of the
+/// files behind them, or the refusal. Arguments and paths are parted by line ends.
+pub(crate) fn answered(alloc: Global, arguments: &[Vec<u8>]) -> Result<Vec<u8>, Stop> {
+    let [entry, args, paths, files @ ..] = arguments else {
+        return Err(Stop::BadLine);
+    };
+    match build(alloc, text_of(entry.as_slice())?, args.as_slice())? {
+        Ok(grep) => {
+            let asked = lines_of(alloc, paths.as_slice())?;
+            let asked = read_paths(alloc, asked.as_slice())?;
+            let tree = tree_of(alloc, files)?;
+            shown(alloc, grep.answer(alloc, asked.as_slice(), &tree)?)
         }
-        (b"build", [args]) => match build(alloc, entry, args.as_slice())? {
-            Ok(_grep) => Ok(b"built".to_vec(alloc)?),
-            Err(fault) => refusal(alloc, fault),
-        },
-        (b"grep", [args, paths, files @ ..]) => match build(alloc, entry, args.as_slice())? {
-            Ok(grep) => {
-                let asked = lines_of(alloc, paths.as_slice())?;
-                let asked = read_paths(alloc, asked.as_slice())?;
-                let tree = tree_of(alloc, files)?;
-                shown(alloc, grep.answer(alloc, asked.as_slice(), &tree)?)
-            }
-            Err(fault) => refusal(alloc, fault),
-        },
-        _ => Err(Stop::BadLine),
+        Err(fault) => refusal(alloc, fault),
     }
 }
 
@@ -69,19 +75,11 @@ fn shown(alloc: Global, answer: Answer) -> Result<Vec<u8>, Stop> {
 fn lines_of<'a>(alloc: Global, text: &'a [u8]) -> Result<Vec<&'a str>, Stop> {
     let mut lines = Vec::new(alloc);
     if !text.is_empty() {
-        for line in str::from_utf8(text)?.split('\n') {
+        for line in text_of(text)?.split('\n') {
             lines.push(line)?;
         }
     }
     Ok(lines)
-}
-
-fn paths_of(alloc: Global, words: &[Vec<u8>]) -> Result<Vec<RepoPath>, Stop> {
-    let mut texts = Vec::new(alloc);
-    for word in words {
-        texts.push(str::from_utf8(word.as_slice())?)?;
-    }
-    read_paths(alloc, texts.as_slice())
 }
 
 fn read_paths(alloc: Global, texts: &[&str]) -> Result<Vec<RepoPath>, Stop> {
@@ -98,7 +96,7 @@ fn tree_of(alloc: Global, words: &[Vec<u8>]) -> Result<Tree, Stop> {
     let mut pending = None;
     for word in words {
         match pending.take() {
-            None => pending = Some(RepoPath::read(alloc, str::from_utf8(word.as_slice())?)?),
+            None => pending = Some(RepoPath::read(alloc, text_of(word.as_slice())?)?),
             Some(path) => put_file(alloc, &mut tree, path, word.as_slice())?,
         }
     }

@@ -1,28 +1,14 @@
-//! The calls by their names.
+//! Calls on patterns and selections.
 
-use crate::bulk::select_for_many;
-use crate::line::{Line, only, text_of};
 use crate::parts::{candidates_of, lines_of, patterns_of, rules_of, tag_lists_of, tree_of};
-use crate::stop::Stop;
 use hook_base::{Items, RepoPath, Tree};
 use path_select::{Candidates, Pattern, PatternFault, Rules, select, select_among};
 use std::alloc::Global;
+use trial_rows::{Stop, only, text_of};
 
-/// What a line's call answers.
-pub(crate) fn answer_to(alloc: Global, line: &Line) -> Result<Vec<u8>, Stop> {
-    let arguments = line.arguments.as_slice();
-    match line.call.as_str() {
-        "pattern" => built(alloc, text_of(only(arguments)?)?),
-        "select" => selected(alloc, arguments),
-        "candidates" => candidates(alloc, arguments),
-        "bulk" => select_for_many(alloc, arguments),
-        _ => Err(Stop::NoCall),
-    }
-}
-
-// `pattern TEXT`: the pattern's text, or the number of the refusal and what it says.
-fn built(alloc: Global, text: &str) -> Result<Vec<u8>, Stop> {
-    match Pattern::build(alloc, text) {
+/// `pattern TEXT`: the pattern's text, or the number of the refusal and what it says.
+pub(crate) fn built(alloc: Global, arguments: &[Vec<u8>]) -> Result<Vec<u8>, Stop> {
+    match Pattern::build(alloc, text_of(only(arguments)?)?) {
         Ok(pattern) => Ok(pattern.as_str().as_bytes().to_vec(alloc)?),
         Err(PatternFault::OutOfMemory) => Err(Stop::OutOfMemory),
         Err(fault) => refusal(alloc, fault),
@@ -34,10 +20,10 @@ fn refusal(alloc: Global, fault: PatternFault) -> Result<Vec<u8>, Stop> {
     Ok(format!(in alloc; "{number} {fault}")?.into_bytes())
 }
 
-// `select TOP_FILES TOP_EXCLUDE FILES EXCLUDE TYPES TYPES_OR EXCLUDE_TYPES CANDIDATES TREE`: the paths that are selected, a
-// line each. Tags are parted by blanks, candidates by line feeds. A line of the tree is `MODE PATH BYTES`, the mode `-` or
-// `x`.
-fn selected(alloc: Global, arguments: &[Vec<u8>]) -> Result<Vec<u8>, Stop> {
+/// `select TOP_FILES TOP_EXCLUDE FILES EXCLUDE TYPES TYPES_OR EXCLUDE_TYPES CANDIDATES TREE`: the paths that are selected, a
+/// line each. Tags are parted by blanks, candidates by line feeds. A line of the tree is `MODE PATH BYTES`, the mode `-` or
+/// `x`.
+pub(crate) fn selected(alloc: Global, arguments: &[Vec<u8>]) -> Result<Vec<u8>, Stop> {
     let [rules @ .., paths, tree] = arguments else {
         return Err(Stop::BadLine);
     };
@@ -78,8 +64,8 @@ fn both_ways(
     }
 }
 
-// `candidates FILES EXCLUDE CANDIDATES`: how many paths pass, each counted once.
-fn candidates(alloc: Global, arguments: &[Vec<u8>]) -> Result<Vec<u8>, Stop> {
+/// `candidates FILES EXCLUDE CANDIDATES`: how many paths pass, each counted once.
+pub(crate) fn candidates(alloc: Global, arguments: &[Vec<u8>]) -> Result<Vec<u8>, Stop> {
     let [files, exclude, paths] = arguments else {
         return Err(Stop::BadLine);
     };

@@ -1,11 +1,10 @@
 //! Selections for many hooks over many files, to time them.
 
-use crate::line::text_of;
 use crate::parts::{entry_of, patterns_of, rules_of, tag_lists_of};
-use crate::stop::Stop;
 use hook_base::{RepoPath, Tree};
 use path_select::{Candidates, Rules, select_among};
 use std::alloc::Global;
+use trial_rows::{Stop, number_of};
 
 /// `bulk HOOKS FILES TOP_FILES TOP_EXCLUDE PATTERN EXCLUDE TYPES TYPES_OR EXCLUDE_TYPES`: how many paths are selected in all
 /// for so many hooks with these rules, of a tree of so many files, all of them candidates.
@@ -25,8 +24,8 @@ pub(crate) fn select_for_many(alloc: Global, arguments: &[Vec<u8>]) -> Result<Ve
     let patterns = patterns_of(alloc, &[top_files, top_exclude, files, exclude])?;
     let lists = tag_lists_of(alloc, lists)?;
     let rules = rules_of(patterns.as_slice(), lists.as_slice())?;
-    let tree = tree_with(alloc, number_of(count)?)?;
-    let selected = count_selected(alloc, number_of(hooks)?, &rules, &tree)?;
+    let tree = tree_with(alloc, number_of(count.as_slice())?)?;
+    let selected = count_selected(alloc, number_of(hooks.as_slice())?, &rules, &tree)?;
     Ok(selected.to_string(alloc)?.into_bytes())
 }
 
@@ -47,13 +46,6 @@ fn paths_of(alloc: Global, tree: &Tree) -> Result<Vec<RepoPath>, Stop> {
         paths.push(tree.entry(at).path.clone()?)?;
     }
     Ok(paths)
-}
-
-fn number_of(argument: &Vec<u8>) -> Result<u32, Stop> {
-    match text_of(argument.as_slice())?.parse::<u32>() {
-        Ok(number) => Ok(number),
-        Err(_) => Err(Stop::BadLine),
-    }
 }
 
 fn tree_with(alloc: Global, files: u32) -> Result<Tree, Stop> {

@@ -1,24 +1,12 @@
-//! The calls by their names.
+//! Calls on the tags of files.
 
-use crate::line::{Line, only, text_of};
-use crate::stop::Stop;
 use file_tags::{MOST_SHEBANG_BYTES, shebang, tags_of};
 use hook_base::{Bytes, FileEntry, Mode, RepoPath};
 use std::alloc::Global;
+use trial_rows::{Stop, only, text_of};
 
-/// What a line's call answers.
-pub(crate) fn answer_to(alloc: Global, line: &Line) -> Result<Vec<u8>, Stop> {
-    let arguments = line.arguments.as_slice();
-    match line.call.as_str() {
-        "tags_of" => tags_among(alloc, arguments),
-        "shebang" => words_of(alloc, arguments),
-        "most_shebang_bytes" => Ok(MOST_SHEBANG_BYTES.to_string(alloc)?.into_bytes()),
-        _ => Err(Stop::NoCall),
-    }
-}
-
-// `tags_of MODE PATH BYTES TAG..`: those of the given tags that the file has, a line each.
-fn tags_among(alloc: Global, arguments: &[Vec<u8>]) -> Result<Vec<u8>, Stop> {
+/// `tags_of MODE PATH BYTES TAG..`: those of the given tags that the file has, a line each.
+pub(crate) fn among(alloc: Global, arguments: &[Vec<u8>]) -> Result<Vec<u8>, Stop> {
     let [mode, path, bytes, asked @ ..] = arguments else {
         return Err(Stop::BadLine);
     };
@@ -45,8 +33,8 @@ fn mode_of(word: &str) -> Result<Mode, Stop> {
     }
 }
 
-// `shebang BYTES`: the words of the first line, a line each.
-fn words_of(alloc: Global, arguments: &[Vec<u8>]) -> Result<Vec<u8>, Stop> {
+/// `shebang BYTES`: the words of the first line, a line each.
+pub(crate) fn words_of(alloc: Global, arguments: &[Vec<u8>]) -> Result<Vec<u8>, Stop> {
     let words = shebang(alloc, only(arguments)?)?;
     let mut lines = Vec::new(alloc);
     for word in words.as_slice() {
@@ -59,4 +47,9 @@ fn push_line(lines: &mut Vec<u8>, text: &[u8]) -> Result<(), Stop> {
     lines.extend_from_slice(text)?;
     lines.push(b'\n')?;
     Ok(())
+}
+
+/// `most_shebang_bytes`: the limit of a first line.
+pub(crate) fn most_bytes(alloc: Global) -> Result<Vec<u8>, Stop> {
+    Ok(MOST_SHEBANG_BYTES.to_string(alloc)?.into_bytes())
 }

@@ -1,18 +1,25 @@
 //! The arguments of a selection: patterns, tags, candidates and trees.
 
-use crate::line::text_of;
-use crate::stop::Stop;
 use hook_base::{Bytes, FileEntry, Mode, RepoPath, Text, Tree};
-use path_select::{Pattern, Rules};
+use path_select::{Pattern, PatternFault, Rules};
 use std::alloc::Global;
+use trial_rows::{Stop, text_of};
 
 /// The patterns of arguments.
 pub(crate) fn patterns_of(alloc: Global, arguments: &[&Vec<u8>]) -> Result<Vec<Pattern>, Stop> {
     let mut patterns = Vec::new(alloc);
     for argument in arguments {
-        patterns.push(Pattern::build(alloc, text_of(argument.as_slice())?)?)?;
+        let text = text_of(argument.as_slice())?;
+        patterns.push(Pattern::build(alloc, text).map_err(stop_of)?)?;
     }
     Ok(patterns)
+}
+
+fn stop_of(fault: PatternFault) -> Stop {
+    match fault {
+        PatternFault::NotAPattern => Stop::BadLine,
+        PatternFault::OutOfMemory => Stop::OutOfMemory,
+    }
 }
 
 /// The lists of tags of arguments.
