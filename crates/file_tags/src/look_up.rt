@@ -1,6 +1,6 @@
 //! What the tables give for a name.
 
-ghost use Rattle.std.specs.Prelude.{◌≡◌, List, ◌∷◌};
+ghost use Rattle.std.specs.Prelude.{◌≡◌, ◌∷◌};
 ghost use Rattle.file_tags.specs.Cuts.{before_dots};
 ghost use Rattle.file_tags.specs.FileTags.{name_tags};
 ghost use Rattle.file_tags.specs.TagTables.{texts_of, rows_of, name_rows, extension_rows, interpreter_rows, tags_in, tags_of_first};

@@ -1,9 +1,9 @@
 //! The tags of a file, rule by rule.
 
-ghost use Rattle.std.specs.Prelude.{◌≡◌, ◌++◌, IfOk, codes};
+ghost use Rattle.std.specs.Prelude.{◌≡◌, IfOk, codes};
 ghost use Rattle.std.specs.Str.{bytes_eq};
 ghost use Rattle.file_tags.specs.Contents.{is_text};
-ghost use Rattle.file_tags.specs.FileTags.{content_tags, extension_tags, interpreter_tags, mode_tags, name_of, script_tags, tags_of_file, told_tags};
+ghost use Rattle.file_tags.specs.FileTags.{content_tags, extension_tags, interpreter_tags, mode_tags, script_tags, tags_of_file, told_tags};
 ghost use Rattle.file_tags.specs.Shebangs.{from_interpreter};
 ghost use Rattle.file_tags.specs.TagTables.{texts_of};
 

@@ -1,11 +1,9 @@
 //! The tags of one file.
 
-ghost use Rattle.std.specs.Prelude.{◌≡◌, IfOk, OnOk, OnErr};
+ghost use Rattle.std.specs.Prelude.{◌≡◌};
 ghost use Rattle.file_tags.specs.FileTags.{has_tag};
 ghost use Rattle.file_tags.specs.TagTables.{texts_of};
 
-use hook_base::OutOfMemory;
-use std::alloc::Global;
 use std::marker::Model;
 
 /// What a file is, as `python` or `executable`. Contracts see the list of the tags, each as the list of its bytes.
@@ -31,7 +29,7 @@ impl Tags {
         Tags { tags }
     }
 
-    /// Whether a tag is among them. It takes no memory.
+    /// Whether a tag is among them, letter by letter. It takes no memory.
     pub fn has(&self, tag: &str) -> bool
         ensures { result ≡ has_tag tag.now self.now }
     {
