@@ -33,15 +33,16 @@ def table_of(name):
 
 
 def played(program, rows):
-    """The answers of one process to all rows, fewer where it ended before its input."""
+    """The answers of one process to all rows, fewer where it ended before its input, and what is wrong with how it ended."""
     path = os.path.join(TOP, "crates", program, "out", program)
     if not os.path.exists(path):
         sys.exit(f"rows: there is no {os.path.relpath(path, TOP)}: build it with `rt run` in crates/{program}")
     lines = [" ".join([row[0], *(as_bytes(word).hex() or "-" for word in row[1:-1])]) for row in rows]
     ran = subprocess.run([path], input="".join(f"{line}\n" for line in lines).encode(), capture_output=True)
-    if ran.returncode or ran.stderr:
-        print(f"rows: {program} ended with status {ran.returncode}: {ran.stderr.decode(errors='replace').strip()}")
-    return [bytes.fromhex(line) for line in ran.stdout.decode().splitlines()]
+    answers = [bytes.fromhex(line) for line in ran.stdout.decode().splitlines()]
+    if ran.returncode or ran.stderr or len(answers) > len(rows):
+        return answers, f"{program} gave {len(answers)} answers and ended with status {ran.returncode}: {ran.stderr.decode(errors='replace').strip()}"
+    return answers, ""
 
 
 def main():
@@ -50,7 +51,10 @@ def main():
     passed = failed = 0
     for name in names:
         table = table_of(name)
-        answers = played(table.PROGRAM, table.ROWS)
+        answers, wrong = played(table.PROGRAM, table.ROWS)
+        if wrong:
+            failed += 1
+            print(f"rows: {name}: {wrong}")
         for number, row in enumerate(table.ROWS):
             answer = answers[number] if number < len(answers) else None
             if answer == as_bytes(row[-1]):

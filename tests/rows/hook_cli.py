@@ -326,7 +326,7 @@ ROWS = [
     *(("try_fault", *case) for case in FAULTS),
     *(("check_text", *case) for case in CHECKS),
     *(("line_of", *words, said) for words, said in LINES),
-    *(("hook_texts", *hook, said) for hook, said in HOOK_TEXTS),
+    *(("hook_text", *hook, said) for hook, said in HOOK_TEXTS),
     *(("columns", *names, said) for names, said in COLUMNS),
     *(("fail_answer", *case) for case in FAIL_ANSWERS),
 ]

@@ -52,7 +52,7 @@ fn of_hook_cli(alloc: Global, call: &str, arguments: &[Vec<u8>]) -> Option<Resul
         "check_text" => checks::of_text(alloc, arguments),
         "most_configuration_bytes" => checks::most_bytes(alloc, arguments),
         "line_of" => command_lines::asked(alloc, arguments),
-        "hook_texts" => report_texts::of_hook(alloc, arguments),
+        "hook_text" => report_texts::of_hook(alloc, arguments),
         "columns" => report_texts::for_names(alloc, arguments),
         "fail_answer" => report_texts::of_fail(alloc, arguments),
         _ => return None,

@@ -3,12 +3,12 @@
 use child_port::{Answer, Fault};
 use hook_base::{Bytes, Items, Text};
 use hook_cli::fail_answer;
-use report_text::{Ending, HookResult, LineFault, MOST_NAME_BYTES, columns, hook_text, hook_texts};
+use report_text::{Ending, HookResult, LineFault, MOST_NAME_BYTES, columns, hook_text};
 use std::alloc::Global;
 use trial_rows::{Stop, number_of, text_of, texts_of};
 use unicode_width::UnicodeWidthStr;
 
-/// `hook_texts COLUMNS NAME VERBOSE ENDING..`: the text of a hook with the id `t`, whose name must fit the columns. An
+/// `hook_text COLUMNS NAME VERBOSE ENDING..`: the text of a hook with the id `t`, whose name must fit the columns. An
 /// ending is `asked`, `no files` or `ran STATUS MODIFIED OUTPUT FAULT..`. VERBOSE is `verbose` or has no bytes, and
 /// MODIFIED likewise.
 pub(crate) fn of_hook(alloc: Global, arguments: &[Vec<u8>]) -> Result<Vec<u8>, Stop> {
@@ -35,7 +35,7 @@ fn fitting(alloc: Global, columns: u32, hook: HookResult) -> Result<Vec<u8>, Sto
     if columns < 30 || columns - 30 < hook.name.as_str().width() {
         return Err(Stop::BadLine);
     }
-    Ok(hook_texts(alloc, columns, &[hook])?)
+    Ok(hook_text(alloc, columns, &hook)?)
 }
 
 fn ending_of(alloc: Global, arguments: &[Vec<u8>]) -> Result<Ending, Stop> {
