@@ -1,6 +1,5 @@
 //! The calls by their names.
 
-use crate::bulk::select_for_many;
 use crate::line::{Line, only, text_of};
 use crate::parts::{candidates_of, lines_of, patterns_of, rules_of, tag_lists_of, tree_of};
 use crate::stop::Stop;
@@ -14,8 +13,6 @@ pub(crate) fn answer_to(alloc: Global, line: &Line) -> Result<Vec<u8>, Stop> {
     match line.call.as_str() {
         "pattern" => built(alloc, text_of(only(arguments)?)?),
         "select" => selected(alloc, arguments),
-        "candidates" => candidates(alloc, arguments),
-        "bulk" => select_for_many(alloc, arguments),
         _ => Err(Stop::NoCall),
     }
 }
@@ -76,18 +73,4 @@ fn both_ways(
     } else {
         Err(Stop::TwoAnswers)
     }
-}
-
-// `candidates FILES EXCLUDE CANDIDATES`: how many paths pass, each counted once.
-fn candidates(alloc: Global, arguments: &[Vec<u8>]) -> Result<Vec<u8>, Stop> {
-    let [files, exclude, paths] = arguments else {
-        return Err(Stop::BadLine);
-    };
-    let patterns = patterns_of(alloc, &[files, exclude])?;
-    let paths = candidates_of(alloc, paths)?;
-    let [files, exclude] = patterns.as_slice() else {
-        return Err(Stop::BadLine);
-    };
-    let among = Candidates::passing(alloc, files, exclude, paths.as_slice())?;
-    Ok(among.len().to_string(alloc)?.into_bytes())
 }

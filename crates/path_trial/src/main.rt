@@ -5,7 +5,6 @@
 //! The answer is a line of hexadecimal digits. At a line that is no call the program ends with the exit status 2.
 #![tactic(auto)]
 
-mod bulk;
 mod calls;
 mod line;
 mod parts;
