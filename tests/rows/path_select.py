@@ -93,8 +93,4 @@ ROWS = [
     *(("pattern", text, NO_PATTERN) for text in REFUSED),
     *(select(path, [f"- {path} "], path if found else "", files=pattern) for pattern, path, found in FOUND),
     *SELECTIONS,
-    ("candidates", "", "^$", "b\na\nb\nc/d", "3"),
-    ("candidates", "/", "^$", "b\na\nb\nc/d", "1"),
-    ("candidates", "", "/", "b\na\nb\nc/d", "2"),
-    ("candidates", "", "^$", "", "0"),
 ]

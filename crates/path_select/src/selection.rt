@@ -15,7 +15,7 @@ use std::alloc::Global;
 
 /// The paths of the files that a hook gets, in their order, each once: those of the tree that are candidates, pass the
 /// patterns of the whole configuration, pass the hook's own patterns, and have the tags that it asks for. Candidates may
-/// come in any order, repeated, and lack in the tree. `OutOfMemory` where memory is refused.
+/// come in any order, more than once, and without a file in the tree. `OutOfMemory` where memory is refused.
 ///
 /// Who selects for several hooks makes the [`Candidates`] once, and calls [`select_among`] for each hook.
 pub fn select(
@@ -30,7 +30,8 @@ pub fn select(
     select_among(alloc, rules, &among, tree)
 }
 
-/// The same among candidates that have passed the patterns of the whole configuration, which aren't looked for again.
+/// The same among candidates that have passed the patterns of the whole configuration, which aren't looked for again: those
+/// of the rules are passed over. `OutOfMemory` where memory is refused.
 pub fn select_among(
     alloc: Global,
     rules: &Rules,

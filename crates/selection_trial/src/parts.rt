@@ -82,8 +82,8 @@ pub(crate) fn tree_of(alloc: Global, argument: &Vec<u8>) -> Result<Tree, Stop> {
     Ok(tree)
 }
 
-/// What stands at a path: a mode, `-` or `x`, and bytes.
-pub(crate) fn entry_of(alloc: Global, mode: &str, bytes: &str) -> Result<FileEntry, Stop> {
+// What stands at a path: a mode, `-` or `x`, and bytes.
+fn entry_of(alloc: Global, mode: &str, bytes: &str) -> Result<FileEntry, Stop> {
     let mode = match mode {
         "-" => Mode::Plain,
         "x" => Mode::Executable,
