@@ -54,7 +54,7 @@ pub fn first_found_line<'a>(
 }
 
 // The first line without its line feed, and the bytes behind it.
-#[tactic(auto, using(crate::proofs::FeedLemmas::lines_cut))]
+#[tactic(auto, using(crate::proofs::FeedLemmas::lines_cut, crate::proofs::FeedLemmas::lines_last))]
 fn first_line(bytes: &[u8]) -> (&[u8], &[u8])
     requires { bytes.now ≢ [] }
     ensures lines { lines_of bytes.now ≡ result.0.now ∷ lines_of result.1.now }
