@@ -6,13 +6,14 @@ pre-commit (Debian's package of that name) must be there, for the Python that ru
 Debian's packages serve; where it is missing, nothing can be compared, and that is a failure. So must the program
 `grep_trial` be, built by `rt run`.
 
-The patterns are of what the two languages of patterns share: letters, classes, groups, branches, repetitions and
-look-arounds of one character's width. The files are Debian's pygrep's own: each case is written to a folder, and its
-functions are called on it in this process. Where the answers differ, one of the reasons below has to hold, each of which
-is a test of the case; another difference is a failure, and so is a reason that no case needed.
+The patterns are of what the two languages of patterns share: letters, classes, groups, branches, repetitions, and the ends
+of lines, words and texts. Each case is written to a folder, and pre-commit's functions are called on it in this process.
+Where the answers differ, a reason has to hold, which is tested: the two must agree once one side answers as the reason
+says. Another difference is a failure, and so is a reason that no case needed.
 """
 import contextlib
 import io
+import itertools
 import os
 import random
 import re
@@ -137,12 +138,14 @@ def writing_to(buffer):
             function.__defaults__ = defaults
 
 
-# ---- why two answers may differ. Each test changes the case so that its reason is gone, and the answers agree then.
+# ---- why two answers may differ. Each reason changes how one side answers; it holds where the two then agree.
 
-def lines_without_feeds(entry, args, files):
-    """pre-commit's answer where each line is searched without its line feed, as here."""
+def without_line_feeds(entry, args, files):
+    """What pre-commit would answer if it searched each line without its line feed, as is done here."""
+    if "--multiline" in args:
+        return theirs(entry, args, files)
     found = re.compile(entry.encode(), flags_of(args))
-    text, status = b"", 0
+    text = b""
     for name, data in files.items():
         lines = data.split(b"\n")[:-1] if data.endswith(b"\n") or not data else data.split(b"\n")
         hits = [(number, line) for number, line in enumerate(lines, 1) if found.search(line)]
@@ -153,52 +156,58 @@ def lines_without_feeds(entry, args, files):
     return b"%d\n" % (1 if text else 0) + text
 
 
-def with_ascii_classes(entry):
-    """The entry for `regex`, with characters taken as Python's patterns of bytes take them."""
-    return "(?-u)" + "".join(character if character < "\x80" else "".join(rf"\x{byte:02x}" for byte in character.encode()) for character in entry)
+def with_bytes(entry):
+    """The entry for `regex` where it is to be read as Python reads a pattern of bytes."""
+    return "(?-u)" + "".join(sign if sign < "\x80" else "".join(rf"\x{byte:02x}" for byte in sign.encode()) for sign in entry)
 
 
-def is_about_line_feeds(case, mine, _other):
-    return "--multiline" not in case[1] and lines_without_feeds(*case) == mine
+def with_empty_texts(entry):
+    """The entry for Python where `\\B` is to be found in an empty text too."""
+    return entry.replace(r"\B", r"(?:\B|\A\Z)")
 
 
-def is_about_characters(case, _mine, other):
-    entry, args, files = case
-    return ours([(with_ascii_classes(entry), args, files)])[0] in (other, lines_without_feeds(*case) if "--multiline" not in args else other)
+FEEDS = "by line, a line is searched without its line feed here, and with it there"
+BYTES = "classes, `.`, `-i` and signs beyond ASCII are those of characters here, and of bytes there"
+EMPTY = r"`\B` is found in an empty text here, and there isn't"
+REASONS = [FEEDS, BYTES, EMPTY]
 
 
-def is_about_ends(case, _mine, other):
-    """In `--multiline` Python's `$` and `^` and ours are alike, but not by line before a last line feed."""
-    return False
+def agree_but_for(reasons, entry, args, files):
+    """Whether the two answers are the same, these reasons apart."""
+    mine = ours([(with_bytes(entry) if BYTES in reasons else entry, args, files)])[0]
+    other = without_line_feeds if FEEDS in reasons else theirs
+    return mine == other(with_empty_texts(entry) if EMPTY in reasons else entry, args, files)
 
 
-REASONS = [
-    (is_about_line_feeds, "by line, a line is searched without its line feed here, and with it there"),
-    (is_about_characters, "classes, `.`, `-i` and characters beyond ASCII are those of characters here, and of bytes there"),
-]
+def reasons_of(case):
+    """The fewest reasons for which the two answers differ, or None."""
+    sets = (reasons for count in (1, 2, 3) for reasons in itertools.combinations(REASONS, count))
+    return next((reasons for reasons in sets if agree_but_for(reasons, *case)), None)
 
 
 def main():
     count = int(sys.argv[1]) if len(sys.argv) > 1 else 6000
     seed = int(sys.argv[2]) if len(sys.argv) > 2 else 1
     rows = list(cases(count, seed))
-    answers = ours(rows)
-    agreed, refused, excused, wrong = 0, 0, {reason: 0 for _, reason in REASONS}, 0
-    for case, mine in zip(rows, answers, strict=True):
+    agreed, excused, wrong = 0, 0, 0
+    used = dict.fromkeys(REASONS, 0)
+    for case, mine in zip(rows, ours(rows), strict=True):
         other = theirs(*case)
         if mine == other:
             agreed += 1
             continue
-        reason = next((reason for test, reason in REASONS if test(case, mine, other)), None)
-        if reason is None:
+        reasons = reasons_of(case)
+        if reasons is None:
             wrong += 1
             print(f"DIFFERENT: {case}\n  here  {mine}\n  there {other}")
-        else:
-            excused[reason] += 1
-    for reason, number in excused.items():
+            continue
+        excused += 1
+        for reason in reasons:
+            used[reason] += 1
+    for reason, number in used.items():
         print(f"{number} differ: {reason}")
-    print(f"pygrep: {agreed} of {len(rows)} cases agree, {sum(excused.values())} differ with a reason, {wrong} without one")
-    sys.exit(1 if wrong or not agreed or not all(excused.values()) else 0)
+    print(f"pygrep: {agreed} of {len(rows)} cases agree, {excused} differ with a reason, {wrong} without one")
+    sys.exit(1 if wrong or not agreed or not all(used.values()) else 0)
 
 
 main()

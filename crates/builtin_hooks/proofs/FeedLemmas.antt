@@ -61,5 +61,5 @@ some-bytes : (bytes : List ℕ) → bytes ≢ [] → without_empty_last (bytes �
 some-bytes [] some = absurd (some refl)
 some-bytes (byte ∷ bytes) some = refl
 
-pub lines_last : (bytes : List ℕ) → bytes ≢ [] → length bytes ≤ first_feed bytes → lines_of bytes ≡ bytes ∷ []
-lines_last bytes some none = ap without_empty_last (pieces-whole bytes none) ∙ some-bytes bytes some
+pub lines_last : (bytes : List ℕ) (place : ℕ) → bytes ≢ [] → place ≡ first_feed bytes → length bytes ≤ place → lines_of bytes ≡ bytes ∷ []
+lines_last bytes place some is none = ap without_empty_last (pieces-whole bytes (omega arith)) ∙ some-bytes bytes some

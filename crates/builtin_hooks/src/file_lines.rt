@@ -23,8 +23,8 @@ pub struct FoundLine<'a> {
 
 ghost use Rattle.builtin_hooks.specs.Searchers.{IsFirstFound};
 
-#[tactic(auto, using(crate::proofs::LineLemmas::found_here, crate::proofs::LineLemmas::found_later))]
 /// The first line in which the pattern is found, where the first line of the bytes has this number.
+#[tactic(auto, using(crate::proofs::LineLemmas::found_here, crate::proofs::LineLemmas::found_later))]
 pub fn first_found_line<'a>(
     searcher: &mut Searcher<'_>,
     first_number: usize,
@@ -53,8 +53,8 @@ pub fn first_found_line<'a>(
     None
 }
 
-#[tactic(auto, using(crate::proofs::FeedLemmas::lines_cut))]
 // The first line without its line feed, and the bytes behind it.
+#[tactic(auto, using(crate::proofs::FeedLemmas::lines_cut, crate::proofs::FeedLemmas::lines_last))]
 fn first_line(bytes: &[u8]) -> (&[u8], &[u8])
     requires { bytes.now ≢ [] }
     ensures lines { lines_of bytes.now ≡ result.0.now ∷ lines_of result.1.now }

@@ -37,12 +37,12 @@ impl Model for Grep {
 }
 
 impl Grep {
-    #[tactic(auto, using(crate::proofs::ArgLemmas::known_said, crate::proofs::SearchLemmas::searched_reads))]
     /// Builds the pattern of an entry under its arguments. These are `-i` and `--ignore-case` (letters are found in either
     /// case), `--multiline` (a file is searched as a whole, where `^` and `$` are found at the ends of lines too and `.` is
     /// a line feed too) and `--negate` (the files without a match are asked for), in any order, each as often as it likes.
     /// Another argument is `BadArg`, whatever the entry is; an entry that `regex` doesn't take is `NotAPattern`, which it is
     /// for `regex` to say.
+    #[tactic(auto, using(crate::proofs::ArgLemmas::known_said, crate::proofs::SearchLemmas::searched_reads))]
     pub fn build(alloc: Global, entry: &str, args: &[&str]) -> Result<Grep, GrepFault>
         ensures built { IfOk result (λ grep. grep ≡ search_of entry.now (map (λ arg. arg.now) args.now)) }
         ensures read { IfOk result (λ grep. IsSome (pattern_of grep)) }
@@ -89,8 +89,8 @@ impl Grep {
     }
 }
 
-#[tactic(auto, using(crate::proofs::SearchLemmas::built_searches))]
 // The pattern of the entry under the flags.
+#[tactic(auto, using(crate::proofs::SearchLemmas::built_searches))]
 fn built(alloc: Global, entry: &str, flags: Flags) -> Result<Regex, GrepFault>
     ensures source { IfOk result (λ regex. regex_source regex ≡ entry.now) }
     ensures searches { IfOk result (λ regex. SearchesFor (search_with (regex_source regex) flags) (regex_pattern regex)) }

@@ -6,8 +6,8 @@ ghost use Rattle.builtin_hooks.specs.Lines.{is_line_feed, from_line_feed, withou
 
 use bstr::ByteSlice;
 
-#[tactic(auto, using(crate::proofs::FeedLemmas::feed_found, crate::proofs::FeedLemmas::feed_none))]
 /// The index of the first line feed, or the number of bytes where there is none.
+#[tactic(auto, using(crate::proofs::FeedLemmas::feed_found, crate::proofs::FeedLemmas::feed_none))]
 pub fn line_feed_or_end(bytes: &[u8]) -> usize
     ensures place { result ≡ position_or_len is_line_feed bytes.now }
     ensures within { result ≤ length bytes.now }
@@ -25,8 +25,8 @@ pub fn from_line_feed(bytes: &[u8]) -> &[u8]
     &bytes[line_feed_or_end(bytes)..]
 }
 
-#[tactic(auto, using(crate::proofs::TrimLemmas::last_is_return, crate::proofs::TrimLemmas::last_is_other))]
 /// The bytes without the carriage returns at their end.
+#[tactic(auto, using(crate::proofs::TrimLemmas::last_is_return, crate::proofs::TrimLemmas::last_is_other))]
 pub fn without_returns_after(bytes: &[u8]) -> &[u8]
     ensures { result.now ≡ without_returns_after bytes.now }
 {

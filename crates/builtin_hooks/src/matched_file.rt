@@ -42,8 +42,8 @@ pub fn push_first_match(
     Ok(())
 }
 
-#[tactic(auto, using(crate::proofs::PlaceLemmas::same_start))]
 // The line in which the byte at an index stands, or which ends there.
+#[tactic(auto, using(crate::proofs::PlaceLemmas::same_start))]
 fn line_at(bytes: &[u8], index: usize) -> Line<'_>
     requires { index ≤ length bytes.now }
     ensures number { result.number ≡ line_feeds_before index bytes.now + 1 }
