@@ -6,20 +6,22 @@ use crate::stop::Stop;
 use std::alloc::Global;
 use std::str;
 
-#[derive(Drop)]
-pub(crate) struct Call<'a> {
-    pub(crate) name: &'a str,
-    pub(crate) words: Vec<Vec<u8>>,
+pub(crate) fn name_of(line: &str) -> &str {
+    match line.split_once(' ') {
+        Some((name, _)) => name,
+        None => line,
+    }
 }
 
-pub(crate) fn read_call(alloc: Global, line: &str) -> Result<Call<'_>, Stop> {
+/// The arguments.
+pub(crate) fn read_words(alloc: Global, line: &str) -> Result<Vec<Vec<u8>>, Stop> {
     let mut parts = line.split(' ');
-    let name = parts.next().ok_or(Stop::BadLine)?;
+    let _name = parts.next();
     let mut words = Vec::new(alloc);
     for part in parts {
         words.push(read_word(alloc, part)?)?;
     }
-    Ok(Call { name, words })
+    Ok(words)
 }
 
 fn read_word(alloc: Global, part: &str) -> Result<Vec<u8>, Stop> {

@@ -5,20 +5,8 @@ use crate::stop::Stop;
 use hook_base::{Bytes, Items, Text, copy_texts};
 use std::alloc::Global;
 
-/// The answer to a call of this name, if it is one on such bytes or texts.
-pub(crate) fn answer(alloc: Global, name: &str, words: &[Vec<u8>]) -> Result<Option<String>, Stop> {
-    match (name, words) {
-        ("copy_bytes", [bytes, other]) => {
-            Ok(Some(copy_bytes(alloc, bytes.as_slice(), other.as_slice())?))
-        }
-        ("copy_text", [text]) => Ok(Some(copy_text(alloc, text_of(text.as_slice())?)?)),
-        ("copy_texts", _) => Ok(Some(copy_all(alloc, words)?)),
-        _ => Ok(None),
-    }
-}
-
 /// The length of copied bytes, whether their copy is the same, and whether the other bytes are.
-fn copy_bytes(alloc: Global, bytes: &[u8], other: &[u8]) -> Result<String, Stop> {
+pub(crate) fn copy_bytes(alloc: Global, bytes: &[u8], other: &[u8]) -> Result<String, Stop> {
     let copy = Bytes::copy_of(alloc, bytes)?;
     let other = Bytes::copy_of(alloc, other)?;
     let len = copy.len();
@@ -28,7 +16,7 @@ fn copy_bytes(alloc: Global, bytes: &[u8], other: &[u8]) -> Result<String, Stop>
 }
 
 /// A copied text, and whether its copy is the same.
-fn copy_text(alloc: Global, text: &str) -> Result<String, Stop> {
+pub(crate) fn copy_text(alloc: Global, text: &str) -> Result<String, Stop> {
     let copy = Text::copy_of(alloc, text)?;
     let is_same = copy.clone()? == copy;
     let text = copy.as_str();
@@ -36,7 +24,7 @@ fn copy_text(alloc: Global, text: &str) -> Result<String, Stop> {
 }
 
 /// The texts that are copied together, and whether their copy and a copy of one by one are the same.
-fn copy_all(alloc: Global, words: &[Vec<u8>]) -> Result<String, Stop> {
+pub(crate) fn copy_all(alloc: Global, words: &[Vec<u8>]) -> Result<String, Stop> {
     let texts = texts_of(alloc, words)?;
     let copy = copy_texts(alloc, texts.as_slice())?;
     let mut shown = String::new(alloc);
@@ -51,7 +39,7 @@ fn copy_all(alloc: Global, words: &[Vec<u8>]) -> Result<String, Stop> {
 }
 
 /// The arguments as texts.
-pub(crate) fn texts_of(alloc: Global, words: &[Vec<u8>]) -> Result<Items<Text>, Stop> {
+fn texts_of(alloc: Global, words: &[Vec<u8>]) -> Result<Items<Text>, Stop> {
     let mut texts = Vec::new(alloc);
     for word in words {
         texts.push(Text::copy_of(alloc, text_of(word.as_slice())?)?)?;

@@ -29,11 +29,13 @@ fn value_of(digit: u8) -> Result<u8, Stop> {
     }
 }
 
-/// Writes the digits of bytes at the end of a line.
-pub(crate) fn write_hex(line: &mut Vec<u8>, bytes: &[u8]) -> Result<(), Stop> {
+/// The line of the digits of bytes, with its end.
+pub(crate) fn hex_line(alloc: Global, bytes: &[u8]) -> Result<Vec<u8>, Stop> {
+    let mut line = Vec::new(alloc);
     for byte in bytes {
         line.push(DIGITS[(*byte >> 4) as usize])?;
         line.push(DIGITS[(*byte & 15) as usize])?;
     }
-    Ok(())
+    line.push(b'\n')?;
+    Ok(line)
 }

@@ -5,16 +5,11 @@ use std::alloc::{AllocError, Global};
 use yaml_flows::{FaultPlace, FlowFault};
 use yaml_lines::{YamlFault, YamlKind};
 
-/// The answer to a call of this name, if it is one on faults alone.
-pub(crate) fn answer(alloc: Global, name: &str, word: &str) -> Result<Option<String>, Stop> {
+/// The fault that a refusal of memory becomes.
+pub(crate) fn fault_of(alloc: Global, name: &str) -> Result<String, Stop> {
     match name {
-        "yaml_kind" => Ok(Some(told(alloc, named(word).ok_or(Stop::BadLine)?)?)),
-        "flow_fault" => Ok(Some(flow_told(alloc, named(word).ok_or(Stop::BadLine)?)?)),
-        "yaml_fault_of" => match word {
-            "AllocError" => Ok(Some(refused(alloc, YamlFault::from(AllocError))?)),
-            _ => Err(Stop::BadLine),
-        },
-        _ => Ok(None),
+        "AllocError" => refused(alloc, YamlFault::from(AllocError)),
+        _ => Err(Stop::BadLine),
     }
 }
 
@@ -25,14 +20,16 @@ pub(crate) fn refused(alloc: Global, fault: YamlFault) -> Result<String, Stop> {
 }
 
 /// The kind's number, what it says, and what a fault of it in line 4 says.
-fn told(alloc: Global, kind: YamlKind) -> Result<String, Stop> {
+pub(crate) fn told(alloc: Global, name: &str) -> Result<String, Stop> {
+    let kind = named(name).ok_or(Stop::BadLine)?;
     let number = kind.number();
     let fault = YamlFault { kind, line: 4 };
     Ok(format!(in alloc; "{number}; {kind}; {fault}")?)
 }
 
 /// What a fault of this kind at the end of a flow says.
-fn flow_told(alloc: Global, kind: YamlKind) -> Result<String, Stop> {
+pub(crate) fn flow_told(alloc: Global, name: &str) -> Result<String, Stop> {
+    let kind = named(name).ok_or(Stop::BadLine)?;
     let place = FaultPlace::End;
     let fault = FlowFault { kind, place };
     Ok(format!(in alloc; "{fault}")?)

@@ -18,12 +18,11 @@ mod steps;
 mod stop;
 mod texts;
 mod trees;
-mod yaml_calls;
 mod yaml_nodes;
 
 use answer::answer_to;
-use call::read_call;
-use hex::write_hex;
+use call::{name_of, read_words};
+use hex::hex_line;
 use std::alloc::Global;
 use std::io;
 use std::io::{BufRead, BufReader, Write};
@@ -52,12 +51,9 @@ fn run(rt: &HostRuntime) -> Result<(), Stop> {
 
 /// The line that answers a line.
 fn answered(alloc: Global, line: &str) -> Result<Vec<u8>, Stop> {
-    let call = read_call(alloc, line)?;
-    let answer = answer_to(alloc, call.name, call.words.as_slice())?;
-    let mut out = Vec::new(alloc);
-    write_hex(&mut out, answer.as_bytes())?;
-    out.push(b'\n')?;
-    Ok(out)
+    let words = read_words(alloc, line)?;
+    let answer = answer_to(alloc, name_of(line), words.as_slice())?;
+    hex_line(alloc, answer.as_bytes())
 }
 
 fn print<R: Print>(rt: &R, line: &[u8]) -> io::Result<()> {
