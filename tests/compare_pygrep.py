@@ -4,7 +4,7 @@ Usage: tests/compare_pygrep.py [CASES [SEED]]   (default: 6000 cases, seed 1)
 
 pre-commit (Debian's package of that name) must be there, for the Python that runs this or for /usr/bin/python3, which
 Debian's packages serve; where it is missing, nothing can be compared, and that is a failure. So must the program
-`grep_trial` be, built by `rt run`.
+`selection_trial` be, built by `rt run`.
 
 The patterns are of what the two languages of patterns share: letters, classes, groups, branches, repetitions, and the ends
 of lines, words and texts. Each case is written to a folder, and pre-commit's functions are called on it in this process.
@@ -22,7 +22,7 @@ import sys
 import tempfile
 
 TOP = os.path.dirname(os.path.dirname(os.path.abspath(__file__)))
-PROGRAM = os.path.join(TOP, "crates", "grep_trial", "out", "grep_trial")
+PROGRAM = os.path.join(TOP, "crates", "selection_trial", "out", "selection_trial")
 DEBIANS_PYTHON = "/usr/bin/python3"
 SECOND_TRY = "COMPARE_PYGREP_SECOND_TRY"
 
@@ -84,13 +84,13 @@ def flags_of(args):
 def ours(rows):
     """The answers of one process to all cases."""
     if not os.path.exists(PROGRAM):
-        sys.exit("tests/compare_pygrep.py: there is no crates/grep_trial/out/grep_trial: build it with `rt run` in crates/grep_trial")
+        sys.exit("tests/compare_pygrep.py: there is no crates/selection_trial/out/selection_trial: build it with `rt run` in crates/selection_trial")
 
     def line(entry, args, files):
         words = [entry.encode(), "\n".join(args).encode(), "\n".join(files).encode()]
         for name, text in files.items():
             words += [name.encode(), text]
-        return "grep " + " ".join(word.hex() or "-" for word in words) + "\n"
+        return "grep_answer " + " ".join(word.hex() or "-" for word in words) + "\n"
 
     ran = subprocess.run([PROGRAM], input="".join(line(*row) for row in rows).encode(), capture_output=True, check=True)
     return [bytes.fromhex(answer) for answer in ran.stdout.decode().splitlines()]

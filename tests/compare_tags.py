@@ -1,7 +1,7 @@
 #!/usr/bin/env python3
 """Compares the tags of files with those of the library `identify`, from which they come.
 
-Usage: tests/compare_tags.py [PROGRAM]   (default: crates/tags_trial/out/tags_trial)
+Usage: tests/compare_tags.py [PROGRAM]   (default: crates/selection_trial/out/selection_trial)
 
 The library (Debian's python3-identify) must be there, for the Python that runs this or for /usr/bin/python3, which Debian's
 packages serve; where it is missing, nothing can be compared, and that is a failure.
@@ -37,7 +37,7 @@ except ImportError:
     sys.exit("tests/compare_tags.py: there is no library identify (Debian's python3-identify) to compare the tags with")
 
 HERE = os.path.dirname(os.path.abspath(__file__))
-PROGRAM = os.path.abspath(sys.argv[1] if len(sys.argv) > 1 else os.path.join(HERE, "..", "crates/tags_trial/out/tags_trial"))
+PROGRAM = os.path.abspath(sys.argv[1] if len(sys.argv) > 1 else os.path.join(HERE, "..", "crates/selection_trial/out/selection_trial"))
 
 # Files are written here where it can be: the disk would take minutes for them.
 IN_MEMORY = "/dev/shm"

@@ -1,8 +1,8 @@
 """Rows of `builtin_hooks`, as `tests/rows.py` plays them.
 
-fail ENTRY PATH..                           the status, a line end, and the output
-build ENTRY ARGS                            `built`, or the refusal's number and name
-grep ENTRY ARGS PATHS (PATH CONTENTS)..     the same as `fail`, over a tree of these files, or the refusal
+fail_answer ENTRY PATH..                           the status, a line end, and the output
+grep_build ENTRY ARGS                              `built`, or the refusal's number and name
+grep_answer ENTRY ARGS PATHS (PATH CONTENTS)..     the same as `fail_answer`, over a tree of these files, or the refusal
 
 ARGS and PATHS are parted by line ends.
 """

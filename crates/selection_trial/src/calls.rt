@@ -1,6 +1,5 @@
 //! The calls by their names. Each library has a function of its own here.
 
-use crate::bulk::select_for_many;
 use crate::{greps, paths, tags};
 use std::alloc::Global;
 use trial_rows::{Row, Stop};
@@ -37,8 +36,6 @@ fn of_path_select(
     Some(match call {
         "pattern" => paths::built(alloc, arguments),
         "select" => paths::selected(alloc, arguments),
-        "candidates" => paths::candidates(alloc, arguments),
-        "bulk" => select_for_many(alloc, arguments),
         _ => return None,
     })
 }

@@ -3,7 +3,6 @@
 //! how a line is written says the crate `trial_rows`.
 #![tactic(auto)]
 
-mod bulk;
 mod calls;
 mod greps;
 mod parts;

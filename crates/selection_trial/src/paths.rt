@@ -1,34 +1,14 @@
 //! Calls on patterns and selections.
 
-<<<<<<< HEAD:crates/selection_trial/src/paths.rt
-=======
-use crate::line::{Line, only, text_of};
->>>>>>> ac5e682784555fb0391c7fd655e8232c3fea013b:crates/path_trial/src/calls.rt
 use crate::parts::{candidates_of, lines_of, patterns_of, rules_of, tag_lists_of, tree_of};
 use hook_base::{Items, RepoPath, Tree};
 use path_select::{Candidates, Pattern, PatternFault, Rules, select, select_among};
 use std::alloc::Global;
 use trial_rows::{Stop, only, text_of};
 
-<<<<<<< HEAD:crates/selection_trial/src/paths.rt
 /// `pattern TEXT`: the pattern's text, or the number of the refusal and what it says.
 pub(crate) fn built(alloc: Global, arguments: &[Vec<u8>]) -> Result<Vec<u8>, Stop> {
     match Pattern::build(alloc, text_of(only(arguments)?)?) {
-=======
-/// What a line's call answers.
-pub(crate) fn answer_to(alloc: Global, line: &Line) -> Result<Vec<u8>, Stop> {
-    let arguments = line.arguments.as_slice();
-    match line.call.as_str() {
-        "pattern" => built(alloc, text_of(only(arguments)?)?),
-        "select" => selected(alloc, arguments),
-        _ => Err(Stop::NoCall),
-    }
-}
-
-// `pattern TEXT`: the pattern's text, or the number of the refusal and what it says.
-fn built(alloc: Global, text: &str) -> Result<Vec<u8>, Stop> {
-    match Pattern::build(alloc, text) {
->>>>>>> ac5e682784555fb0391c7fd655e8232c3fea013b:crates/path_trial/src/calls.rt
         Ok(pattern) => Ok(pattern.as_str().as_bytes().to_vec(alloc)?),
         Err(PatternFault::OutOfMemory) => Err(Stop::OutOfMemory),
         Err(fault) => refusal(alloc, fault),
@@ -83,20 +63,3 @@ fn both_ways(
         Err(Stop::TwoAnswers)
     }
 }
-<<<<<<< HEAD:crates/selection_trial/src/paths.rt
-
-/// `candidates FILES EXCLUDE CANDIDATES`: how many paths pass, each counted once.
-pub(crate) fn candidates(alloc: Global, arguments: &[Vec<u8>]) -> Result<Vec<u8>, Stop> {
-    let [files, exclude, paths] = arguments else {
-        return Err(Stop::BadLine);
-    };
-    let patterns = patterns_of(alloc, &[files, exclude])?;
-    let paths = candidates_of(alloc, paths)?;
-    let [files, exclude] = patterns.as_slice() else {
-        return Err(Stop::BadLine);
-    };
-    let among = Candidates::passing(alloc, files, exclude, paths.as_slice())?;
-    Ok(among.len().to_string(alloc)?.into_bytes())
-}
-=======
->>>>>>> ac5e682784555fb0391c7fd655e8232c3fea013b:crates/path_trial/src/calls.rt
