@@ -1,4 +1,4 @@
-use Rattle.std.proofs.Common.{List, ℕ, subst, arith, ◌∙◌}
+use Rattle.std.proofs.Common.{rules, List, ℕ, subst, ◌∙◌}
 use Rattle.std.proofs.lemmas.Result.{IfErr-weaker, IfOk-weaker}
 use Rattle.repo_store.specs.Contents.{Collides}
 use Rattle.repo_store.specs.Limits.{IsSmall}
@@ -23,6 +23,6 @@ pub returns-in-Some-clause-why : goal.returns-in-Some-clause-why
 returns-in-Some-clause-why c =
     let bytes = c.args.bytes.now in
     let content = c.in-Some.content.now in
-    let small : IsSmall bytes = omega (arith, c.if-bytes-gt-MOST_CONTENT_BYTES.false) in
+    let small : IsSmall bytes = search rules in
     let other = other_under bytes content c.args.self.now (c.in-Some.ensures).found ((c.in-Some.ensures).under ∙ c.digest-digest.ensures) in
     IfErr-weaker c.shared.result _ _ (λ fault why. refusal_weaker absurd (λ h. h) (λ differs. (small, other differs)) fault why) c.shared.ensures.differs
