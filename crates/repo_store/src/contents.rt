@@ -97,7 +97,7 @@ impl Contents {
         ensures content { IfOk result (λ content. content ≡ bytes.now) }
         ensures kept { OnOk result (self.new ≡ with_content bytes.now self.old) }
         ensures same { OnErr result (self.new ≡ self.old) }
-        ensures why { IfErr result (IsRefusal (¬ IsSmall bytes.now) ⊥ (Collides bytes.now self.old)) }
+        ensures why { IfErr result (IsRefusal (¬ IsSmall bytes.now) ⊥ (IsSmall bytes.now × Collides bytes.now self.old)) }
         ensures small { OnOk result (IsSmall bytes.now) }
         ensures apart { OnOk result (¬ Collides bytes.now self.old) }
     {

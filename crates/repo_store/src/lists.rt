@@ -115,7 +115,7 @@ impl Lists {
         ensures content { IfOk result (λ content. content ≡ bytes.now) }
         ensures kept { OnOk result (self.new ≡ record self.old { kept = keeping bytes.now self.old.kept }) }
         ensures same { OnErr result (self.new ≡ self.old) }
-        ensures why { IfErr result (IsRefusal (¬ IsSmall bytes.now) ⊥ (Collides bytes.now self.old.kept.contents)) }
+        ensures why { IfErr result (IsRefusal (¬ IsSmall bytes.now) ⊥ (IsSmall bytes.now × Collides bytes.now self.old.kept.contents)) }
         ensures small { OnOk result (IsSmall bytes.now) }
         ensures apart { OnOk result (¬ Collides bytes.now self.old.kept.contents) }
     {
@@ -141,7 +141,7 @@ impl Lists {
         ensures room { OnOk result (self.new.has_room ≡ true) }
         ensures within { OnOk result (IsSmall bytes.now × Fits (put_file path.now (record { mode = mode; bytes = bytes.now }) self.old.kept.repo.staged)) }
         ensures same { OnErr result (self.new.kept ≡ self.old.kept) }
-        ensures why { IfErr result (IsRefusal (¬ IsSmall bytes.now) (IsSmall bytes.now × (¬ Fits (put_file path.now (record { mode = mode; bytes = bytes.now }) self.old.kept.repo.staged))) (Fits (put_file path.now (record { mode = mode; bytes = bytes.now }) self.old.kept.repo.staged) × Collides bytes.now self.old.kept.contents)) }
+        ensures why { IfErr result (IsRefusal (¬ IsSmall bytes.now) (IsSmall bytes.now × (¬ Fits (put_file path.now (record { mode = mode; bytes = bytes.now }) self.old.kept.repo.staged))) (IsSmall bytes.now × Fits (put_file path.now (record { mode = mode; bytes = bytes.now }) self.old.kept.repo.staged) × Collides bytes.now self.old.kept.contents)) }
         ensures apart { OnOk result (¬ Collides bytes.now self.old.kept.contents) }
         ensures rising { IsRising self.old.kept.repo.staged }
         ensures path { IsRepoPath path.now }

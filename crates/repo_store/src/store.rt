@@ -40,10 +40,16 @@ use std::marker::Model;
 /// A repository in a database: its commits, the staged files and the fixes. Each call that changes it is one transaction:
 /// it is done as a whole or not at all, whatever stops it. `StoreFault` says what a refused one leaves in the tables. The calls
 /// that read are answered from memory.
-#[derive(Drop)]
 pub struct Store<S: Alter> {
     conn: Connection<S>,
     lists: Lists,
+}
+
+// It is written out, so that a caller doesn't prove again how each part is dropped.
+impl<S: Alter + Drop> Drop for Store<S> {
+    fn drop(self) {
+        let Store { conn: _, lists: _ } = self;
+    }
 }
 
 impl<S: Alter> Model for Store<S> {
@@ -130,7 +136,7 @@ impl<S: Alter> Store<S> {
         ensures transaction { IsOneTransaction S.Store self.old self.new result (staging path.now (record { mode = mode; bytes = bytes.now }) self.old.kept) }
         ensures within { OnOk result (IsSmall bytes.now × Fits (put_file path.now (record { mode = mode; bytes = bytes.now }) self.old.kept.repo.staged)) }
         ensures apart { OnOk result (¬ Collides bytes.now self.old.kept.contents) }
-        ensures why { IfErr result (IsRefusal (¬ IsSmall bytes.now) (IsSmall bytes.now × (¬ Fits (put_file path.now (record { mode = mode; bytes = bytes.now }) self.old.kept.repo.staged))) (Fits (put_file path.now (record { mode = mode; bytes = bytes.now }) self.old.kept.repo.staged) × Collides bytes.now self.old.kept.contents)) }
+        ensures why { IfErr result (IsRefusal (¬ IsSmall bytes.now) (IsSmall bytes.now × (¬ Fits (put_file path.now (record { mode = mode; bytes = bytes.now }) self.old.kept.repo.staged))) (IsSmall bytes.now × Fits (put_file path.now (record { mode = mode; bytes = bytes.now }) self.old.kept.repo.staged) × Collides bytes.now self.old.kept.contents)) }
     {
         let before = self.lists.count();
         let file = self.lists.prepare(path, mode, bytes)?;
@@ -221,7 +227,7 @@ impl<S: Alter> Store<S> {
         ensures digest { IfOk result (λ digest. digest.bytes ≡ sha256 bytes.now) }
         ensures within { OnOk result (IsSmall bytes.now) }
         ensures apart { OnOk result (¬ Collides bytes.now self.old.kept.contents) }
-        ensures why { IfErr result (IsRefusal (¬ IsSmall bytes.now) ⊥ (Collides bytes.now self.old.kept.contents)) }
+        ensures why { IfErr result (IsRefusal (¬ IsSmall bytes.now) ⊥ (IsSmall bytes.now × Collides bytes.now self.old.kept.contents)) }
     {
         let before = self.lists.count();
         let content = self.lists.keep(bytes)?;

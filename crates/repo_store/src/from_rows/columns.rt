@@ -1,6 +1,6 @@
 //! What the columns of a row stand for: a path, a mode, contents under their digest, and a file of these.
 
-ghost use Rattle.std.specs.Prelude.{◌≡◌, ◌⊎◌, pos, true, false, map, IfOk, IfErr, IfSome, IfNone, OnOk, IsTrue};
+ghost use Rattle.std.specs.Prelude.{◌≡◌, ◌⊎◌, pos, true, false, map, IfOk, IfErr, IfSome, IfNone, OnOk, MatchResult, IsTrue};
 ghost use Rattle.sha2.specs.Sha256.{sha256};
 ghost use Rattle.hook_base.specs.Rising.{IsBelow as IsBelowPath};
 ghost use Rattle.repo_store.specs.Complete.{IsAmong};
@@ -37,6 +37,7 @@ pub(crate) fn content_at(contents: &Contents, digest: &[u8]) -> Result<Content, 
     ensures kept { OnOk result (is_kept (map blob_row contents.now) digest.now ≡ true) }
     ensures among { IfOk result (IsAmong contents.now) }
     ensures missing { IfErr result (IsDamage (is_kept (map blob_row contents.now) digest.now ≡ false)) }
+    ensures damage { is_kept (map blob_row contents.now) digest.now ≡ false → MatchResult result (λ _. ⊥) (λ fault. fault ≡ StoreFault.Damaged) }
 {
     match find(contents, digest) {
         Some(content) => Ok(content.clone()?),

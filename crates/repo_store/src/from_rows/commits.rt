@@ -87,19 +87,19 @@ fn history_of(alloc: Global, rows: Vec<CommitRow>) -> Result<Vec<SharedCommit>, 
     Ok(history)
 }
 
-// Where the commit of a number stands, of which there are so many.
-fn place_of(number: i64, commits: usize) -> Option<usize>
-    ensures there { IfSome result (λ place. (number ≡ pos (place + 1)) × (place + 1 ≤ commits)) }
-    ensures nowhere { IfNone result (¬ IsNumbered commits number) }
+// Where the commit of a number stands, of which there are so many. A number that none has is damage.
+fn place_of(number: i64, commits: usize) -> Result<usize, StoreFault>
+    ensures there { IfOk result (λ place. (number ≡ pos (place + 1)) × (place + 1 ≤ commits)) }
+    ensures nowhere { IfErr result (λ fault. (fault ≡ StoreFault.Damaged) × ¬ IsNumbered commits number) }
 {
     if number < 1 {
-        return None;
+        return Err(StoreFault::Damaged);
     }
     let place = (number - 1) as usize;
     if place >= commits {
-        return None;
+        return Err(StoreFault::Damaged);
     }
-    Some(place)
+    Ok(place)
 }
 
 // Adds a file to the commit of a place, after its others.
@@ -132,9 +132,7 @@ fn add_entries(
     ensures broken { IfErr result (IsDamage (¬ AllByRecursion (IsEntryRow (map blob_row contents.now) (length history.old.items)) rows.items)) }
 {
     'rows: for row in rows {
-        let Some(place) = place_of(row.n, history.len()) else {
-            return Err(StoreFault::Damaged);
-        };
+        let place = place_of(row.n, history.len())?;
         let file = file_at(
             alloc,
             contents,

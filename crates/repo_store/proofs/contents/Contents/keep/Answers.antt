@@ -1,6 +1,7 @@
-use Rattle.std.proofs.Common.{List, ℕ, subst, ◌∙◌}
+use Rattle.std.proofs.Common.{rules, List, ℕ, subst, ◌∙◌}
 use Rattle.std.proofs.lemmas.Result.{IfErr-weaker, IfOk-weaker}
 use Rattle.repo_store.specs.Contents.{Collides}
+use Rattle.repo_store.specs.Limits.{IsSmall}
 use Rattle.repo_store.proofs.FixLemmas.{refusal_weaker}
 use Rattle.repo_store.proofs.IndexLemmas.{known, unknown, none_under, other_under, kept_known, kept_unknown}
 use Rattle.repo_store.proofs.contents.Contents.keep.Goals as goal
@@ -22,4 +23,6 @@ pub returns-in-Some-clause-why : goal.returns-in-Some-clause-why
 returns-in-Some-clause-why c =
     let bytes = c.args.bytes.now in
     let content = c.in-Some.content.now in
-    IfErr-weaker c.shared.result _ _ (λ fault why. refusal_weaker absurd (λ h. h) (other_under bytes content c.args.self.now (c.in-Some.ensures).found ((c.in-Some.ensures).under ∙ c.digest-digest.ensures)) fault why) c.shared.ensures.differs
+    let small : IsSmall bytes = search rules in
+    let other = other_under bytes content c.args.self.now (c.in-Some.ensures).found ((c.in-Some.ensures).under ∙ c.digest-digest.ensures) in
+    IfErr-weaker c.shared.result _ _ (λ fault why. refusal_weaker absurd (λ h. h) (λ differs. (small, other differs)) fault why) c.shared.ensures.differs
