@@ -1,9 +1,8 @@
 //! Which call a name is.
 
-use crate::call::text_of;
-use crate::stop::Stop;
 use crate::{children, contents, copies, flows, kinds, lines, path_faults, paths, texts, trees};
 use std::alloc::Global;
+use trial_rows::{Stop, text_of};
 
 /// The answer to a call, as a text.
 pub(crate) fn answer_to(alloc: Global, name: &str, words: &[Vec<u8>]) -> Result<String, Stop> {

@@ -1,10 +1,10 @@
 //! The rows of a table of children, their parts parted by `|`.
 
 use crate::steps::{entry_of, read_change};
-use crate::stop::Stop;
 use child_port::{Answer, TableRow};
 use hook_base::{Bytes, Changes, Items, RepoPath, Text, Tree};
 use std::alloc::Global;
+use trial_rows::Stop;
 
 /// A row: the words, the path and the bytes of the file that was seen, the status, the output, and a change.
 pub(crate) fn row_of(alloc: Global, row: &str) -> Result<TableRow, Stop> {

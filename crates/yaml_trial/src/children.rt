@@ -1,12 +1,11 @@
 //! A play on children that answer by a table: its rows, and children that are asked for, one an argument.
 
-use crate::call::text_of;
 use crate::child_rows::{row_of, tree_of, words_of};
 use crate::steps::{show_bytes, show_changes};
-use crate::stop::Stop;
 use child_port::{Answer, Children, Outcome, TableChildren};
 use hook_base::Items;
 use std::alloc::Global;
+use trial_rows::{Stop, text_of};
 
 /// What each child that is asked for gives, and at the end the calls and the faults.
 pub(crate) fn answer(alloc: Global, words: &[Vec<u8>]) -> Result<String, Stop> {

@@ -2,8 +2,8 @@
 
 use crate::kinds::refused;
 use crate::lines::show_all;
-use crate::stop::Stop;
 use std::alloc::Global;
+use trial_rows::Stop;
 use yaml_lines::{
     Entry, Line, Node, YamlFault, after_dash, characters, is_item, read_entry, read_quoted, scalar,
 };

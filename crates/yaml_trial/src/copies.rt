@@ -1,9 +1,8 @@
 //! The calls on bytes and texts that contracts see as lists.
 
-use crate::call::text_of;
-use crate::stop::Stop;
 use hook_base::{Bytes, Items, Text, copy_texts};
 use std::alloc::Global;
+use trial_rows::{Stop, text_of};
 
 /// The length of copied bytes, whether their copy is the same, and whether the other bytes are.
 pub(crate) fn copy_bytes(alloc: Global, bytes: &[u8], other: &[u8]) -> Result<String, Stop> {

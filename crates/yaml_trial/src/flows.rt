@@ -1,8 +1,8 @@
 //! The calls on the flows of a YAML text.
 
-use crate::stop::Stop;
 use crate::yaml_nodes::shown;
 use std::alloc::{AllocError, Global};
+use trial_rows::Stop;
 use yaml_flows::{FaultPlace, FlowFault, read_flow};
 use yaml_lines::{MOST_NODES, YamlKind};
 

@@ -1,7 +1,7 @@
 //! The kinds of faults of a YAML text by their names.
 
-use crate::stop::Stop;
 use std::alloc::{AllocError, Global};
+use trial_rows::Stop;
 use yaml_flows::{FaultPlace, FlowFault};
 use yaml_lines::{YamlFault, YamlKind};
 

@@ -1,8 +1,8 @@
 //! The calls on the lines of a YAML text.
 
 use crate::kinds::refused;
-use crate::stop::Stop;
 use std::alloc::Global;
+use trial_rows::Stop;
 use yaml_lines::{Line, Lines, RawLine, YamlFault, characters, raw_lines, read_lines, text_of};
 
 /// The characters as a text, or the fault.

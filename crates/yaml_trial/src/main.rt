@@ -3,34 +3,28 @@
 #![tactic(auto)]
 
 mod answer;
-mod call;
 mod child_rows;
 mod children;
 mod contents;
 mod copies;
 mod flows;
-mod hex;
 mod kinds;
 mod lines;
 mod path_faults;
 mod paths;
 mod steps;
-mod stop;
 mod texts;
 mod trees;
 mod yaml_nodes;
 
 use answer::answer_to;
-use call::{name_of, read_words};
-use hex::hex_line;
 use std::alloc::Global;
-use std::io;
-use std::io::{BufRead, BufReader, Write};
+use std::io::Read;
 use std::process::ExitCode;
-use stop::Stop;
+use trial_rows::{Row, Stop, answer_line};
 
 fn main(rt: HostRuntime) -> ExitCode {
-    match run(&rt) {
+    match play(&rt) {
         Ok(()) => ExitCode::SUCCESS,
         Err(stop) => {
             let _said = rt.eprintln(stop.message());
@@ -39,25 +33,19 @@ fn main(rt: HostRuntime) -> ExitCode {
     }
 }
 
-fn run(rt: &HostRuntime) -> Result<(), Stop> {
-    let alloc = rt.alloc();
-    for line in BufReader::new(alloc, rt.reader())?.lines(alloc) {
-        let line = line?;
-        let answer = answered(alloc, line.as_str())?;
-        print(rt, answer.as_slice())?;
+fn play<R: Input + Print + AllocGlobal>(rt: &R) -> Result<(), Stop> {
+    let mut lines = String::new(rt.alloc());
+    rt.reader().read_to_string(&mut lines)?;
+    for line in lines.as_str().lines() {
+        let answer = answered(rt.alloc(), line)?;
+        rt.println(answer.as_str())?;
     }
     Ok(())
 }
 
-/// The line that answers a line.
-fn answered(alloc: Global, line: &str) -> Result<Vec<u8>, Stop> {
-    let words = read_words(alloc, line)?;
-    let answer = answer_to(alloc, name_of(line), words.as_slice())?;
-    hex_line(alloc, answer.as_bytes())
-}
-
-fn print<R: Print>(rt: &R, line: &[u8]) -> io::Result<()> {
-    let mut writer = io::writer(rt);
-    writer.write_all(line)?;
-    writer.flush()
+// The line that answers a line.
+fn answered(alloc: Global, line: &str) -> Result<String, Stop> {
+    let row = Row::read(alloc, line)?;
+    let answer = answer_to(alloc, row.call.as_str(), row.arguments.as_slice())?;
+    answer_line(alloc, answer.as_bytes())
 }

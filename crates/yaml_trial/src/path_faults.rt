@@ -1,8 +1,8 @@
 //! The refusals of a path by their names.
 
-use crate::stop::Stop;
 use hook_base::PathFault;
 use std::alloc::Global;
+use trial_rows::Stop;
 
 /// A refusal's number and its name.
 pub(crate) fn refused(alloc: Global, fault: PathFault) -> Result<String, Stop> {

@@ -1,10 +1,10 @@
 //! The calls on paths.
 
 use crate::path_faults::refused;
-use crate::stop::Stop;
 use hook_base::{OutOfMemory, RepoPath};
 use std::alloc::Global;
 use std::cmp::Ordering;
+use trial_rows::Stop;
 
 /// What the refusal of memory says.
 pub(crate) fn refusal(alloc: Global) -> Result<String, Stop> {

@@ -1,8 +1,8 @@
 //! The words of a step, and what files and changes show.
 
-use crate::stop::Stop;
 use hook_base::{Bytes, Change, FileEntry, Mode, RepoPath, Tree};
 use std::alloc::Global;
+use trial_rows::{Stop, text_of};
 
 pub(crate) fn entry_of(alloc: Global, mode: &str, bytes: &[u8]) -> Result<FileEntry, Stop> {
     let mode = match mode {
@@ -31,7 +31,7 @@ pub(crate) fn read_change(alloc: Global, text: &str) -> Result<Change, Stop> {
 
 /// Writes bytes as a text, which those of a row are.
 pub(crate) fn show_bytes(out: &mut String, bytes: &[u8]) -> Result<(), Stop> {
-    Ok(out.push_str(str::from_utf8(bytes)?)?)
+    Ok(out.push_str(text_of(bytes)?)?)
 }
 
 /// Writes the mode and the bytes of a file.

@@ -2,9 +2,9 @@
 
 use crate::flows::shown_flow;
 use crate::kinds::refused;
-use crate::stop::Stop;
 use crate::yaml_nodes::shown;
 use std::alloc::Global;
+use trial_rows::Stop;
 use yaml_lines::characters;
 use yaml_profile::{YamlFault, YamlKind, read};
 

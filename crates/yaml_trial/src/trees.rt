@@ -1,11 +1,10 @@
 //! A play on two trees and on changes that wait, one step an argument. What the steps show is parted by semicolons.
 
-use crate::call::text_of;
 use crate::steps::{entry_of, read_change, show_changes, show_entry, show_tree};
-use crate::stop::Stop;
 use hook_base::{Change, Changes, RepoPath, Tree};
 use std::alloc::Global;
 use std::mem;
+use trial_rows::{Stop, text_of};
 
 /// What the steps show.
 pub(crate) fn answer(alloc: Global, words: &[Vec<u8>]) -> Result<String, Stop> {

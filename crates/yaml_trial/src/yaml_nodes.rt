@@ -1,7 +1,7 @@
 //! Nodes as the tables have them.
 
-use crate::stop::Stop;
 use std::alloc::Global;
+use trial_rows::Stop;
 use yaml_lines::Node;
 
 /// `'a'` is an unquoted text or a key, `"a"` a quoted text, and `None` an empty place.
