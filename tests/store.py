@@ -19,50 +19,12 @@ import tempfile
 import time
 from concurrent.futures import ThreadPoolExecutor
 
+from store_cases import (ANSWER_ROWS, BAD_LINES, COMMITTED_ROWS, DAMAGED, FAULTS, FILLING, FIXES_AFTER, KEPT_ROWS, NOT_A_STORE, ONE, ONE_STAGED,
+                         OTHER_TABLES, PLANTS, REFUSED_ROWS, SCHEMA, SHOWN, SQL, STORY, TAKEN_ROWS, TOO_LARGE, TOO_MANY, UNSTAGED_STORY)
+
 HERE = os.path.dirname(os.path.abspath(__file__))
 PROGRAM = os.path.abspath(sys.argv[1] if len(sys.argv) > 1 else os.path.join(HERE, "..", "crates/store_trial/out/store_trial"))
 SQLITE = shutil.which("sqlite3") or sys.exit("tests/store.py: there is no sqlite3 to read the files with")
-SHOWN = ["staged", "head", "log", "fixes", "trees"]
-# What a store shows that has a.txt staged, with the contents 1, and nothing else.
-ONE_STAGED = ["ok\tplain\ta.txt\t1", "ok", "ok", "ok", "ok"]
-SCHEMA = [
-    "CREATE TABLE answers (words BLOB NOT NULL REFERENCES blobs, seen BLOB NOT NULL REFERENCES blobs, output BLOB NOT NULL REFERENCES blobs, changes BLOB NOT NULL REFERENCES blobs, status INTEGER NOT NULL, PRIMARY KEY (words, seen)) STRICT",
-    "CREATE TABLE blobs (digest BLOB PRIMARY KEY, bytes BLOB NOT NULL) STRICT",
-    "CREATE TABLE commits (n INTEGER PRIMARY KEY, message BLOB NOT NULL) STRICT",
-    "CREATE TABLE entries (n INTEGER NOT NULL REFERENCES commits, path TEXT NOT NULL, mode INTEGER NOT NULL, digest BLOB NOT NULL REFERENCES blobs, PRIMARY KEY (n, path)) STRICT",
-    "CREATE TABLE fixes (path TEXT PRIMARY KEY, gone INTEGER NOT NULL, digest BLOB REFERENCES blobs) STRICT",
-    "CREATE TABLE meta (name TEXT PRIMARY KEY, value INTEGER NOT NULL) STRICT",
-    "CREATE TABLE staged (path TEXT PRIMARY KEY, mode INTEGER NOT NULL, digest BLOB NOT NULL REFERENCES blobs) STRICT",
-]
-STORY = [
-    ("create", "ok"),
-    ("stage plain a.txt 1", "ok"),
-    ("fix a.txt 2", "ok"),
-    ("fix missing.txt 3", "ok"),
-    ("set", "ok"),
-    ("fixes", "ok\ta.txt\tnow\t2"),
-    ("accept", "ok\t1"),
-    ("fixes", "ok"),
-    ("commit m\\n", "ok\t1"),
-    ("log", "ok\t1\tm\\n"),
-    ("unstage a.txt", "ok"),
-    ("tree 1", "ok\tplain\ta.txt\t2"),
-    ("head", "ok\tplain\ta.txt\t2"),
-    ("staged", "ok"),
-    ("commit n\\n", "ok\t2"),
-    ("tree 2", "ok"),
-    ("head", "ok"),
-    ("tree 3", "ok\tnone"),
-    ("blob abc", "ok\tba7816bf8f01cfea414140de5dae2223b00361a396177a9cb410ff61f20015ad"),
-    ("blob abc", "ok\tba7816bf8f01cfea414140de5dae2223b00361a396177a9cb410ff61f20015ad"),
-    ("stage executable tools/run #!/bin/sh\\n\\techo \\\\ done\\n", "ok"),
-    ("stage plain b.txt 2", "ok"),
-    ("fix-gone b.txt", "ok"),
-    ("set", "ok"),
-]
-# Lines that end the program with status 2, on an open store.
-BAD_LINES = ["", "stag", "stage plain a.txt", "stage odd a.txt 1", "stage plain ../a.txt 1", "stage plain .git/COMMIT_EDITMSG 1",
-             "stage plain a.txt \\x", "stage plain a.txt \\", "unstage /a", "tree x", "create", "open", "stage-many 1 1"]
 
 
 class Wrong(Exception):
@@ -316,6 +278,34 @@ def plays_the_story(folder):
     check_file(path, model.store)
 
 
+def plays_the_story_of_an_unstaged_file(folder):
+    path = os.path.join(folder, "store.db")
+    given = answers(path, [line for line, _ in UNSTAGED_STORY])
+    for (line, wanted), answer in zip(UNSTAGED_STORY, given):
+        check(answer == wanted, f"{line!r} is answered {answer!r}, wanted {wanted!r}")
+
+
+def keeps_fixes_of_staged_files_until_the_next_stage(folder):
+    for at, (lines, wanted) in enumerate(FIXES_AFTER):
+        given = answers(os.path.join(folder, f"{at}.db"), ["create", "stage plain a.txt 1", *lines, "fixes"])
+        check(given == ["ok"] * (len(lines) + 2) + [wanted], f"{lines!r} are answered {given!r}")
+
+
+def numbers_and_says_each_refusal(folder):
+    given = answers(os.path.join(folder, "none.db"), ["faults"])
+    check(given == ["\t".join(["ok", *(field for fault in FAULTS for field in fault)])], f"answered {given!r}")
+
+
+def reads_rows_in_the_order_of_their_keys(folder):
+    filled = [*KEPT_ROWS, *TAKEN_ROWS, *COMMITTED_ROWS, *ANSWER_ROWS]
+    left = [*KEPT_ROWS, *COMMITTED_ROWS]
+    wanted = "\t".join(["ok", *(field for row in [*filled, ("emptied",), *left] for field in row)])
+    for words in ([os.path.join(folder, "tables.db")], ["log", "100000"]):
+        given, status, _ = run_words(words, ["play-tables", "open"])
+        check(status == 0 and given[:1] == [wanted], f"answered {given!r}")
+        check(given[1].startswith(NOT_A_STORE), f"tables that weren't committed are there: {given[1]!r}")
+
+
 def keeps_each_content_once(folder):
     path = os.path.join(folder, "store.db")
     answers(path, ["create", "stage plain a.txt 1", "stage plain b.txt 1", "commit m\\n", "close"])
@@ -356,49 +346,6 @@ def refuses_a_second_store(folder):
     check_file(path, model_of(lines).store)
 
 
-FILLING = ["create", "stage plain a.txt 1", "stage plain b.txt 2", "commit m\\n", "commit n\\n", "fix a.txt 2", "set", "close"]
-ONE, TWO = digest_of("1"), digest_of("2")
-NOT_A_STORE, DAMAGED, SQL = "refused\t1\tNotAStore\t", "refused\t2\tDamaged\t", "refused\t3\tSql\t"
-TOO_LARGE, TOO_MANY = "refused\t6\tTooLarge\tcontents or a message of more than 16 MiB", "refused\t7\tTooMany\t"
-# What is done to the file of FILLING, how it is refused then, and what takes it back.
-PLANTS = [
-    ("no version", "DELETE FROM meta", NOT_A_STORE, "INSERT INTO meta VALUES ('version', 1)"),
-    ("another version", "UPDATE meta SET value = 2", NOT_A_STORE, "UPDATE meta SET value = 1"),
-    ("a second number", "INSERT INTO meta VALUES ('edition', 1)", NOT_A_STORE, "DELETE FROM meta WHERE name = 'edition'"),
-    ("a version under another name", "UPDATE meta SET name = 'edition'", NOT_A_STORE, "UPDATE meta SET name = 'version'"),
-    ("a blob under another digest", "INSERT INTO blobs VALUES (x'00', x'33')", DAMAGED, "DELETE FROM blobs WHERE digest = x'00'"),
-    ("other bytes under a digest", f"UPDATE blobs SET bytes = x'33' WHERE digest = x'{ONE}'", DAMAGED, f"UPDATE blobs SET bytes = x'31' WHERE digest = x'{ONE}'"),
-    ("an illegal staged path", f"INSERT INTO staged VALUES ('../x', 0, x'{ONE}')", DAMAGED, "DELETE FROM staged WHERE path = '../x'"),
-    ("an illegal committed path", f"INSERT INTO entries VALUES (1, '../x', 0, x'{ONE}')", DAMAGED, "DELETE FROM entries WHERE path = '../x'"),
-    ("an illegal path of a fix", "INSERT INTO fixes VALUES ('../x', 1, NULL)", DAMAGED, "DELETE FROM fixes WHERE path = '../x'"),
-    ("a staged mode of 2", "UPDATE staged SET mode = 2 WHERE path = 'a.txt'", DAMAGED, "UPDATE staged SET mode = 0 WHERE path = 'a.txt'"),
-    ("a committed mode of 2", "UPDATE entries SET mode = 2 WHERE n = 1 AND path = 'a.txt'", DAMAGED, "UPDATE entries SET mode = 0 WHERE n = 1 AND path = 'a.txt'"),
-    ("a fix with a gone of 2", "INSERT INTO fixes VALUES ('b.txt', 2, NULL)", DAMAGED, "DELETE FROM fixes WHERE path = 'b.txt'"),
-    ("a gone fix with contents", "UPDATE fixes SET gone = 1", DAMAGED, "UPDATE fixes SET gone = 0"),
-    ("a fix with no contents", "INSERT INTO fixes VALUES ('b.txt', 0, NULL)", DAMAGED, "DELETE FROM fixes WHERE path = 'b.txt'"),
-    ("a fix of a file that isn't staged", "INSERT INTO fixes VALUES ('c.txt', 1, NULL)", DAMAGED, "DELETE FROM fixes WHERE path = 'c.txt'"),
-    ("commits 1 and 3", "UPDATE commits SET n = 3 WHERE n = 2; UPDATE entries SET n = 3 WHERE n = 2", DAMAGED,
-     "UPDATE commits SET n = 2 WHERE n = 3; UPDATE entries SET n = 2 WHERE n = 3"),
-    ("commits 1, 2 and 4", "INSERT INTO commits VALUES (4, x'6d')", DAMAGED, "DELETE FROM commits WHERE n = 4"),
-    ("a commit 0", "INSERT INTO commits VALUES (0, x'6d')", DAMAGED, "DELETE FROM commits WHERE n = 0"),
-    ("a remembered answer", f"INSERT INTO answers VALUES (x'{ONE}', x'{ONE}', x'{TWO}', x'{TWO}', 0)", DAMAGED, "DELETE FROM answers"),
-    ("8 MiB of staged paths and more", "WITH RECURSIVE c(n) AS (SELECT 1 UNION ALL SELECT n + 1 FROM c WHERE n < 2049) "
-     f"INSERT INTO staged SELECT printf('%04096d', n), 0, x'{ONE}' FROM c", DAMAGED, "DELETE FROM staged WHERE length(path) = 4096"),
-    ("100,001 staged files", "WITH RECURSIVE c(n) AS (SELECT 1 UNION ALL SELECT n + 1 FROM c WHERE n < 99999) "
-     f"INSERT INTO staged SELECT 'd/' || n, 0, x'{ONE}' FROM c", DAMAGED, "DELETE FROM staged WHERE path = 'd/1'"),
-    ("more than 100,000 commits", "WITH RECURSIVE c(n) AS (SELECT 3 UNION ALL SELECT n + 1 FROM c WHERE n < 100001) "
-     "INSERT INTO commits SELECT n, x'6d' FROM c", DAMAGED, "DELETE FROM commits WHERE n > 2"),
-    ("contents of more than 16 MiB", f"INSERT INTO blobs VALUES (x'{hashlib.sha256(bytes(16777217)).hexdigest()}', zeroblob(16777217))", DAMAGED,
-     "DELETE FROM blobs WHERE length(bytes) > 16777216"),
-    ("a message of more than 16 MiB", "UPDATE commits SET message = zeroblob(16777217) WHERE n = 2", DAMAGED, "UPDATE commits SET message = x'6e0a' WHERE n = 2"),
-    # Here the tables' own rules are broken, which the kit's database refuses when it opens a file.
-    ("an entry without its commit", f"INSERT INTO entries VALUES (3, 'a.txt', 0, x'{ONE}')", SQL, "DELETE FROM entries WHERE n = 3"),
-    ("a staged digest that isn't there", "INSERT INTO staged VALUES ('c.txt', 0, x'00')", SQL, "DELETE FROM staged WHERE path = 'c.txt'"),
-    ("a committed digest that isn't there", "INSERT INTO entries VALUES (1, 'c.txt', 0, x'00')", SQL, "DELETE FROM entries WHERE path = 'c.txt'"),
-    ("a digest of a fix that isn't there", "INSERT INTO fixes VALUES ('b.txt', 0, x'00')", SQL, "DELETE FROM fixes WHERE path = 'b.txt'"),
-]
-
-
 def refuses_planted_files(folder):
     whole = os.path.join(folder, "whole.db")
     answers(whole, FILLING)
@@ -420,15 +367,20 @@ def refuses_planted_files(folder):
         os.remove(path)
 
 
-# What is done to the tables of the file of FILLING, so that it holds no store.
-OTHER_TABLES = [
-    ("no version that can be read", "DROP TABLE meta"),
-    ("a table more", "CREATE TABLE notes (text TEXT) STRICT"),
-    ("an index more", "CREATE INDEX modes ON staged (mode)"),
-    ("a view more", "CREATE VIEW paths AS SELECT path FROM staged"),
-    ("a table less", "DROP TABLE answers"),
-    ("another table of that name", "DROP TABLE answers; CREATE TABLE answers (words BLOB NOT NULL) STRICT"),
-]
+def refuses_rows_of_contents_and_commits_that_are_not_there(folder):
+    path = os.path.join(folder, "store.db")
+    answers(path, FILLING)
+    rows = rows_of(path)
+    given = answers(path, [f"execute {text}" for text in REFUSED_ROWS])
+    for text, answer in zip(REFUSED_ROWS, given):
+        check(answer.startswith(SQL), f"{text} is answered {answer!r}")
+    check(rows_of(path) == rows, "a refusal changed the rows")
+    check(shown(path) == model_of(FILLING).shown(), f"then the store shows {shown(path)!r}")
+    # The same words do what the tables take.
+    check(answers(path, [f"execute INSERT INTO staged VALUES ('c.txt', 0, x'{ONE}')"]) == ["ok"], "a row that the tables take is refused")
+    check(len(rows_of(path)["staged"]) == len(rows["staged"]) + 1, "a row that the tables take isn't there")
+
+
 ALL_OF_IT = "SELECT type, name, sql FROM sqlite_schema ORDER BY name; SELECT path, mode, hex(digest) FROM staged; SELECT n, path, hex(digest) FROM entries"
 
 
@@ -449,6 +401,9 @@ def refuses_files_that_hold_no_store(folder):
     path = os.path.join(folder, "empty.db")
     check(answers(path, ["open", "staged"]) == [NOT_A_STORE + "the database holds no store of this version", "no store"], "an empty file is a store")
     check(answers(path, ["create", "close"]) == ["ok", "ok"], "no store is made in an empty database")
+    for words in ([os.path.join(folder, "again.db")], ["database", "100000"]):
+        given, status, _ = run_words(words, ["open", "create", *SHOWN, "crash" if len(words) > 1 else "close", "open", *SHOWN])
+        check(status == 0 and given == [NOT_A_STORE + "the database holds no store of this version", *["ok"] * 13], f"{words!r}: answered {given!r}")
     other = os.path.join(folder, "other.db")
     ask(other, "CREATE TABLE notes (text TEXT) STRICT; INSERT INTO notes VALUES ('mine')")
     for word, refusal in (("open", NOT_A_STORE), ("create", SQL)):
@@ -697,7 +652,9 @@ def is_left_before_or_after_a_call_by_a_stop(_folder):
     print(f"stops: at {counts['log']} operations on the log and {counts['database']} on the database file")
 
 
-CASES = [plays_the_story, keeps_each_content_once, plays_as_the_model, refuses_bad_lines, refuses_a_second_store, refuses_planted_files,
+CASES = [plays_the_story, plays_the_story_of_an_unstaged_file, keeps_fixes_of_staged_files_until_the_next_stage,
+         numbers_and_says_each_refusal, reads_rows_in_the_order_of_their_keys, keeps_each_content_once, plays_as_the_model,
+         refuses_bad_lines, refuses_a_second_store, refuses_planted_files, refuses_rows_of_contents_and_commits_that_are_not_there,
          refuses_files_that_hold_no_store, refuses_files_with_other_tables, refuses_what_is_too_large,
          refuses_more_files_than_a_tree_may_have, refuses_more_commits_than_a_store_may_have, is_left_whole_by_a_kill,
          is_left_before_or_after_a_call_by_a_stop, refuses_for_want_of_memory]

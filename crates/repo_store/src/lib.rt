@@ -31,8 +31,6 @@ mod shared;
 mod stage;
 mod store;
 mod table_rows;
-#[cfg(test)]
-mod tests;
 mod trees;
 mod unstage;
 

@@ -11,8 +11,6 @@ mod reads;
 mod rowids;
 mod rows;
 mod schema;
-#[cfg(test)]
-mod tests;
 mod writes;
 
 pub use creates::make_tables;

@@ -8,32 +8,61 @@ use repo_store::{LogEntry, StoreFault};
 use std::alloc::Global;
 use std::fmt::Display;
 
+/// The answer to a line. It is one for the whole play, so that no call owns it.
 #[derive(Drop)]
 pub(crate) struct Answer {
+    alloc: Global,
     line: Vec<u8>,
 }
 
 impl Answer {
-    pub(crate) fn ok(alloc: Global) -> Result<Answer, Stop> {
-        Answer::begun(alloc, b"ok")
+    pub(crate) fn new(alloc: Global) -> Answer {
+        Answer {
+            alloc,
+            line: Vec::new(alloc),
+        }
     }
 
-    /// The answer to a call on a store where none is open.
-    pub(crate) fn no_store(alloc: Global) -> Result<Answer, Stop> {
-        Answer::begun(alloc, b"no store")
+    pub(crate) fn alloc(&self) -> Global {
+        self.alloc
     }
 
-    pub(crate) fn refused(alloc: Global, fault: &StoreFault) -> Result<Answer, Stop> {
-        let mut answer = Answer::begun(alloc, b"refused")?;
-        answer.show(alloc, fault.number())?;
-        answer.add(name_of(fault).as_bytes())?;
-        answer.show(alloc, fault)?;
-        Ok(answer)
+    /// Begins an answer by its first field.
+    pub(crate) fn begin(&mut self, word: &str) -> Result<(), Stop> {
+        self.line.clear();
+        self.line.extend_from_slice(word.as_bytes())?;
+        Ok(())
     }
 
-    fn begun(alloc: Global, word: &[u8]) -> Result<Answer, Stop> {
-        let line = word.to_vec(alloc)?;
-        Ok(Answer { line })
+    /// The answer to a call that gives nothing.
+    pub(crate) fn done(&mut self, given: Result<(), StoreFault>) -> Result<(), Stop> {
+        match given {
+            Ok(()) => self.begin("ok"),
+            Err(fault) => self.refused(&fault),
+        }
+    }
+
+    /// The answer to a call that gives a number.
+    pub(crate) fn numbered(&mut self, given: Result<u32, StoreFault>) -> Result<(), Stop> {
+        match given {
+            Ok(number) => {
+                self.begin("ok")?;
+                self.show(number)
+            }
+            Err(fault) => self.refused(&fault),
+        }
+    }
+
+    pub(crate) fn refused(&mut self, fault: &StoreFault) -> Result<(), Stop> {
+        self.begin("refused")?;
+        self.add_fault(fault)
+    }
+
+    /// Adds a refusal's number, its name and what it says.
+    pub(crate) fn add_fault(&mut self, fault: &StoreFault) -> Result<(), Stop> {
+        self.show(fault.number())?;
+        self.add(name_of(fault).as_bytes())?;
+        self.show(fault)
     }
 
     /// Adds a field of these bytes.
@@ -42,9 +71,17 @@ impl Answer {
         write_text(&mut self.line, bytes)
     }
 
+    /// Adds a field of each of these bytes.
+    pub(crate) fn add_all(&mut self, fields: &[&[u8]]) -> Result<(), Stop> {
+        for field in fields {
+            self.add(field)?;
+        }
+        Ok(())
+    }
+
     /// Adds a field of what a value shows.
-    pub(crate) fn show(&mut self, alloc: Global, value: impl Display + Drop) -> Result<(), Stop> {
-        let text = value.to_string(alloc)?;
+    pub(crate) fn show(&mut self, value: impl Display + Drop) -> Result<(), Stop> {
+        let text = value.to_string(self.alloc)?;
         self.add(text.as_bytes())
     }
 
@@ -75,29 +112,28 @@ impl Answer {
     }
 
     /// Adds the number and the message of each commit.
-    pub(crate) fn add_log(&mut self, alloc: Global, log: &[LogEntry]) -> Result<(), Stop> {
+    pub(crate) fn add_log(&mut self, log: &[LogEntry]) -> Result<(), Stop> {
         for entry in log {
-            self.show(alloc, entry.number)?;
+            self.show(entry.number)?;
             self.add(entry.message.as_slice())?;
         }
         Ok(())
     }
 
     /// Adds bytes in hexadecimal.
-    pub(crate) fn add_hex(&mut self, alloc: Global, bytes: &[u8]) -> Result<(), Stop> {
+    pub(crate) fn add_hex(&mut self, bytes: &[u8]) -> Result<(), Stop> {
         self.line.push(b'\t')?;
         for byte in bytes {
-            let digits = format!(in alloc; "{byte:02x}")?;
+            let digits = format!(in self.alloc; "{byte:02x}")?;
             self.line.extend_from_slice(digits.as_bytes())?;
         }
         Ok(())
     }
 
     /// The line, with its end.
-    pub(crate) fn into_line(self) -> Result<Vec<u8>, Stop> {
-        let Answer { mut line } = self;
-        line.push(b'\n')?;
-        Ok(line)
+    pub(crate) fn end(&mut self) -> Result<&[u8], Stop> {
+        self.line.push(b'\n')?;
+        Ok(self.line.as_slice())
     }
 }
 

@@ -1,10 +1,12 @@
 //! Calls by the thousand, for the benchmark.
 
+ghost use Rattle.std.specs.Prelude.{◌≢◌, IfOk};
+ghost use Rattle.hook_base.specs.Paths.{message_path};
+
 use crate::answer::Answer;
-use crate::calls::answered;
 use crate::stop::Stop;
 use hook_base::{Mode, RepoPath};
-use repo_store::Store;
+use repo_store::{Store, StoreFault};
 use sqlite::Alter;
 use std::alloc::Global;
 
@@ -18,24 +20,47 @@ pub(crate) fn contents_of(alloc: Global, size: u32, seed: u32, at: u32) -> Resul
     Ok(bytes)
 }
 
-/// Stages so many files of a size, and stops at the first refusal.
+/// Stages so many files of a size, whose contents the seed sets apart, and stops at the first refusal.
 pub(crate) fn stage_many<S: Alter>(
-    alloc: Global,
     store: &mut Store<S>,
-    count: u32,
-    size: u32,
-    seed: u32,
-) -> Result<Answer, Stop> {
+    rest: &str,
+    answer: &mut Answer,
+) -> Result<(), Stop> {
+    let (count, rest) = rest.split_once(' ').ok_or(Stop::BadLine)?;
+    let (size, seed) = rest.split_once(' ').ok_or(Stop::BadLine)?;
+    let (count, size, seed) = (number(count)?, number(size)?, number(seed)?);
     for at in 0..count {
-        let path = RepoPath::read(alloc, format!(in alloc; "many/{at:06}")?.as_str())?;
-        if path == RepoPath::message(alloc)? {
-            return Err(Stop::BadLine);
-        }
-        let bytes = contents_of(alloc, size, seed, at)?;
-        let staged = store.stage(&path, Mode::Plain, bytes.as_slice());
-        if staged.is_err() {
-            return answered(alloc, staged);
+        let bytes = contents_of(answer.alloc(), size, seed, at)?;
+        if let Err(fault) = stage_one(answer.alloc(), store, at, bytes.as_slice())? {
+            return answer.refused(&fault);
         }
     }
-    answered(alloc, Ok(()))
+    answer.begin("ok")
+}
+
+fn stage_one<S: Alter>(
+    alloc: Global,
+    store: &mut Store<S>,
+    at: u32,
+    bytes: &[u8],
+) -> Result<Result<(), StoreFault>, Stop> {
+    let name = format!(in alloc; "many/{at:06}")?;
+    let path = staged_path(alloc, name.as_str())?;
+    Ok(store.stage(&path, Mode::Plain, bytes))
+}
+
+/// A path that may be staged.
+pub(crate) fn staged_path(alloc: Global, text: &str) -> Result<RepoPath, Stop>
+    ensures { IfOk result (λ path. path ≢ message_path) }
+{
+    let path = RepoPath::read(alloc, text)?;
+    if path == RepoPath::message(alloc)? {
+        return Err(Stop::BadLine);
+    }
+    Ok(path)
+}
+
+/// The number that a word is.
+pub(crate) fn number(word: &str) -> Result<u32, Stop> {
+    word.parse().map_err(|_| Stop::BadLine)
 }

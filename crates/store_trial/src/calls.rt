@@ -1,60 +1,70 @@
-//! Plays a call on a store that is open.
+//! Plays a call on a store that is open. Contents and messages are texts as `read_text` reads them.
 
 use crate::answer::Answer;
-use crate::bulk::{contents_of, stage_many};
-use crate::command::Call;
+use crate::bulk::{contents_of, number, stage_many, staged_path};
 use crate::stop::Stop;
 use crate::text::read_text;
-use hook_base::{Bytes, Change, Changes, Mode, RepoPath};
-use repo_store::{Store, StoreFault};
+use hook_base::{Mode, RepoPath};
+use repo_store::Store;
 use sqlite::Alter;
-use std::alloc::Global;
-use std::mem;
 
-/// Plays a call, with the fixes that wait, and answers its line.
+/// The calls that are a line by themselves.
+pub(crate) const CALLS: &[&str] = &[
+    "set", "accept", "staged", "head", "fixes", "log", "trees", "weigh",
+];
+
+/// The calls whose word something follows.
+pub(crate) const CALLS_OF: &[&str] = &[
+    "stage",
+    "unstage",
+    "fix",
+    "fix-gone",
+    "commit",
+    "blob",
+    "blob-of",
+    "stage-many",
+    "tree",
+];
+
+/// Plays a call that changes the store, or one that only reads.
 pub(crate) fn play_call<S: Alter>(
-    alloc: Global,
     store: &mut Store<S>,
-    fixes: &mut Vec<Change>,
-    call: Call<'_>,
-) -> Result<Answer, Stop> {
-    match call {
-        Call::Fix { path, now } => collect(alloc, fixes, path, now),
-        Call::Set => set(alloc, store, fixes),
-        Call::Stage {
-            mode,
-            path,
-            content,
-        } => stage(alloc, store, path, mode, content),
-        Call::StageMany { count, size, seed } => stage_many(alloc, store, count, size, seed),
-        Call::Unstage(path) => unstage(alloc, store, path),
-        Call::Accept => numbered(alloc, store.accept()),
-        Call::Commit(message) => commit(alloc, store, message),
-        Call::Blob(text) => keep(alloc, store, read_text(alloc, text)?.as_slice()),
-        Call::BlobOf(size) => keep(alloc, store, contents_of(alloc, size, 0, 0)?.as_slice()),
-        Call::Staged
-        | Call::Head
-        | Call::TreeOf(_)
-        | Call::Trees
-        | Call::Fixes
-        | Call::Log
-        | Call::Weigh => show(alloc, store, call),
+    word: &str,
+    rest: &str,
+    answer: &mut Answer,
+) -> Result<(), Stop> {
+    match word {
+        "stage" => stage(store, rest, answer),
+        "stage-many" => stage_many(store, rest, answer),
+        "unstage" => unstage(store, rest, answer),
+        "accept" => answer.numbered(store.accept()),
+        "commit" => commit(store, rest, answer),
+        "blob" => keep(store, read_text(answer.alloc(), rest)?.as_slice(), answer),
+        "blob-of" => keep_of(store, rest, answer),
+        _ => {
+            answer.begin("ok")?;
+            show(store, word, rest, answer)
+        }
     }
 }
 
-/// Plays a call that only reads.
-fn show<S: Alter>(alloc: Global, store: &Store<S>, call: Call<'_>) -> Result<Answer, Stop> {
-    let mut answer = Answer::ok(alloc)?;
-    match call {
-        Call::Head => answer.add_tree(&store.head()?)?,
-        Call::TreeOf(number) => add_tree_of(store, number, &mut answer)?,
-        Call::Trees => add_trees(alloc, store, &mut answer)?,
-        Call::Fixes => answer.add_fixes(store.fixes()?.as_slice())?,
-        Call::Log => answer.add_log(alloc, store.log()?.as_slice())?,
-        Call::Weigh => weigh(alloc, store, &mut answer)?,
-        _ => answer.add_tree(&store.staged()?)?,
+/// Adds what a call answers that only reads.
+fn show<S: Alter>(
+    store: &Store<S>,
+    word: &str,
+    rest: &str,
+    answer: &mut Answer,
+) -> Result<(), Stop> {
+    match word {
+        "staged" => answer.add_tree(&store.staged()?),
+        "head" => answer.add_tree(&store.head()?),
+        "fixes" => answer.add_fixes(store.fixes()?.as_slice()),
+        "log" => answer.add_log(store.log()?.as_slice()),
+        "tree" => add_tree_of(store, number(rest)?, answer),
+        "trees" => add_trees(store, answer),
+        "weigh" => weigh(store, answer),
+        _ => Err(Stop::BadLine),
     }
-    Ok(answer)
 }
 
 /// Adds the files of a commit, or `none`.
@@ -66,105 +76,63 @@ fn add_tree_of<S: Alter>(store: &Store<S>, number: u32, answer: &mut Answer) -> 
 }
 
 /// Adds the number of each commit, and its files after it.
-fn add_trees<S: Alter>(alloc: Global, store: &Store<S>, answer: &mut Answer) -> Result<(), Stop> {
+fn add_trees<S: Alter>(store: &Store<S>, answer: &mut Answer) -> Result<(), Stop> {
     for commit in store.log()?.as_slice() {
-        answer.show(alloc, commit.number)?;
+        answer.show(commit.number)?;
         add_tree_of(store, commit.number, answer)?;
     }
     Ok(())
 }
 
-fn weigh<S: Alter>(alloc: Global, store: &Store<S>, answer: &mut Answer) -> Result<(), Stop> {
+/// Adds how many files are staged, and their bytes.
+fn weigh<S: Alter>(store: &Store<S>, answer: &mut Answer) -> Result<(), Stop> {
     let tree = store.staged()?;
     let mut bytes = 0u64;
     for at in 0..tree.len() {
         bytes = bytes.saturating_add(tree.entry(at).entry.bytes.len() as u64);
     }
-    answer.show(alloc, tree.len())?;
-    answer.show(alloc, bytes)
+    answer.show(tree.len())?;
+    answer.show(bytes)
 }
 
-/// The answer to a call that gives nothing.
-pub(crate) fn answered(alloc: Global, given: Result<(), StoreFault>) -> Result<Answer, Stop> {
-    match given {
-        Ok(()) => Answer::ok(alloc),
-        Err(fault) => Answer::refused(alloc, &fault),
+fn stage<S: Alter>(store: &mut Store<S>, rest: &str, answer: &mut Answer) -> Result<(), Stop> {
+    let (mode, rest) = rest.split_once(' ').ok_or(Stop::BadLine)?;
+    let (path, text) = rest.split_once(' ').ok_or(Stop::BadLine)?;
+    let mode = read_mode(mode)?;
+    let bytes = read_text(answer.alloc(), text)?;
+    let path = staged_path(answer.alloc(), path)?;
+    answer.done(store.stage(&path, mode, bytes.as_slice()))
+}
+
+fn read_mode(word: &str) -> Result<Mode, Stop> {
+    match word {
+        "plain" => Ok(Mode::Plain),
+        "executable" => Ok(Mode::Executable),
+        _ => Err(Stop::BadLine),
     }
 }
 
-fn numbered(alloc: Global, given: Result<u32, StoreFault>) -> Result<Answer, Stop> {
-    match given {
-        Ok(number) => {
-            let mut answer = Answer::ok(alloc)?;
-            answer.show(alloc, number)?;
-            Ok(answer)
-        }
-        Err(fault) => Answer::refused(alloc, &fault),
-    }
+fn unstage<S: Alter>(store: &mut Store<S>, path: &str, answer: &mut Answer) -> Result<(), Stop> {
+    let path = RepoPath::read(answer.alloc(), path)?;
+    answer.done(store.unstage(&path))
 }
 
-fn stage<S: Alter>(
-    alloc: Global,
-    store: &mut Store<S>,
-    path: &str,
-    mode: Mode,
-    text: &str,
-) -> Result<Answer, Stop> {
-    let bytes = read_text(alloc, text)?;
-    let path = RepoPath::read(alloc, path)?;
-    if path == RepoPath::message(alloc)? {
-        return Err(Stop::BadLine);
-    }
-    answered(alloc, store.stage(&path, mode, bytes.as_slice()))
+fn commit<S: Alter>(store: &mut Store<S>, text: &str, answer: &mut Answer) -> Result<(), Stop> {
+    let message = read_text(answer.alloc(), text)?;
+    answer.numbered(store.commit(message.as_slice()))
 }
 
-fn unstage<S: Alter>(alloc: Global, store: &mut Store<S>, path: &str) -> Result<Answer, Stop> {
-    let path = RepoPath::read(alloc, path)?;
-    answered(alloc, store.unstage(&path))
+fn keep_of<S: Alter>(store: &mut Store<S>, size: &str, answer: &mut Answer) -> Result<(), Stop> {
+    let bytes = contents_of(answer.alloc(), number(size)?, 0, 0)?;
+    keep(store, bytes.as_slice(), answer)
 }
 
-fn commit<S: Alter>(alloc: Global, store: &mut Store<S>, text: &str) -> Result<Answer, Stop> {
-    let message = read_text(alloc, text)?;
-    numbered(alloc, store.commit(message.as_slice()))
-}
-
-fn keep<S: Alter>(alloc: Global, store: &mut Store<S>, bytes: &[u8]) -> Result<Answer, Stop> {
+fn keep<S: Alter>(store: &mut Store<S>, bytes: &[u8], answer: &mut Answer) -> Result<(), Stop> {
     match store.blob_put(bytes) {
         Ok(digest) => {
-            let mut answer = Answer::ok(alloc)?;
-            answer.add_hex(alloc, &digest.bytes)?;
-            Ok(answer)
+            answer.begin("ok")?;
+            answer.add_hex(&digest.bytes)
         }
-        Err(fault) => Answer::refused(alloc, &fault),
-    }
-}
-
-/// Puts a fix beside those that wait.
-fn collect(
-    alloc: Global,
-    fixes: &mut Vec<Change>,
-    path: &str,
-    now: Option<&str>,
-) -> Result<Answer, Stop> {
-    let path = RepoPath::read(alloc, path)?;
-    let now = match now {
-        None => None,
-        Some(text) => Some(Bytes::from(read_text(alloc, text)?)),
-    };
-    fixes.push(Change { path, now })?;
-    Answer::ok(alloc)
-}
-
-/// Sets the fixes that wait. Two of one path can't be set.
-fn set<S: Alter>(
-    alloc: Global,
-    store: &mut Store<S>,
-    fixes: &mut Vec<Change>,
-) -> Result<Answer, Stop> {
-    let mut waiting = mem::replace(fixes, Vec::new(alloc));
-    waiting.sort_by(|one, other| one.path.cmp(&other.path))?;
-    match Changes::from_rising(waiting) {
-        Ok(changes) => answered(alloc, store.set_fixes(changes.as_slice())),
-        Err(_) => Err(Stop::BadLine),
+        Err(fault) => answer.refused(&fault),
     }
 }

@@ -2,24 +2,27 @@
 //! line. Scripts drive, time and stop a store by it.
 #![tactic(auto)]
 
+mod alone;
 mod answer;
+mod ask;
 mod bulk;
 mod calls;
-mod command;
-mod disk;
-mod place;
+mod fixes;
+mod play;
+mod real_file;
 mod stop;
-mod stopping;
+mod stopping_file;
 mod tables;
+mod tables_play;
 mod text;
 
-use command::read_command;
-use disk::Disk;
-use std::io::{BufRead, BufReader, Write};
+use answer::Answer;
+use real_file::play_file;
+use std::io::Write;
 use std::process::ExitCode;
-use std::rt::Env;
 use std::{env, io};
 use stop::Stop;
+use stopping_file::play_stopping;
 
 fn main(rt: HostRuntime) -> ExitCode {
     match run(&rt) {
@@ -31,33 +34,21 @@ fn main(rt: HostRuntime) -> ExitCode {
     }
 }
 
+/// Plays over the disk that the program's words name.
 fn run(rt: &HostRuntime) -> Result<(), Stop> {
-    let mut disk = disk_of(rt)?;
-    let alloc = rt.alloc();
-    for line in BufReader::new(alloc, rt.reader())?.lines(alloc) {
-        let line = line?;
-        let command = read_command(line.as_str()).ok_or(Stop::BadLine)?;
-        let answer = disk.play(rt, command)?;
-        print(rt, answer.into_line()?.as_slice())?;
-    }
-    Ok(())
-}
-
-/// The disk that the program's words name.
-fn disk_of<R: Env + AllocGlobal>(rt: &R) -> Result<Disk, Stop> {
     let mut words = env::args(rt)?;
     let _program = words.next();
     match (words.next(), words.next(), words.next()) {
-        (Some(name), None, _) => Ok(Disk::with_file(rt.alloc(), name)),
-        (Some(which), Some(at), None) => {
-            Disk::that_stops(rt.alloc(), which.as_str(), at.as_str()).ok_or(Stop::Usage)
-        }
+        (Some(name), None, _) => play_file(rt, name.as_str()),
+        (Some(which), Some(at), None) => play_stopping(rt, which.as_str(), at.as_str()),
         _ => Err(Stop::Usage),
     }
 }
 
-fn print<R: Print>(rt: &R, line: &[u8]) -> io::Result<()> {
+/// Prints an answer.
+pub(crate) fn print(rt: &HostRuntime, answer: &mut Answer) -> Result<(), Stop> {
     let mut writer = io::writer(rt);
-    writer.write_all(line)?;
-    writer.flush()
+    writer.write_all(answer.end()?)?;
+    writer.flush()?;
+    Ok(())
 }

@@ -1,10 +1,11 @@
 //! Why a play ends before its last line.
 
 use hook_base::{OutOfMemory, PathFault};
+use sqlite::Error;
 use std::alloc::{AllocError, AllocFailed};
 use std::io;
 
-#[derive(Drop)]
+#[derive(Clone, Copy)]
 pub(crate) enum Stop {
     /// The words of the program name no disk.
     Usage,
@@ -13,27 +14,30 @@ pub(crate) enum Stop {
     /// The program itself was refused memory, outside the store's calls.
     OutOfMemory,
     /// Standard input can't be read, or standard output takes nothing.
-    Io(io::Error),
+    Io,
+    /// The database refused what no line asks for.
+    Database,
 }
 
 impl Stop {
     /// The exit status of the program.
-    pub(crate) fn status(&self) -> u8 {
+    pub(crate) fn status(self) -> u8 {
         match self {
             Stop::Usage | Stop::BadLine => 2,
             Stop::OutOfMemory => 3,
-            Stop::Io(_) => 1,
+            Stop::Io | Stop::Database => 1,
         }
     }
 
     /// What is said on standard error.
-    pub(crate) fn message(&self) -> &'static str {
+    pub(crate) fn message(self) -> &'static str {
         match self {
             Stop::Usage =>
                 "usage: store_trial FILE, or store_trial log NUMBER, or store_trial database NUMBER",
             Stop::BadLine => "store_trial: this line can't be played",
             Stop::OutOfMemory => "store_trial: out of memory",
-            Stop::Io(_) => "store_trial: input or output failed",
+            Stop::Io => "store_trial: input or output failed",
+            Stop::Database => "store_trial: the database refused",
         }
     }
 }
@@ -43,7 +47,7 @@ impl From<io::Error> for Stop {
         if error.kind() == io::ErrorKind::OutOfMemory {
             Stop::OutOfMemory
         } else {
-            Stop::Io(error)
+            Stop::Io
         }
     }
 }
@@ -54,6 +58,12 @@ impl From<PathFault> for Stop {
             PathFault::OutOfMemory => Stop::OutOfMemory,
             _ => Stop::BadLine,
         }
+    }
+}
+
+impl From<Error> for Stop {
+    fn from(_refused: Error) -> Stop {
+        Stop::Database
     }
 }
 

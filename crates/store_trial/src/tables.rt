@@ -1,8 +1,10 @@
 //! Reads and writes the tables of a database with no store, so that what a store costs can be told from what its
 //! database costs, and the rows that a store left can be counted.
 
+use crate::answer::Answer;
+use crate::stop::Stop;
 use sha2::{Digest as _, Sha256};
-use sqlite::{Alter, Connection, Error};
+use sqlite::{Alter, Connection, Error, Transaction};
 use std::alloc::Global;
 use store_tables::{
     BlobRow, put_blob, read_answers, read_blobs, read_commits, read_entries, read_fixes, read_meta,
@@ -10,35 +12,52 @@ use store_tables::{
 };
 
 /// How many rows the tables have.
-#[derive(Drop)]
-pub(crate) struct Counts {
-    pub(crate) rows: usize,
-    pub(crate) contents: usize,
+#[derive(Clone, Copy)]
+struct Counts {
+    rows: usize,
+    contents: usize,
     /// Contents that don't stand under their digest.
-    pub(crate) strays: usize,
+    strays: usize,
 }
 
-/// Reads each table once, and hashes the contents.
-pub(crate) fn read_tables<S: Alter>(
-    alloc: Global,
+/// Reads each table once, hashes the contents, and adds the counts to the answer.
+pub(crate) fn add_counts<S: Alter>(
     conn: &mut Connection<S>,
-) -> Result<Counts, Error> {
+    answer: &mut Answer,
+) -> Result<Result<(), Error>, Stop> {
+    match read_tables(answer.alloc(), conn) {
+        Ok(counts) => {
+            answer.show(counts.rows)?;
+            answer.show(counts.contents)?;
+            answer.show(counts.strays)?;
+            Ok(Ok(()))
+        }
+        Err(error) => Ok(Err(error)),
+    }
+}
+
+fn read_tables<S: Alter>(alloc: Global, conn: &mut Connection<S>) -> Result<Counts, Error> {
     if !conn.is_autocommit() {
         return Err(Error::InvalidQuery);
     }
     let mut tx = conn.transaction();
+    let rows = count_rows(alloc, &mut tx)?;
     let blobs = read_blobs(alloc, &mut tx)?;
-    let meta = read_meta(alloc, &mut tx)?.len();
-    let staged = read_staged(alloc, &mut tx)?.len();
-    let fixes = read_fixes(alloc, &mut tx)?.len();
-    let commits = read_commits(alloc, &mut tx)?.len();
-    let entries = read_entries(alloc, &mut tx)?.len();
-    let answers = read_answers(alloc, &mut tx)?.len();
     Ok(Counts {
-        rows: total(&[meta, staged, fixes, commits, entries, answers]),
+        rows,
         contents: blobs.len(),
         strays: count_strays(blobs.as_slice()),
     })
+}
+
+/// How many rows the tables have but for the contents.
+fn count_rows<S: Alter>(alloc: Global, tx: &mut Transaction<'_, S>) -> Result<usize, Error> {
+    let mut rows = read_meta(alloc, tx)?.len();
+    rows = rows.saturating_add(read_staged(alloc, tx)?.len());
+    rows = rows.saturating_add(read_fixes(alloc, tx)?.len());
+    rows = rows.saturating_add(read_commits(alloc, tx)?.len());
+    rows = rows.saturating_add(read_entries(alloc, tx)?.len());
+    Ok(rows.saturating_add(read_answers(alloc, tx)?.len()))
 }
 
 /// Keeps contents under their digest, in a transaction of their own.
@@ -53,12 +72,6 @@ pub(crate) fn insert_contents<S: Alter>(
     let mut tx = conn.transaction();
     put_blob(&mut tx, &digest, bytes)?;
     tx.commit()
-}
-
-fn total(counts: &[usize]) -> usize {
-    counts
-        .iter()
-        .fold(0usize, |sum, count| sum.saturating_add(*count))
 }
 
 fn count_strays(blobs: &[BlobRow]) -> usize {

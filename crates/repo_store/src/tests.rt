@@ -1,9 +1,0 @@
-mod contents;
-mod faults;
-mod fixes;
-mod kept;
-mod planted;
-mod plants;
-mod rows;
-mod steps;
-mod story;

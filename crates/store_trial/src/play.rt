@@ -1,0 +1,149 @@
+//! Plays lines, whatever disk the database lies on.
+
+use crate::alone::{COMMANDS, COMMANDS_OF, add_faults, play_alone};
+use crate::answer::Answer;
+use crate::ask::Ask;
+use crate::calls::{CALLS, CALLS_OF, play_call};
+use crate::fixes::{collect, set};
+use crate::stop::Stop;
+use hook_base::Change;
+use repo_store::{Store, StoreFault};
+use sqlite::{Alter, Connection, Error};
+use std::alloc::Global;
+
+/// The store that is open, if one is, and the fixes that wait.
+#[derive(Drop)]
+pub(crate) struct Play<S: Alter + Drop> {
+    store: Option<Store<S>>,
+    fixes: Vec<Change>,
+}
+
+impl<S: Alter + Drop> Play<S> {
+    pub(crate) fn new(alloc: Global) -> Play<S> {
+        Play {
+            store: None,
+            fixes: Vec::new(alloc),
+        }
+    }
+
+    /// Plays a line as far as no disk is needed.
+    pub(crate) fn begin(&mut self, line: &str, answer: &mut Answer) -> Result<Ask<S>, Stop> {
+        match line {
+            "create" | "open" => match self.store {
+                Some(_) => Err(Stop::BadLine),
+                None => Ok(Ask::Connection),
+            },
+            "close" => self.close(answer),
+            "crash" => Ok(Ask::Crash(self.kept())),
+            _ => {
+                if is_of(line, COMMANDS, COMMANDS_OF) {
+                    return Ok(Ask::Connection);
+                }
+                self.call(line, answer)?;
+                Ok(Ask::Nothing)
+            }
+        }
+    }
+
+    /// Goes on with a line over a connection to the database.
+    pub(crate) fn go_on(
+        &mut self,
+        line: &str,
+        conn: Connection<S>,
+        answer: &mut Answer,
+    ) -> Result<Ask<S>, Stop> {
+        match line {
+            "create" => self.open(conn, true, answer),
+            "open" => self.open(conn, false, answer),
+            "connect" => Ok(Ask::Closing(conn)),
+            _ => {
+                let (word, rest) = parted(line);
+                Ok(Ask::GiveBack(play_alone(conn, word, rest, answer)?))
+            }
+        }
+    }
+
+    fn open(
+        &mut self,
+        conn: Connection<S>,
+        is_new: bool,
+        answer: &mut Answer,
+    ) -> Result<Ask<S>, Stop> {
+        match begun(answer.alloc(), conn, is_new) {
+            Ok(store) => {
+                self.store = Some(store);
+                answer.begin("ok")?;
+                Ok(Ask::Nothing)
+            }
+            Err((fault, conn)) => {
+                answer.refused(&fault)?;
+                Ok(Ask::GiveBack(conn.into_store()))
+            }
+        }
+    }
+
+    fn close(&mut self, answer: &mut Answer) -> Result<Ask<S>, Stop> {
+        match self.store.take() {
+            None => {
+                answer.begin("no store")?;
+                Ok(Ask::Nothing)
+            }
+            Some(store) => Ok(Ask::Closing(store.into_connection())),
+        }
+    }
+
+    /// What the store that was open is kept in.
+    fn kept(&mut self) -> Option<S> {
+        match self.store.take() {
+            None => None,
+            Some(store) => Some(store.into_connection().into_store()),
+        }
+    }
+
+    fn call(&mut self, line: &str, answer: &mut Answer) -> Result<(), Stop> {
+        if line == "faults" {
+            return add_faults(answer);
+        }
+        if !is_of(line, CALLS, CALLS_OF) {
+            return Err(Stop::BadLine);
+        }
+        let (word, rest) = parted(line);
+        match &mut self.store {
+            None => answer.begin("no store"),
+            Some(store) => match word {
+                "fix" | "fix-gone" => collect(&mut self.fixes, word, rest, answer),
+                "set" => set(store, &mut self.fixes, answer),
+                _ => play_call(store, word, rest, answer),
+            },
+        }
+    }
+}
+
+/// Whether a line is one of some words, or begins with one of others and goes on after a blank.
+fn is_of(line: &str, whole: &[&str], words: &[&str]) -> bool {
+    match line.split_once(' ') {
+        None => whole.contains(&line),
+        Some((word, _rest)) => words.contains(&word),
+    }
+}
+
+/// The first word of a line, and what follows the blank after it.
+fn parted(line: &str) -> (&str, &str) {
+    line.split_once(' ').unwrap_or((line, ""))
+}
+
+/// The store that is made in a database, or opened in it. A refusal gives the connection back.
+fn begun<S: Alter + Drop>(
+    alloc: Global,
+    conn: Connection<S>,
+    is_new: bool,
+) -> Result<Store<S>, (StoreFault, Connection<S>)> {
+    if !conn.is_autocommit() {
+        return Err((StoreFault::Sql(Error::InvalidQuery), conn));
+    }
+    if is_new {
+        Store::create(alloc, conn)
+    } else {
+        Store::open(alloc, conn)
+    }
+}

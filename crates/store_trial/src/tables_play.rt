@@ -1,0 +1,136 @@
+//! A play of the statements on the tables: rows are put in, in no order, read back, taken out, and read back again, all
+//! in one transaction that is not committed. Each row is added to the answer: its table's name, its texts and digests, and
+//! its numbers.
+
+use crate::answer::Answer;
+use crate::stop::Stop;
+use sqlite::{Alter, Connection, Error, Transaction};
+use store_tables::{
+    FixRow, clear_answers, clear_fixes, make_tables, put_answer, put_blob, put_commit, put_entry,
+    put_fix, put_meta, put_staged, read_answers, read_blobs, read_commits, read_entries,
+    read_fixes, read_meta, read_staged, take_staged,
+};
+
+/// Plays the statements in a database that has no tables.
+pub(crate) fn play_tables<S: Alter>(
+    conn: &mut Connection<S>,
+    answer: &mut Answer,
+) -> Result<Result<(), Error>, Stop> {
+    if !conn.is_autocommit() {
+        return Ok(Err(Error::InvalidQuery));
+    }
+    let mut tx = conn.transaction();
+    if let Err(error) = make_tables(&mut tx) {
+        return Ok(Err(error));
+    }
+    fill(&mut tx)?;
+    fill_more(&mut tx)?;
+    add_rows(&mut tx, answer)?;
+    empty_some(&mut tx)?;
+    answer.add(b"emptied")?;
+    add_rows(&mut tx, answer)?;
+    Ok(Ok(()))
+}
+
+fn fill<S: Alter>(tx: &mut Transaction<'_, S>) -> Result<(), Error> {
+    put_meta(tx, "version", 1)?;
+    put_meta(tx, "limit", 2)?;
+    put_blob(tx, b"one", b"1")?;
+    put_blob(tx, b"two", b"2")?;
+    put_blob(tx, b"three", b"3")?;
+    put_blob(tx, b"four", b"4")?;
+    put_staged(tx, "b.txt", 1, b"two")?;
+    put_staged(tx, "a.txt", 0, b"one")?;
+    put_commit(tx, 2, b"second\n")?;
+    put_commit(tx, 1, b"first\n")
+}
+
+fn fill_more<S: Alter>(tx: &mut Transaction<'_, S>) -> Result<(), Error> {
+    put_entry(tx, 2, "a.txt", 1, b"two")?;
+    put_entry(tx, 1, "b.txt", 1, b"three")?;
+    put_entry(tx, 1, "a.txt", 0, b"one")?;
+    put_fix(tx, "b.txt", None)?;
+    put_fix(tx, "a.txt", Some(b"two"))?;
+    put_answer(tx, b"two", b"one", b"four", b"three", 0)?;
+    put_answer(tx, b"one", b"two", b"three", b"four", 3)
+}
+
+fn empty_some<S: Alter>(tx: &mut Transaction<'_, S>) -> Result<(), Error> {
+    take_staged(tx, "b.txt")?;
+    clear_fixes(tx)?;
+    clear_answers(tx)
+}
+
+fn add_rows<S: Alter>(tx: &mut Transaction<'_, S>, answer: &mut Answer) -> Result<(), Stop> {
+    add_meta(tx, answer)?;
+    add_blobs(tx, answer)?;
+    add_staged(tx, answer)?;
+    add_fixes(tx, answer)?;
+    add_commits(tx, answer)?;
+    add_entries(tx, answer)?;
+    add_answers(tx, answer)
+}
+
+fn add_meta<S: Alter>(tx: &mut Transaction<'_, S>, answer: &mut Answer) -> Result<(), Stop> {
+    for row in &read_meta(answer.alloc(), tx)? {
+        answer.add_all(&[b"meta", row.name.as_slice()])?;
+        answer.show(row.value)?;
+    }
+    Ok(())
+}
+
+fn add_blobs<S: Alter>(tx: &mut Transaction<'_, S>, answer: &mut Answer) -> Result<(), Stop> {
+    for row in &read_blobs(answer.alloc(), tx)? {
+        answer.add_all(&[b"blobs", row.digest.as_slice(), row.bytes.as_slice()])?;
+    }
+    Ok(())
+}
+
+fn add_staged<S: Alter>(tx: &mut Transaction<'_, S>, answer: &mut Answer) -> Result<(), Stop> {
+    for row in &read_staged(answer.alloc(), tx)? {
+        answer.add_all(&[b"staged", row.path.as_slice(), row.digest.as_slice()])?;
+        answer.show(row.mode)?;
+    }
+    Ok(())
+}
+
+fn add_fixes<S: Alter>(tx: &mut Transaction<'_, S>, answer: &mut Answer) -> Result<(), Stop> {
+    for row in &read_fixes(answer.alloc(), tx)? {
+        answer.add_all(&[b"fixes", row.path.as_slice(), digest_of(row)])?;
+        answer.show(row.gone)?;
+    }
+    Ok(())
+}
+
+fn digest_of(row: &FixRow) -> &[u8] {
+    match &row.digest {
+        None => b"no digest",
+        Some(digest) => digest.as_slice(),
+    }
+}
+
+fn add_commits<S: Alter>(tx: &mut Transaction<'_, S>, answer: &mut Answer) -> Result<(), Stop> {
+    for row in &read_commits(answer.alloc(), tx)? {
+        answer.add_all(&[b"commits", row.message.as_slice()])?;
+        answer.show(row.n)?;
+    }
+    Ok(())
+}
+
+fn add_entries<S: Alter>(tx: &mut Transaction<'_, S>, answer: &mut Answer) -> Result<(), Stop> {
+    for row in &read_entries(answer.alloc(), tx)? {
+        answer.add_all(&[b"entries", row.path.as_slice(), row.digest.as_slice()])?;
+        answer.show(row.n)?;
+        answer.show(row.mode)?;
+    }
+    Ok(())
+}
+
+fn add_answers<S: Alter>(tx: &mut Transaction<'_, S>, answer: &mut Answer) -> Result<(), Stop> {
+    for row in &read_answers(answer.alloc(), tx)? {
+        answer.add_all(&[b"answers", row.words.as_slice(), row.seen.as_slice()])?;
+        answer.add_all(&[row.output.as_slice(), row.changes.as_slice()])?;
+        answer.show(row.status)?;
+    }
+    Ok(())
+}

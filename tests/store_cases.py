@@ -1,0 +1,200 @@
+"""The tables of cases of tests/store.py: lines with their answers, and what is done to a store's file and refused then."""
+import hashlib
+
+SHOWN = ["staged", "head", "log", "fixes", "trees"]
+# What a store shows that has a.txt staged, with the contents 1, and nothing else.
+ONE_STAGED = ["ok\tplain\ta.txt\t1", "ok", "ok", "ok", "ok"]
+SCHEMA = [
+    "CREATE TABLE answers (words BLOB NOT NULL REFERENCES blobs, seen BLOB NOT NULL REFERENCES blobs, output BLOB NOT NULL REFERENCES blobs, changes BLOB NOT NULL REFERENCES blobs, status INTEGER NOT NULL, PRIMARY KEY (words, seen)) STRICT",
+    "CREATE TABLE blobs (digest BLOB PRIMARY KEY, bytes BLOB NOT NULL) STRICT",
+    "CREATE TABLE commits (n INTEGER PRIMARY KEY, message BLOB NOT NULL) STRICT",
+    "CREATE TABLE entries (n INTEGER NOT NULL REFERENCES commits, path TEXT NOT NULL, mode INTEGER NOT NULL, digest BLOB NOT NULL REFERENCES blobs, PRIMARY KEY (n, path)) STRICT",
+    "CREATE TABLE fixes (path TEXT PRIMARY KEY, gone INTEGER NOT NULL, digest BLOB REFERENCES blobs) STRICT",
+    "CREATE TABLE meta (name TEXT PRIMARY KEY, value INTEGER NOT NULL) STRICT",
+    "CREATE TABLE staged (path TEXT PRIMARY KEY, mode INTEGER NOT NULL, digest BLOB NOT NULL REFERENCES blobs) STRICT",
+]
+STORY = [
+    ("create", "ok"),
+    ("stage plain a.txt 1", "ok"),
+    ("fix a.txt 2", "ok"),
+    ("fix missing.txt 3", "ok"),
+    ("set", "ok"),
+    ("fixes", "ok\ta.txt\tnow\t2"),
+    ("accept", "ok\t1"),
+    ("fixes", "ok"),
+    ("commit m\\n", "ok\t1"),
+    ("log", "ok\t1\tm\\n"),
+    ("unstage a.txt", "ok"),
+    ("tree 1", "ok\tplain\ta.txt\t2"),
+    ("head", "ok\tplain\ta.txt\t2"),
+    ("staged", "ok"),
+    ("commit n\\n", "ok\t2"),
+    ("tree 2", "ok"),
+    ("head", "ok"),
+    ("tree 3", "ok\tnone"),
+    ("blob abc", "ok\tba7816bf8f01cfea414140de5dae2223b00361a396177a9cb410ff61f20015ad"),
+    ("blob abc", "ok\tba7816bf8f01cfea414140de5dae2223b00361a396177a9cb410ff61f20015ad"),
+    ("stage executable tools/run #!/bin/sh\\n\\techo \\\\ done\\n", "ok"),
+    ("stage plain b.txt 2", "ok"),
+    ("fix-gone b.txt", "ok"),
+    ("set", "ok"),
+]
+# Accepted fixes are committed, and the commit stays where its file is unstaged; then a commit of no files, and two files.
+UNSTAGED_STORY = [
+    ("create", "ok"),
+    ("stage plain a.txt 1", "ok"),
+    ("fix a.txt 2", "ok"),
+    ("set", "ok"),
+    ("accept", "ok\t1"),
+    ("accept", "ok\t0"),
+    ("commit m\\n", "ok\t1"),
+    ("unstage a.txt", "ok"),
+    ("unstage a.txt", "ok"),
+    ("staged", "ok"),
+    ("fixes", "ok"),
+    ("tree 1", "ok\tplain\ta.txt\t2"),
+    ("head", "ok\tplain\ta.txt\t2"),
+    ("log", "ok\t1\tm\\n"),
+    ("tree 0", "ok\tnone"),
+    ("tree 2", "ok\tnone"),
+    ("commit n\\n", "ok\t2"),
+    ("stage executable tools/run #!/bin/sh\\n", "ok"),
+    ("stage plain b.txt 2", "ok"),
+    ("fix-gone b.txt", "ok"),
+    ("set", "ok"),
+    ("fixes", "ok\tb.txt\tgone"),
+    ("head", "ok"),
+    ("log", "ok\t1\tm\\n\t2\tn\\n"),
+    ("trees", "ok\t1\tplain\ta.txt\t2\t2"),
+    ("staged", "ok\tplain\tb.txt\t2\texecutable\ttools/run\t#!/bin/sh\\n"),
+    ("close", "ok"),
+    ("open", "ok"),
+    ("fixes", "ok\tb.txt\tgone"),
+    ("head", "ok"),
+    ("log", "ok\t1\tm\\n\t2\tn\\n"),
+    ("trees", "ok\t1\tplain\ta.txt\t2\t2"),
+    ("staged", "ok\tplain\tb.txt\t2\texecutable\ttools/run\t#!/bin/sh\\n"),
+]
+# Calls on a store that has a.txt staged, and the fixes that it has then.
+FIXES_AFTER = [
+    (["fix a.txt 2", "set"], "ok\ta.txt\tnow\t2"),
+    (["fix-gone a.txt", "set"], "ok\ta.txt\tgone"),
+    (["fix b.txt 2", "set"], "ok"),
+    (["fix-gone b.txt", "set"], "ok"),
+    (["fix a.txt 2", "set", "stage plain b.txt 2"], "ok"),
+    (["fix a.txt 2", "set", "stage plain a.txt 1"], "ok"),
+    (["fix a.txt 2", "set", "unstage b.txt"], "ok"),
+    (["fix a.txt 2", "set", "fix b.txt 2", "set"], "ok"),
+    (["fix a.txt 2", "set", "fix a.txt 3", "set"], "ok\ta.txt\tnow\t3"),
+]
+# Each refusal: its number, its name and what it says.
+FAULTS = [
+    ("1", "NotAStore", "the database holds no store of this version"),
+    ("2", "Damaged", "the store is damaged"),
+    ("3", "Sql", "there is already an object of this name"),
+    ("3", "Sql", "database or disk is full"),
+    ("4", "OutOfMemory", "out of memory"),
+    ("5", "Collision", "other contents have the same digest"),
+    ("6", "TooLarge", "contents or a message of more than 16 MiB"),
+    ("7", "TooMany", "more commits, staged files or paths than a store takes"),
+]
+# The rows of the play of statements: in the order of their keys, and what is left once some are taken out.
+KEPT_ROWS = [
+    ("meta", "limit", "2"),
+    ("meta", "version", "1"),
+    ("blobs", "four", "4"),
+    ("blobs", "one", "1"),
+    ("blobs", "three", "3"),
+    ("blobs", "two", "2"),
+    ("staged", "a.txt", "one", "0"),
+]
+TAKEN_ROWS = [
+    ("staged", "b.txt", "two", "1"),
+    ("fixes", "a.txt", "two", "0"),
+    ("fixes", "b.txt", "no digest", "1"),
+]
+COMMITTED_ROWS = [
+    ("commits", "first\\n", "1"),
+    ("commits", "second\\n", "2"),
+    ("entries", "a.txt", "one", "1", "0"),
+    ("entries", "b.txt", "three", "1", "1"),
+    ("entries", "a.txt", "two", "2", "1"),
+]
+ANSWER_ROWS = [
+    ("answers", "one", "two", "three", "four", "3"),
+    ("answers", "two", "one", "four", "three", "0"),
+]
+# Lines that end the program with status 2, on an open store.
+BAD_LINES = ["", "stag", "stage", "staged ", "staged a.txt", "create a", "set a", "execute", "faults a", "stage plain a.txt", "stage odd a.txt 1", "stage plain ../a.txt 1", "stage plain .git/COMMIT_EDITMSG 1",
+             "stage plain a.txt \\x", "stage plain a.txt \\", "unstage /a", "tree x", "create", "open", "stage-many 1 1"]
+FILLING = ["create", "stage plain a.txt 1", "stage plain b.txt 2", "commit m\\n", "commit n\\n", "fix a.txt 2", "set", "close"]
+# The digests of the contents 1 and 2.
+ONE, TWO = (hashlib.sha256(text).hexdigest() for text in (b"1", b"2"))
+NOT_A_STORE, DAMAGED, SQL = "refused\t1\tNotAStore\t", "refused\t2\tDamaged\t", "refused\t3\tSql\t"
+TOO_LARGE, TOO_MANY = "refused\t6\tTooLarge\tcontents or a message of more than 16 MiB", "refused\t7\tTooMany\t"
+# What is done to the file of FILLING, how it is refused then, and what takes it back.
+PLANTS = [
+    ("no version", "DELETE FROM meta", NOT_A_STORE, "INSERT INTO meta VALUES ('version', 1)"),
+    ("another version", "UPDATE meta SET value = 2", NOT_A_STORE, "UPDATE meta SET value = 1"),
+    ("a second number", "INSERT INTO meta VALUES ('edition', 1)", NOT_A_STORE, "DELETE FROM meta WHERE name = 'edition'"),
+    ("a version under another name", "UPDATE meta SET name = 'edition'", NOT_A_STORE, "UPDATE meta SET name = 'version'"),
+    ("a blob under another digest", "INSERT INTO blobs VALUES (x'00', x'33')", DAMAGED, "DELETE FROM blobs WHERE digest = x'00'"),
+    ("other bytes under a digest", f"UPDATE blobs SET bytes = x'33' WHERE digest = x'{ONE}'", DAMAGED, f"UPDATE blobs SET bytes = x'31' WHERE digest = x'{ONE}'"),
+    ("an illegal staged path", f"INSERT INTO staged VALUES ('../x', 0, x'{ONE}')", DAMAGED, "DELETE FROM staged WHERE path = '../x'"),
+    ("an illegal committed path", f"INSERT INTO entries VALUES (1, '../x', 0, x'{ONE}')", DAMAGED, "DELETE FROM entries WHERE path = '../x'"),
+    ("an illegal path of a fix", "INSERT INTO fixes VALUES ('../x', 1, NULL)", DAMAGED, "DELETE FROM fixes WHERE path = '../x'"),
+    ("a staged path of the repository's own", f"INSERT INTO staged VALUES ('.git/COMMIT_EDITMSG', 0, x'{ONE}')", DAMAGED,
+     "DELETE FROM staged WHERE path = '.git/COMMIT_EDITMSG'"),
+    ("an empty staged path", f"INSERT INTO staged VALUES ('', 0, x'{ONE}')", DAMAGED, "DELETE FROM staged WHERE path = ''"),
+    ("the contents of another digest", f"UPDATE blobs SET bytes = x'32' WHERE digest = x'{ONE}'", DAMAGED, f"UPDATE blobs SET bytes = x'31' WHERE digest = x'{ONE}'"),
+    ("a staged mode below 0", "UPDATE staged SET mode = -1 WHERE path = 'a.txt'", DAMAGED, "UPDATE staged SET mode = 0 WHERE path = 'a.txt'"),
+    ("a staged mode of 2", "UPDATE staged SET mode = 2 WHERE path = 'a.txt'", DAMAGED, "UPDATE staged SET mode = 0 WHERE path = 'a.txt'"),
+    ("a committed mode of 2", "UPDATE entries SET mode = 2 WHERE n = 1 AND path = 'a.txt'", DAMAGED, "UPDATE entries SET mode = 0 WHERE n = 1 AND path = 'a.txt'"),
+    ("a fix with a gone of 2", "INSERT INTO fixes VALUES ('b.txt', 2, NULL)", DAMAGED, "DELETE FROM fixes WHERE path = 'b.txt'"),
+    ("a fix with a gone of 2 and contents", "UPDATE fixes SET gone = 2", DAMAGED, "UPDATE fixes SET gone = 0"),
+    ("a gone fix with contents", "UPDATE fixes SET gone = 1", DAMAGED, "UPDATE fixes SET gone = 0"),
+    ("a fix with no contents", "INSERT INTO fixes VALUES ('b.txt', 0, NULL)", DAMAGED, "DELETE FROM fixes WHERE path = 'b.txt'"),
+    ("a fix of a file that isn't staged", "INSERT INTO fixes VALUES ('c.txt', 1, NULL)", DAMAGED, "DELETE FROM fixes WHERE path = 'c.txt'"),
+    ("commits 1 and 3", "UPDATE commits SET n = 3 WHERE n = 2; UPDATE entries SET n = 3 WHERE n = 2", DAMAGED,
+     "UPDATE commits SET n = 2 WHERE n = 3; UPDATE entries SET n = 2 WHERE n = 3"),
+    ("commits 1, 2 and 4", "INSERT INTO commits VALUES (4, x'6d')", DAMAGED, "DELETE FROM commits WHERE n = 4"),
+    ("a commit 0", "INSERT INTO commits VALUES (0, x'6d')", DAMAGED, "DELETE FROM commits WHERE n = 0"),
+    ("a commit below 0", "INSERT INTO commits VALUES (-1, x'6d')", DAMAGED, "DELETE FROM commits WHERE n = -1"),
+    ("a remembered answer", f"INSERT INTO answers VALUES (x'{ONE}', x'{ONE}', x'{TWO}', x'{TWO}', 0)", DAMAGED, "DELETE FROM answers"),
+    ("8 MiB of staged paths and more", "WITH RECURSIVE c(n) AS (SELECT 1 UNION ALL SELECT n + 1 FROM c WHERE n < 2049) "
+     f"INSERT INTO staged SELECT printf('%04096d', n), 0, x'{ONE}' FROM c", DAMAGED, "DELETE FROM staged WHERE length(path) = 4096"),
+    ("100,001 staged files", "WITH RECURSIVE c(n) AS (SELECT 1 UNION ALL SELECT n + 1 FROM c WHERE n < 99999) "
+     f"INSERT INTO staged SELECT 'd/' || n, 0, x'{ONE}' FROM c", DAMAGED, "DELETE FROM staged WHERE path = 'd/1'"),
+    ("more than 100,000 commits", "WITH RECURSIVE c(n) AS (SELECT 3 UNION ALL SELECT n + 1 FROM c WHERE n < 100001) "
+     "INSERT INTO commits SELECT n, x'6d' FROM c", DAMAGED, "DELETE FROM commits WHERE n > 2"),
+    ("contents of more than 16 MiB", f"INSERT INTO blobs VALUES (x'{hashlib.sha256(bytes(16777217)).hexdigest()}', zeroblob(16777217))", DAMAGED,
+     "DELETE FROM blobs WHERE length(bytes) > 16777216"),
+    ("a message of more than 16 MiB", "UPDATE commits SET message = zeroblob(16777217) WHERE n = 2", DAMAGED, "UPDATE commits SET message = x'6e0a' WHERE n = 2"),
+    # Here the tables' own rules are broken, which the kit's database refuses when it opens a file.
+    ("an entry without its commit", f"INSERT INTO entries VALUES (3, 'a.txt', 0, x'{ONE}')", SQL, "DELETE FROM entries WHERE n = 3"),
+    ("a staged digest that isn't there", "INSERT INTO staged VALUES ('c.txt', 0, x'00')", SQL, "DELETE FROM staged WHERE path = 'c.txt'"),
+    ("a committed digest that isn't there", "INSERT INTO entries VALUES (1, 'c.txt', 0, x'00')", SQL, "DELETE FROM entries WHERE path = 'c.txt'"),
+    ("a digest of a fix that isn't there", "INSERT INTO fixes VALUES ('b.txt', 0, x'00')", SQL, "DELETE FROM fixes WHERE path = 'b.txt'"),
+]
+# What the tables of the file of FILLING themselves refuse, so that no store comes to hold it.
+REFUSED_ROWS = [
+    f"INSERT INTO entries VALUES (3, 'a.txt', 0, x'{ONE}')",
+    "INSERT INTO staged VALUES ('c.txt', 0, x'00')",
+    "INSERT INTO entries VALUES (1, 'c.txt', 0, x'00')",
+    "INSERT INTO fixes VALUES ('b.txt', 0, x'00')",
+    f"DELETE FROM blobs WHERE digest = x'{ONE}'",
+    "DELETE FROM commits WHERE n = 1",
+    f"INSERT INTO staged VALUES ('a.txt', 0, x'{TWO}')",
+    f"INSERT INTO entries VALUES (1, 'a.txt', 1, x'{TWO}')",
+    "INSERT INTO commits VALUES (2, x'6d')",
+    "INSERT INTO staged VALUES ('c.txt', 'plain', NULL)",
+]
+# What is done to the tables of the file of FILLING, so that it holds no store.
+OTHER_TABLES = [
+    ("no version that can be read", "DROP TABLE meta"),
+    ("a table more", "CREATE TABLE notes (text TEXT) STRICT"),
+    ("an index more", "CREATE INDEX modes ON staged (mode)"),
+    ("a view more", "CREATE VIEW paths AS SELECT path FROM staged"),
+    ("a table less", "DROP TABLE answers"),
+    ("another table of that name", "DROP TABLE answers; CREATE TABLE answers (words BLOB NOT NULL) STRICT"),
+]
