@@ -19,8 +19,9 @@ import threading
 import time
 from collections import defaultdict
 
-# What the whole gate may take, in processor minutes. Who adds a crate says what it adds to this.
-BUDGET = 130
+# What the whole gate may take, in processor minutes: 130, and 8 for each of file_tags, path_select, builtin_hooks and
+# report_text. Who adds a crate says what it adds to this.
+BUDGET = 130 + 4 * 8
 PAUSE = 0.5
 TICKS = os.sysconf("SC_CLK_TCK")
 PHASES = ["proofs", "tests", "edits", "program"]

@@ -1,5 +1,5 @@
 -- The fields of a hook in the groups in which they are read. For contracts of private functions alone.
-use Rattle.std.specs.Prelude.{◌≡◌, ◌≢◌, List, [], Bool, true, false, None, Some}
+use Rattle.std.specs.Prelude.{◌≡◌, ◌≢◌, List, [], true, false, None, Some}
 use Rattle.hook_config.specs.Rows.{Row}
 use Rattle.hook_config.specs.Kinds.{text_of, truth_of, language_of, texts_of, stages_of, empty_text_of, empty_texts_of, required, or_default}
 use Rattle.hook_config.specs.HookTable.{hook_of_fields}
