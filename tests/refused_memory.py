@@ -7,7 +7,7 @@ Each refused run has to say `hookhost: refused: NUMBER OutOfMemory`, write nothi
 status 3, or else to answer just as with ample memory (a growth that was refused may be tried again with less). Each play
 names its numbers in the order in which they have to come as later allocations are refused: 4, and in `check` 4 while the
 words are read and then 12. The allocator is stood in for by tests/refuse_allocation.c. Beside some plays of its own,
-each text of the tables of crates/yaml_profile is checked as a configuration.
+each text of the tables `yaml_profile` and `yaml_profile_refused` in tests/rows/ is checked as a configuration.
 """
 import os
 import subprocess

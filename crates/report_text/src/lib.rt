@@ -3,8 +3,10 @@
 //!
 //! A `HookResult` says how a hook ended by its `Ending`, and that what failed by `LineFault`s.
 //!
-//! The contracts cite `columns_of`, `width_of`, `hook_text` and `is_failed` of `specs/Report.antt`, and the limit of
-//! `specs/Limits.antt`.
+//! `push` and `push_line` put bytes and lines at the end of a text, for callers that print lines of their own.
+//!
+//! The contracts cite `columns_of`, `width_of`, `hook_text`, `is_failed` and `line` of `specs/Report.antt`, and the limit
+//! of `specs/Limits.antt`. `report_text` there, the texts of all hooks in the columns of all names, is for callers.
 #![tactic(auto)]
 
 mod first_line;

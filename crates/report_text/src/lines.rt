@@ -110,7 +110,7 @@ pub fn push_line(report: &mut Vec<u8>, text: &[u8]) -> Result<(), OutOfMemory>
     push(report, b"\n")
 }
 
-/// Puts the bytes as they are at the report's end. `OutOfMemory` leaves the report as it was.
+/// Puts the bytes as they are at the report's end. `OutOfMemory` may come of any bytes.
 pub fn push(report: &mut Vec<u8>, bytes: &[u8]) -> Result<(), OutOfMemory>
     ensures { OnOk result (report.new.items ≡ report.old.items ++ bytes.now) }
 {

@@ -15,7 +15,7 @@ use std::alloc::Global;
 use unicode_width::UnicodeWidthStr;
 
 /// The columns of a report, from the names of all hooks that its run goes through, skipped ones and those after a stop
-/// too: 80, or 30 more than the columns of the widest name in a terminal (Unicode's East Asian Width, UAX #11). It takes
+/// too: 80, or 30 more than the columns of the widest name in a terminal, as `unicode_width` gives them. It takes
 /// no memory. Each name has at most [`MOST_NAME_BYTES`](crate::MOST_NAME_BYTES) bytes.
 pub fn columns(names: &[&str]) -> usize
     requires { All (λ name. length name.now ≤ most_name_bytes) names.now }
