@@ -6,8 +6,8 @@ Usage: tests/gate_time.py PART..   Each PART is a command in one word, as 'rt ci
 
 A part's whole time is what the system counts for it and for all that it started. Where it runs the checker, the processes
 below it are looked at twice a second, and their time goes to the crate that their command line or folder names: to its
-proofs, to its tests (their proofs, build and run), to its must-fail edits, or to its program (built and run). What a
-process took after the last look at it, and what names no crate, is the part's own.
+proofs, to its must-fail edits, or to its program (built and run). What a process took after the last look at it, and what
+names no crate, is the part's own.
 """
 import os
 import re
@@ -24,7 +24,7 @@ from collections import defaultdict
 BUDGET = 130 + 4 * 8
 PAUSE = 0.5
 TICKS = os.sysconf("SC_CLK_TCK")
-PHASES = ["proofs", "tests", "edits", "program"]
+PHASES = ["proofs", "edits", "program"]
 
 
 def processes():
@@ -49,14 +49,14 @@ def work_of(process):
     except OSError:
         return None
     line = " ".join(words)
-    if ran := re.search(r"/rt-run-\w+/bin/(\w+?)(_tests)?(?: |$)", line):
-        return ran[1], "tests" if ran[2] else "program"
+    if ran := re.search(r"/rt-run-\w+/bin/(\w+)", line):
+        return ran[1], "program"
     if checked := re.search(r"--crate-name (\w+)", line):
         if "/rt-edit-" in folder:
             return checked[1], "edits"
-        return checked[1], "tests" if "--test" in words else "program" if "--crate-checked" in words else "proofs"
+        return checked[1], "program" if "--crate-checked" in words else "proofs"
     if linked := re.search(r"/crates/(\w+)$", folder):
-        return linked[1], "tests" if f"{linked[1]}_tests" in line else "program"
+        return linked[1], "program"
     if laid_out := re.search(r"/rattle fmt .*?/crates/(\w+)/", line):
         return laid_out[1], "proofs"
     return None
@@ -141,7 +141,7 @@ def show_times(parts):
     print(f"gate:   {'all crates':26}" + "".join(f"{each:9.1f}" for each in [*row, sum(row)]))
     for part in parts:
         own = max(part.seconds - sum(part.by_work.values()), 0) / 60
-        print(f"gate:   {part.name + (', the rest' if part.by_work else ''):62}{own:9.1f}")
+        print(f"gate:   {part.name + (', the rest' if part.by_work else ''):53}{own:9.1f}")
 
 
 def main():
