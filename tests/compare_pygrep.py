@@ -1,3 +1,4 @@
+#!/usr/bin/env python3
 """Compares `builtin_hooks` with pre-commit's own `pygrep`, on random patterns, texts and arguments.
 
 Usage: tests/compare_pygrep.py [CASES [SEED]]   (default: 6000 cases, seed 1)
@@ -21,19 +22,16 @@ import subprocess
 import sys
 import tempfile
 
+from debian_python import try_again
+
 TOP = os.path.dirname(os.path.dirname(os.path.abspath(__file__)))
 PROGRAM = os.path.join(TOP, "crates", "selection_trial", "out", "selection_trial")
-DEBIANS_PYTHON = "/usr/bin/python3"
-SECOND_TRY = "COMPARE_PYGREP_SECOND_TRY"
 
 try:
     from pre_commit import output as printed
     from pre_commit.languages import pygrep
 except ImportError:
-    if SECOND_TRY not in os.environ and os.access(DEBIANS_PYTHON, os.X_OK):
-        os.environ[SECOND_TRY] = "1"
-        os.execv(DEBIANS_PYTHON, [DEBIANS_PYTHON, *sys.argv])
-    sys.exit("tests/compare_pygrep.py: there is no pre-commit (Debian's package) to compare pygrep with")
+    try_again("pre-commit (Debian's package)")
 
 ARGUMENTS = ["-i", "--ignore-case", "--multiline", "--negate"]
 ATOMS = ["a", "b", "B", "c", "x", r"\.", "-", " ", r"\t", r"\n", r"\r", ".", ".", "[ab]", "[^a]", "[a-c]", r"[^\n]", r"\d", r"\D",

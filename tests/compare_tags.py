@@ -22,19 +22,12 @@ import subprocess
 import sys
 import tempfile
 
-# The Python that Debian's packages serve, which may be another than the first `python3` of the path.
-DEBIANS_PYTHON = "/usr/bin/python3"
-
-# Set for the second try, so that there is no third.
-SECOND_TRY = "COMPARE_TAGS_SECOND_TRY"
+from debian_python import try_again
 
 try:
     from identify import extensions, identify, interpreters
 except ImportError:
-    if SECOND_TRY not in os.environ and os.access(DEBIANS_PYTHON, os.X_OK):
-        os.environ[SECOND_TRY] = "1"
-        os.execv(DEBIANS_PYTHON, [DEBIANS_PYTHON, *sys.argv])
-    sys.exit("tests/compare_tags.py: there is no library identify (Debian's python3-identify) to compare the tags with")
+    try_again("library identify (Debian's python3-identify)")
 
 HERE = os.path.dirname(os.path.abspath(__file__))
 PROGRAM = os.path.abspath(sys.argv[1] if len(sys.argv) > 1 else os.path.join(HERE, "..", "crates/selection_trial/out/selection_trial"))

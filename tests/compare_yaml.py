@@ -1,3 +1,4 @@
+#!/usr/bin/env python3
 """Compares the table of YAML texts with PyYAML, a reader of YAML 1.1 that shares nothing with this one.
 
 Usage: tests/compare_yaml.py
@@ -14,21 +15,13 @@ import os
 import re
 import sys
 
+from debian_python import try_again
 from yaml_texts import most_nodes, read_rows, refused_rows
-
-# The Python that Debian's packages serve, which may be another than the first `python3` of the path.
-DEBIANS_PYTHON = "/usr/bin/python3"
-
-# Set for the second try, so that there is no third.
-SECOND_TRY = "COMPARE_YAML_SECOND_TRY"
 
 try:
     import yaml
 except ImportError:
-    if SECOND_TRY not in os.environ and os.access(DEBIANS_PYTHON, os.X_OK):
-        os.environ[SECOND_TRY] = "1"
-        os.execv(DEBIANS_PYTHON, [DEBIANS_PYTHON, *sys.argv])
-    sys.exit("tests/compare_yaml.py: there is no PyYAML (Debian's python3-yaml) to compare the YAML texts with")
+    try_again("PyYAML (Debian's python3-yaml)")
 
 
 def holds(pattern):
