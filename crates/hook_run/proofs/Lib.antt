@@ -1,2 +1,3 @@
+pub mod EndingLemmas
 pub mod ReportLemmas
 pub mod RunLemmas
