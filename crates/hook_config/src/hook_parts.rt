@@ -1,21 +1,25 @@
 //! The fields of a hook, in the groups in which they are read: of several faults the first in this order is told.
 
 ghost use Rattle.std.specs.Prelude.{IfOk, IfErr};
-ghost use Rattle.hook_config.specs.HookParts.{AreNames, AreSwitches, AreUnserved, IsCommand, IsNeverHook, IsNoHook};
+ghost use Rattle.hook_config.specs.HookParts.{AreNames, AreSwitches, AreUnserved, IsCommand, IsNeverHook, IsNoHook, IsSelection};
 ghost use Rattle.hook_config.specs.Rows.{rows_of};
 
 use crate::config_fault::ConfigKind;
 use crate::config_text::ConfigText;
 use crate::configuration::Language;
+use crate::defaults::Defaults;
 use crate::fields::{
-    empty_text_at, empty_texts_at, required_language, required_text, stages_or, text_or_empty,
-    texts_or_none, truth_or,
+    empty_text_at, empty_texts_at, pattern_or, required_text, stages_or, tags_or_file,
+    tags_or_none, text_or_empty, texts_or_none, truth_or,
 };
 use crate::known_keys::{
-    ADDITIONAL_DEPENDENCIES, ALIAS, ALWAYS_RUN, ARGS, ENTRY, FAIL_FAST, ID, LANGUAGE, LOG_FILE,
-    NAME, PASS_FILENAMES, STAGES, VERBOSE,
+    ADDITIONAL_DEPENDENCIES, ALIAS, ALWAYS_RUN, ARGS, ENTRY, EXCLUDE, EXCLUDE_TYPES, FAIL_FAST,
+    FILES, ID, LOG_FILE, NAME, PASS_FILENAMES, STAGES, TYPES, TYPES_OR, VERBOSE,
 };
+use crate::languages::{language_name_at, language_of};
+use crate::shared_pattern::SharedPattern;
 use crate::stage::Stages;
+use crate::tag_names::TagNames;
 use hook_base::Items;
 use std::alloc::Global;
 use yaml_profile::Node;
@@ -27,7 +31,7 @@ pub(crate) struct Unserved {
     pub(crate) additional_dependencies: Items<ConfigText>,
 }
 
-#[tactic(auto, using(crate::proofs::HookFields::fields_of_hook))]
+#[tactic(auto, using(crate::proofs::HookFields::no_unserved))]
 pub(crate) fn unserved_of(alloc: Global, rows: &[(String, Node)]) -> Result<Unserved, ConfigKind>
     ensures read { IfOk result (AreUnserved (rows_of rows.now)) }
     ensures refused { IfErr result (IsNeverHook (rows_of rows.now)) }
@@ -46,7 +50,7 @@ pub(crate) struct Names {
     pub(crate) alias: ConfigText,
 }
 
-#[tactic(auto, using(crate::proofs::HookFields::fields_of_hook))]
+#[tactic(auto, using(crate::proofs::HookFields::no_names))]
 pub(crate) fn names_of(alloc: Global, rows: &[(String, Node)]) -> Result<Names, ConfigKind>
     ensures read { IfOk result (AreNames (rows_of rows.now)) }
     ensures refused { IfErr result (IsNeverHook (rows_of rows.now)) }
@@ -66,15 +70,47 @@ pub(crate) struct Command {
     pub(crate) args: Items<ConfigText>,
 }
 
-#[tactic(auto, using(crate::proofs::HookFields::fields_of_hook))]
+#[tactic(auto, using(crate::proofs::HookFields::no_command))]
 pub(crate) fn command_of(alloc: Global, rows: &[(String, Node)]) -> Result<Command, ConfigKind>
     ensures read { IfOk result (IsCommand (rows_of rows.now)) }
     ensures refused { IfErr result (IsNeverHook (rows_of rows.now)) }
 {
+    let name = language_name_at(rows)?;
+    let entry = required_text(alloc, rows, ENTRY)?;
+    let args = texts_or_none(alloc, rows, ARGS)?;
+    let language = language_of(alloc, name, &entry, args.as_slice())?;
     Ok(Command {
-        language: required_language(rows, LANGUAGE)?,
-        entry: required_text(alloc, rows, ENTRY)?,
-        args: texts_or_none(alloc, rows, ARGS)?,
+        language,
+        entry,
+        args,
+    })
+}
+
+/// Which files a hook gets.
+#[derive(Drop)]
+pub(crate) struct Selection {
+    pub(crate) files: SharedPattern,
+    pub(crate) exclude: SharedPattern,
+    pub(crate) types: TagNames,
+    pub(crate) types_or: TagNames,
+    pub(crate) exclude_types: TagNames,
+}
+
+#[tactic(auto, using(crate::proofs::HookFields::no_selection))]
+pub(crate) fn selection_of(
+    alloc: Global,
+    rows: &[(String, Node)],
+    defaults: &Defaults,
+) -> Result<Selection, ConfigKind>
+    ensures read { IfOk result (IsSelection (rows_of rows.now)) }
+    ensures refused { IfErr result (IsNoHook defaults.now (rows_of rows.now)) }
+{
+    Ok(Selection {
+        files: pattern_or(alloc, rows, FILES, defaults.files())?,
+        exclude: pattern_or(alloc, rows, EXCLUDE, defaults.exclude())?,
+        types: tags_or_file(alloc, rows, TYPES)?,
+        types_or: tags_or_none(alloc, rows, TYPES_OR)?,
+        exclude_types: tags_or_none(alloc, rows, EXCLUDE_TYPES)?,
     })
 }
 
@@ -88,13 +124,16 @@ pub(crate) struct Switches {
     pub(crate) fail_fast: bool,
 }
 
-#[tactic(auto, using(crate::proofs::HookFields::fields_of_hook))]
-pub(crate) fn switches_of(rows: &[(String, Node)], default: Stages) -> Result<Switches, ConfigKind>
-    ensures read { IfOk result (AreSwitches default (rows_of rows.now)) }
-    ensures refused { IfErr result (IsNoHook default (rows_of rows.now)) }
+#[tactic(auto, using(crate::proofs::HookFields::no_switches))]
+pub(crate) fn switches_of(
+    rows: &[(String, Node)],
+    defaults: &Defaults,
+) -> Result<Switches, ConfigKind>
+    ensures read { IfOk result (AreSwitches defaults.now (rows_of rows.now)) }
+    ensures refused { IfErr result (IsNoHook defaults.now (rows_of rows.now)) }
 {
     Ok(Switches {
-        stages: stages_or(rows, STAGES, default)?,
+        stages: stages_or(rows, STAGES, defaults.stages())?,
         always_run: truth_or(rows, ALWAYS_RUN, false)?,
         verbose: truth_or(rows, VERBOSE, false)?,
         pass_filenames: truth_or(rows, PASS_FILENAMES, true)?,

@@ -2,33 +2,38 @@
 //! pre-commit plugins to your project" and "Creating new hooks"). What each must be is written in
 //! `specs/KnownKeys.antt`: the contracts of what compares a key with one of these hold only where both are the same.
 //!
-//! A key of the lists `LATER_..` is known and not served yet. The keys of `TOP_KEYS` and `HOOK_KEYS` without a name of
-//! their own are read and ignored, whatever their value. Any other key is ignored, and listed in `Config::unknown`.
+//! The keys of `TOP_KEYS` and `HOOK_KEYS` without a name of their own are read and ignored, whatever their value. Any other
+//! key is ignored, and listed in `Config::unknown`. A language of `LATER_LANGUAGES` is known and not served yet.
 //!
 //! What a key of a hook touches that is to be served is listed in `docs/ARCHITECTURE.md`, "A hook key".
 //!
 //! To serve a language that comes later: take its word out of the later ones, here and in `specs/KnownKeys.antt`, and
-//! give it a name; give `Language` a variant, and `language_of_word` a case in `kinds.rt` and in `specs/Kinds.antt`.
+//! give it a name; give `Language` and `LanguageName` a variant, and the functions of `languages.rt` and of
+//! `specs/Languages.antt` a case.
 
 // The table at the top.
 
 pub(crate) const REPOS: &str = "repos";
 
 pub(crate) const DEFAULT_STAGES: &str = "default_stages";
-// Also a key of a hook.
+// These are keys of a hook too.
+pub(crate) const FILES: &str = "files";
+
+pub(crate) const EXCLUDE: &str = "exclude";
+
 pub(crate) const FAIL_FAST: &str = "fail_fast";
 
-pub(crate) const TOP_KEYS: [&str; 7] = [
+pub(crate) const TOP_KEYS: [&str; 9] = [
     REPOS,
     DEFAULT_STAGES,
+    FILES,
+    EXCLUDE,
     FAIL_FAST,
     "ci",
     "default_install_hook_types",
     "default_language_version",
     "minimum_pre_commit_version",
 ];
-
-pub(crate) const LATER_TOP_KEYS: [&str; 2] = ["files", "exclude"];
 
 // A repository's table.
 
@@ -55,6 +60,12 @@ pub(crate) const ENTRY: &str = "entry";
 
 pub(crate) const ARGS: &str = "args";
 
+pub(crate) const TYPES: &str = "types";
+
+pub(crate) const TYPES_OR: &str = "types_or";
+
+pub(crate) const EXCLUDE_TYPES: &str = "exclude_types";
+
 pub(crate) const STAGES: &str = "stages";
 
 pub(crate) const ALWAYS_RUN: &str = "always_run";
@@ -67,13 +78,18 @@ pub(crate) const LOG_FILE: &str = "log_file";
 
 pub(crate) const ADDITIONAL_DEPENDENCIES: &str = "additional_dependencies";
 
-pub(crate) const HOOK_KEYS: [&str; 17] = [
+pub(crate) const HOOK_KEYS: [&str; 22] = [
     ID,
     NAME,
     ALIAS,
     LANGUAGE,
     ENTRY,
     ARGS,
+    FILES,
+    EXCLUDE,
+    TYPES,
+    TYPES_OR,
+    EXCLUDE_TYPES,
     STAGES,
     ALWAYS_RUN,
     VERBOSE,
@@ -87,19 +103,21 @@ pub(crate) const HOOK_KEYS: [&str; 17] = [
     "description",
 ];
 
-pub(crate) const LATER_HOOK_KEYS: [&str; 5] = [
-    "files",
-    "exclude",
-    "types",
-    "types_or",
-    "exclude_types",
-];
+// The patterns and the tag that a hook has where its table has none.
+
+pub(crate) const EVERY_PATH: &str = "";
+
+pub(crate) const NO_PATH: &str = "^$";
+
+pub(crate) const FILE: &str = "file";
 
 // Languages.
 
 pub(crate) const FAIL: &str = "fail";
 
-pub(crate) const LATER_LANGUAGES: [&str; 3] = ["system", "script", "pygrep"];
+pub(crate) const PYGREP: &str = "pygrep";
+
+pub(crate) const LATER_LANGUAGES: [&str; 2] = ["system", "script"];
 
 // Truths (YAML 1.1, "Boolean Language-Independent Type").
 
