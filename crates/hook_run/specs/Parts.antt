@@ -1,0 +1,37 @@
+-- The parts of a run: each is one child of a hook, with what became of it. A trace has, for each hook, its parts in order.
+-- Which outcomes children tell is said by `AllTold` alone. That a part was remembered and not started would be a field of
+-- Part.
+use Rattle.std.specs.Prelude.{ℕ, ◌+◌, List, [], ◌∷◌, ◌++◌}
+use Rattle.hook_base.specs.declared.file.File.{File}
+use Rattle.child_port.specs.declared.answer.Outcome.{Outcome}
+use Rattle.child_port.specs.Outcomes.{after_outcome, faults_in}
+
+-- the words of a command, the files that its child sees, and what became of it
+pub record Part : Type 0 where
+  pub words : List (List ℕ)
+  pub seen : List File
+  pub outcome : Outcome
+
+-- the tree after these parts, in order
+abbrev pub after_parts : List File → List Part → List File
+after_parts tree [] = tree
+after_parts tree (part ∷ parts) = after_parts (after_outcome tree part.outcome) parts
+
+-- the parts of all hooks of a trace, in order
+abbrev pub all_parts : List (List Part) → List Part
+all_parts [] = []
+all_parts (parts ∷ trace) = parts ++ all_parts trace
+
+-- the tree that a run leaves
+abbrev pub tree_after : List File → List (List Part) → List File
+tree_after tree trace = after_parts tree (all_parts trace)
+
+-- every outcome is one that may be told for the words and seen files of its part
+abbrev pub AllTold : (List (List ℕ) → List File → Outcome → Type 0) → List Part → Type 0
+AllTold tells [] = Unit {0}
+AllTold tells (part ∷ parts) = tells part.words part.seen part.outcome × AllTold tells parts
+
+-- how many faults the parts are
+abbrev pub faults_of : List Part → ℕ
+faults_of [] = 0
+faults_of (part ∷ parts) = faults_in part.outcome + faults_of parts

@@ -1,0 +1,25 @@
+//! The plan of a run: which hooks of a configuration are run on the files of a tree, what each ends with, and the report.
+//!
+//! A [`RunAsk`] says what is asked of a run. [`RunPlan::begin`] makes the plan of it, or says by a [`RunRefusal`] why there
+//! is none; [`RunPlan::next`] says what the plan needs, and [`RunPlan::finish`] gives the [`RunOut`].
+//!
+//! The contracts cite `IsRunOut` and `need_of` of `specs/RunOuts.antt`, which stands on `specs/StageRun.antt` (the hooks of
+//! a run one after another), `specs/HookRun.antt` (one of them), `specs/Asks.antt` (which they are) and `specs/Parts.antt`
+//! (their children); and `specs/Refusals.antt`.
+#![tactic(auto)]
+
+mod asked;
+mod ending;
+mod need;
+mod plan;
+mod report;
+mod run_ask;
+mod run_hooks;
+mod run_out;
+mod run_refusal;
+
+pub use need::Need;
+pub use plan::RunPlan;
+pub use run_ask::RunAsk;
+pub use run_out::RunOut;
+pub use run_refusal::RunRefusal;

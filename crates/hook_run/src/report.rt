@@ -1,0 +1,43 @@
+//! The report of a run, and whether it passed.
+
+ghost use Rattle.std.specs.Prelude.{◌≡◌, ◌+◌, ◌≤◌, All, IfOk, length, map};
+ghost use Rattle.hook_config.specs.Limits.{most_text_bytes};
+ghost use Rattle.hook_run.specs.StageRun.{has_passed};
+ghost use Rattle.report_text.specs.Report.{columns_of, report_text, width_of};
+
+use hook_base::OutOfMemory;
+use hook_config::Hook;
+use report_text::{HookResult, columns, hook_texts};
+use std::alloc::Global;
+
+/// Whether no hook failed.
+pub fn has_passed(results: &[HookResult]) -> bool
+    ensures { result ≡ has_passed results.now }
+{
+    results.iter().all(|hook| !hook.ending.is_failed())
+}
+
+/// The report of these results in the columns that the names of these hooks need. Each result has one of the names.
+pub fn report_of(
+    alloc: Global,
+    hooks: &[&Hook],
+    results: &[HookResult],
+) -> Result<Vec<u8>, OutOfMemory>
+    requires { All (λ one. width_of one.name + 30 ≤ columns_of (map (λ hook. hook.now.name) hooks.now)) results.now }
+    ensures { IfOk result (λ report. report.items ≡ report_text (map (λ hook. hook.now.name) hooks.now) results.now) }
+{
+    let names = names_of(alloc, hooks)?;
+    let columns = columns(names.as_slice());
+    hook_texts(alloc, columns, results)
+}
+
+fn names_of<'a>(alloc: Global, hooks: &[&'a Hook]) -> Result<Vec<&'a str>, OutOfMemory>
+    ensures same { IfOk result (λ names. map (λ name. name.now) names.items ≡ map (λ hook. hook.now.name) hooks.now) }
+    ensures within { IfOk result (λ names. All (λ name. length name.now ≤ most_text_bytes) names.items) }
+{
+    let mut names = Vec::new(alloc);
+    'hooks: for hook in hooks {
+        names.push(hook.name.as_str())?;
+    }
+    Ok(names)
+}

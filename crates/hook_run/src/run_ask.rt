@@ -1,0 +1,19 @@
+//! What is asked of a run.
+
+use hook_base::{Items, RepoPath, Text};
+use hook_config::Stage;
+
+/// What is asked of a run.
+#[derive(Debug, Drop)]
+pub struct RunAsk {
+    /// The stage whose hooks are run.
+    pub stage: Stage,
+    /// The paths that hooks may get, in any order, also more than once, and also where the tree has no such file.
+    pub candidates: Items<RepoPath>,
+    /// The id or alias of the hooks that are run, or `None` for all of the stage. The empty text is no alias.
+    pub only: Option<Text>,
+    /// The ids and aliases of hooks that are skipped. The empty text is no alias.
+    pub skip: Items<Text>,
+    /// Whether every child is to be started, also where its answer is remembered. No answer is remembered yet.
+    pub fresh: bool,
+}

@@ -1,0 +1,19 @@
+//! What a run gives.
+
+use hook_base::{Bytes, Items, Text, Tree};
+use report_text::HookResult;
+
+/// What a run gives.
+#[derive(Debug, Drop)]
+pub struct RunOut {
+    /// Whether no hook failed.
+    pub passed: bool,
+    /// What is reported of the hooks.
+    pub report: Bytes,
+    /// The result of each hook, in the order of the configuration, up to the last that is run.
+    pub results: Items<HookResult>,
+    /// The files as the run left them.
+    pub tree: Tree,
+    /// The ids of the hooks whose answer was another than the remembered one. There are none, since none is remembered.
+    pub unsteady: Items<Text>,
+}

@@ -1,0 +1,63 @@
+//! Why there is no plan of a run.
+
+ghost use Rattle.std.specs.Prelude.{◌≡◌};
+ghost use Rattle.hook_run.specs.Refusals.{name_of, number_of};
+ghost use Rattle.hook_run.specs.declared.run_refusal.RunRefusal.TheVariants.{OutOfMemory};
+
+use hook_base::OutOfMemory;
+use std::alloc::{AllocError, AllocFailed};
+use thiserror::Error;
+
+/// Why a run is refused.
+#[derive(Clone, Copy, Debug, PartialEq, Eq, Error)]
+pub enum RunRefusal {
+    /// Memory was refused.
+    #[error("out of memory")]
+    OutOfMemory,
+    /// Hooks are asked for by a name that no hook of the stage has.
+    #[error("no hook of the stage has that id or alias")]
+    NoSuchHook,
+    /// A child is needed, and the children have told as many outcomes as can be counted.
+    #[error("no more children can be counted")]
+    Spent,
+}
+
+impl RunRefusal {
+    /// The refusal's number: 1, 3 or 4.
+    pub fn number(&self) -> u8
+        ensures { result ≡ number_of self.now }
+    {
+        match self {
+            RunRefusal::OutOfMemory => 1,
+            RunRefusal::NoSuchHook => 3,
+            RunRefusal::Spent => 4,
+        }
+    }
+
+    /// The refusal's name, as it is printed after its number.
+    pub fn name(&self) -> &'static str
+        ensures { result.now ≡ name_of self.now }
+    {
+        match self {
+            RunRefusal::OutOfMemory => "OutOfMemory",
+            RunRefusal::NoSuchHook => "NoSuchHook",
+            RunRefusal::Spent => "Spent",
+        }
+    }
+}
+
+impl From<OutOfMemory> for RunRefusal {
+    ghost from_gives = { λ _ refusal. refusal ≡ OutOfMemory };
+
+    fn from(_refused: OutOfMemory) -> Self {
+        RunRefusal::OutOfMemory
+    }
+}
+
+impl From<AllocError> for RunRefusal {
+    ghost from_gives = { λ _ refusal. refusal ≡ OutOfMemory };
+
+    fn from(_refused: AllocError) -> Self {
+        RunRefusal::OutOfMemory
+    }
+}
