@@ -1,9 +1,10 @@
 -- A hook's fields: a value that is none leaves no hook, and all of them make it.
-use Rattle.std.proofs.Common.{◌≡◌, List, [], true, false, Option, Some, None, option_and_then, refl}
+use Rattle.std.proofs.Common.{◌≡◌, List, [], ◌∷◌, true, false, Option, Some, None, option_and_then, refl}
 use Rattle.hook_config.specs.Rows.{Row}
 use Rattle.hook_config.specs.Kinds.{text_of, truth_of, language_of, texts_of, stages_of, empty_text_of, empty_texts_of, required, or_default}
 use Rattle.hook_config.specs.HookTable.{hook_of_fields}
-use Rattle.hook_config.specs.KnownKeys.{id_key, name_key, alias_key, language_key, entry_key, args_key, stages_key, always_run_key, verbose_key, pass_filenames_key, fail_fast_key, log_file_key, additional_dependencies_key}
+use Rattle.hook_config.specs.Patterns.{pattern_of, every_path, no_path}
+use Rattle.hook_config.specs.KnownKeys.{id_key, name_key, alias_key, language_key, entry_key, args_key, files_key, exclude_key, types_key, types_or_key, exclude_types_key, file_word, stages_key, always_run_key, verbose_key, pass_filenames_key, fail_fast_key, log_file_key, additional_dependencies_key}
 use Rattle.hook_config.specs.declared.configuration.Hook.{Hook}
 use Rattle.hook_config.specs.declared.stage.Stages.{Stages}
 
@@ -34,6 +35,26 @@ no_entry default rows e = simp (e, none_inside)
 pub no_args : (default : Stages) (rows : List Row) → or_default texts_of [] args_key rows ≡ None → hook_of_fields default rows ≡ None
 unfolding hook_of_fields
 no_args default rows e = simp (e, none_inside)
+
+pub no_files : (default : Stages) (rows : List Row) → or_default pattern_of every_path files_key rows ≡ None → hook_of_fields default rows ≡ None
+unfolding hook_of_fields
+no_files default rows e = simp (e, none_inside)
+
+pub no_exclude : (default : Stages) (rows : List Row) → or_default pattern_of no_path exclude_key rows ≡ None → hook_of_fields default rows ≡ None
+unfolding hook_of_fields
+no_exclude default rows e = simp (e, none_inside)
+
+pub no_types : (default : Stages) (rows : List Row) → or_default texts_of (file_word ∷ []) types_key rows ≡ None → hook_of_fields default rows ≡ None
+unfolding hook_of_fields
+no_types default rows e = simp (e, none_inside)
+
+pub no_types_or : (default : Stages) (rows : List Row) → or_default texts_of [] types_or_key rows ≡ None → hook_of_fields default rows ≡ None
+unfolding hook_of_fields
+no_types_or default rows e = simp (e, none_inside)
+
+pub no_exclude_types : (default : Stages) (rows : List Row) → or_default texts_of [] exclude_types_key rows ≡ None → hook_of_fields default rows ≡ None
+unfolding hook_of_fields
+no_exclude_types default rows e = simp (e, none_inside)
 
 pub no_stages : (default : Stages) (rows : List Row) → or_default (stages_of default) default stages_key rows ≡ None → hook_of_fields default rows ≡ None
 unfolding hook_of_fields
@@ -70,6 +91,11 @@ pub hook_of-all : (default : Stages) (rows : List Row) (hook : Hook)
     → required language_of language_key rows ≡ Some hook.language
     → required text_of entry_key rows ≡ Some hook.entry
     → or_default texts_of [] args_key rows ≡ Some hook.args
+    → or_default pattern_of every_path files_key rows ≡ Some hook.files
+    → or_default pattern_of no_path exclude_key rows ≡ Some hook.exclude
+    → or_default texts_of (file_word ∷ []) types_key rows ≡ Some hook.types
+    → or_default texts_of [] types_or_key rows ≡ Some hook.types_or
+    → or_default texts_of [] exclude_types_key rows ≡ Some hook.exclude_types
     → or_default (stages_of default) default stages_key rows ≡ Some hook.stages
     → or_default truth_of false always_run_key rows ≡ Some hook.always_run
     → or_default truth_of false verbose_key rows ≡ Some hook.verbose
@@ -79,7 +105,7 @@ pub hook_of-all : (default : Stages) (rows : List Row) (hook : Hook)
     → or_default empty_texts_of [] additional_dependencies_key rows ≡ Some hook.additional_dependencies
     → hook_of_fields default rows ≡ Some hook
 unfolding hook_of_fields
-hook_of-all default rows hook e1 e2 e3 e4 e5 e6 e7 e8 e9 e10 e11 e12 e13 =
-    rw (e1, e2, e3, e4, e5, e6, e7, e8, e9, e10, e11, e12, e13)
+hook_of-all default rows hook e1 e2 e3 e4 e5 e6 e7 e8 e9 e10 e11 e12 e13 e14 e15 e16 e17 e18 =
+    rw (e1, e2, e3, e4, e5, e6, e7, e8, e9, e10, e11, e12, e13, e14, e15, e16, e17, e18)
 
-pub ruleset fields_of_hook = (no_id, no_name, no_alias, no_language, no_entry, no_args, no_stages, no_always_run, no_verbose, no_pass_filenames, no_fail_fast, no_log_file, no_additional_dependencies)
+pub ruleset fields_of_hook = (no_id, no_name, no_alias, no_language, no_entry, no_args, no_files, no_exclude, no_types, no_types_or, no_exclude_types, no_stages, no_always_run, no_verbose, no_pass_filenames, no_fail_fast, no_log_file, no_additional_dependencies)

@@ -1,5 +1,5 @@
 -- Hooks that are found one list after another.
-use Rattle.std.proofs.Common.{◌≡◌, ℕ, ◌<◌, ◌≤◌, List, [], ◌∷◌, ◌++◌, length, drop, drop-cons, get_or, suc, Option, Some, None, option_map, option_and_then, refl, sym, ap, ◌∙◌, subst, append_assoc, append-nil, length-append, arith}
+use Rattle.std.proofs.Common.{◌≡◌, ℕ, ◌+◌, ◌<◌, ◌≤◌, List, [], ◌∷◌, ◌++◌, length, drop, drop-cons, get_or, suc, Option, Some, None, option_map, option_and_then, refl, sym, ap, ◌∙◌, subst, append_assoc, append-nil, length-append, arith}
 use Rattle.std.proofs.lemmas.Grind.{common_steps}
 use Rattle.std.proofs.lemmas.Option.{cond_some}
 use Rattle.yaml_lines.specs.Meaning.{Meaning}
@@ -57,6 +57,15 @@ pub after_within : (found : Option (List Hook)) (before next : List Hook) → af
 after_within None before next e = cc
 after_within (Some ys) before next e = let p = le-within_limit (before ++ ys) next e in
     let IsWithin : List Hook → Type 0 = λ hooks. length hooks ≤ most_hooks in subst IsWithin p.1 p.0
+
+-- the list at an index is found, and there is room for it
+pub found_at : (f : Meaning → Option (List Hook)) (before next : List Hook) (xs : List Node) (i : ℕ) (x : Node) → i < length xs → x ≡ get_or xs i x
+    → after before (f (view x)) ≡ Some next
+    → (length next ≤ most_hooks) × (after before (joined f (meanings_of_nodes (drop i xs))) ≡ after next (joined f (meanings_of_nodes (drop (i + 1) xs))))
+found_at f before next xs i x within is e =
+    let step : suc i ≡ i + 1 = omega arith in
+    let here : drop i xs ≡ x ∷ drop (i + 1) xs = rw (← step) (drop-cons xs i x within ∙ ap (λ (y : Node). y ∷ drop (suc i) xs) (sym is)) in
+    (after_within (f (view x)) before next e, rw here (after_joined f before next (view x) (meanings_of_nodes (drop (i + 1) xs)) e))
 
 -- the list at an index is refused
 pub refused_at : (f : Meaning → Option (List Hook)) (before : List Hook) (xs : List Node) (i : ℕ) (x : Node) → i < length xs → x ≡ get_or xs i x

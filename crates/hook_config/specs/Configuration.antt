@@ -1,24 +1,32 @@
 -- The configuration that a text's bytes describe (pre-commit.com, "Adding pre-commit plugins to your project").
-use Rattle.std.specs.Prelude.{ℕ, List, false, if◌then◌else◌, Option, Some, None, option_and_then}
+use Rattle.std.specs.Prelude.{ℕ, List, false, Option, Some, option_and_then}
 use Rattle.yaml_lines.specs.Meaning.{Meaning}
 use Rattle.yaml_profile.specs.Text.{meaning_of}
-use Rattle.hook_config.specs.Rows.{Row, has_key_among, table_of, list_of}
+use Rattle.hook_config.specs.Rows.{Row, table_of, list_of}
 use Rattle.hook_config.specs.Kinds.{truth_of, stages_of, required, or_default, given}
+use Rattle.hook_config.specs.Patterns.{pattern_of, every_path, no_path}
 use Rattle.hook_config.specs.Hooks.{hooks_of_repositories}
 use Rattle.hook_config.specs.Stages.{all_stages}
 use Rattle.hook_config.specs.UnknownKeys.{unknown_of_top}
 use Rattle.hook_config.specs.declared.configuration.Config.{Config}
-use Rattle.hook_config.specs.KnownKeys.{repos_key, default_stages_key, fail_fast_key, later_top_keys}
+use Rattle.hook_config.specs.KnownKeys.{repos_key, default_stages_key, files_key, exclude_key, fail_fast_key}
 
--- none where a key stands that isn't served yet; the default stages hold for all hooks, wherever they stand
+-- the default stages hold for all hooks, wherever they stand
 unfoldable pub configuration_of_rows : List Row → Option Config
 configuration_of_rows rows =
-    if has_key_among later_top_keys rows then None
-    else given (or_default (stages_of all_stages) all_stages default_stages_key rows) (λ default.
+    given (or_default (stages_of all_stages) all_stages default_stages_key rows) (λ default.
+    given (or_default pattern_of every_path files_key rows) (λ files.
+    given (or_default pattern_of no_path exclude_key rows) (λ exclude.
     given (or_default truth_of false fail_fast_key rows) (λ fail_fast.
     given (required list_of repos_key rows) (λ repositories.
     given (hooks_of_repositories default repositories) (λ hooks.
-    Some (record { hooks = hooks; fail_fast = fail_fast; unknown = unknown_of_top rows })))))
+    Some (record {
+      hooks = hooks;
+      fail_fast = fail_fast;
+      files = files;
+      exclude = exclude;
+      unknown = unknown_of_top rows;
+    })))))))
 
 -- the configuration of a text's node
 unfoldable pub configuration_of_meaning : Meaning → Option Config

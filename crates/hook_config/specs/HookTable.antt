@@ -1,11 +1,12 @@
 -- The hook that a table of a configuration describes (pre-commit.com, "Creating new hooks").
-use Rattle.std.specs.Prelude.{List, [], true, false, if◌then◌else◌, Option, Some, None, option_and_then}
+use Rattle.std.specs.Prelude.{List, [], ◌∷◌, true, false, Option, Some, option_and_then}
 use Rattle.yaml_lines.specs.Meaning.{Meaning}
-use Rattle.hook_config.specs.Rows.{Row, has_key_among, table_of}
+use Rattle.hook_config.specs.Rows.{Row, table_of}
 use Rattle.hook_config.specs.Kinds.{text_of, truth_of, language_of, texts_of, stages_of, empty_text_of, empty_texts_of, required, or_default, given}
+use Rattle.hook_config.specs.Patterns.{pattern_of, every_path, no_path}
 use Rattle.hook_config.specs.declared.configuration.Hook.{Hook}
 use Rattle.hook_config.specs.declared.stage.Stages.{Stages}
-use Rattle.hook_config.specs.KnownKeys.{id_key, name_key, alias_key, language_key, entry_key, args_key, stages_key, always_run_key, verbose_key, pass_filenames_key, fail_fast_key, log_file_key, additional_dependencies_key, later_hook_keys}
+use Rattle.hook_config.specs.KnownKeys.{id_key, name_key, alias_key, language_key, entry_key, args_key, files_key, exclude_key, types_key, types_or_key, exclude_types_key, file_word, stages_key, always_run_key, verbose_key, pass_filenames_key, fail_fast_key, log_file_key, additional_dependencies_key}
 
 -- Each field is the value at its key, or the key's default; that of `stages` is given. None where `log_file` or
 -- `additional_dependencies` is more than empty: neither is served.
@@ -17,6 +18,11 @@ hook_of_fields default rows =
     given (required language_of language_key rows) (λ language.
     given (required text_of entry_key rows) (λ entry.
     given (or_default texts_of [] args_key rows) (λ args.
+    given (or_default pattern_of every_path files_key rows) (λ files.
+    given (or_default pattern_of no_path exclude_key rows) (λ exclude.
+    given (or_default texts_of (file_word ∷ []) types_key rows) (λ types.
+    given (or_default texts_of [] types_or_key rows) (λ types_or.
+    given (or_default texts_of [] exclude_types_key rows) (λ exclude_types.
     given (or_default (stages_of default) default stages_key rows) (λ stages.
     given (or_default truth_of false always_run_key rows) (λ always_run.
     given (or_default truth_of false verbose_key rows) (λ verbose.
@@ -31,6 +37,11 @@ hook_of_fields default rows =
       language = language;
       entry = entry;
       args = args;
+      files = files;
+      exclude = exclude;
+      types = types;
+      types_or = types_or;
+      exclude_types = exclude_types;
       stages = stages;
       always_run = always_run;
       verbose = verbose;
@@ -38,11 +49,7 @@ hook_of_fields default rows =
       fail_fast = fail_fast;
       log_file = log_file;
       additional_dependencies = additional_dependencies;
-    }))))))))))))))
-
--- none where a key stands that isn't served yet
-abbrev pub hook_of_rows : Stages → List Row → Option Hook
-hook_of_rows default rows = if has_key_among later_hook_keys rows then None else hook_of_fields default rows
+    })))))))))))))))))))
 
 abbrev pub hook_of : Stages → Meaning → Option Hook
-hook_of default value = option_and_then (hook_of_rows default) (table_of value)
+hook_of default value = option_and_then (hook_of_fields default) (table_of value)

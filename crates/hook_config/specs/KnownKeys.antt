@@ -10,7 +10,13 @@ repos_key = codes "repos"
 abbrev pub default_stages_key : List ℕ
 default_stages_key = codes "default_stages"
 
--- also a key of a hook
+-- these are keys of a hook too
+abbrev pub files_key : List ℕ
+files_key = codes "files"
+
+abbrev pub exclude_key : List ℕ
+exclude_key = codes "exclude"
+
 abbrev pub fail_fast_key : List ℕ
 fail_fast_key = codes "fail_fast"
 
@@ -19,16 +25,14 @@ abbrev pub top_keys : List (List ℕ)
 top_keys =
     repos_key
     ∷ default_stages_key
+    ∷ files_key
+    ∷ exclude_key
     ∷ fail_fast_key
     ∷ codes "ci"
     ∷ codes "default_install_hook_types"
     ∷ codes "default_language_version"
     ∷ codes "minimum_pre_commit_version"
     ∷ []
-
--- those that aren't served yet
-abbrev pub later_top_keys : List (List ℕ)
-later_top_keys = codes "files" ∷ codes "exclude" ∷ []
 
 -- ---- a repository's table
 
@@ -65,6 +69,15 @@ entry_key = codes "entry"
 abbrev pub args_key : List ℕ
 args_key = codes "args"
 
+abbrev pub types_key : List ℕ
+types_key = codes "types"
+
+abbrev pub types_or_key : List ℕ
+types_or_key = codes "types_or"
+
+abbrev pub exclude_types_key : List ℕ
+exclude_types_key = codes "exclude_types"
+
 abbrev pub stages_key : List ℕ
 stages_key = codes "stages"
 
@@ -92,6 +105,11 @@ hook_keys =
     ∷ language_key
     ∷ entry_key
     ∷ args_key
+    ∷ files_key
+    ∷ exclude_key
+    ∷ types_key
+    ∷ types_or_key
+    ∷ exclude_types_key
     ∷ stages_key
     ∷ always_run_key
     ∷ verbose_key
@@ -105,10 +123,9 @@ hook_keys =
     ∷ codes "description"
     ∷ []
 
--- those that aren't served yet
-abbrev pub later_hook_keys : List (List ℕ)
-later_hook_keys =
-    codes "files" ∷ codes "exclude" ∷ codes "types" ∷ codes "types_or" ∷ codes "exclude_types" ∷ []
+-- the tag that a file must have where a hook's table names none
+abbrev pub file_word : List ℕ
+file_word = codes "file"
 
 -- ---- languages
 

@@ -6,6 +6,7 @@ pub mod Hooks
 pub mod Kinds
 pub mod KnownKeys
 pub mod Limits
+pub mod Patterns
 pub mod Refusals
 pub mod Rows
 pub mod Stages

@@ -1,5 +1,6 @@
 -- The limits of a configuration.
-use Rattle.std.specs.Prelude.{ℕ}
+use Rattle.std.specs.Prelude.{ℕ, List, ◌≤◌, length}
+use Rattle.std.specs.List.{All}
 use Rattle.yaml_lines.specs.Characters.{most_bytes}
 
 -- the greatest number of hooks
@@ -9,3 +10,7 @@ most_hooks = 500
 -- the greatest number of bytes of a text: a configuration has no more
 abbrev pub most_text_bytes : ℕ
 most_text_bytes = most_bytes
+
+-- none of the texts is longer
+abbrev pub AreTexts : List (List ℕ) → Type 0
+AreTexts = All (λ text. length text ≤ most_text_bytes)

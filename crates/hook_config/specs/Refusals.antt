@@ -1,10 +1,13 @@
--- The numbers and the printed names of a configuration's refusals, and the refusal of a text that is no YAML.
+-- The numbers and the printed names of a configuration's refusals, and the refusals that
+-- faults of other crates become.
 use Rattle.std.specs.Prelude.{◌≡◌, ◌≤◌, ◌+◌, ℕ, List, codes, length}
 use Rattle.yaml_lines.specs.Characters.{most_bytes}
 use Rattle.yaml_lines.specs.Faults.{too_large as too_large_text}
 use Rattle.yaml_lines.specs.declared.fault.YamlFault.{YamlFault}
 use Rattle.yaml_lines.specs.declared.fault.YamlKind.{YamlKind}
 use Rattle.yaml_lines.specs.declared.fault.YamlKind.TheVariants.{NotUtf8, TabIndent, Unsupported as NotSupported, Layout, Quote, DoubledKey, TooDeep, TooLarge, OutOfMemory as YamlOutOfMemory}
+use Rattle.path_select.specs.declared.pattern_fault.PatternFault.{PatternFault}
+use Rattle.path_select.specs.declared.pattern_fault.PatternFault.TheVariants.{NotAPattern, OutOfMemory as PatternOutOfMemory}
 use Rattle.hook_config.specs.declared.config_fault.ConfigFault.{ConfigFault}
 use Rattle.hook_config.specs.declared.config_fault.ConfigKind.{ConfigKind}
 use Rattle.hook_config.specs.declared.config_fault.ConfigKind.TheVariants.{Yaml, Shape, MissingKey, BadStage, BadLanguage, RemoteRepo, BadPattern, BadEntry, BadArgs, Unsupported, TooMany, OutOfMemory}
@@ -56,6 +59,11 @@ refusal_of_yaml YamlOutOfMemory fault = record { kind = OutOfMemory; at = 0 }
 -- what a fault of the text is as a refusal of the configuration
 abbrev pub of_yaml : YamlFault → ConfigFault
 of_yaml fault = refusal_of_yaml fault.kind fault
+
+-- what a fault of a pattern is as a refusal of the configuration
+abbrev pub of_pattern : PatternFault → ConfigKind
+of_pattern NotAPattern = BadPattern
+of_pattern PatternOutOfMemory = OutOfMemory
 
 -- a text of more bytes than a text may have
 abbrev pub too_large : ConfigFault

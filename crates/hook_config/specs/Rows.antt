@@ -20,10 +20,6 @@ value_at key (row ∷ more) = if bytes_eq row.0 key then Some row.1 else value_a
 abbrev pub is_among : List (List ℕ) → List ℕ → Bool
 is_among words word = list_any (λ known. bytes_eq known word) words
 
--- whether a row's key is one of these
-abbrev pub has_key_among : List (List ℕ) → List Row → Bool
-has_key_among keys = list_any (λ row. is_among keys row.0)
-
 abbrev pub table_of : Meaning → Option (List Row)
 table_of (text words quoted) = None
 table_of (list items) = None

@@ -5,6 +5,7 @@ ghost use Rattle.hook_config.specs.Refusals.{number_of, name_of};
 
 use crate::limits::MOST_HOOKS;
 use hook_base::OutOfMemory;
+use path_select::PatternFault;
 use std::alloc::{AllocError, AllocFailed};
 use thiserror::Error;
 use yaml_profile::{YamlFault, YamlKind};
@@ -30,7 +31,7 @@ pub enum ConfigKind {
     /// A repository is another than `local`.
     #[error("a repository is not `local`")]
     RemoteRepo,
-    /// A pattern isn't a regular expression.
+    /// `regex` doesn't take a text as a pattern: it is none, nests too deep, or is too big once it is built.
     #[error("a pattern cannot be read")]
     BadPattern,
     /// An entry can't be cut into words.
@@ -69,6 +70,20 @@ impl<T: Drop> From<AllocFailed<T>> for ConfigKind {
 
     fn from(_refused: AllocFailed<T>) -> Self {
         ConfigKind::OutOfMemory
+    }
+}
+
+impl From<PatternFault> for ConfigKind {
+    ghost use Rattle.std.specs.Prelude.{◌≡◌};
+    ghost use Rattle.hook_config.specs.Refusals.{of_pattern};
+
+    ghost from_gives = { λ fault kind. kind ≡ of_pattern fault };
+
+    fn from(fault: PatternFault) -> Self {
+        match fault {
+            PatternFault::NotAPattern => ConfigKind::BadPattern,
+            PatternFault::OutOfMemory => ConfigKind::OutOfMemory,
+        }
     }
 }
 

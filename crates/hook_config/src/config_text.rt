@@ -1,9 +1,10 @@
 //! The texts of a configuration.
 
-ghost use Rattle.std.specs.Prelude.{◌≡◌, ◌≢◌, ◌≤◌, ◌<◌, ◌↔◌, length, string_bytes, IsNone, IfSome, []};
+ghost use Rattle.std.specs.Prelude.{◌≡◌, ◌≢◌, ◌≤◌, ◌<◌, ◌↔◌, length, string_bytes, IsNone, IfOk, IfSome, []};
 ghost use Rattle.hook_config.specs.Limits.{most_text_bytes};
 
 use crate::limits::MOST_TEXT_BYTES;
+use hook_base::Text;
 use std::alloc::{AllocError, Global};
 use std::marker::Model;
 
@@ -37,6 +38,15 @@ impl ConfigText {
         }
     }
 
+    /// A copy of a text that is no longer than a text may be. `AllocError` where memory is refused.
+    pub(crate) fn copy_of(alloc: Global, text: &str) -> Result<Self, AllocError>
+        requires { length text.now ≤ most_text_bytes }
+        ensures { IfOk result (λ owned. owned ≡ text.now) }
+    {
+        let text = String::from_str(alloc, text)?;
+        Ok(ConfigText { text })
+    }
+
     /// The empty text.
     pub fn empty(alloc: Global) -> Self
         ensures { result ≡ [] }
@@ -52,6 +62,15 @@ impl ConfigText {
         ensures within { length self.now ≤ most_text_bytes }
     {
         self.text.as_str()
+    }
+
+    /// The same text, without its limit. It takes no memory.
+    pub(crate) fn into_text(self) -> Text
+        ensures same { result ≡ self }
+        ensures within { length self ≤ most_text_bytes }
+    {
+        let ConfigText { text } = self;
+        Text::from(text)
     }
 }
 

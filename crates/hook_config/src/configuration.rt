@@ -1,7 +1,10 @@
 //! What a configuration is read to.
 
 use crate::config_text::ConfigText;
+use crate::shared_pattern::SharedPattern;
 use crate::stage::Stages;
+use crate::tag_names::TagNames;
+use builtin_hooks::Grep;
 use hook_base::{Items, Text};
 
 /// What a `.pre-commit-config.yaml` asks for.
@@ -11,6 +14,10 @@ pub struct Config {
     pub hooks: Items<Hook>,
     /// Whether a run stops after the first hook that failed.
     pub fail_fast: bool,
+    /// Found in the path of each file that any hook gets.
+    pub files: SharedPattern,
+    /// Not found in the path of any file that a hook gets.
+    pub exclude: SharedPattern,
     /// The keys that no table knows, in the order of the text, each as often as it stands there.
     pub unknown: Items<Text>,
 }
@@ -26,10 +33,20 @@ pub struct Hook {
     pub alias: ConfigText,
     /// How the hook's entry is run.
     pub language: Language,
-    /// What the hook says where it fails.
+    /// What the hook says where its language is `fail`, and the text of its pattern where that is `pygrep`.
     pub entry: ConfigText,
     /// The words that follow those of the entry.
     pub args: Items<ConfigText>,
+    /// Found in the path of each file that the hook gets.
+    pub files: SharedPattern,
+    /// Not found in the path of any file that the hook gets.
+    pub exclude: SharedPattern,
+    /// Each file that the hook gets has all of these tags.
+    pub types: TagNames,
+    /// Each file that the hook gets has one of these tags at least, where there are any.
+    pub types_or: TagNames,
+    /// No file that the hook gets has one of these tags.
+    pub exclude_types: TagNames,
     /// The stages in which the hook is run: those that its table names, else the configuration's default stages.
     pub stages: Stages,
     /// Whether the hook runs also where no file is selected for it.
@@ -47,8 +64,10 @@ pub struct Hook {
 }
 
 /// How a hook's entry is run.
-#[derive(Clone, Copy, Debug, PartialEq, Eq)]
+#[derive(Debug, Drop)]
 pub enum Language {
     /// The hook always fails, and its entry is what it says.
     Fail,
+    /// The hook looks for its entry in files, as its arguments say, and fails where it is found.
+    Pygrep(Grep),
 }

@@ -1,17 +1,22 @@
 //! The values of a table's keys.
 
-ghost use Rattle.std.specs.Prelude.{◌≡◌, option_map, []};
+ghost use Rattle.std.specs.Prelude.{◌≡◌, option_map, [], ◌∷◌};
 ghost use Rattle.yaml_lines.specs.View.{view};
 ghost use Rattle.hook_config.specs.Gives.{GivesValue, GivesSurely};
 ghost use Rattle.hook_config.specs.Kinds.{text_of, truth_of, language_of, texts_of, stages_of, empty_text_of, empty_texts_of, required, or_default};
-ghost use Rattle.hook_config.specs.Rows.{rows_of, meanings_of_nodes, value_at, has_key_among, texts, list_of};
+ghost use Rattle.hook_config.specs.KnownKeys.{file_word};
+ghost use Rattle.hook_config.specs.Patterns.{pattern_of};
+ghost use Rattle.hook_config.specs.Rows.{rows_of, meanings_of_nodes, value_at, list_of};
 
 use crate::config_fault::ConfigKind;
 use crate::config_text::ConfigText;
 use crate::configuration::Language;
-use crate::kinds::{is_among, language_of, list_of, text_of, truth_of};
+use crate::kinds::{language_of, list_of, text_in, text_of, truth_of};
+use crate::shared_pattern::SharedPattern;
 use crate::stage::Stages;
 use crate::stage_lists::stages_of;
+use crate::tag_lists::{only_file, tags_of};
+use crate::tag_names::TagNames;
 use crate::text_lists::{empty_text_of, empty_texts_of, texts_of};
 use hook_base::Items;
 use std::alloc::Global;
@@ -27,18 +32,6 @@ fn value_at<'a>(rows: &'a [(String, Node)], key: &str) -> Option<&'a Node>
         }
     }
     None
-}
-
-/// Whether a row's key is one of these.
-pub(crate) fn has_key_among(rows: &[(String, Node)], keys: &[&str]) -> bool
-    ensures { result ≡ has_key_among (texts keys.now) (rows_of rows.now) }
-{
-    for (name, _) in rows {
-        if is_among(keys, name.as_str()) {
-            return true;
-        }
-    }
-    false
 }
 
 /// The value that must stand at the key, else `MissingKey`.
@@ -115,6 +108,49 @@ pub(crate) fn texts_or_none(
     match value_at(rows, key) {
         Some(value) => texts_of(alloc, value),
         None => Ok(Items::new(alloc)),
+    }
+}
+
+/// The pattern at the key, or the default where the key isn't there.
+pub(crate) fn pattern_or(
+    alloc: Global,
+    rows: &[(String, Node)],
+    key: &str,
+    default: &SharedPattern,
+) -> Result<SharedPattern, ConfigKind>
+    ensures { GivesValue (λ pattern. pattern) result (or_default pattern_of default.now key.now (rows_of rows.now)) }
+{
+    match value_at(rows, key) {
+        Some(value) => SharedPattern::build(alloc, text_in(value)?),
+        None => Ok(default.clone()?),
+    }
+}
+
+/// The tags at the key, none where the key isn't there.
+pub(crate) fn tags_or_none(
+    alloc: Global,
+    rows: &[(String, Node)],
+    key: &str,
+) -> Result<TagNames, ConfigKind>
+    ensures { GivesValue (λ tags. tags) result (or_default texts_of [] key.now (rows_of rows.now)) }
+{
+    match value_at(rows, key) {
+        Some(value) => tags_of(alloc, value),
+        None => Ok(TagNames::new(alloc)),
+    }
+}
+
+/// The tags at the key, the one of every file where the key isn't there.
+pub(crate) fn tags_or_file(
+    alloc: Global,
+    rows: &[(String, Node)],
+    key: &str,
+) -> Result<TagNames, ConfigKind>
+    ensures { GivesValue (λ tags. tags) result (or_default texts_of (file_word ∷ []) key.now (rows_of rows.now)) }
+{
+    match value_at(rows, key) {
+        Some(value) => tags_of(alloc, value),
+        None => only_file(alloc),
     }
 }
 

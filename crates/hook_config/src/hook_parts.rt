@@ -1,21 +1,24 @@
 //! The fields of a hook, in the groups in which they are read: of several faults the first in this order is told.
 
 ghost use Rattle.std.specs.Prelude.{IfOk, IfErr};
-ghost use Rattle.hook_config.specs.HookParts.{AreNames, AreSwitches, AreUnserved, IsCommand, IsNeverHook, IsNoHook};
+ghost use Rattle.hook_config.specs.HookParts.{AreNames, AreSwitches, AreUnserved, IsCommand, IsNeverHook, IsNoHook, IsSelection};
 ghost use Rattle.hook_config.specs.Rows.{rows_of};
 
 use crate::config_fault::ConfigKind;
 use crate::config_text::ConfigText;
 use crate::configuration::Language;
+use crate::defaults::Defaults;
 use crate::fields::{
-    empty_text_at, empty_texts_at, required_language, required_text, stages_or, text_or_empty,
-    texts_or_none, truth_or,
+    empty_text_at, empty_texts_at, pattern_or, required_language, required_text, stages_or,
+    tags_or_file, tags_or_none, text_or_empty, texts_or_none, truth_or,
 };
 use crate::known_keys::{
-    ADDITIONAL_DEPENDENCIES, ALIAS, ALWAYS_RUN, ARGS, ENTRY, FAIL_FAST, ID, LANGUAGE, LOG_FILE,
-    NAME, PASS_FILENAMES, STAGES, VERBOSE,
+    ADDITIONAL_DEPENDENCIES, ALIAS, ALWAYS_RUN, ARGS, ENTRY, EXCLUDE, EXCLUDE_TYPES, FAIL_FAST,
+    FILES, ID, LANGUAGE, LOG_FILE, NAME, PASS_FILENAMES, STAGES, TYPES, TYPES_OR, VERBOSE,
 };
+use crate::shared_pattern::SharedPattern;
 use crate::stage::Stages;
+use crate::tag_names::TagNames;
 use hook_base::Items;
 use std::alloc::Global;
 use yaml_profile::Node;
@@ -78,6 +81,34 @@ pub(crate) fn command_of(alloc: Global, rows: &[(String, Node)]) -> Result<Comma
     })
 }
 
+/// Which files a hook gets.
+#[derive(Drop)]
+pub(crate) struct Selection {
+    pub(crate) files: SharedPattern,
+    pub(crate) exclude: SharedPattern,
+    pub(crate) types: TagNames,
+    pub(crate) types_or: TagNames,
+    pub(crate) exclude_types: TagNames,
+}
+
+#[tactic(auto, using(crate::proofs::HookFields::fields_of_hook))]
+pub(crate) fn selection_of(
+    alloc: Global,
+    rows: &[(String, Node)],
+    defaults: &Defaults,
+) -> Result<Selection, ConfigKind>
+    ensures read { IfOk result (IsSelection (rows_of rows.now)) }
+    ensures refused { IfErr result (IsNoHook defaults.now (rows_of rows.now)) }
+{
+    Ok(Selection {
+        files: pattern_or(alloc, rows, FILES, defaults.files())?,
+        exclude: pattern_or(alloc, rows, EXCLUDE, defaults.exclude())?,
+        types: tags_or_file(alloc, rows, TYPES)?,
+        types_or: tags_or_none(alloc, rows, TYPES_OR)?,
+        exclude_types: tags_or_none(alloc, rows, EXCLUDE_TYPES)?,
+    })
+}
+
 /// When a hook runs, and how.
 #[derive(Clone, Copy)]
 pub(crate) struct Switches {
@@ -89,12 +120,15 @@ pub(crate) struct Switches {
 }
 
 #[tactic(auto, using(crate::proofs::HookFields::fields_of_hook))]
-pub(crate) fn switches_of(rows: &[(String, Node)], default: Stages) -> Result<Switches, ConfigKind>
-    ensures read { IfOk result (AreSwitches default (rows_of rows.now)) }
-    ensures refused { IfErr result (IsNoHook default (rows_of rows.now)) }
+pub(crate) fn switches_of(
+    rows: &[(String, Node)],
+    defaults: &Defaults,
+) -> Result<Switches, ConfigKind>
+    ensures read { IfOk result (AreSwitches defaults.now (rows_of rows.now)) }
+    ensures refused { IfErr result (IsNoHook defaults.now (rows_of rows.now)) }
 {
     Ok(Switches {
-        stages: stages_or(rows, STAGES, default)?,
+        stages: stages_or(rows, STAGES, defaults.stages())?,
         always_run: truth_or(rows, ALWAYS_RUN, false)?,
         verbose: truth_or(rows, VERBOSE, false)?,
         pass_filenames: truth_or(rows, PASS_FILENAMES, true)?,

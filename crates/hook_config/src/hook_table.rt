@@ -8,37 +8,32 @@ ghost use Rattle.hook_config.specs.Rows.{rows_of};
 
 use crate::config_fault::ConfigKind;
 use crate::configuration::Hook;
-use crate::fields::has_key_among;
-use crate::hook_parts::{command_of, names_of, switches_of, unserved_of};
+use crate::defaults::Defaults;
+use crate::hook_parts::{command_of, names_of, selection_of, switches_of, unserved_of};
 use crate::kinds::table_of;
-use crate::known_keys::LATER_HOOK_KEYS;
-use crate::stage::Stages;
 use std::alloc::Global;
 use yaml_profile::Node;
 
-/// The hook that a table describes, where a hook that names no stage has the default ones.
-pub(crate) fn hook_of(alloc: Global, node: &Node, default: Stages) -> Result<Hook, ConfigKind>
-    ensures { GivesValue (λ hook. hook) result (hook_of default (view node.now)) }
+/// The hook that a table describes. Where it doesn't say it, the hook has the defaults.
+pub(crate) fn hook_of(alloc: Global, node: &Node, defaults: &Defaults) -> Result<Hook, ConfigKind>
+    ensures { GivesValue (λ hook. hook) result (hook_of defaults.now (view node.now)) }
 {
-    let rows = table_of(node)?;
-    if has_key_among(rows, &LATER_HOOK_KEYS) {
-        return Err(ConfigKind::Unsupported);
-    }
-    hook_of_fields(alloc, rows, default)
+    hook_of_fields(alloc, table_of(node)?, defaults)
 }
 
 // The hook of a table's rows. Of several faults the first in the order of these lines is told.
 fn hook_of_fields(
     alloc: Global,
     rows: &[(String, Node)],
-    default: Stages,
+    defaults: &Defaults,
 ) -> Result<Hook, ConfigKind>
-    ensures { GivesValue (λ hook. hook) result (hook_of_fields default (rows_of rows.now)) }
+    ensures { GivesValue (λ hook. hook) result (hook_of_fields defaults.now (rows_of rows.now)) }
 {
     let unserved = unserved_of(alloc, rows)?;
     let names = names_of(alloc, rows)?;
     let command = command_of(alloc, rows)?;
-    let switches = switches_of(rows, default)?;
+    let selection = selection_of(alloc, rows, defaults)?;
+    let switches = switches_of(rows, defaults)?;
     Ok(Hook {
         id: names.id,
         name: names.name,
@@ -46,6 +41,11 @@ fn hook_of_fields(
         language: command.language,
         entry: command.entry,
         args: command.args,
+        files: selection.files,
+        exclude: selection.exclude,
+        types: selection.types,
+        types_or: selection.types_or,
+        exclude_types: selection.exclude_types,
         stages: switches.stages,
         always_run: switches.always_run,
         verbose: switches.verbose,

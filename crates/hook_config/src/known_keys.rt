@@ -2,8 +2,8 @@
 //! pre-commit plugins to your project" and "Creating new hooks"). What each must be is written in
 //! `specs/KnownKeys.antt`: the contracts of what compares a key with one of these hold only where both are the same.
 //!
-//! A key of the lists `LATER_..` is known and not served yet. The keys of `TOP_KEYS` and `HOOK_KEYS` without a name of
-//! their own are read and ignored, whatever their value. Any other key is ignored, and listed in `Config::unknown`.
+//! The keys of `TOP_KEYS` and `HOOK_KEYS` without a name of their own are read and ignored, whatever their value. Any other
+//! key is ignored, and listed in `Config::unknown`. A language of `LATER_LANGUAGES` is known and not served yet.
 //!
 //! What a key of a hook touches that is to be served is listed in `docs/ARCHITECTURE.md`, "A hook key".
 //!
@@ -15,20 +15,24 @@
 pub(crate) const REPOS: &str = "repos";
 
 pub(crate) const DEFAULT_STAGES: &str = "default_stages";
-// Also a key of a hook.
+// These are keys of a hook too.
+pub(crate) const FILES: &str = "files";
+
+pub(crate) const EXCLUDE: &str = "exclude";
+
 pub(crate) const FAIL_FAST: &str = "fail_fast";
 
-pub(crate) const TOP_KEYS: [&str; 7] = [
+pub(crate) const TOP_KEYS: [&str; 9] = [
     REPOS,
     DEFAULT_STAGES,
+    FILES,
+    EXCLUDE,
     FAIL_FAST,
     "ci",
     "default_install_hook_types",
     "default_language_version",
     "minimum_pre_commit_version",
 ];
-
-pub(crate) const LATER_TOP_KEYS: [&str; 2] = ["files", "exclude"];
 
 // A repository's table.
 
@@ -55,6 +59,12 @@ pub(crate) const ENTRY: &str = "entry";
 
 pub(crate) const ARGS: &str = "args";
 
+pub(crate) const TYPES: &str = "types";
+
+pub(crate) const TYPES_OR: &str = "types_or";
+
+pub(crate) const EXCLUDE_TYPES: &str = "exclude_types";
+
 pub(crate) const STAGES: &str = "stages";
 
 pub(crate) const ALWAYS_RUN: &str = "always_run";
@@ -67,13 +77,18 @@ pub(crate) const LOG_FILE: &str = "log_file";
 
 pub(crate) const ADDITIONAL_DEPENDENCIES: &str = "additional_dependencies";
 
-pub(crate) const HOOK_KEYS: [&str; 17] = [
+pub(crate) const HOOK_KEYS: [&str; 22] = [
     ID,
     NAME,
     ALIAS,
     LANGUAGE,
     ENTRY,
     ARGS,
+    FILES,
+    EXCLUDE,
+    TYPES,
+    TYPES_OR,
+    EXCLUDE_TYPES,
     STAGES,
     ALWAYS_RUN,
     VERBOSE,
@@ -87,13 +102,13 @@ pub(crate) const HOOK_KEYS: [&str; 17] = [
     "description",
 ];
 
-pub(crate) const LATER_HOOK_KEYS: [&str; 5] = [
-    "files",
-    "exclude",
-    "types",
-    "types_or",
-    "exclude_types",
-];
+// The patterns and the tag that a hook has where its table has none.
+
+pub(crate) const EVERY_PATH: &str = "";
+
+pub(crate) const NO_PATH: &str = "^$";
+
+pub(crate) const FILE: &str = "file";
 
 // Languages.
 

@@ -1,16 +1,18 @@
 //! Reads the bytes of a `.pre-commit-config.yaml` to a `Config`, or says by a `ConfigFault` why they are none.
 //!
-//! `Config` holds `Hook`s, whose texts are `ConfigText`s, whose stages are `Stages` and whose language is a `Language`.
+//! `Config` holds `Hook`s, whose texts are `ConfigText`s, whose patterns are `SharedPattern`s, whose tags are `TagNames`,
+//! whose stages are `Stages` and whose language is a `Language`.
 //! `ConfigWithNode` has the text's `Node` beside it. A `ConfigFault` is a `ConfigKind` and its place.
 //!
 //! The contracts cite `configuration_of` of `specs/Configuration.antt`, which says which `Config` a text's bytes describe,
-//! if any; `Gives`; the words of `specs/KnownKeys.antt` and `specs/Stages.antt`; the limits of `specs/Limits.antt`; and
+//! if any; `Gives`; the patterns of `specs/Patterns.antt`; the words of `specs/KnownKeys.antt` and `specs/Stages.antt`; the limits of `specs/Limits.antt`; and
 //! `number_of` and `name_of` of `specs/Refusals.antt`.
 #![tactic(auto)]
 
 mod config_fault;
 mod config_text;
 mod configuration;
+mod defaults;
 mod fields;
 mod hook_parts;
 mod hook_table;
@@ -19,8 +21,11 @@ mod known_keys;
 mod limits;
 mod reader;
 mod repositories;
+mod shared_pattern;
 mod stage;
 mod stage_lists;
+mod tag_lists;
+mod tag_names;
 mod text_lists;
 mod unknown_keys;
 
@@ -29,4 +34,6 @@ pub use config_text::ConfigText;
 pub use configuration::{Config, Hook, Language};
 pub use limits::{MOST_HOOKS, MOST_TEXT_BYTES};
 pub use reader::{ConfigWithNode, read_config, read_config_with_node};
+pub use shared_pattern::SharedPattern;
 pub use stage::{Stage, Stages};
+pub use tag_names::TagNames;

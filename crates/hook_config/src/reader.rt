@@ -10,9 +10,10 @@ ghost use Rattle.hook_config.specs.Rows.{rows_of};
 
 use crate::config_fault::{ConfigFault, ConfigKind};
 use crate::configuration::Config;
-use crate::fields::{has_key_among, required_list, stages_or, truth_or};
+use crate::defaults::Defaults;
+use crate::fields::{pattern_or, required_list, stages_or, truth_or};
 use crate::kinds::table_of;
-use crate::known_keys::{DEFAULT_STAGES, FAIL_FAST, LATER_TOP_KEYS, REPOS};
+use crate::known_keys::{DEFAULT_STAGES, EXCLUDE, FAIL_FAST, FILES, REPOS};
 use crate::repositories::hooks_of_repositories;
 use crate::stage::Stages;
 use crate::unknown_keys::unknown_of_top;
@@ -25,7 +26,7 @@ use yaml_profile::{Node, read};
 /// A refusal is one of `ConfigKind`: `Yaml` where the bytes are no YAML of this profile; `Shape` where the text, or a
 /// repository or a hook, is no table, or a known key's value is of another kind; `MissingKey` where a required key isn't
 /// there; `BadStage`, `BadLanguage` and `RemoteRepo` for a stage, a language or a repository that isn't known;
-/// `Unsupported` for what is known and not served; `TooMany` for more than `MOST_HOOKS` hooks; `OutOfMemory` where memory
+/// `BadPattern` for a pattern that `regex` doesn't take, which it is for `regex` to say; `Unsupported` for what is known and not served; `TooMany` for more than `MOST_HOOKS` hooks; `OutOfMemory` where memory
 /// was refused. More bytes than a text may have are `Yaml` of `TooLarge` at 1.
 #[tactic(auto, unfolding(crate::specs::Configuration::configuration_of))]
 pub fn read_config(alloc: Global, bytes: &[u8]) -> Result<Config, ConfigFault>
@@ -72,16 +73,18 @@ pub(crate) fn config_of_node(alloc: Global, node: &Node) -> Result<Config, Confi
 fn config_of_rows(alloc: Global, rows: &[(String, Node)]) -> Result<Config, ConfigFault>
     ensures { Gives (λ config. config) result (configuration_of_rows (rows_of rows.now)) }
 {
-    if has_key_among(rows, &LATER_TOP_KEYS) {
-        return Err(ConfigFault::from(ConfigKind::Unsupported));
-    }
-    let default = stages_or(rows, DEFAULT_STAGES, Stages::all())?;
+    let stages = stages_or(rows, DEFAULT_STAGES, Stages::all())?;
+    let defaults = Defaults::new(alloc, stages)?;
+    let files = pattern_or(alloc, rows, FILES, defaults.files())?;
+    let exclude = pattern_or(alloc, rows, EXCLUDE, defaults.exclude())?;
     let fail_fast = truth_or(rows, FAIL_FAST, false)?;
-    let hooks = hooks_of_repositories(alloc, required_list(rows, REPOS)?, default)?;
+    let hooks = hooks_of_repositories(alloc, required_list(rows, REPOS)?, &defaults)?;
     let unknown = unknown_of_top(alloc, rows)?;
     Ok(Config {
         hooks: Items::from(hooks),
         fail_fast,
+        files,
+        exclude,
         unknown: Items::from(unknown),
     })
 }

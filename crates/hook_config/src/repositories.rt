@@ -9,27 +9,27 @@ ghost use Rattle.hook_config.specs.Rows.{rows_of, meanings_of_nodes};
 
 use crate::config_fault::{ConfigFault, ConfigKind};
 use crate::configuration::Hook;
+use crate::defaults::Defaults;
 use crate::fields::{required, required_list};
 use crate::hook_table::hook_of;
 use crate::kinds::{table_of, text_in};
 use crate::known_keys::{HOOKS, LOCAL, REPO};
 use crate::limits::MOST_HOOKS;
-use crate::stage::Stages;
 use std::alloc::Global;
 use yaml_profile::Node;
 
-/// The hooks of all repositories. A hook that names no stage has the default ones.
+/// The hooks of all repositories. Where its table doesn't say it, a hook has the defaults.
 #[tactic(auto, using(crate::proofs::HookLists::finding))]
 pub(crate) fn hooks_of_repositories(
     alloc: Global,
     repositories: &[Node],
-    default: Stages,
+    defaults: &Defaults,
 ) -> Result<Vec<Hook>, ConfigFault>
-    ensures { Gives (λ hooks. hooks.items) result (hooks_of_repositories default (meanings_of_nodes repositories.now)) }
+    ensures { Gives (λ hooks. hooks.items) result (hooks_of_repositories defaults.now (meanings_of_nodes repositories.now)) }
 {
     let mut hooks = Vec::new(alloc);
     for repository in repositories {
-        add_repository(alloc, repository, default, &mut hooks)?;
+        add_repository(alloc, repository, defaults, &mut hooks)?;
     }
     Ok(hooks)
 }
@@ -38,17 +38,17 @@ pub(crate) fn hooks_of_repositories(
 fn add_repository(
     alloc: Global,
     repository: &Node,
-    default: Stages,
+    defaults: &Defaults,
     hooks: &mut Vec<Hook>,
 ) -> Result<(), ConfigFault>
     requires { length hooks.old.items ≤ most_hooks }
-    ensures { Gives (λ _. hooks.new.items) result (after hooks.old.items (hooks_of_repository default (view repository.now))) }
+    ensures { Gives (λ _. hooks.new.items) result (after hooks.old.items (hooks_of_repository defaults.now (view repository.now))) }
 {
     let rows = table_of(repository)?;
     if text_in(required(rows, REPO)?)? != LOCAL {
         return Err(ConfigFault::from(ConfigKind::RemoteRepo));
     }
-    add_hooks(alloc, required_list(rows, HOOKS)?, default, hooks)
+    add_hooks(alloc, required_list(rows, HOOKS)?, defaults, hooks)
 }
 
 // Adds the hooks of a list. A fault in one of them has its number, counted from 1 over all repositories.
@@ -56,15 +56,15 @@ fn add_repository(
 fn add_hooks(
     alloc: Global,
     tables: &[Node],
-    default: Stages,
+    defaults: &Defaults,
     hooks: &mut Vec<Hook>,
 ) -> Result<(), ConfigFault>
     requires { length hooks.old.items ≤ most_hooks }
-    ensures { Gives (λ _. hooks.new.items) result (after hooks.old.items (hooks_of_list default (meanings_of_nodes tables.now))) }
+    ensures { Gives (λ _. hooks.new.items) result (after hooks.old.items (hooks_of_list defaults.now (meanings_of_nodes tables.now))) }
 {
     for table in tables {
         let number = hooks.len() as u64 + 1;
-        if let Err(kind) = add_hook(alloc, table, default, hooks) {
+        if let Err(kind) = add_hook(alloc, table, defaults, hooks) {
             return Err(ConfigFault { kind, at: number });
         }
     }
@@ -75,15 +75,15 @@ fn add_hooks(
 fn add_hook(
     alloc: Global,
     table: &Node,
-    default: Stages,
+    defaults: &Defaults,
     hooks: &mut Vec<Hook>,
 ) -> Result<(), ConfigKind>
-    ensures { GivesValue (λ _. hooks.new.items) result (after hooks.old.items (hook_alone default (view table.now))) }
+    ensures { GivesValue (λ _. hooks.new.items) result (after hooks.old.items (hook_alone defaults.now (view table.now))) }
 {
     if hooks.len() >= MOST_HOOKS {
         return Err(ConfigKind::TooMany);
     }
-    let hook = hook_of(alloc, table, default)?;
+    let hook = hook_of(alloc, table, defaults)?;
     hooks.push(hook)?;
     Ok(())
 }

@@ -1,2 +1,4 @@
+pub mod EndingLemmas
+pub mod OneRunLemmas
 pub mod ReportLemmas
 pub mod RunLemmas

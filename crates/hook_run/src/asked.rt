@@ -1,6 +1,7 @@
 //! Which hooks a run goes through, and which of them are to be skipped.
 
 ghost use Rattle.std.specs.Prelude.{◌≡◌, IfOk, map};
+ghost use Rattle.std.specs.List.{list_any};
 ghost use Rattle.hook_run.specs.Asks.{hooks_of_run, is_asked_for, is_in_run, is_named, is_skipped, names_no_hook};
 
 use crate::RunAsk;
@@ -12,12 +13,18 @@ use std::alloc::Global;
 pub fn names_no_hook(config: &Config, ask: &RunAsk) -> bool
     ensures { result ≡ names_no_hook config.now ask.now }
 {
-    ask.only.is_some()
-        && !config
-            .hooks
-            .as_slice()
-            .iter()
-            .any(|hook| is_in_run(ask, hook))
+    ask.only.is_some() && !has_hook(config, ask)
+}
+
+// Whether any hook is in the run.
+fn has_hook(config: &Config, ask: &RunAsk) -> bool
+    ensures { result ≡ list_any (is_in_run ask.now) config.now.hooks }
+{
+    config
+        .hooks
+        .as_slice()
+        .iter()
+        .any(|hook| is_in_run(ask, hook))
 }
 
 /// The hooks that a run goes through, in the order of the configuration.

@@ -10,6 +10,7 @@
 
 mod asked;
 mod ending;
+pub mod laws;
 mod need;
 mod plan;
 mod report;

@@ -76,11 +76,12 @@ fn run(alloc: Global, config: &Config, ask: &RunAsk, tree: &Tree) -> Result<RunO
     ensures { IfOk result (IsRunOut config.now ask.now tree.now) }
 {
     let hooks = hooks_of_run(alloc, config, ask)?;
+    let hooks = hooks.as_slice();
     let files = config.files.as_pattern();
     let exclude = config.exclude.as_pattern();
     let among = Candidates::passing(alloc, files, exclude, ask.candidates.as_slice())?;
-    let results = run_hooks(alloc, config, ask, hooks.as_slice(), &among, tree)?;
-    let report = report_of(alloc, hooks.as_slice(), results.as_slice())?;
+    let results = run_hooks(alloc, config, ask, hooks, &among, tree)?;
+    let report = report_of(alloc, hooks, results.as_slice())?;
     Ok(RunOut {
         passed: has_passed(results.as_slice()),
         report: Bytes::from(report),

@@ -7,6 +7,6 @@ use Rattle.hook_config.proofs.repositories.add_hooks.Given as goal
 abbrev pub invariant-loop-table : goal.invariant-loop-table
 invariant-loop-table l = record {
   within : length l.hooks.items ≤ most_hooks;
-  same : after l.fn.hooks.items (hooks_of_list l.default (meanings_of_nodes l.tables))
-      ≡ after l.hooks.items (hooks_of_list l.default (meanings_of_nodes (drop l.table-index l.tables)));
+  same : after l.fn.hooks.items (hooks_of_list l.defaults (meanings_of_nodes l.tables))
+      ≡ after l.hooks.items (hooks_of_list l.defaults (meanings_of_nodes (drop l.table-index l.tables)));
 }

@@ -7,6 +7,6 @@ use Rattle.hook_config.proofs.repositories.hooks_of_repositories.Given as goal
 abbrev pub invariant-loop-repository : goal.invariant-loop-repository
 invariant-loop-repository l = record {
   within : length l.hooks.items ≤ most_hooks;
-  same : hooks_of_repositories l.default (meanings_of_nodes l.repositories)
-      ≡ after l.hooks.items (joined (hooks_of_repository l.default) (meanings_of_nodes (drop l.repository-index l.repositories)));
+  same : hooks_of_repositories l.defaults (meanings_of_nodes l.repositories)
+      ≡ after l.hooks.items (joined (hooks_of_repository l.defaults) (meanings_of_nodes (drop l.repository-index l.repositories)));
 }

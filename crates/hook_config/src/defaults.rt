@@ -1,0 +1,68 @@
+//! What a hook has where its table doesn't say it.
+
+ghost use Rattle.std.specs.Prelude.{◌≡◌, IfOk, IfErr};
+ghost use Rattle.hook_config.specs.Patterns.{every_path, no_path};
+ghost use Rattle.hook_config.specs.Gives.{IsLeftOpen};
+
+use crate::config_fault::ConfigKind;
+use crate::known_keys::{EVERY_PATH, NO_PATH};
+use crate::shared_pattern::SharedPattern;
+use crate::stage::Stages;
+use std::alloc::Global;
+use std::marker::Model;
+
+/// What hooks have where their tables don't say it: the default stages of their configuration, which is what contracts
+/// see, and the default patterns, which are built once for all of them.
+#[derive(Drop)]
+pub(crate) struct Defaults {
+    stages: Stages,
+    files: SharedPattern,
+    exclude: SharedPattern,
+}
+
+impl Model for Defaults {
+    ghost use Rattle.std.specs.Prelude.{◌≡◌};
+    ghost use Rattle.hook_config.specs.Patterns.{every_path, no_path};
+    ghost use Rattle.hook_config.specs.declared.stage.Stages.{Stages};
+
+    ghost Value = { Stages };
+
+    ghost view = { λ defaults. defaults.stages };
+
+    ghost invariant = { λ defaults. (defaults.files ≡ every_path) × (defaults.exclude ≡ no_path) };
+}
+
+impl Defaults {
+    /// The defaults with these stages.
+    pub(crate) fn new(alloc: Global, stages: Stages) -> Result<Self, ConfigKind>
+        ensures stages { IfOk result (λ defaults. defaults ≡ stages) }
+        ensures refused { IfErr result IsLeftOpen }
+    {
+        Ok(Defaults {
+            stages,
+            files: SharedPattern::build(alloc, EVERY_PATH)?,
+            exclude: SharedPattern::build(alloc, NO_PATH)?,
+        })
+    }
+
+    /// The default stages.
+    pub(crate) fn stages(&self) -> Stages
+        ensures { result ≡ self.now }
+    {
+        self.stages
+    }
+
+    /// The default of `files`, which is found in every path.
+    pub(crate) fn files(&self) -> &SharedPattern
+        ensures { result.now ≡ every_path }
+    {
+        &self.files
+    }
+
+    /// The default of `exclude`, which is found in no path.
+    pub(crate) fn exclude(&self) -> &SharedPattern
+        ensures { result.now ≡ no_path }
+    {
+        &self.exclude
+    }
+}
