@@ -1,8 +1,9 @@
 -- The fields of a hook in the groups in which they are read. For contracts of private functions alone.
 use Rattle.std.specs.Prelude.{◌≡◌, List, [], ◌∷◌, true, false, None, Some}
 use Rattle.hook_config.specs.Rows.{Row}
-use Rattle.hook_config.specs.Kinds.{text_of, truth_of, language_of, texts_of, stages_of, empty_text_of, empty_texts_of, required, or_default}
+use Rattle.hook_config.specs.Kinds.{text_of, truth_of, texts_of, stages_of, empty_text_of, empty_texts_of, required, or_default}
 use Rattle.hook_config.specs.Gives.{UnlessLeftOpen}
+use Rattle.hook_config.specs.Languages.{language_at}
 use Rattle.hook_config.specs.HookTable.{hook_of_fields}
 use Rattle.hook_config.specs.Patterns.{pattern_of, every_path, no_path}
 use Rattle.hook_config.specs.declared.config_fault.ConfigKind.{ConfigKind}
@@ -12,7 +13,7 @@ use Rattle.hook_config.specs.declared.hook_parts.Command.{Command}
 use Rattle.hook_config.specs.declared.hook_parts.Selection.{Selection}
 use Rattle.hook_config.specs.declared.hook_parts.Switches.{Switches}
 use Rattle.hook_config.specs.declared.stage.Stages.{Stages}
-use Rattle.hook_config.specs.KnownKeys.{id_key, name_key, alias_key, language_key, entry_key, args_key, files_key, exclude_key, types_key, types_or_key, exclude_types_key, file_word, stages_key, always_run_key, verbose_key, pass_filenames_key, fail_fast_key, log_file_key, additional_dependencies_key}
+use Rattle.hook_config.specs.KnownKeys.{id_key, name_key, alias_key, entry_key, args_key, files_key, exclude_key, types_key, types_or_key, exclude_types_key, file_word, stages_key, always_run_key, verbose_key, pass_filenames_key, fail_fast_key, log_file_key, additional_dependencies_key}
 
 -- the rows are no hook, unless the refusal is left open
 abbrev pub IsNoHook : Stages → List Row → ConfigKind → Type 0
@@ -32,9 +33,9 @@ pub record AreNames (rows : List Row) (names : Names) : Type 0 where
   pub alias : or_default text_of [] alias_key rows ≡ Some names.alias
 
 pub record IsCommand (rows : List Row) (command : Command) : Type 0 where
-  pub language : required language_of language_key rows ≡ Some command.language
   pub entry : required text_of entry_key rows ≡ Some command.entry
   pub args : or_default texts_of [] args_key rows ≡ Some command.args
+  pub language : language_at command.entry command.args rows ≡ Some command.language
 
 pub record IsSelection (rows : List Row) (selection : Selection) : Type 0 where
   pub files : or_default pattern_of every_path files_key rows ≡ Some selection.files

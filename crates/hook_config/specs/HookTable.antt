@@ -2,11 +2,12 @@
 use Rattle.std.specs.Prelude.{List, [], ◌∷◌, true, false, Option, Some, option_and_then}
 use Rattle.yaml_lines.specs.Meaning.{Meaning}
 use Rattle.hook_config.specs.Rows.{Row, table_of}
-use Rattle.hook_config.specs.Kinds.{text_of, truth_of, language_of, texts_of, stages_of, empty_text_of, empty_texts_of, required, or_default, given}
+use Rattle.hook_config.specs.Kinds.{text_of, truth_of, texts_of, stages_of, empty_text_of, empty_texts_of, required, or_default, given}
+use Rattle.hook_config.specs.Languages.{language_at}
 use Rattle.hook_config.specs.Patterns.{pattern_of, every_path, no_path}
 use Rattle.hook_config.specs.declared.configuration.Hook.{Hook}
 use Rattle.hook_config.specs.declared.stage.Stages.{Stages}
-use Rattle.hook_config.specs.KnownKeys.{id_key, name_key, alias_key, language_key, entry_key, args_key, files_key, exclude_key, types_key, types_or_key, exclude_types_key, file_word, stages_key, always_run_key, verbose_key, pass_filenames_key, fail_fast_key, log_file_key, additional_dependencies_key}
+use Rattle.hook_config.specs.KnownKeys.{id_key, name_key, alias_key, entry_key, args_key, files_key, exclude_key, types_key, types_or_key, exclude_types_key, file_word, stages_key, always_run_key, verbose_key, pass_filenames_key, fail_fast_key, log_file_key, additional_dependencies_key}
 
 -- Each field is the value at its key, or the key's default; that of `stages` is given. None where `log_file` or
 -- `additional_dependencies` is more than empty: neither is served.
@@ -15,9 +16,9 @@ hook_of_fields default rows =
     given (required text_of id_key rows) (λ id.
     given (required text_of name_key rows) (λ name.
     given (or_default text_of [] alias_key rows) (λ alias.
-    given (required language_of language_key rows) (λ language.
     given (required text_of entry_key rows) (λ entry.
     given (or_default texts_of [] args_key rows) (λ args.
+    given (language_at entry args rows) (λ language.
     given (or_default pattern_of every_path files_key rows) (λ files.
     given (or_default pattern_of no_path exclude_key rows) (λ exclude.
     given (or_default texts_of (file_word ∷ []) types_key rows) (λ types.

@@ -1,15 +1,11 @@
 -- The kinds of a configuration's values, and how a value is taken from a table.
-use Rattle.std.specs.Prelude.{ℕ, List, [], ◌∷◌, length, Bool, true, false, if◌then◌else◌, nat_le, bytes_eq, Option, Some, None, option_map, option_and_then}
+use Rattle.std.specs.Prelude.{ℕ, List, [], ◌∷◌, length, Bool, true, false, if◌then◌else◌, nat_le, Option, Some, None, option_map, option_and_then}
 use Rattle.yaml_lines.specs.Meaning.{Meaning, text, list, table, empty}
 use Rattle.hook_config.specs.Rows.{Row, value_at, is_among, list_of}
 use Rattle.hook_config.specs.Stages.{stage_of_word, stages_among}
-use Rattle.hook_config.specs.declared.configuration.Language.{Language}
-use Rattle.hook_config.specs.declared.configuration.Language.TheVariants.{Fail}
 use Rattle.hook_config.specs.declared.stage.Stage.{Stage}
 use Rattle.hook_config.specs.declared.stage.Stages.{Stages}
-use Rattle.hook_config.specs.declared.config_fault.ConfigKind.{ConfigKind}
-use Rattle.hook_config.specs.declared.config_fault.ConfigKind.TheVariants.{BadLanguage, Unsupported}
-use Rattle.hook_config.specs.KnownKeys.{fail_word, later_languages, true_words, false_words}
+use Rattle.hook_config.specs.KnownKeys.{true_words, false_words}
 use Rattle.hook_config.specs.Limits.{most_text_bytes}
 
 -- a text that is no longer than a configuration, quoted or not
@@ -28,13 +24,6 @@ truth_of (text content quoted) = if quoted then None else truth_of_word content
 truth_of (list items) = None
 truth_of (table rows) = None
 truth_of empty = None
-
-abbrev pub language_of_word : List ℕ → Option Language
-language_of_word word = if bytes_eq word fail_word then Some Fail else None
-
--- a text that names a language that is served
-abbrev pub language_of : Meaning → Option Language
-language_of value = option_and_then language_of_word (text_of value)
 
 -- ---- lists
 
@@ -89,9 +78,3 @@ kind_or kind default (Some value) = kind value
 -- the value at the key, or the default where the key isn't there
 abbrev pub or_default : {A : Type 0} → (Meaning → Option A) → A → List ℕ → List Row → Option A
 or_default kind default key rows = kind_or kind default (value_at key rows)
-
--- ---- for a contract of a private function alone
-
--- why a word names no language that is served
-abbrev pub refusal_of_language : List ℕ → ConfigKind
-refusal_of_language word = if is_among later_languages word then Unsupported else BadLanguage

@@ -132,9 +132,12 @@ file_word = codes "file"
 abbrev pub fail_word : List ℕ
 fail_word = codes "fail"
 
+abbrev pub pygrep_word : List ℕ
+pygrep_word = codes "pygrep"
+
 -- those that are known and not served yet
 abbrev pub later_languages : List (List ℕ)
-later_languages = codes "system" ∷ codes "script" ∷ codes "pygrep" ∷ []
+later_languages = codes "system" ∷ codes "script" ∷ []
 
 -- ---- truths: in lower case, with a capital first letter, and in upper case (YAML 1.1, "Boolean Language-Independent
 -- Type")

@@ -5,6 +5,7 @@ pub mod HookTable
 pub mod Hooks
 pub mod Kinds
 pub mod KnownKeys
+pub mod Languages
 pub mod Limits
 pub mod Patterns
 pub mod Refusals

@@ -6,6 +6,8 @@ use Rattle.yaml_lines.specs.Faults.{too_large as too_large_text}
 use Rattle.yaml_lines.specs.declared.fault.YamlFault.{YamlFault}
 use Rattle.yaml_lines.specs.declared.fault.YamlKind.{YamlKind}
 use Rattle.yaml_lines.specs.declared.fault.YamlKind.TheVariants.{NotUtf8, TabIndent, Unsupported as NotSupported, Layout, Quote, DoubledKey, TooDeep, TooLarge, OutOfMemory as YamlOutOfMemory}
+use Rattle.builtin_hooks.specs.declared.grep_fault.GrepFault.{GrepFault}
+use Rattle.builtin_hooks.specs.declared.grep_fault.GrepFault.TheVariants as grep
 use Rattle.path_select.specs.declared.pattern_fault.PatternFault.{PatternFault}
 use Rattle.path_select.specs.declared.pattern_fault.PatternFault.TheVariants.{NotAPattern, OutOfMemory as PatternOutOfMemory}
 use Rattle.hook_config.specs.declared.config_fault.ConfigFault.{ConfigFault}
@@ -64,6 +66,12 @@ of_yaml fault = refusal_of_yaml fault.kind fault
 abbrev pub of_pattern : PatternFault → ConfigKind
 of_pattern NotAPattern = BadPattern
 of_pattern PatternOutOfMemory = OutOfMemory
+
+-- what a fault of an entry and its arguments is as a refusal of the configuration
+abbrev pub of_grep : GrepFault → ConfigKind
+of_grep grep.NotAPattern = BadPattern
+of_grep grep.BadArg = BadArgs
+of_grep grep.OutOfMemory = OutOfMemory
 
 -- a text of more bytes than a text may have
 abbrev pub too_large : ConfigFault

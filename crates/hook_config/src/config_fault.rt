@@ -4,6 +4,7 @@ ghost use Rattle.std.specs.Prelude.{◌≡◌};
 ghost use Rattle.hook_config.specs.Refusals.{number_of, name_of};
 
 use crate::limits::MOST_HOOKS;
+use builtin_hooks::GrepFault;
 use hook_base::OutOfMemory;
 use path_select::PatternFault;
 use std::alloc::{AllocError, AllocFailed};
@@ -83,6 +84,21 @@ impl From<PatternFault> for ConfigKind {
         match fault {
             PatternFault::NotAPattern => ConfigKind::BadPattern,
             PatternFault::OutOfMemory => ConfigKind::OutOfMemory,
+        }
+    }
+}
+
+impl From<GrepFault> for ConfigKind {
+    ghost use Rattle.std.specs.Prelude.{◌≡◌};
+    ghost use Rattle.hook_config.specs.Refusals.{of_grep};
+
+    ghost from_gives = { λ fault kind. kind ≡ of_grep fault };
+
+    fn from(fault: GrepFault) -> Self {
+        match fault {
+            GrepFault::NotAPattern => ConfigKind::BadPattern,
+            GrepFault::BadArg => ConfigKind::BadArgs,
+            GrepFault::OutOfMemory => ConfigKind::OutOfMemory,
         }
     }
 }

@@ -3,15 +3,14 @@
 ghost use Rattle.std.specs.Prelude.{◌≡◌, option_map, [], ◌∷◌};
 ghost use Rattle.yaml_lines.specs.View.{view};
 ghost use Rattle.hook_config.specs.Gives.{GivesValue, GivesSurely};
-ghost use Rattle.hook_config.specs.Kinds.{text_of, truth_of, language_of, texts_of, stages_of, empty_text_of, empty_texts_of, required, or_default};
+ghost use Rattle.hook_config.specs.Kinds.{text_of, truth_of, texts_of, stages_of, empty_text_of, empty_texts_of, required, or_default};
 ghost use Rattle.hook_config.specs.KnownKeys.{file_word};
 ghost use Rattle.hook_config.specs.Patterns.{pattern_of};
 ghost use Rattle.hook_config.specs.Rows.{rows_of, meanings_of_nodes, value_at, list_of};
 
 use crate::config_fault::ConfigKind;
 use crate::config_text::ConfigText;
-use crate::configuration::Language;
-use crate::kinds::{language_of, list_of, text_in, text_of, truth_of};
+use crate::kinds::{list_of, text_in, text_of, truth_of};
 use crate::shared_pattern::SharedPattern;
 use crate::stage::Stages;
 use crate::stage_lists::stages_of;
@@ -50,13 +49,6 @@ pub(crate) fn required_text(
     ensures { GivesValue (λ owned. owned) result (required text_of key.now (rows_of rows.now)) }
 {
     text_of(alloc, required(rows, key)?)
-}
-
-/// The language that must stand at the key.
-pub(crate) fn required_language(rows: &[(String, Node)], key: &str) -> Result<Language, ConfigKind>
-    ensures { GivesSurely (λ language. language) result (required language_of key.now (rows_of rows.now)) }
-{
-    language_of(required(rows, key)?)
 }
 
 /// The list that must stand at the key.

@@ -9,13 +9,14 @@ use crate::config_text::ConfigText;
 use crate::configuration::Language;
 use crate::defaults::Defaults;
 use crate::fields::{
-    empty_text_at, empty_texts_at, pattern_or, required_language, required_text, stages_or,
-    tags_or_file, tags_or_none, text_or_empty, texts_or_none, truth_or,
+    empty_text_at, empty_texts_at, pattern_or, required_text, stages_or, tags_or_file,
+    tags_or_none, text_or_empty, texts_or_none, truth_or,
 };
 use crate::known_keys::{
     ADDITIONAL_DEPENDENCIES, ALIAS, ALWAYS_RUN, ARGS, ENTRY, EXCLUDE, EXCLUDE_TYPES, FAIL_FAST,
-    FILES, ID, LANGUAGE, LOG_FILE, NAME, PASS_FILENAMES, STAGES, TYPES, TYPES_OR, VERBOSE,
+    FILES, ID, LOG_FILE, NAME, PASS_FILENAMES, STAGES, TYPES, TYPES_OR, VERBOSE,
 };
+use crate::languages::{language_name_at, language_of};
 use crate::shared_pattern::SharedPattern;
 use crate::stage::Stages;
 use crate::tag_names::TagNames;
@@ -30,7 +31,7 @@ pub(crate) struct Unserved {
     pub(crate) additional_dependencies: Items<ConfigText>,
 }
 
-#[tactic(auto, using(crate::proofs::HookFields::fields_of_hook))]
+#[tactic(auto, using(crate::proofs::HookFields::no_unserved))]
 pub(crate) fn unserved_of(alloc: Global, rows: &[(String, Node)]) -> Result<Unserved, ConfigKind>
     ensures read { IfOk result (AreUnserved (rows_of rows.now)) }
     ensures refused { IfErr result (IsNeverHook (rows_of rows.now)) }
@@ -49,7 +50,7 @@ pub(crate) struct Names {
     pub(crate) alias: ConfigText,
 }
 
-#[tactic(auto, using(crate::proofs::HookFields::fields_of_hook))]
+#[tactic(auto, using(crate::proofs::HookFields::no_names))]
 pub(crate) fn names_of(alloc: Global, rows: &[(String, Node)]) -> Result<Names, ConfigKind>
     ensures read { IfOk result (AreNames (rows_of rows.now)) }
     ensures refused { IfErr result (IsNeverHook (rows_of rows.now)) }
@@ -69,15 +70,19 @@ pub(crate) struct Command {
     pub(crate) args: Items<ConfigText>,
 }
 
-#[tactic(auto, using(crate::proofs::HookFields::fields_of_hook))]
+#[tactic(auto, using(crate::proofs::HookFields::no_command))]
 pub(crate) fn command_of(alloc: Global, rows: &[(String, Node)]) -> Result<Command, ConfigKind>
     ensures read { IfOk result (IsCommand (rows_of rows.now)) }
     ensures refused { IfErr result (IsNeverHook (rows_of rows.now)) }
 {
+    let name = language_name_at(rows)?;
+    let entry = required_text(alloc, rows, ENTRY)?;
+    let args = texts_or_none(alloc, rows, ARGS)?;
+    let language = language_of(alloc, name, &entry, args.as_slice())?;
     Ok(Command {
-        language: required_language(rows, LANGUAGE)?,
-        entry: required_text(alloc, rows, ENTRY)?,
-        args: texts_or_none(alloc, rows, ARGS)?,
+        language,
+        entry,
+        args,
     })
 }
 
@@ -91,7 +96,7 @@ pub(crate) struct Selection {
     pub(crate) exclude_types: TagNames,
 }
 
-#[tactic(auto, using(crate::proofs::HookFields::fields_of_hook))]
+#[tactic(auto, using(crate::proofs::HookFields::no_selection))]
 pub(crate) fn selection_of(
     alloc: Global,
     rows: &[(String, Node)],
@@ -119,7 +124,7 @@ pub(crate) struct Switches {
     pub(crate) fail_fast: bool,
 }
 
-#[tactic(auto, using(crate::proofs::HookFields::fields_of_hook))]
+#[tactic(auto, using(crate::proofs::HookFields::no_switches))]
 pub(crate) fn switches_of(
     rows: &[(String, Node)],
     defaults: &Defaults,

@@ -1,15 +1,14 @@
 //! The kinds of a configuration's values. A value of another kind than its place wants is `Shape`.
 
-ghost use Rattle.std.specs.Prelude.{◌≡◌, IfErr};
+ghost use Rattle.std.specs.Prelude.{◌≡◌};
 ghost use Rattle.yaml_lines.specs.View.{view};
 ghost use Rattle.hook_config.specs.Gives.{GivesValue, GivesSurely};
-ghost use Rattle.hook_config.specs.Kinds.{text_of, truth_of, truth_of_word, language_of, language_of_word, refusal_of_language};
+ghost use Rattle.hook_config.specs.Kinds.{text_of, truth_of, truth_of_word};
 ghost use Rattle.hook_config.specs.Rows.{Row, rows_of, meanings_of_nodes, table_of, list_of, is_among, texts};
 
 use crate::config_fault::ConfigKind;
 use crate::config_text::ConfigText;
-use crate::configuration::Language;
-use crate::known_keys::{FAIL, FALSE_WORDS, LATER_LANGUAGES, TRUE_WORDS};
+use crate::known_keys::{FALSE_WORDS, TRUE_WORDS};
 use crate::limits::MOST_TEXT_BYTES;
 use std::alloc::Global;
 use yaml_profile::Node;
@@ -84,25 +83,5 @@ fn truth_of_word(word: &str) -> Option<bool>
         Some(false)
     } else {
         None
-    }
-}
-
-/// A language that is served. One that is known and not served is `Unsupported`, another one `BadLanguage`.
-pub(crate) fn language_of(node: &Node) -> Result<Language, ConfigKind>
-    ensures { GivesSurely (λ language. language) result (language_of (view node.now)) }
-{
-    language_of_word(text_in(node)?)
-}
-
-fn language_of_word(word: &str) -> Result<Language, ConfigKind>
-    ensures language { GivesSurely (λ language. language) result (language_of_word word.now) }
-    ensures refusal { IfErr result (λ kind. kind ≡ refusal_of_language word.now) }
-{
-    if word == FAIL {
-        Ok(Language::Fail)
-    } else if is_among(&LATER_LANGUAGES, word) {
-        Err(ConfigKind::Unsupported)
-    } else {
-        Err(ConfigKind::BadLanguage)
     }
 }

@@ -8,7 +8,8 @@
 //! What a key of a hook touches that is to be served is listed in `docs/ARCHITECTURE.md`, "A hook key".
 //!
 //! To serve a language that comes later: take its word out of the later ones, here and in `specs/KnownKeys.antt`, and
-//! give it a name; give `Language` a variant, and `language_of_word` a case in `kinds.rt` and in `specs/Kinds.antt`.
+//! give it a name; give `Language` and `LanguageName` a variant, and the functions of `languages.rt` and of
+//! `specs/Languages.antt` a case.
 
 // The table at the top.
 
@@ -114,7 +115,9 @@ pub(crate) const FILE: &str = "file";
 
 pub(crate) const FAIL: &str = "fail";
 
-pub(crate) const LATER_LANGUAGES: [&str; 3] = ["system", "script", "pygrep"];
+pub(crate) const PYGREP: &str = "pygrep";
+
+pub(crate) const LATER_LANGUAGES: [&str; 2] = ["system", "script"];
 
 // Truths (YAML 1.1, "Boolean Language-Independent Type").
 

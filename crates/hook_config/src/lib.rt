@@ -18,6 +18,7 @@ mod hook_parts;
 mod hook_table;
 mod kinds;
 mod known_keys;
+mod languages;
 mod limits;
 mod reader;
 mod repositories;

@@ -8,7 +8,7 @@ returns c =
     let command = c.in_ok-command.ensures.read in
     let selection = c.in_ok-selection.ensures.read in
     let switches = c.in_ok-switches.ensures.read in
-    hook_of-all _ _ _ names.id names.name names.alias command.language command.entry command.args
+    hook_of-all _ _ _ names.id names.name names.alias command.entry command.args command.language
     selection.files selection.exclude selection.types selection.types_or selection.exclude_types
     switches.stages switches.always_run switches.verbose switches.pass_filenames switches.fail_fast
     unserved.log_file unserved.additional_dependencies
