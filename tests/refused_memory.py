@@ -50,6 +50,16 @@ repos:
 
     stages: []
 """
+# Hooks with patterns, tags and searches: of the plays' files each gets some and not others.
+SELECTION = b"""files: txt
+exclude: ^b
+repos:
+- repo: local
+  hooks:
+  - {id: a, name: A, language: fail, entry: no, files: '^dir/', exclude: 'x|\\.md$', types: [text], types_or: [c, plain-text], exclude_types: [binary]}
+  - {id: b, name: B, language: pygrep, entry: 'c{3}$', args: [--negate]}
+  - {id: c, name: C, language: pygrep, entry: a., args: [-i, --multiline]}
+"""
 # The numbers of want of memory: a run's, and those of `check`, whose words are read as a run's are.
 OF_RUN = (4,)
 OF_CHECK = (4, 12)
@@ -70,6 +80,8 @@ class Play:
 PLAYS = [
     Play("the run without words", [], stdin=CONFIGURATION, status=0),
     Play("a run over files", ["try", ".pre-commit-config.yaml", "b.txt", "a.txt", "dir/c.txt"], status=1),
+    Play("a run of patterns, tags and pygrep", ["try", ".pre-commit-config.yaml", "a.txt", "b.txt", "dir/c.txt"], configuration=SELECTION, status=1),
+    Play("the check of a refused pattern", ["check"], OF_CHECK, configuration=b"repos: []\nfiles: (a|b{2}\n", status=3),
     Play("a refused configuration", [], stdin=b"a: 1\na: 2\n", status=3),
     Play("words that name no command", ["try", "config.yaml"], status=2),
     Play("the check of a configuration", ["check"], OF_CHECK, status=0),

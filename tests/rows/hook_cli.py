@@ -311,12 +311,6 @@ COLUMNS = [
     (["A", WIDE, "B"], "150"),
 ]
 
-# What a hook of the language `fail` says, the names that it is handed, and its answer.
-FAIL_ANSWERS = [
-    ("no", "a", "b c", "status 1, 0 changes\nno\n\na\nb c\n"),
-    ("no", "status 1, 0 changes\nno\n\n\n"),
-]
-
 ROWS = [
     *(("try_over", *case) for case in REPORTS),
     *(("try_over", configuration, "bad.txt", said) for configuration, said in STAGES),
@@ -328,5 +322,4 @@ ROWS = [
     *(("line_of", *words, said) for words, said in LINES),
     *(("hook_text", *hook, said) for hook, said in HOOK_TEXTS),
     *(("columns", *names, said) for names, said in COLUMNS),
-    *(("fail_answer", *case) for case in FAIL_ANSWERS),
 ]

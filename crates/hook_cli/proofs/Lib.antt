@@ -1,7 +1,6 @@
-pub mod JoinLemmas
+pub mod AskLemmas
 pub mod KnownBytesLemmas
 pub mod LineLemmas
 pub mod ReadingLemmas
 pub mod RunLemmas
-pub mod SelectionLemmas
 pub mod ValueLemmas

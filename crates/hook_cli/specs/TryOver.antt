@@ -1,20 +1,23 @@
 -- A run of a configuration over a tree, from the bytes that are read to the bytes that are written.
-use Rattle.std.specs.Prelude.{◌≡◌, ◌≢◌, ◌≤◌, ◌+◌, ◌-◌, ◌^◌, ◌⊎◌, ℕ, Bool, List, [], ◌∷◌, length, map, Option, None, Some}
+use Rattle.std.specs.Prelude.{◌≡◌, ◌≢◌, ◌≤◌, ◌+◌, ◌-◌, ◌^◌, ◌⊎◌, ℕ, Bool, false, List, [], length, map, Option, None, Some}
 use Rattle.std.specs.Io.KnownBytes.{Consumes, IsAtEnd, Appends}
 use Rattle.hook_base.specs.declared.file.File.{File}
 use Rattle.child_port.specs.declared.answer.Outcome.{Outcome}
-use Rattle.child_port.specs.Outcomes.{faults_in}
 use Rattle.hook_config.specs.declared.configuration.Config.{Config}
 use Rattle.hook_config.specs.declared.config_fault.ConfigFault.{ConfigFault}
 use Rattle.hook_config.specs.declared.config_fault.ConfigKind.TheVariants as kind
 use Rattle.hook_config.specs.declared.stage.Stage.TheVariants.{PreCommit}
 use Rattle.hook_config.specs.Configuration.{configuration_of}
+use Rattle.hook_config.specs.Gives.{UnlessLeftOpen}
 use Rattle.hook_config.specs.Refusals.{TellsTooLarge}
 use Rattle.report_text.specs.declared.hook_result.HookResult.{HookResult}
+use Rattle.report_text.specs.Report.{report_text}
+use Rattle.hook_run.specs.declared.run_ask.RunAsk.{RunAsk}
+use Rattle.hook_run.specs.Asks.{names_of_run}
+use Rattle.hook_run.specs.Parts.{AllTold, Part, all_parts, faults_of}
+use Rattle.hook_run.specs.StageRun.{IsStageRun, has_passed}
 use Rattle.hook_cli.specs.declared.try_fault.TryFault.{TryFault}
 use Rattle.hook_cli.specs.declared.try_fault.TryFault.TheVariants.{Read, Config as BadConfig, Write, OutOfMemory, Spent}
-use Rattle.report_text.specs.Report.{report_text}
-use Rattle.hook_cli.specs.StageRun.{Ask, AllTold, IsStageRun, Part, all_parts, has_passed, names_of_run}
 -- ---- what is read. Of a reader that doesn't say its bytes nothing is claimed
 
 -- the greatest number of bytes of a configuration is that of any text
@@ -33,25 +36,21 @@ pub record ReadsConfiguration (given left : Option (List ℕ)) (config : Config)
   pub ended : IsAtEnd left
   pub meant : configuration_of bytes ≡ Some config
 
--- The bytes that were read are no configuration: they are all that there are, or one more than a configuration may have,
--- which is refused as such.
+-- The bytes that were read are no configuration, or hold a pattern that `regex` refuses: they are all that there are, or one
+-- more than a configuration may have, which is refused as such.
 pub record ReadsNoConfiguration (given left : Option (List ℕ)) (fault : ConfigFault) : Type 0 where
   pub bytes : List ℕ
   pub read : Consumes given left bytes
   pub ended : IsAtEnd left ⊎ (length bytes ≡ most_bytes + 1)
-  pub none : configuration_of bytes ≡ None
+  pub none : UnlessLeftOpen fault.kind (configuration_of bytes ≡ None)
   pub large : TellsTooLarge bytes fault
 
 -- ---- what is run
 
 -- the hooks of the stage `pre-commit`, with all files of the tree as candidates: no hook is skipped and none left out
-abbrev pub ask_for_all : List File → Ask
-ask_for_all tree = record { stage = PreCommit; candidates = map (λ row. row.path) tree; only = None; skip = [] }
-
--- how many faults the parts are
-abbrev pub faults_of : List Part → ℕ
-faults_of [] = 0
-faults_of (part ∷ parts) = faults_in part.outcome + faults_of parts
+abbrev pub ask_for_all : List File → RunAsk
+ask_for_all tree =
+    record { stage = PreCommit; candidates = map (λ row. row.path) tree; only = None; skip = []; fresh = false }
 
 -- What was read is a configuration, and there is a run of its stage on the tree, with outcomes that the children tell,
 -- whose report is what was written. `passed` says whether no hook failed. Of a writer that doesn't say its bytes nothing

@@ -2,22 +2,20 @@
 //!
 //! The contract of [`try_over`] cites `specs/TryOver.antt`.
 
-ghost use Rattle.std.specs.Prelude.{◌≡◌, ◌≢◌, ◌≤◌, ◌+◌, All, IfOk, IfErr, OnOk, List, map, length};
+ghost use Rattle.std.specs.Prelude.{◌≡◌, ◌≢◌, ◌≤◌, ◌+◌, IfOk, IfErr, OnOk};
 ghost use Rattle.std.specs.Io.KnownBytes.{Appends};
 ghost use Rattle.child_port.specs.Telling.{SameTells};
-ghost use Rattle.report_text.specs.Report.{report_text, greatest_width, width_of};
-ghost use Rattle.hook_cli.specs.StageRun.{IsStageRun, has_passed, names_of_run, no_parts};
+ghost use Rattle.hook_run.specs.RunOuts.{IsRunOut};
 ghost use Rattle.hook_cli.specs.TryOver.{IsRefusedBy, IsTriedOver, ReadsWithin, ask_for_all, most_bytes};
-ghost use Rattle.report_text.specs.declared.hook_result.HookResult.{HookResult};
 ghost use Rattle.hook_cli.specs.declared.try_fault.TryFault.TheVariants as fault;
 
 use crate::TryFault;
 use crate::configuration_bytes::read_bytes;
-use crate::hook_run::{has_passed, hooks_of_stage, run_hooks};
+use crate::run_ask::ask_for_all;
 use child_port::Children;
 use hook_base::{OutOfMemory, Tree};
-use hook_config::{Config, Hook, Stage, read_config};
-use report_text::{columns, hook_texts};
+use hook_config::{Config, read_config};
+use hook_run::{Need, RunOut, RunPlan, RunRefusal};
 use std::alloc::Global;
 use std::io::{Read, Write};
 
@@ -27,7 +25,8 @@ use std::io::{Read, Write};
 /// A read that gives no bytes ends the input. Of an input of more than 1,048,576 bytes one more than that is read. The
 /// refusals are, in the order in which they may come:
 ///
-/// - `Read` where the reader gives an error, and `Config` where the bytes are no configuration: no child was called;
+/// - `Read` where the reader gives an error, and `Config` where the bytes are no configuration, or where `regex` refuses one of
+///   its patterns: no child was called;
 /// - `Spent` where a child is needed and the children have told as many outcomes as can be counted;
 /// - `Write` where the writer gives an error: any part of the report may be out;
 /// - `OutOfMemory` at any time.
@@ -58,44 +57,32 @@ pub fn try_over<R: Read, W: Write, C: Children>(
 {
     let bytes = read_bytes(alloc, reader)?;
     let config = read_config(alloc, bytes.as_slice())?;
-    let report = stage_report_of(alloc, &config, tree)?;
-    write_report(writer, report.bytes.as_slice())?;
-    Ok(report.passed)
+    let out = run_on_all(alloc, &config, tree)?;
+    write_report(writer, out.report.as_slice())?;
+    Ok(out.passed)
 }
 
-// What a run of a stage is to write, and whether every hook passed.
-#[derive(Drop)]
-struct StageReport {
-    bytes: Vec<u8>,
-    passed: bool,
-}
-
-fn stage_report_of(alloc: Global, config: &Config, tree: &Tree) -> Result<StageReport, OutOfMemory>
-    ensures { IfOk result (λ report. (results : List HookResult)
-        × IsStageRun config.now (ask_for_all tree.now) tree.now (no_parts results) results
-        × (report.bytes.items ≡ report_text (names_of_run config.now (ask_for_all tree.now)) results)
-        × (report.passed ≡ has_passed results)) }
+// The run of the stage `pre-commit` with all files of the tree as candidates. Its hooks need no children yet.
+fn run_on_all(alloc: Global, config: &Config, tree: &Tree) -> Result<RunOut, OutOfMemory>
+    ensures { IfOk result (IsRunOut config.now (ask_for_all tree.now) tree.now) }
 {
-    let hooks = hooks_of_stage(alloc, config, Stage::PreCommit)?;
-    let names = names_of(alloc, hooks.as_slice())?;
-    let columns = columns(names.as_slice());
-    let results = run_hooks(alloc, config.fail_fast, hooks.as_slice(), tree)?;
-    Ok(StageReport {
-        bytes: hook_texts(alloc, columns, results.as_slice())?,
-        passed: has_passed(results.as_slice()),
-    })
-}
-
-// The names of the hooks, those after the last one that is run among them.
-fn names_of<'a>(alloc: Global, hooks: &[&'a Hook]) -> Result<Vec<&'a str>, OutOfMemory>
-    ensures same { IfOk result (λ names. map (λ name. name.now) names.items ≡ map (λ hook. hook.now.name) hooks.now) }
-    ensures within { IfOk result (λ names. All (λ name. length name.now ≤ most_bytes) names.items) }
-{
-    let mut names = Vec::new(alloc);
-    for hook in hooks {
-        names.push(hook.name.as_str())?;
+    let plan = plan_on_all(alloc, config, tree)?;
+    match plan.next() {
+        Need::Over => Ok(plan.finish()),
+        Need::Child => unreachable!(),
     }
-    Ok(names)
+}
+
+fn plan_on_all(alloc: Global, config: &Config, tree: &Tree) -> Result<RunPlan, OutOfMemory>
+    ensures { IfOk result (IsRunOut config.now (ask_for_all tree.now) tree.now) }
+{
+    let ask = ask_for_all(alloc, tree)?;
+    match RunPlan::begin(alloc, config, &ask, tree) {
+        Ok(plan) => Ok(plan),
+        Err(RunRefusal::OutOfMemory) => Err(OutOfMemory),
+        // No hook is asked for by its name, and no child was needed.
+        Err(RunRefusal::NoSuchHook | RunRefusal::Spent) => unreachable!(),
+    }
 }
 
 fn write_report<W: Write>(writer: &mut W, report: &[u8]) -> Result<(), TryFault>

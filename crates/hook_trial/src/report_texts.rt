@@ -1,8 +1,7 @@
-//! What a report says of hooks that ended in every way, and what a hook of the language `fail` answers.
+//! What a report says of hooks that ended in every way.
 
-use child_port::{Answer, Fault};
+use child_port::Fault;
 use hook_base::{Bytes, Items, Text};
-use hook_cli::fail_answer;
 use report_text::{Ending, HookResult, LineFault, MOST_NAME_BYTES, columns, hook_text};
 use std::alloc::Global;
 use trial_rows::{Stop, number_of, text_of, texts_of};
@@ -102,23 +101,4 @@ pub(crate) fn for_names(alloc: Global, arguments: &[Vec<u8>]) -> Result<Vec<u8>,
         return Err(Stop::BadLine);
     }
     Ok(columns(names.as_slice()).to_string(alloc)?.into_bytes())
-}
-
-/// `fail_answer ENTRY NAME..`: the status, the number of changes and the output of a hook of the language `fail`.
-pub(crate) fn of_fail(alloc: Global, arguments: &[Vec<u8>]) -> Result<Vec<u8>, Stop> {
-    let [entry, names @ ..] = arguments else {
-        return Err(Stop::BadLine);
-    };
-    let names = texts_of(alloc, names)?;
-    told(
-        alloc,
-        &fail_answer(alloc, text_of(entry.as_slice())?, names.as_slice())?,
-    )
-}
-
-fn told(alloc: Global, answer: &Answer) -> Result<Vec<u8>, Stop> {
-    let (status, changes) = (answer.status, answer.changes.as_slice().len());
-    let mut line = format!(in alloc; "status {status}, {changes} changes\n")?.into_bytes();
-    line.extend_from_slice(answer.output.as_slice())?;
-    Ok(line)
 }

@@ -2,28 +2,28 @@ use Rattle.std.proofs.Common.{◌∙◌, ap, sym, subst, List, ℕ, arith}
 use Rattle.std.proofs.lemmas.Result.{err_from_is_err_and}
 use Rattle.std.specs.Io.KnownBytes.{Appends}
 use Rattle.hook_config.specs.Configuration.{configuration_of}
-use Rattle.hook_cli.specs.StageRun.{no_parts}
+use Rattle.hook_run.specs.Parts.{all_parts}
 use Rattle.hook_cli.proofs.ReadingLemmas.{read-configuration, refused-write}
 use Rattle.hook_cli.proofs.RunLemmas.{counted-none, told-none}
 use Rattle.hook_cli.proofs.configuration_run.try_over.Goals as goal
 
 pub returns-clause-tried : goal.returns-clause-tried
 returns-clause-tried g c =
-    let report = c.in_ok-report.ensures in
+    let run = c.in_ok-out.ensures in
     let meant = ap configuration_of (sym c.as_slice.ensures.value) ∙ c.in_ok-config.ensures.meant in
     record {
       config = c.in_ok-config.config;
-      trace = no_parts report.0;
-      results = report.0;
+      trace = run.trace;
+      results = c.in_ok-out.out.results;
       read = read-configuration (g.R.Read.remaining c.args.reader.now) (g.R.Read.remaining c.read_bytes.new.reader) c.in_ok-bytes.bytes.items
           c.in_ok-config.config c.in_ok-bytes.ensures.read meant;
-      run = report.1;
-      told = told-none (g.C.Children.tells c.args.children.now) report.0;
+      run = run.run;
+      told = told-none (g.C.Children.tells c.args.children.now) (all_parts run.trace) run.childless;
       called = omega arith;
-      counted = counted-none (g.C.Children.fault_count c.args.children.now) report.0;
-      verdict = report.3;
+      counted = counted-none (g.C.Children.fault_count c.args.children.now) (all_parts run.trace) run.childless;
+      verdict = run.verdict;
       written = subst (λ (bytes : List ℕ). Appends (g.W.Write.contents c.args.writer.now) (g.W.Write.contents c.write_report.new.writer) bytes)
-          (c.as_slice-2.ensures.value ∙ report.2) c.in_ok-write_report.ensures.ok;
+          (c.as_slice-2.ensures ∙ run.report) c.in_ok-write_report.ensures.ok;
     }
 
 pub returns-in_err-write_report-clause-refused : goal.returns-in_err-write_report-clause-refused

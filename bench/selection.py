@@ -1,0 +1,188 @@
+#!/usr/bin/env python3
+"""Times patterns, tags and `pygrep` in `hookhost try` beside other programs on the same files, and prints ratios.
+
+Usage: bench/selection.py [PROGRAM [TRIAL]]   (default: crates/hookhost/out/hookhost, crates/selection_trial/out/selection_trial)
+
+The others are `git grep`, `grep`, `cat`, the program for tests that builds patterns and does nothing else, and pre-commit,
+where that is installed. The commands of a line take turns, so that a busy moment hits them alike, and each figure is the
+median of their wall times, in seconds. Each output goes through a pipe, since `grep` stops at the first match where it
+writes to /dev/null. A pre-commit that is too slow for several runs is run once.
+"""
+import os
+import shutil
+import statistics
+import subprocess
+import sys
+import tempfile
+
+sys.path.insert(0, os.path.dirname(os.path.abspath(__file__)))
+from timing import HERE, once, program
+
+PROGRAM = program()
+TRIAL = os.path.abspath(sys.argv[2] if len(sys.argv) > 2 else os.path.join(HERE, "..", "crates/selection_trial/out/selection_trial"))
+PRE_COMMIT = shutil.which("pre-commit")
+CONFIGURATION = ".pre-commit-config.yaml"
+# Lines of 40 bytes with their line feeds.
+PLAIN = "the quick brown fox jumps over the dogs\n"
+HIT = "the quick brown TODO jump over the dogs\n"
+COUNTS = (1, 50, 500)
+HALF, PATHS = 5000, 10000
+
+
+# ---- files
+
+def write(name, text):
+    with open(name, "w", encoding="utf-8") as file:
+        file.write(text)
+
+
+def lines(count, every):
+    """So many lines of 40 bytes, of which one in `every` has the word that is looked for."""
+    return "".join(HIT if every and number % every == 0 else PLAIN for number in range(count))
+
+
+def configuration(name, hooks):
+    write(name, "repos:\n- repo: local\n  hooks:\n" + "".join(f"  - {{{hook}}}\n" for hook in hooks))
+
+
+def fail_hooks(count, key):
+    """Hooks that no file is selected for, each by a value of its own."""
+    return [f"id: h{number}, name: Hook {number}, language: fail, entry: no, {key(number)}" for number in range(count)]
+
+
+def by_files(number):
+    return rf"files: '^src/module{number}/.*\.(c|h)$'"
+
+
+def by_types(number):
+    return "types: [image]"
+
+
+def grep_hook(entry):
+    return f"id: g, name: G, language: pygrep, entry: {entry}"
+
+
+# ---- times
+
+def piped(words, stdin="/dev/null"):
+    """The command with its output going through a pipe."""
+    return ["sh", "-c", 'stdin=$1; shift; "$@" < "$stdin" | cat', "sh", stdin, *words]
+
+
+def medians(commands, runs):
+    """The median wall time of each command in seconds. They take turns."""
+    times = [[once(words) / 1000 for words in commands] for _ in range(runs)]
+    return [statistics.median(each) for each in zip(*times)]
+
+
+def show(what, ours, other, beside, aim=""):
+    aim = f"  aim {aim}" if aim else ""
+    print(f"{what:58} {ours:8.4f} s  {beside:14} {other:8.4f} s  ratio {ours / other:6.2f}{aim}", flush=True)
+
+
+def show_twice(what, one, two):
+    print(f"{what:58} {two:8.4f} s  {'half of it':14} {one:8.4f} s  ratio {two / one:6.2f}  aim 2.2", flush=True)
+
+
+def tried(name, paths):
+    return piped([PROGRAM, "try", name, *paths])
+
+
+def beside_pre_commit(what, ours):
+    """The same configuration by pre-commit, on all files of the repository."""
+    if PRE_COMMIT:
+        slow = once(piped([PRE_COMMIT, "run", "--all-files", "--color", "never"])) / 1000
+        other = medians([piped([PRE_COMMIT, "run", "--all-files", "--color", "never"])], 3)[0] if slow < 3 else slow
+        show(what, ours, other, "pre-commit", 1)
+
+
+# ---- what is timed
+
+def time_many_files(paths):
+    """`pygrep` over many small files."""
+    configuration(CONFIGURATION, [grep_hook("TODO")])
+    ours, git_grep, grep = medians([tried(CONFIGURATION, paths), piped(["git", "grep", "-n", "TODO"]), piped(["grep", "-n", "TODO", *paths])], 15)
+    what = f"pygrep, {len(paths)} files of 400 bytes"
+    show(what, ours, git_grep, "git grep -n")
+    show(what, ours, grep, "grep -n")
+    show(what, ours, min(git_grep, grep), "the faster", 2)
+    beside_pre_commit(what, ours)
+
+
+def time_large_file():
+    """`pygrep` over one file of 16 MiB, in a repository of its own."""
+    for what, every, aim in (("without a match", 0, 5), ("one line in ten matches", 10, 3)):
+        folder = tempfile.mkdtemp(dir=".")
+        os.chdir(folder)
+        write("large.txt", lines(16 * 1024 * 1024 // 40, every))
+        configuration(CONFIGURATION, [grep_hook("TODO")])
+        stage()
+        ours, grep = medians([tried(CONFIGURATION, ["large.txt"]), piped(["grep", "-n", "TODO", "large.txt"])], 15)
+        show(f"pygrep, one file of 16 MiB, {what}", ours, grep, "grep -n | cat", aim)
+        beside_pre_commit(f"pygrep, one file of 16 MiB, {what}", ours)
+        os.chdir("..")
+        shutil.rmtree(folder)
+
+
+def time_hooks(paths):
+    """Hooks that no file is selected for."""
+    for word, key in (("files", by_files), ("types", by_types)):
+        for few in (paths[:1000], paths):
+            times = {}
+            for count in COUNTS:
+                configuration(CONFIGURATION, fail_hooks(count, key))
+                times[count], cat = medians([tried(CONFIGURATION, few), piped(["cat", *few])], 7)
+                aim = 10 if word == "files" and (count, len(few)) == (500, PATHS) else ""
+                what = f"{count} hooks by `{word}`, {len(few)} paths, none selected"
+                show(what, times[count], cat, "cat", aim)
+                if len(few) == PATHS:
+                    beside_pre_commit(what, times[count])
+        configuration("half.yaml", fail_hooks(250, key))
+        configuration("whole.yaml", fail_hooks(500, key))
+        one, two, half = medians([tried("half.yaml", paths), tried("whole.yaml", paths), tried("whole.yaml", paths[:HALF])], 7)
+        show_twice(f"twice the hooks by `{word}` (250 to 500, {PATHS} paths)", one, two)
+        show_twice(f"twice the paths by `{word}` ({HALF} to {PATHS}, 500 hooks)", half, two)
+
+
+def time_patterns(paths):
+    """A configuration of 500 patterns, beside a program that builds the same patterns."""
+    patterns = [rf"^src/module{number}/.*\.(c|h)$" for number in range(500)]
+    configuration("patterns.yaml", fail_hooks(500, by_files))
+    write("patterns.rows", "".join(f"pattern {each.encode().hex()}\n" for each in patterns))
+    ours, alone, none = medians([tried("patterns.yaml", paths[:1]), piped([TRIAL], "patterns.rows"), piped([TRIAL])], 31)
+    show("a configuration with 500 patterns, one path", ours, alone, "building them", 1.5)
+    print(f"{'':58} {none:8.4f} s  of which the program for tests takes without a pattern")
+
+
+def stage():
+    """Makes the current folder a repository with all of its files staged."""
+    subprocess.run(["git", "init", "--quiet", "."], check=True)
+    subprocess.run(["git", "add", "."], check=True)
+
+
+def main():
+    for built in (PROGRAM, TRIAL):
+        if not os.path.exists(built):
+            sys.exit(f"bench/selection.py: there is no {built}: build it with `rt run` in its crate's folder")
+    folder = tempfile.mkdtemp()
+    os.environ.update(PRE_COMMIT_HOME=os.path.join(folder, "home"), GIT_CONFIG_GLOBAL="/dev/null")
+    os.mkdir(os.path.join(folder, "work"))
+    os.chdir(os.path.join(folder, "work"))
+    try:
+        os.mkdir("files")
+        paths = [f"files/f{number:05}.txt" for number in range(PATHS)]
+        for number, path in enumerate(paths):
+            write(path, lines(10, 10 if number % 100 == 0 else 0))
+        configuration(CONFIGURATION, [])
+        stage()
+        time_many_files(paths)
+        time_hooks(paths)
+        time_patterns(paths)
+        os.chdir("..")
+        time_large_file()
+    finally:
+        os.chdir("/")
+        shutil.rmtree(folder)
+
+
+main()
