@@ -29,10 +29,10 @@ import tempfile
 import unicodedata
 from unittest import mock
 
+from debian_python import try_again
+
 HERE = os.path.dirname(os.path.abspath(__file__))
 PROGRAM = os.path.abspath(sys.argv[1] if len(sys.argv) > 1 else os.path.join(HERE, "..", "crates/hookhost/out/hookhost"))
-DEBIANS_PYTHON = "/usr/bin/python3"
-SECOND_TRY = "COMPARE_REPORTS_SECOND_TRY"
 
 try:
     from identify import extensions, identify, interpreters
@@ -42,10 +42,7 @@ try:
     from pre_commit.languages import pygrep
     from pre_commit.xargs import partition
 except ImportError:
-    if SECOND_TRY not in os.environ and os.access(DEBIANS_PYTHON, os.X_OK):
-        os.environ[SECOND_TRY] = "1"
-        os.execv(DEBIANS_PYTHON, [DEBIANS_PYTHON, *sys.argv])
-    sys.exit("tests/compare_reports.py: there is no pre-commit (Debian's package) to compare reports with")
+    try_again("pre-commit (Debian's package)")
 
 # Repositories are made here where it can be: on the disk they would take minutes.
 IN_MEMORY = "/dev/shm"
