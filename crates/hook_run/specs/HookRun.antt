@@ -1,6 +1,6 @@
--- What one hook of a run ends with, on the tree that the hooks before it left. A language with children gets its case in
--- IsLanguageRun, with what their commands need beside files and tree: further files that they see, and the most names of
--- one part; there the tree after the parts says whether tracked files were modified.
+-- What one hook of a run ends with, on the tree that the hooks before it left. No language has children yet. One
+-- that has would get its case in IsLanguageRun, with what its commands need beside files and tree: further files that they
+-- see, and the most names of one part; and there the tree after the parts would say whether tracked files were modified.
 use Rattle.std.specs.Prelude.{◌≡◌, ℕ, ◌&&◌, false, not, MatchBool, if◌then◌else◌, List, []}
 use Rattle.hook_base.specs.declared.file.File.{File}
 use Rattle.child_port.specs.declared.answer.Answer.{Answer}

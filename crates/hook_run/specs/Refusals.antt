@@ -1,4 +1,4 @@
--- The refusals of a run, with their numbers and names. A memory that refuses is the number 2, which no refusal has yet.
+-- The refusals of a run, with their numbers and names. The number 2 is kept for a refusal of remembered answers.
 use Rattle.std.specs.Prelude.{ℕ, List, codes}
 use Rattle.hook_run.specs.declared.run_refusal.RunRefusal.{RunRefusal}
 use Rattle.hook_run.specs.declared.run_refusal.RunRefusal.TheVariants.{OutOfMemory, NoSuchHook, Spent}

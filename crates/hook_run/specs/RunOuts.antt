@@ -1,5 +1,5 @@
--- What a run gives, and what a plan of one needs. What is started, what is put into a memory of answers and which hooks are
--- unsteady is said in IsRunOut alone.
+-- What a run gives, and what a plan of one needs. IsRunOut alone says that no child is started and that no hook is unsteady;
+-- what would be started, remembered or unsteady belongs there.
 use Rattle.std.specs.Prelude.{◌≡◌, List, []}
 use Rattle.hook_base.specs.declared.file.File.{File}
 use Rattle.hook_config.specs.declared.configuration.Config.{Config}

@@ -36,7 +36,7 @@ impl RunPlan {
     /// is one without selected files, unless it always runs. After a hook that failed no other is run where the configuration
     /// or that hook has `fail_fast`.
     ///
-    /// `NoSuchHook` exactly where `only` has a name that no hook of the stage has, skipped ones among them; else `OutOfMemory`
+    /// `NoSuchHook` exactly where `only` has a name that no hook of the stage has (a hook in `skip` counts too); else `OutOfMemory`
     /// where memory is refused. `Spent` is never answered here.
     pub fn begin(
         alloc: Global,
