@@ -98,11 +98,13 @@ fn ending_of(alloc: Global, hook: &Hook, files: &[&str]) -> Result<Ending, OutOf
     if files.is_empty() && !hook.always_run {
         return Ok(Ending::SkippedNoFiles);
     }
-    match hook.language {
+    match &hook.language {
         Language::Fail => {
             let answer = fail_answer(alloc, hook.entry.as_str(), names_for(hook, files))?;
             Ok(ending_of_answer(alloc, answer))
         }
+        // It isn't run yet: a refusal is no answer.
+        Language::Pygrep(_) => Err(OutOfMemory),
     }
 }
 
