@@ -163,6 +163,8 @@ KEYS = [
     ("exclude: '['", "7 BadPattern at 1"),
     ("files: 'a(?=b)'", "7 BadPattern at 1"),
     ("exclude: '(a)\\1'", "7 BadPattern at 1"),
+    # A path is a text, so a pattern of bytes that are no UTF-8 is none.
+    ("files: '(?-u)\\xff'", "7 BadPattern at 1"),
     ("types: python", "2 Shape at 1"),
     ("types: {a: b}", "2 Shape at 1"),
     ("types: [python, [b]]", "2 Shape at 1"),
@@ -209,6 +211,9 @@ TOP_PATTERNS = [
 
 # A pattern that is too big once it is built.
 TOO_BIG = "((a{1,100}){1,100}){1,100}"
+
+# A pattern of 64 KiB is taken, and one of nearly 1 MiB is too big once it is built.
+LONG = "x" * 65536
 
 # A text in single quotes that takes a configuration of one hook to its greatest size: the pattern of `files` at the top.
 LONGEST = "x" * (1048576 - len(f"files: ''\n{ONE_HOOK}"))
@@ -513,7 +518,9 @@ ROWS = [
     *(("top_patterns", f"{ONE_HOOK}{keys}", said) for keys, said in TOP_PATTERNS),
     *both([(f"files: {TOO_BIG}\n{ONE_HOOK}", "7 BadPattern at 0"), (f"{ONE_HOOK}    exclude: {TOO_BIG}\n", "7 BadPattern at 1")]),
     *both([(f"{START}  - {{id: a, name: A, language: pygrep, entry: '{TOO_BIG}'}}\n", "7 BadPattern at 1")]),
+    ("top_patterns", f"files: '{LONG}'\n{ONE_HOOK}", f"{LONG}|^$"),
     ("top_patterns", f"files: '{LONGEST}'\n{ONE_HOOK}", "7 BadPattern at 0"),
+    ("hooks", in_a_hook(f"types: [{LONG}, b]"), hook_line({"types": f"+{LONG}+b"})),
     *both([(f"files: '{LONGEST}x'\n{ONE_HOOK}", "1 Yaml at 1")]),
     ("hooks", ONE_HOOK, hook_line({"id": "names", "name": "Check names", "entry and args": "no such names"})),
     *(("hooks", in_a_hook(keys), hook_line(changed)) for keys, changed in FIELDS),
