@@ -62,30 +62,32 @@ Case = collections.namedtuple("Case", "top hooks tree own_process")
 FOLDERS = ["", "", "src/", "src/deep/", "lib/", "docs/", "a b/", "\u00e9/", ".hidden/"]
 STEMS = ["a", "b1", "x.tar", "README", "Makefile", "setup", "\u65e5", "it's", "Dockerfile", "LICENSE"]
 ENDS = ["", "", ".py", ".py", ".PY", ".pyi", ".md", ".txt", ".txt", ".c", ".h", ".yaml", ".json", ".sh", ".png", ".svg", ".plist", ".bin", ".in"]
-PIECES = [b"a", b"b", b"c", b"x", b"A", b"-", b" ", b"\t", b"7", b".", b"ab", b"\n", b"\n", b"\n", b"\r\n", b"\r\n", b"\r", b"\xff", b"\x00", b"TODO", "\u00e9".encode()]
+PIECES = [b"a", b"b", b"c", b"x", b"A", b"-", b" ", b"\t", b"7", b".", b"ab", b"\n", b"\n", b"\n", b"\r\n", b"\r\n", b"\r", b"TODO", b"\xff", b"\xffa", b"\x00", "\u00e9".encode()]
 SCRIPTS = [b"#!/bin/sh\n", b"#!/usr/bin/env python3\n", b"#!/usr/bin/env -S node -x\n"]
 
 
 def contents(rng):
-    text = b"".join(rng.choice(PIECES[:-4] if rng.random() < 0.8 else PIECES) for _ in range(rng.randint(0, 14)))
+    odd = rng.random() < 0.3
+    text = b"".join(rng.choice(PIECES if odd else PIECES[:-4]) for _ in range(rng.randint(0, 14)))
     return rng.choice(SCRIPTS) + text if rng.random() < 0.1 else text
 
 
 def tree(rng):
     names = {rng.choice(FOLDERS) + rng.choice(STEMS) + rng.choice(ENDS) for _ in range(rng.randint(1, 12))}
-    return {name: File(rng.random() < 0.07, contents(rng)) for name in sorted(names)}
+    return {name: File(rng.random() < 0.12, contents(rng)) for name in sorted(names)}
 
 
 # ---- random configurations
 
 PATHS = ["", "", "^src/", "^lib/", r"\.py$", r"\.(md|txt)$", "a", "b1", r"^[^/]*$", "(?i:makefile|readme)", r"\bx\b", "^docs/.*", "[\u00e9\u65e5]", r"\d",
-         "README", "/.+/", "^(src|lib)/[a-c]", r"\.[ch]$", "docs/*", " ", "'", r"^\.", "^$", ".", r"\w{5,}", r"(?:\.tar)?\.[a-z]{2}$", r"\Aa|h\Z".replace(r"\Z", "$")]
+         "README", "/.+/", "^(src|lib)/[a-c]", r"\.[ch]$", " ", "'", r"^\.", "^$", ".", r"\w{5,}", r"(?:\.tar)?\.[a-z]{2}$", r"\Aa|h\Z".replace(r"\Z", "$")]
 VERBOSE_PATH = "(?x)^(\n    src/.*|   # all of it\n    lib/.*\\.c\n)$\n"
 TAGS = ["file", "text", "text", "binary", "python", "markdown", "plain-text", "c", "header", "shell", "yaml", "json", "png", "image", "makefile", "svg",
         "executable", "non-executable", "javascript", "dockerfile"]
 ATOMS = ["a", "b", "c", "x", "A", " ", "-", r"\.", ".", "[ab]", "[a-c]", r"\d", r"\t", "^", "$", r"\b", "TODO", "(?:a|x)", "[^a]", r"\s", r"\w", "\u00e9"]
 ARGUMENTS = ["-i", "--ignore-case", "--multiline", "--negate"]
-NAMES = ["Check", "a", "A name of more than fifty columns, so that each line is wider than eighty", "\u65e5\u672c", "\u65e5" * 30, "e\u0301 accents", "caf\u00e9: 'x'", ""]
+NAMES = ["Check", "a", "A name of more than fifty columns, so that each line is wider than eighty", "\u65e5\u672c", "\u65e5" * 30, "caf\u00e9: 'x'", ""]
+ACCENT = "e\u0301 accent"
 ENTRIES = ["no such names", "", "one\ntwo", "  blanks around\n\n", "caf\u00e9 \u65e5", "it's \"quoted\" \\ {x} #y"]
 STAGES = [["commit"], ["commit", "push"], ["push"], ["manual"], []]
 
@@ -114,13 +116,14 @@ def truth(rng):
 
 
 def hook(rng, number):
-    made = {"id": rng.choice(["same", f"h{number}"]), "name": rng.choice(NAMES), "language": rng.choice(["fail", "pygrep", "pygrep"])}
+    made = {"id": rng.choice(["same", f"h{number}"]), "name": rng.choice(NAMES) if rng.random() < 0.97 else ACCENT, "language": rng.choice(["fail", "pygrep", "pygrep"])}
     made["entry"] = rng.choice(ENTRIES) if made["language"] == "fail" else line_pattern(rng)
     tags = lambda: rng.sample(TAGS, rng.randint(0, 2))
     made |= maybe(rng, 0.25, files=lambda: path_pattern(rng), exclude=lambda: path_pattern(rng), args=lambda: [it for it in ARGUMENTS if rng.random() < 0.4])
     made |= maybe(rng, 0.15, types=tags, types_or=tags, exclude_types=tags, alias=lambda: "other")
     made |= maybe(rng, 0.15, pass_filenames=truth(rng), always_run=truth(rng), verbose=truth(rng), fail_fast=truth(rng), require_serial=truth(rng))
-    made |= maybe(rng, 0.05, stages=lambda: rng.choice(STAGES), description=lambda: "of no use", color=lambda: "unknown to both")
+    made |= maybe(rng, 0.05, stages=lambda: rng.choice(STAGES), description=lambda: "of no use")
+    made |= maybe(rng, 0.02, color=lambda: "unknown to both")
     return made
 
 
