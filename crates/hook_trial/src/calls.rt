@@ -1,8 +1,8 @@
 //! The calls by their names. Each library has a function of its own here.
 
 use crate::{
-    checks, command_lines, config_kinds, config_texts, configurations, report_texts, runs, stages,
-    try_faults,
+    checks, command_lines, config_kinds, config_texts, configurations, plans, report_texts, runs,
+    stages, try_faults,
 };
 use std::alloc::Global;
 use trial_rows::{Row, Stop};
@@ -55,7 +55,7 @@ fn of_hook_cli(alloc: Global, call: &str, arguments: &[Vec<u8>]) -> Option<Resul
         "line_of" => command_lines::asked(alloc, arguments),
         "hook_text" => report_texts::of_hook(alloc, arguments),
         "columns" => report_texts::for_names(alloc, arguments),
-        "fail_answer" => report_texts::of_fail(alloc, arguments),
+        "run" => plans::played(alloc, arguments),
         _ => return None,
     })
 }

@@ -4,12 +4,14 @@
 //! How a line is written says the crate `trial_rows`. At a line that is no call the program ends with the exit status 2.
 #![tactic(auto)]
 
+mod asks;
 mod calls;
 mod checks;
 mod command_lines;
 mod config_kinds;
 mod config_texts;
 mod configurations;
+mod plans;
 mod readers;
 mod report_texts;
 mod runs;
