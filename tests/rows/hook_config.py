@@ -48,6 +48,37 @@ def with_language(language):
     return f"repos: [{{repo: local, hooks: [{{id: a, name: A, language: {language}, entry: e}}]}}]\n"
 
 
+def with_pygrep(keys):
+    """A configuration whose only hook is of the language `pygrep`, with an entry among these keys."""
+    return f"repos: [{{repo: local, hooks: [{{id: a, name: A, language: pygrep, {keys}}}]}}]\n"
+
+
+# The fields of the hook of `in_a_hook` without further keys, but its stages, in the order of the type.
+FIELDS_OF_A_HOOK = {
+    "id": "a",
+    "name": "A",
+    "alias": "",
+    "language": "Fail",
+    "entry and args": "e",
+    "files": "",
+    "exclude": "^$",
+    "types": "+file",
+    "types_or": "",
+    "exclude_types": "",
+    "always_run": "false",
+    "verbose": "false",
+    "pass_filenames": "true",
+    "fail_fast": "false",
+    "log_file": "",
+    "additional_dependencies": "",
+}
+
+
+def hook_line(changed):
+    """How a hook is shown that has these fields, and else those of a hook without further keys."""
+    return "|".join({**FIELDS_OF_A_HOOK, **changed}.values()) + "\n"
+
+
 def both(cases):
     """Each text is read alone and with its node, which gives the same."""
     return [(call, *case) for case in cases for call in ("read_config", "read_config_with_node")]
@@ -125,13 +156,76 @@ KEYS = [
     ("additional_dependencies: x", "2 Shape at 1"),
     ("additional_dependencies: []", "1 hooks, false"),
     ('verbose: "true"', "2 Shape at 1"),
+    ("files: [a]", "2 Shape at 1"),
+    ("files: {a: b}", "2 Shape at 1"),
+    ("exclude: []", "2 Shape at 1"),
+    ("files: '('", "7 BadPattern at 1"),
+    ("exclude: '['", "7 BadPattern at 1"),
+    ("files: 'a(?=b)'", "7 BadPattern at 1"),
+    ("exclude: '(a)\\1'", "7 BadPattern at 1"),
+    # A path is a text, so a pattern of bytes that are no UTF-8 is none.
+    ("files: '(?-u)\\xff'", "7 BadPattern at 1"),
+    ("types: python", "2 Shape at 1"),
+    ("types: {a: b}", "2 Shape at 1"),
+    ("types: [python, [b]]", "2 Shape at 1"),
+    ("types_or: python", "2 Shape at 1"),
+    ("types_or: [[b]]", "2 Shape at 1"),
+    ("exclude_types: python", "2 Shape at 1"),
+    ("exclude_types: [{a: b}]", "2 Shape at 1"),
 ]
+
+# Keys of a hook of the language `pygrep`.
+PYGREP_KEYS = [
+    ("entry: e", "1 hooks, false"),
+    ("entry: ''", "1 hooks, false"),
+    ("entry: '('", "7 BadPattern at 1"),
+    ("entry: 'a(?=b)'", "7 BadPattern at 1"),
+    ("entry: [e]", "2 Shape at 1"),
+    ("args: [-i]", "3 MissingKey at 1"),
+    ("entry: e, args: [-i, --multiline, --negate, --ignore-case, -i]", "1 hooks, false"),
+    ("entry: e, args: ['-i']", "1 hooks, false"),
+    ("entry: e, args: -i", "2 Shape at 1"),
+    ("entry: e, args: [--max]", "9 BadArgs at 1"),
+    ("entry: e, args: ['']", "9 BadArgs at 1"),
+    ("entry: e, args: [-I]", "9 BadArgs at 1"),
+    ("entry: e, args: ['-i ']", "9 BadArgs at 1"),
+    ("entry: e, args: [-i, --negated]", "9 BadArgs at 1"),
+    ("entry: '(', args: [--max]", "9 BadArgs at 1"),
+    # Bytes that are no UTF-8 are looked for too.
+    ("entry: '(?-u)\\xff'", "1 hooks, false"),
+]
+
+# Patterns at the top.
+TOP_PATTERNS = [
+    ("", "|^$"),
+    ("files: a\n", "a|^$"),
+    ("exclude: b\n", "|b"),
+    ("files: a\nexclude: b\n", "a|b"),
+    ("exclude: b\nfiles: ''\n", "|b"),
+    ('files: "\\\\.py$"\n', "\\.py$|^$"),
+    ("files: [a]\n", "2 Shape at 0"),
+    ("exclude:\n", "2 Shape at 0"),
+    ("files: '('\n", "7 BadPattern at 0"),
+    ("exclude: '*'\n", "7 BadPattern at 0"),
+]
+
+# A pattern that is too big once it is built.
+TOO_BIG = "((a{1,100}){1,100}){1,100}"
+
+# A pattern of 64 KiB is taken, and one of nearly 1 MiB is too big once it is built.
+LONG = "x" * 65536
+
+# A text in single quotes that takes a configuration of one hook to its greatest size: the pattern of `files` at the top.
+LONGEST = "x" * (1048576 - len(f"files: ''\n{ONE_HOOK}"))
 
 # Texts with two faults, in the order in which they are told: each row holds one fault and the next of its kind of place
 # that can be told apart from it.
 FIRST_AT_THE_TOP = [
-    ("files: a\nfiles: b\n", "1 Yaml at 2"),
-    ("files: a\ndefault_stages: [never]\n", "10 Unsupported at 0"),
+    ("files: '('\nfiles: b\n", "1 Yaml at 2"),
+    ("files: '('\ndefault_stages: [never]\n", "4 BadStage at 0"),
+    ("exclude: [x]\nfiles: '('\n", "7 BadPattern at 0"),
+    ("exclude: '('\nfiles: [x]\n", "2 Shape at 0"),
+    ("fail_fast: [x]\nexclude: '('\n", "7 BadPattern at 0"),
     ("fail_fast: [x]\ndefault_stages: [never]\n", "4 BadStage at 0"),
     ("fail_fast: [x]\n", "2 Shape at 0"),
     ("fail_fast: [x]\nrepos: [{}]\n", "2 Shape at 0"),
@@ -141,15 +235,16 @@ FIRST_AT_THE_TOP = [
     ("repos: [{repo: []}]\n", "2 Shape at 0"),
     ("repos: [{hooks: a}]\n", "3 MissingKey at 0"),
     ("repos: [{hooks: a, repo: meta}]\n", "6 RemoteRepo at 0"),
-    ("repos: [{hooks: [{files: a}], repo: meta}]\n", "6 RemoteRepo at 0"),
+    ("repos: [{hooks: [{files: '('}], repo: meta}]\n", "6 RemoteRepo at 0"),
+    ("repos: [{repo: local, hooks: [{id: a, name: A, language: fail, entry: e, files: '('}]}]\nfiles: '['\n", "7 BadPattern at 0"),
     ("repos: [{repo: local, hooks: [{}]}, {repo: meta}]\n", "3 MissingKey at 1"),
 ]
 
 # The same of hooks.
 FIRST_IN_HOOKS = [
-    ("{}, {files: a}", "3 MissingKey at 1"),
-    ("{files: a}, {}", "10 Unsupported at 1"),
-    ("{log_file: [], files: a}", "10 Unsupported at 1"),
+    ("{files: '('}, {}", "3 MissingKey at 1"),
+    ("{id: a, name: A, language: fail, entry: e, files: '('}, {}", "7 BadPattern at 1"),
+    ("{log_file: [], files: '('}", "2 Shape at 1"),
     ("{additional_dependencies: x, log_file: b}", "10 Unsupported at 1"),
     ("{log_file: [], additional_dependencies: [x]}", "2 Shape at 1"),
     ("{additional_dependencies: [x]}", "10 Unsupported at 1"),
@@ -162,6 +257,16 @@ FIRST_IN_HOOKS = [
     ("{id: a, name: A, language: node}", "5 BadLanguage at 1"),
     ("{id: a, name: A, language: script}", "10 Unsupported at 1"),
     ("{id: a, name: A, language: fail, args: b}", "3 MissingKey at 1"),
+    ("{id: a, name: A, language: pygrep, entry: '(', args: b}", "2 Shape at 1"),
+    ("{id: a, name: A, language: pygrep, entry: '(', args: [b]}", "9 BadArgs at 1"),
+    ("{id: a, name: A, language: pygrep, entry: '(', files: [x]}", "7 BadPattern at 1"),
+    ("{id: a, name: A, language: pygrep, entry: e, args: [b], files: '('}", "9 BadArgs at 1"),
+    ("{id: a, name: A, language: fail, entry: e, files: '(', args: b}", "2 Shape at 1"),
+    ("{id: a, name: A, language: fail, entry: e, exclude: [x], files: '('}", "7 BadPattern at 1"),
+    ("{id: a, name: A, language: fail, entry: e, types: x, exclude: '('}", "7 BadPattern at 1"),
+    ("{id: a, name: A, language: fail, entry: e, stages: [never], types: x}", "2 Shape at 1"),
+    ("{id: a, name: A, language: fail, entry: e, stages: [never], exclude_types: x}", "2 Shape at 1"),
+    ("{id: a, name: A, language: fail, entry: e, stages: [never], exclude: '('}", "7 BadPattern at 1"),
     ("{id: a, name: A, language: fail, entry: e, stages: [never], args: b}", "2 Shape at 1"),
     ("{id: a, name: A, language: fail, entry: e, verbose: x, stages: [never]}", "4 BadStage at 1"),
 ]
@@ -169,19 +274,13 @@ FIRST_IN_HOOKS = [
 # A fault has its hook's number over all repositories.
 THIRD_HOOK = f"{START}{PLAIN_HOOK}- repo: local\n  hooks:\n{PLAIN_HOOK}{PLAIN_HOOK}    verbose: maybe\n"
 
-# Keys at the top, and of a hook, that are not served yet.
-LATER_TOP_KEYS = ["files", "exclude"]
-LATER_HOOK_KEYS = ["files", "exclude", "types", "types_or", "exclude_types"]
-
 # Languages that are not served yet, quoted or not.
-LATER_LANGUAGES = ["system", "script", "pygrep", '"system"']
+LATER_LANGUAGES = ["system", "script", '"system"']
 
 # Languages of pre-commit that no configuration of this profile has, and other words.
-OTHER_LANGUAGES = ["node", "python", "docker", "Fail", "fails", "''", '"system "']
+OTHER_LANGUAGES = ["node", "python", "docker", "Fail", "fails", "Pygrep", "grep", "''", '"system "']
 
 LATER = [
-    *((f"{ONE_HOOK}{key}: a\n", "10 Unsupported at 0") for key in LATER_TOP_KEYS),
-    *((f"{ONE_HOOK}    {key}: a\n", "10 Unsupported at 1") for key in LATER_HOOK_KEYS),
     *((with_language(word), "10 Unsupported at 1") for word in LATER_LANGUAGES),
     *((with_language(word), "5 BadLanguage at 1") for word in OTHER_LANGUAGES),
 ]
@@ -235,20 +334,34 @@ KINDS = [
 
 # Keys of a hook beside those that it must have, and the hook's fields but its stages, in the order of the type.
 FIELDS = [
-    ("alias: b", "a|A|b|Fail|e|false|false|true|false||"),
-    ('alias: "true"', "a|A|true|Fail|e|false|false|true|false||"),
-    ("args: [b, c d]", "a|A||Fail|e+b+c d|false|false|true|false||"),
-    ("args: []", "a|A||Fail|e|false|false|true|false||"),
-    ("stages: [push]", "a|A||Fail|e|false|false|true|false||"),
-    ("language_version: b", "a|A||Fail|e|false|false|true|false||"),
-    ("require_serial: {b: c}", "a|A||Fail|e|false|false|true|false||"),
-    ("description: [d]", "a|A||Fail|e|false|false|true|false||"),
-    ("always_run: true", "a|A||Fail|e|true|false|true|false||"),
-    ("verbose: true", "a|A||Fail|e|false|true|true|false||"),
-    ("pass_filenames: false", "a|A||Fail|e|false|false|false|false||"),
-    ("fail_fast: true", "a|A||Fail|e|false|false|true|true||"),
-    ("log_file: ''", "a|A||Fail|e|false|false|true|false||"),
-    ("additional_dependencies: []", "a|A||Fail|e|false|false|true|false||"),
+    ("x: y", {}),
+    ("alias: b", {"alias": "b"}),
+    ('alias: "true"', {"alias": "true"}),
+    ("args: [b, c d]", {"entry and args": "e+b+c d"}),
+    ("args: []", {}),
+    ("files: b", {"files": "b"}),
+    ("files: ''", {}),
+    ("exclude: b", {"exclude": "b"}),
+    ("exclude: ''", {"exclude": ""}),
+    ("files: '^a/', exclude: '\\.py$'", {"files": "^a/", "exclude": "\\.py$"}),
+    ("types: [python]", {"types": "+python"}),
+    ("types: [text, python, text, '', 'a b']", {"types": "+text+python+text++a b"}),
+    ("types: []", {"types": ""}),
+    ("types_or: [c, c++]", {"types_or": "+c+c++"}),
+    ("types_or: []", {}),
+    ("exclude_types: [image]", {"exclude_types": "+image"}),
+    ("exclude_types: []", {}),
+    ("types: [a], types_or: [b], exclude_types: [c]", {"types": "+a", "types_or": "+b", "exclude_types": "+c"}),
+    ("stages: [push]", {}),
+    ("language_version: b", {}),
+    ("require_serial: {b: c}", {}),
+    ("description: [d]", {}),
+    ("always_run: true", {"always_run": "true"}),
+    ("verbose: true", {"verbose": "true"}),
+    ("pass_filenames: false", {"pass_filenames": "false"}),
+    ("fail_fast: true", {"fail_fast": "true"}),
+    ("log_file: ''", {}),
+    ("additional_dependencies: []", {}),
 ]
 
 # The node that comes with a configuration.
@@ -315,13 +428,18 @@ UNKNOWN_KEYS = [
 # 500 hooks in two repositories.
 FIVE_HUNDRED = f"{START}{PLAIN_HOOK * 300}- repo: local\n  hooks:\n{PLAIN_HOOK * 200}"
 
+# 500 hooks, each with patterns and an entry of its own.
+WITH_PATTERNS = START + "".join(
+    f"  - {{id: a, name: A, language: pygrep, entry: 'e{number}', files: '^f{number}', exclude: 'x{number}$'}}\n" for number in range(500)
+)
+
 # What stands behind 500 hooks: the number of hooks is looked at before the hook that is one too many.
 BEHIND = [
     ("", "500 hooks, false"),
     (PLAIN_HOOK, "11 TooMany at 501"),
     ("  - id: a\n", "11 TooMany at 501"),
     ("  - a\n", "11 TooMany at 501"),
-    ("  - files: a\n", "11 TooMany at 501"),
+    ("  - files: '('\n", "11 TooMany at 501"),
     ("- repo: local\n  hooks: []\n", "500 hooks, false"),
     ("- repo: local\n  hooks: [a]\n", "11 TooMany at 501"),
     ("- repo: local\n  hooks: a\n", "2 Shape at 0"),
@@ -395,10 +513,21 @@ ROWS = [
     *both(LATER),
     *both(prefixes(PIECES)),
     *(("config_kind", kind, f"{said}\n{said}\n") for kind, said in KINDS),
-    ("hooks", ONE_HOOK, "names|Check names||Fail|no such names|false|false|true|false||\n"),
-    *(("hooks", in_a_hook(keys), f"{said}\n") for keys, said in FIELDS),
+    *both((with_pygrep(keys), said) for keys, said in PYGREP_KEYS),
+    *(("top_patterns", f"{keys}{ONE_HOOK}", said) for keys, said in TOP_PATTERNS),
+    *(("top_patterns", f"{ONE_HOOK}{keys}", said) for keys, said in TOP_PATTERNS),
+    *both([(f"files: {TOO_BIG}\n{ONE_HOOK}", "7 BadPattern at 0"), (f"{ONE_HOOK}    exclude: {TOO_BIG}\n", "7 BadPattern at 1")]),
+    *both([(f"{START}  - {{id: a, name: A, language: pygrep, entry: '{TOO_BIG}'}}\n", "7 BadPattern at 1")]),
+    ("top_patterns", f"files: '{LONG}'\n{ONE_HOOK}", f"{LONG}|^$"),
+    ("top_patterns", f"files: '{LONGEST}'\n{ONE_HOOK}", "7 BadPattern at 0"),
+    ("hooks", in_a_hook(f"types: [{LONG}, b]"), hook_line({"types": f"+{LONG}+b"})),
+    *both([(f"files: '{LONGEST}x'\n{ONE_HOOK}", "1 Yaml at 1")]),
+    ("hooks", ONE_HOOK, hook_line({"id": "names", "name": "Check names", "entry and args": "no such names"})),
+    *(("hooks", in_a_hook(keys), hook_line(changed)) for keys, changed in FIELDS),
+    ("hooks", with_pygrep("entry: e, args: [-i, --negate]"), hook_line({"language": "Pygrep", "entry and args": "e+-i+--negate"})),
+    *both([(f"{WITH_PATTERNS}{PLAIN_HOOK}", "11 TooMany at 501"), (WITH_PATTERNS, "500 hooks, false")]),
     ("node", WITH_NODE, NODE),
-    ("hooks_with_node", WITH_NODE, "a|A||Fail|e|false|false|true|false||\n"),
+    ("hooks_with_node", WITH_NODE, hook_line({})),
     *both((with_a_list_at(key), "2 Shape at 1") for key, _ in REQUIRED),
     *both(IGNORED),
     *both(TRUTHS),

@@ -41,7 +41,7 @@ pub enum ConfigKind {
     /// An argument isn't one that the language takes.
     #[error("an argument is not known")]
     BadArgs,
-    /// A key or a language is known and not served, or a key is served only where its value is empty.
+    /// A language is known and not served, or a key is served only where its value is empty.
     #[error("a key or a language is not supported")]
     Unsupported,
     /// There are more than `MOST_HOOKS` hooks.

@@ -35,7 +35,7 @@ pub struct Hook {
     pub language: Language,
     /// What the hook says where its language is `fail`, and the text of its pattern where that is `pygrep`.
     pub entry: ConfigText,
-    /// The words that follow those of the entry.
+    /// The words that follow those of the entry. With `pygrep` they say how its pattern is looked for.
     pub args: Items<ConfigText>,
     /// Found in the path of each file that the hook gets.
     pub files: SharedPattern,
@@ -68,6 +68,6 @@ pub struct Hook {
 pub enum Language {
     /// The hook always fails, and its entry is what it says.
     Fail,
-    /// The hook looks for its entry in files, as its arguments say, and fails where it is found.
+    /// The hook looks for its entry in files, as its arguments say, and fails where it prints anything.
     Pygrep(Grep),
 }

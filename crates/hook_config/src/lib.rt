@@ -1,11 +1,11 @@
 //! Reads the bytes of a `.pre-commit-config.yaml` to a `Config`, or says by a `ConfigFault` why they are none.
 //!
 //! `Config` holds `Hook`s, whose texts are `ConfigText`s, whose patterns are `SharedPattern`s, whose tags are `TagNames`,
-//! whose stages are `Stages` and whose language is a `Language`.
-//! `ConfigWithNode` has the text's `Node` beside it. A `ConfigFault` is a `ConfigKind` and its place.
+//! whose stages are `Stages` and whose language is a `Language`, with the pattern of `pygrep` in it. All patterns are
+//! built. `ConfigWithNode` has the text's `Node` beside it. A `ConfigFault` is a `ConfigKind` and its place.
 //!
 //! The contracts cite `configuration_of` of `specs/Configuration.antt`, which says which `Config` a text's bytes describe,
-//! if any; `Gives`; the patterns of `specs/Patterns.antt`; the words of `specs/KnownKeys.antt` and `specs/Stages.antt`; the limits of `specs/Limits.antt`; and
+//! if any; `Gives`; the words of `specs/KnownKeys.antt` and `specs/Stages.antt`; the limits of `specs/Limits.antt`; and
 //! `number_of` and `name_of` of `specs/Refusals.antt`.
 #![tactic(auto)]
 

@@ -26,8 +26,16 @@ use yaml_profile::{Node, read};
 /// A refusal is one of `ConfigKind`: `Yaml` where the bytes are no YAML of this profile; `Shape` where the text, or a
 /// repository or a hook, is no table, or a known key's value is of another kind; `MissingKey` where a required key isn't
 /// there; `BadStage`, `BadLanguage` and `RemoteRepo` for a stage, a language or a repository that isn't known;
-/// `BadPattern` for a pattern that `regex` doesn't take, which it is for `regex` to say; `Unsupported` for what is known and not served; `TooMany` for more than `MOST_HOOKS` hooks; `OutOfMemory` where memory
-/// was refused. More bytes than a text may have are `Yaml` of `TooLarge` at 1.
+/// `BadPattern` for a pattern, or an entry of `pygrep`, that `regex` doesn't take; `BadArgs` for an argument that `pygrep`
+/// doesn't know; `Unsupported` for what is known and not served; `TooMany` for more than `MOST_HOOKS` hooks; `OutOfMemory`
+/// where memory was refused. More bytes than a text may have are `Yaml` of `TooLarge` at 1. Which patterns are too big once
+/// they are built is for `regex` to say, so `BadPattern` may come for a text that describes a configuration.
+///
+/// Of several faults the first in this order is told. At the top: `default_stages`, `files`, `exclude`, `fail_fast`,
+/// `repos`, and then the repositories in the order of the text. In a repository: `repo`, `hooks`, and then the hooks in
+/// the order of the text. Of a hook: that there are too many; `log_file`, `additional_dependencies`; `id`, `name`,
+/// `alias`; `language`, `entry`, `args`, with `pygrep` the arguments and then the entry's pattern; `files`, `exclude`,
+/// `types`, `types_or`, `exclude_types`; `stages`, `always_run`, `verbose`, `pass_filenames`, `fail_fast`.
 #[tactic(auto, unfolding(crate::specs::Configuration::configuration_of))]
 pub fn read_config(alloc: Global, bytes: &[u8]) -> Result<Config, ConfigFault>
     ensures meant { Gives (λ config. config) result (configuration_of bytes.now) }

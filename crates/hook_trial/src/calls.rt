@@ -29,6 +29,7 @@ fn of_hook_config(
         "read_config_with_node" => configurations::read_with_node(alloc, arguments),
         "hooks" => configurations::hooks_alone(alloc, arguments),
         "hooks_with_node" => configurations::hooks_with_node(alloc, arguments),
+        "top_patterns" => configurations::top_patterns(alloc, arguments),
         "node" => configurations::node(alloc, arguments),
         "config_text" => config_texts::held(alloc, arguments),
         "empty_config_text" => config_texts::empty(alloc, arguments),

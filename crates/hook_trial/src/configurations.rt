@@ -2,7 +2,8 @@
 
 use hook_base::Text;
 use hook_config::{
-    Config, ConfigFault, ConfigText, ConfigWithNode, Hook, read_config, read_config_with_node,
+    Config, ConfigFault, ConfigText, ConfigWithNode, Hook, Language, SharedPattern, read_config,
+    read_config_with_node,
 };
 use std::alloc::{AllocError, Global};
 use trial_rows::{Stop, only};
@@ -26,6 +27,17 @@ pub(crate) fn hooks_alone(alloc: Global, arguments: &[Vec<u8>]) -> Result<Vec<u8
 /// `hooks_with_node TEXT`: the same where the text's node is read with its configuration.
 pub(crate) fn hooks_with_node(alloc: Global, arguments: &[Vec<u8>]) -> Result<Vec<u8>, Stop> {
     hooks(alloc, &configuration_with_node(alloc, only(arguments)?))
+}
+
+/// `top_patterns TEXT`: the patterns at the top, `files` and `exclude`, with a bar between them, or the refusal.
+pub(crate) fn top_patterns(alloc: Global, arguments: &[Vec<u8>]) -> Result<Vec<u8>, Stop> {
+    match read_config(alloc, only(arguments)?) {
+        Ok(config) => {
+            let (files, exclude) = (text_of(&config.files), text_of(&config.exclude));
+            Ok(format!(in alloc; "{files}|{exclude}")?.into_bytes())
+        }
+        Err(fault) => refusal(alloc, fault),
+    }
 }
 
 /// `node TEXT`: the node that is read with the configuration, as `Debug` shows it, or the refusal.
@@ -92,6 +104,7 @@ fn hook_lines(alloc: Global, hooks: &[Hook]) -> Result<Vec<u8>, Stop> {
     let mut lines = String::new(alloc);
     for hook in hooks {
         push_names(alloc, &mut lines, hook)?;
+        push_selection(alloc, &mut lines, hook)?;
         push_truths(alloc, &mut lines, hook)?;
         push_unserved(&mut lines, hook)?;
     }
@@ -101,10 +114,31 @@ fn hook_lines(alloc: Global, hooks: &[Hook]) -> Result<Vec<u8>, Stop> {
 // A hook's line has its fields but its stages, in the order of the type, with bars between them.
 fn push_names(alloc: Global, line: &mut String, hook: &Hook) -> Result<(), AllocError> {
     let (id, name, alias) = (hook.id.as_str(), hook.name.as_str(), hook.alias.as_str());
-    let (language, entry) = (hook.language, hook.entry.as_str());
-    let names = format!(in alloc; "{id}|{name}|{alias}|{language:?}|{entry}")?;
+    let (language, entry) = (word_of(&hook.language), hook.entry.as_str());
+    let names = format!(in alloc; "{id}|{name}|{alias}|{language}|{entry}")?;
     line.push_str(names.as_str())?;
     push_texts(line, hook.args.as_slice())
+}
+
+fn word_of(language: &Language) -> &'static str {
+    match language {
+        Language::Fail => "Fail",
+        Language::Pygrep(_) => "Pygrep",
+    }
+}
+
+fn text_of(pattern: &SharedPattern) -> &str {
+    pattern.as_pattern().as_str()
+}
+
+fn push_selection(alloc: Global, line: &mut String, hook: &Hook) -> Result<(), AllocError> {
+    let (files, exclude) = (text_of(&hook.files), text_of(&hook.exclude));
+    line.push_str(format!(in alloc; "|{files}|{exclude}|")?.as_str())?;
+    push_tags(line, hook.types.as_slice())?;
+    line.push_str("|")?;
+    push_tags(line, hook.types_or.as_slice())?;
+    line.push_str("|")?;
+    push_tags(line, hook.exclude_types.as_slice())
 }
 
 fn push_truths(alloc: Global, line: &mut String, hook: &Hook) -> Result<(), AllocError> {
@@ -127,6 +161,14 @@ fn push_texts(line: &mut String, texts: &[ConfigText]) -> Result<(), AllocError>
     for text in texts {
         line.push_str("+")?;
         line.push_str(text.as_str())?;
+    }
+    Ok(())
+}
+
+fn push_tags(line: &mut String, tags: &[Text]) -> Result<(), AllocError> {
+    for tag in tags {
+        line.push_str("+")?;
+        line.push_str(tag.as_str())?;
     }
     Ok(())
 }
