@@ -5,7 +5,7 @@
 //!
 //! The contracts cite `IsRunOut` and `need_of` of `specs/RunOuts.antt`, which stands on `specs/StageRun.antt` (the hooks of
 //! a run one after another), `specs/HookRun.antt` (one of them), `specs/Asks.antt` (which they are) and `specs/Parts.antt`
-//! (their children); and `specs/Refusals.antt`.
+//! (their children); and `specs/Refusals.antt`. [`laws`] says that they leave nothing of a run open.
 #![tactic(auto)]
 
 mod asked;
