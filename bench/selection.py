@@ -47,7 +47,7 @@ def configuration(name, hooks):
 
 def fail_hooks(count, key):
     """Hooks that no file is selected for, each by a value of its own."""
-    return [f"id: h{number}, name: Hook {number}, language: fail, entry: no, {key(number)}" for number in range(count)]
+    return [f"id: h{number}, name: Hook {number}, language: fail, entry: never, {key(number)}" for number in range(count)]
 
 
 def by_files(number):
@@ -88,25 +88,33 @@ def tried(name, paths):
     return piped([PROGRAM, "try", name, *paths])
 
 
-def beside_pre_commit(what, ours):
-    """The same configuration by pre-commit, on all files of the repository."""
+def report_of(words):
+    return subprocess.run(words, capture_output=True).stdout
+
+
+def beside_pre_commit(what, ours, paths):
+    """The same configuration by pre-commit, on all files of the repository, which has to report the same of them."""
     if PRE_COMMIT:
-        slow = once(piped([PRE_COMMIT, "run", "--all-files", "--color", "never"])) / 1000
-        other = medians([piped([PRE_COMMIT, "run", "--all-files", "--color", "never"])], 3)[0] if slow < 3 else slow
+        words = [PRE_COMMIT, "run", "--all-files", "--color", "never"]
+        if report_of(words) != report_of([PROGRAM, "try", CONFIGURATION, *paths]):
+            sys.exit(f"bench/selection.py: {what}: pre-commit reports something else")
+        slow = once(piped(words)) / 1000
+        other = medians([piped(words)], 3)[0] if slow < 3 else slow
         show(what, ours, other, "pre-commit", 1)
 
 
 # ---- what is timed
 
 def time_many_files(paths):
-    """`pygrep` over many small files."""
+    """`pygrep` over many small files, and its own configuration, as all files of the repository are."""
     configuration(CONFIGURATION, [grep_hook("TODO")])
+    paths = [CONFIGURATION, *paths]
     ours, git_grep, grep = medians([tried(CONFIGURATION, paths), piped(["git", "grep", "-n", "TODO"]), piped(["grep", "-n", "TODO", *paths])], 15)
-    what = f"pygrep, {len(paths)} files of 400 bytes"
+    what = f"pygrep, {PATHS} files of 400 bytes"
     show(what, ours, git_grep, "git grep -n")
     show(what, ours, grep, "grep -n")
     show(what, ours, min(git_grep, grep), "the faster", 2)
-    beside_pre_commit(what, ours)
+    beside_pre_commit(what, ours, paths)
 
 
 def time_large_file():
@@ -117,9 +125,10 @@ def time_large_file():
         write("large.txt", lines(16 * 1024 * 1024 // 40, every))
         configuration(CONFIGURATION, [grep_hook("TODO")])
         stage()
-        ours, grep = medians([tried(CONFIGURATION, ["large.txt"]), piped(["grep", "-n", "TODO", "large.txt"])], 15)
+        paths = [CONFIGURATION, "large.txt"]
+        ours, grep = medians([tried(CONFIGURATION, paths), piped(["grep", "-n", "TODO", *paths])], 15)
         show(f"pygrep, one file of 16 MiB, {what}", ours, grep, "grep -n | cat", aim)
-        beside_pre_commit(f"pygrep, one file of 16 MiB, {what}", ours)
+        beside_pre_commit(f"pygrep, one file of 16 MiB, {what}", ours, paths)
         os.chdir("..")
         shutil.rmtree(folder)
 
@@ -136,7 +145,7 @@ def time_hooks(paths):
                 what = f"{count} hooks by `{word}`, {len(few)} paths, none selected"
                 show(what, times[count], cat, "cat", aim)
                 if len(few) == PATHS:
-                    beside_pre_commit(what, times[count])
+                    beside_pre_commit(what, times[count], few)
         configuration("half.yaml", fail_hooks(250, key))
         configuration("whole.yaml", fail_hooks(500, key))
         one, two, half = medians([tried("half.yaml", paths), tried("whole.yaml", paths), tried("whole.yaml", paths[:HALF])], 7)
