@@ -123,7 +123,7 @@ hook_keys =
     ∷ codes "description"
     ∷ []
 
--- the tag that a file must have where a hook's table names none
+-- the tag that a file must have where a hook's table has no `types`
 abbrev pub file_word : List ℕ
 file_word = codes "file"
 
