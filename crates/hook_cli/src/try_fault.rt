@@ -13,7 +13,8 @@ pub enum TryFault {
     /// The reader gave an error.
     #[error("the configuration cannot be read to its end")]
     Read,
-    /// The bytes that were read are no configuration, as those over the limit aren't.
+    /// The bytes that were read are no configuration, as those over the limit aren't, or `regex` refuses one of their
+    /// patterns.
     #[error("the configuration is refused: {0}")]
     Config(ConfigFault),
     /// The writer gave an error. Some bytes of the report may be out.

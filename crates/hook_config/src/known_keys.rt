@@ -9,7 +9,8 @@
 //!
 //! To serve a language that comes later: take its word out of the later ones, here and in `specs/KnownKeys.antt`, and
 //! give it a name; give `Language` and `LanguageName` a variant, and the functions of `languages.rt` and of
-//! `specs/Languages.antt` a case.
+//! `specs/Languages.antt` a case. What it answers stands in `hook_run`: `IsLanguageRun` of its `specs/HookRun.antt`, and
+//! `ending_with` of its `ending.rt`.
 
 // The table at the top.
 
