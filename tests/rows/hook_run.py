@@ -39,6 +39,7 @@ def failed(name, *files, entry="no", columns=80):
 
 
 NO_FILES = "(no files to check)Skipped"
+MANY = [f"src/{number:05}.txt" for number in range(100_000)]
 A, B = file("a.txt", "a\n"), file("b/c.py", "b\n")
 BOTH = "a.txt\nb/c.py"
 TWO = hooks(hook("One", "alias: first"), hook("Two"))
@@ -169,6 +170,11 @@ FILES = [
      BOTH, A, B,
      said("failed", "one: ran, status 0\ntwo: ran, status 1\nthree: ran, status 0\nfour: ran, status 1\n", line("One", "Passed"), line("Two", "Failed"),
           "- hook id: two\n- exit code: 1\n\nb/c.py:1:b\n\n", line("Three", "Passed"), line("Four", "Failed"), "- hook id: four\n- exit code: 1\n\nb/c.py\n\n")),
+    # 100,000 paths, handed in from the last to the first, of which a pattern finds ten, a tag all, and a search one.
+    (hooks(hook("One", r"files: '7777\d\.txt$'"), hook("Two", "types: [text], exclude_types: [plain-text]"), hook("Three", "", "pygrep", "^TODO")),
+     "\n".join(reversed(MANY)), *(file(path, "TODO\n" if path == MANY[70_000] else "x\n") for path in MANY),
+     said("failed", "one: ran, status 1\ntwo: skipped, no files\nthree: ran, status 1\n", failed("One", *MANY[77_770:77_780]), line("Two", NO_FILES),
+          line("Three", "Failed"), f"- hook id: three\n- exit code: 1\n\n{MANY[70_000]}:1:TODO\n\n")),
     # All of the run's hooks were skipped.
     (hooks(hook("One", "files: zz"), hook("Two", "types: [image]")), BOTH, A, B,
      said("passed", "one: skipped, no files\ntwo: skipped, no files\n", line("One", NO_FILES), line("Two", NO_FILES))),
