@@ -1,11 +1,14 @@
 #!/usr/bin/env python3
-"""Compares docs/REFERENCE.md with the code: each refusal's number and name, each limit, and each row of the tables of tags.
+"""Compares docs/REFERENCE.md with the code: each refusal's number and name, what `--help` says of it, each limit, and each row
+of the tables of tags.
 
 Usage: tests/reference.py [FOLDER]   (default: the repository that this file stands in)
 
 An enum whose `number` tells its variants apart is a kind of refusal. Its variants' numbers and names (those of `name`, and
 where there is none the variants' own) have to be the rows of one table of the reference whose first column is `number`, and
-each such table has to be of one enum. A limit is a definition `NAME = NUMBER` in a crate's specs/; LIMITS says where the
+each such table has to be of one enum. HELP says which enum's table the help of a command prints: a line of number, name and
+when, and below it one of what to do, in the words of the reference without its backticks. The help of the program prints the
+table of the exit statuses. A limit is a definition `NAME = NUMBER` in a crate's specs/; LIMITS says where the
 reference's table "Limits" names it, and every number of that table has to be a limit.
 """
 import os
@@ -28,6 +31,8 @@ LIMITS = [
     ("staged tree of a store", "8 MiB ({} bytes) together", "repo_store", "most_tree_path_bytes", 0),
     ("commits of a store", "{}", "repo_store", "most_commits", 0),
 ]
+# The constants of hook_cli with what the help of a command says, and the enum whose refusals the command prints.
+HELP = {"TRY_HELP": "TryFault", "CHECK_HELP": "ConfigKind"}
 # The tables of tags by the head of their first column, and the constants of the code.
 TAG_TABLES = {"name": "NAMES", "extension": "EXTENSIONS", "interpreter": "INTERPRETERS"}
 
@@ -87,6 +92,31 @@ def wrong_refusals(reference):
         yield f"{enum}: the reference has no table of its numbers"
 
 
+def help_of(constant):
+    """The text of a constant of the help."""
+    return re.search(rf'const {constant}: &str = "\\\n(.*?)";', read("crates", "hook_cli", "src", "help.rt"), re.DOTALL)[1]
+
+
+def rows_told(reference, heads):
+    """The rows of the reference's tables with these heads, without backticks."""
+    return [[[cell.replace("`", "") for cell in row] for row in rows[2:]] for rows in tables(reference) if rows[0] in heads]
+
+
+def wrong_help(reference):
+    """How what `--help` prints differs from the reference's tables of refusals and of exit statuses."""
+    kinds = refusals_of_code()
+    told = rows_told(reference, [["number", "name", "when", "what to do"], ["number", "kind", "when", "what to do"]])
+    for constant, enum in HELP.items():
+        printed = [list(row) for row in re.findall(r"^ *(\d+) (\w+) +(.*)\n {18}(.*)$", help_of(constant), re.MULTILINE)]
+        if {int(row[0]): row[1] for row in printed} != kinds.get(enum) or printed not in told:
+            yield f"{constant} doesn't print the table of {enum}: {[row for row in printed if all(row not in rows for rows in told)]!r}"
+    if len(told) != len(HELP):
+        yield f"{len(told)} tables say what to do, and the help prints {len(HELP)}"
+    printed = [list(row) for row in re.findall(r"^   (\d)  (.*)$", help_of("PROGRAM_HELP"), re.MULTILINE)]
+    if [printed] != rows_told(reference, [["exit status", "when"]]):
+        yield f"PROGRAM_HELP doesn't print the table of the exit statuses: {printed!r}"
+
+
 def value_of(crate, name):
     """A limit, from the one definition of this name in the crate's specs/."""
     found = [it for _, text in sources(f"crates/{crate}/specs", ".antt") for it in re.findall(rf"^{name} = ([\d_]+)$", text, re.MULTILINE)]
@@ -137,7 +167,7 @@ def wrong_tags(reference):
 
 def main():
     reference = read("docs", "REFERENCE.md")
-    wrong = [*wrong_refusals(reference), *wrong_limits(reference), *wrong_tags(reference)]
+    wrong = [*wrong_refusals(reference), *wrong_help(reference), *wrong_limits(reference), *wrong_tags(reference)]
     for each in wrong:
         print(f"FAILED docs/REFERENCE.md: {each}")
     kinds = refusals_of_code()

@@ -198,14 +198,14 @@ LINES = [
         "error: the following required arguments were not provided:\n"
         "  <CONFIG>\n"
         "  <PATH>...\n\n"
-        f"Usage: try <CONFIG> <PATH>...\n\n{MORE}",
+        f"Usage: hookhost try <CONFIG> <PATH>...\n\n{MORE}",
     ),
     (
         ["try", "hooks.yaml"],
         "refused MissingRequiredArgument\n"
         "error: the following required arguments were not provided:\n"
         "  <PATH>...\n\n"
-        f"Usage: try <CONFIG> <PATH>...\n\n{MORE}",
+        f"Usage: hookhost try <CONFIG> <PATH>...\n\n{MORE}",
     ),
     (
         ["tried", "hooks.yaml", "a"],
@@ -216,10 +216,10 @@ LINES = [
         "refused UnknownArgument\n"
         "error: unexpected argument '--all' found\n\n"
         "  tip: to pass '--all' as a value, use '-- --all'\n\n"
-        f"Usage: try <CONFIG> <PATH>...\n\n{MORE}",
+        f"Usage: hookhost try <CONFIG> <PATH>...\n\n{MORE}",
     ),
-    (["check", "a"], f"refused UnknownArgument\nerror: unexpected argument 'a' found\n\nUsage: check\n\n{MORE}"),
-    (["check", "--all"], f"refused UnknownArgument\nerror: unexpected argument '--all' found\n\nUsage: check\n\n{MORE}"),
+    (["check", "a"], f"refused UnknownArgument\nerror: unexpected argument 'a' found\n\nUsage: hookhost check\n\n{MORE}"),
+    (["check", "--all"], f"refused UnknownArgument\nerror: unexpected argument '--all' found\n\nUsage: hookhost check\n\n{MORE}"),
     (
         ["checks"],
         "refused InvalidSubcommand\n"
@@ -236,7 +236,17 @@ LINES = [
         "  try    Runs the hooks of a configuration on files, and prints the report\n"
         "  check  Reads .pre-commit-config.yaml, and prints how many hooks it has and which keys are ignored\n\n"
         "Options:\n"
-        "  -h, --help  Print help\n",
+        "  -h, --help  Print help\n\n"
+        "Without words, the configuration is read from standard input, and its hooks are\n"
+        "run on no files.\n\n"
+        "Example:\n"
+        "  hookhost try .pre-commit-config.yaml README.md src/main.c\n\n"
+        "Exit status:\n"
+        "   0  every hook passed or was skipped; check took the configuration\n"
+        "   1  a hook failed\n"
+        "   2  the words name no command, or ask for help\n"
+        "   3  something was refused: standard error says what\n\n"
+        "hookhost COMMAND --help explains what that command refuses.\n",
     ),
 ]
 

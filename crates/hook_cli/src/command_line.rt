@@ -7,6 +7,7 @@ ghost use Rattle.clap.specs.Words.{FailsBy, all_of, app_of, fault_of, first_of, 
 ghost use Rattle.clap.specs.declared.builder.Command.TheViews.{out-Command as fields_of};
 ghost use Rattle.hook_cli.specs.CommandLine.{IsLineOf, IsNamed, check_app, config_rule, hookhost_app, path_rule, try_app};
 
+use crate::help::{CHECK_HELP, PROGRAM_HELP, TRY_HELP};
 use clap::{Arg, ArgMatches, Command, Error};
 use hook_base::{Items, Text};
 use std::alloc::{AllocError, Global};
@@ -57,6 +58,7 @@ fn hookhost<'a>(alloc: Global) -> Result<Command<'a>, AllocError>
 {
     Command::new(alloc, "hookhost")
         .about("Runs the hooks of a pre-commit configuration")
+        .after_help(PROGRAM_HELP)
         .no_binary_name(true)
         .disable_help_subcommand(true)
         .subcommand_required(true)
@@ -70,6 +72,8 @@ fn try_command<'a>(alloc: Global) -> Result<Command<'a>, AllocError>
 {
     Command::new(alloc, "try")
         .about("Runs the hooks of a configuration on files, and prints the report")
+        .override_usage("hookhost try <CONFIG> <PATH>...")
+        .after_help(TRY_HELP)
         .arg(config_argument(alloc))?
         .arg(path_argument(alloc))
 }
@@ -78,9 +82,12 @@ fn check_command<'a>(alloc: Global) -> Command<'a>
     ensures app { app_of result ≡ check_app }
     ensures local { (fields_of result).has_globals ≡ false }
 {
-    Command::new(alloc, "check").about(
-        "Reads .pre-commit-config.yaml, and prints how many hooks it has and which keys are ignored",
-    )
+    Command::new(alloc, "check")
+        .about(
+            "Reads .pre-commit-config.yaml, and prints how many hooks it has and which keys are ignored",
+        )
+        .override_usage("hookhost check")
+        .after_help(CHECK_HELP)
 }
 
 fn config_argument<'a>(alloc: Global) -> Arg<'a>

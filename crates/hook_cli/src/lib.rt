@@ -10,6 +10,7 @@ mod check;
 mod command_line;
 mod configuration_bytes;
 mod configuration_run;
+mod help;
 mod run_ask;
 mod try_fault;
 

@@ -1,0 +1,88 @@
+//! What the help says beyond the commands and their values: examples, exit statuses, and each refusal with what to do next.
+//!
+//! `docs/REFERENCE.md` holds the same tables, and `tests/reference.py` compares the two.
+
+/// Behind the help of the program.
+pub(crate) const PROGRAM_HELP: &str = "\
+Without words, the configuration is read from standard input, and its hooks are
+run on no files.
+
+Example:
+  hookhost try .pre-commit-config.yaml README.md src/main.c
+
+Exit status:
+   0  every hook passed or was skipped; check took the configuration
+   1  a hook failed
+   2  the words name no command, or ask for help
+   3  something was refused: standard error says what
+
+hookhost COMMAND --help explains what that command refuses.";
+
+/// Behind the help of `try`.
+pub(crate) const TRY_HELP: &str = "\
+Hooks of the stage pre-commit are run on the files that each selects, one after
+another. The report goes to standard output, and no file is written.
+
+Example:
+  hookhost try .pre-commit-config.yaml README.md src/main.c
+
+Exit status:
+   0  every hook passed or was skipped
+   1  a hook failed
+   2  the words are wrong, or ask for help
+   3  something was refused: standard error says what
+
+A file that can't be used is told as 'hookhost: cannot use PATH': it can't be read,
+its path isn't allowed, or it has more than 16 MiB. Everything else is told as
+'hookhost: refused: NUMBER NAME':
+   1 Read         standard input gave an error
+                  try again
+   2 Config       the configuration is none
+                  mend it: as .pre-commit-config.yaml, hookhost check tells why
+   3 Write        standard output took no more
+                  see what reads it; a part of the report may have gone out
+   4 OutOfMemory  memory was refused
+                  free some memory, and run it again
+   5 Spent        no more children can be counted
+                  nothing today: no hook has children yet";
+
+/// Behind the help of `check`.
+pub(crate) const CHECK_HELP: &str = "\
+Nothing is run. The hooks of all repositories and stages are counted, and each key
+that nothing knows is printed on its line.
+
+Example:
+  hookhost check
+
+Exit status:
+   0  the configuration was taken
+   2  the words are wrong, or ask for help
+   3  something was refused: standard error says what
+
+A file that can't be read is told as 'hookhost: cannot use .pre-commit-config.yaml',
+an output that takes no more as 'hookhost: refused: 3 Write', and everything else as
+'hookhost: refused: NUMBER NAME':
+   1 Yaml         the text isn't in the profile of YAML that is read
+                  write it in that of docs/REFERENCE.md
+   2 Shape        a value is of another kind than its key asks for
+                  see the kinds of the keys in docs/REFERENCE.md
+   3 MissingKey   a required key isn't there
+                  add repos, repo, hooks, id, name, language or entry
+   4 BadStage     a text in stages or default_stages names no stage
+                  name one of pre-commit's stages
+   5 BadLanguage  a language is none of system, script, fail, pygrep
+                  choose one of these
+   6 RemoteRepo   a repo isn't local
+                  write its hooks under repo: local
+   7 BadPattern   regex doesn't take a pattern, or the entry of a pygrep hook
+                  do without lookaround and back references, or make it shorter
+   8 BadEntry     the entry of a system or script hook can't be cut into words
+                  nothing today: these languages aren't taken yet
+   9 BadArgs      a pygrep hook has an argument that isn't known
+                  give it -i, --ignore-case, --multiline or --negate
+  10 Unsupported  a language isn't taken yet, or a value must be empty
+                  use fail or pygrep; empty log_file and additional_dependencies
+  11 TooMany      there are more than 500 hooks
+                  leave some out
+  12 OutOfMemory  memory was refused
+                  free some memory, and run it again";
