@@ -1,5 +1,5 @@
 -- The exit status with which the program ends for each reason to stop, and what an error of a library stops it for.
-use Rattle.std.specs.Prelude.{◌≡◌, ◌≢◌, ℕ, None}
+use Rattle.std.specs.Prelude.{◌≡◌, ◌≢◌, ◌⊎◌, ◌++◌, ◌∷◌, ℕ, List, None}
 use Rattle.std.specs.IoError.{error_kind, raw_os_error}
 use Rattle.std.specs.declared.io.Error.{Error}
 use Rattle.std.specs.declared.io.ErrorKind.TheVariants.{OutOfMemory as MemoryKind}
@@ -9,6 +9,8 @@ use Rattle.clap.specs.declared.error.kind.ErrorKind.TheVariants.{OutOfMemory as 
 use Rattle.hook_cli.specs.declared.try_fault.TryFault.{TryFault}
 use Rattle.hook_cli.specs.declared.try_fault.TryFault.TheVariants.{Read, Config, Write, OutOfMemory, Spent}
 use Rattle.hook_config.specs.declared.config_fault.ConfigKind.TheVariants.{OutOfMemory as NoMemory}
+use Rattle.hook_base.specs.declared.file.File.{File}
+use Rattle.hookhost.specs.FileTrees.{AreFilesOf}
 use Rattle.hookhost.specs.declared.stop.Stop.{Stop}
 use Rattle.hookhost.specs.declared.stop.Stop.TheVariants.{Usage, NotText, CannotUse, Refused, NoConfiguration}
 
@@ -29,6 +31,24 @@ pub record IsNoMemory (error : Error) : Type 0 where
 pub record StopsFor (reason : Stop) (error : Error) (stop : Stop) : Type 0 where
   pub memory : IsNoMemory error → stop ≡ Refused OutOfMemory
   pub other : ¬ IsNoMemory error → stop ≡ reason
+
+-- the file of a word stops the program because it can't be used, or because memory was refused
+abbrev pub IsStopOfFile : List ℕ → Stop → Type 0
+IsStopOfFile word stop = (stop ≡ CannotUse word) ⊎ (stop ≡ Refused OutOfMemory)
+
+-- the files of the words before this one were read, and its file stops the program
+pub record StopsAtFile (words : List (List ℕ)) (stop : Stop) : Type 0 where
+  pub before : List (List ℕ)
+  pub word : List ℕ
+  pub others : List (List ℕ)
+  pub one : words ≡ before ++ word ∷ others
+  pub files : List File
+  pub read : AreFilesOf before files
+  pub stops : IsStopOfFile word stop
+
+-- the files of words stop the program at the first that can't be used, or because memory was refused
+abbrev pub IsStopOfFiles : List (List ℕ) → Stop → Type 0
+IsStopOfFiles words stop = StopsAtFile words stop ⊎ (stop ≡ Refused OutOfMemory)
 
 -- the same for an error of the words
 pub record IsUsageOf (error : WordsError) (stop : Stop) : Type 0 where

@@ -1,7 +1,8 @@
 //! What the program reads from the working folder.
 
-ghost use Rattle.std.specs.Prelude.{IfOk};
+ghost use Rattle.std.specs.Prelude.{IfErr, IfOk};
 ghost use Rattle.hookhost.specs.FileTrees.{AreFilesOf, IsFileOf, IsTreeOf};
+ghost use Rattle.hookhost.specs.Stops.{IsStopOfFile, IsStopOfFiles};
 
 use crate::file_tree::{plain_file, tree_of};
 use crate::stop::Stop;
@@ -14,14 +15,16 @@ use std::{fs, io};
 /// The files of the words, as plain files of a tree. The first word whose path isn't allowed, or whose file can't be
 /// read or is over 16 MiB, is `Stop::CannotUse`.
 pub(crate) fn read_tree<R: Files + AllocGlobal>(rt: &R, words: Items<Text>) -> Result<Tree, Stop>
-    ensures { IfOk result (IsTreeOf words) }
+    ensures tree { IfOk result (IsTreeOf words) }
+    ensures refused { IfErr result (IsStopOfFiles words) }
 {
     let files = read_files(rt, words)?;
     Ok(tree_of(rt.alloc(), files)?)
 }
 
 fn read_files<R: Files + AllocGlobal>(rt: &R, words: Items<Text>) -> Result<Vec<File>, Stop>
-    ensures { IfOk result (λ files. AreFilesOf words files.items) }
+    ensures files { IfOk result (λ files. AreFilesOf words files.items) }
+    ensures refused { IfErr result (IsStopOfFiles words) }
 {
     let mut files = Vec::new(rt.alloc());
     'words: for word in words.into_vec() {
@@ -31,7 +34,8 @@ fn read_files<R: Files + AllocGlobal>(rt: &R, words: Items<Text>) -> Result<Vec<
 }
 
 fn read_plain_file<R: Files + AllocGlobal>(rt: &R, word: Text) -> Result<File, Stop>
-    ensures { IfOk result (IsFileOf word) }
+    ensures file { IfOk result (IsFileOf word) }
+    ensures refused { IfErr result (IsStopOfFile word) }
 {
     let path = match RepoPath::read(rt.alloc(), word.as_str()) {
         Ok(path) => path,

@@ -1,7 +1,7 @@
 //! Why the program ends without having done what its words ask for, and how it says so.
 
 ghost use Rattle.std.specs.Prelude.{◌≡◌, ◌↔◌, IsTrue};
-ghost use Rattle.hookhost.specs.Stops.{IsNoMemory, StopsFor, of_check, status_of};
+ghost use Rattle.hookhost.specs.Stops.{IsNoMemory, IsStopOfFile, StopsFor, of_check, status_of};
 
 use hook_base::{OutOfMemory, Text};
 use hook_cli::TryFault;
@@ -44,7 +44,8 @@ impl Stop {
 
     /// What an error of reading the word's file means.
     pub(crate) fn of_file(error: &io::Error, word: Text) -> Stop
-        ensures { StopsFor (Stop.CannotUse word) error.now result }
+        ensures why { StopsFor (Stop.CannotUse word) error.now result }
+        ensures either { IsStopOfFile word result }
     {
         if is_memory(error) {
             Stop::Refused(TryFault::OutOfMemory)

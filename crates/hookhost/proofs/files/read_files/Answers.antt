@@ -13,5 +13,5 @@ words-preserved g c =
       left = append_assoc before (word ∷ []) (into_iter_items c.next.new.self)
           ∙ ap (λ l. before ++ l) (sym (c.in-Some.ensures.steps.0)) ∙ c.words.invariant.left;
       files = subst (λ (files : List File). AreFilesOf (before ++ word ∷ []) files) (sym c.in_ok-push.ensures.items)
-          (AreFilesOf-push before c.words.files.items word c.in_ok-read_plain_file.field-0 c.words.invariant.files c.in_ok-read_plain_file.ensures);
+          (AreFilesOf-push before c.words.files.items word c.in_ok-read_plain_file.field-0 c.words.invariant.files c.in_ok-read_plain_file.ensures.file);
     }
