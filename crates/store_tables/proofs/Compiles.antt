@@ -145,7 +145,7 @@ two_are_given = op2 (Compare Eq Binary) (col 1 1) (col 0 0) ∷ op2 (Compare Eq 
 -- ---- queries
 
 abbrev pub all_meta : List ℕ
-all_meta = codes "SELECT name, value FROM meta ORDER BY name"
+all_meta = codes "SELECT rowid, name, value FROM meta ORDER BY name"
 
 abbrev pub all_blobs : List ℕ
 all_blobs = codes "SELECT digest, bytes FROM blobs ORDER BY digest"
@@ -231,7 +231,7 @@ module _ (more : MoreTables) where
   unfolding understood everything
   clear_answers_is = (refl, (refl, refl))
 
-  pub all_meta_is : Selects schema all_meta 0 (col 1 1 ∷ col 1 2 ∷ []) (rising 1 ∷ []) (codes "name" ∷ codes "value" ∷ [])
+  pub all_meta_is : Selects schema all_meta 0 (col 1 0 ∷ col 1 1 ∷ col 1 2 ∷ []) (rising 1 ∷ []) (codes "rowid" ∷ codes "name" ∷ codes "value" ∷ [])
   unfolding understood everything
   all_meta_is = ((refl, (refl, refl)), refl)
 
