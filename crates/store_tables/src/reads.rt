@@ -12,8 +12,8 @@ use crate::rows::{AnswerRow, BlobRow, CommitRow, EntryRow, FixRow, MetaRow, Stag
 use sqlite::{Alter, Error, Transaction};
 use std::alloc::Global;
 
-/// Every number that the store keeps about itself, asked for in the order of their names. `InvalidQuery` comes where two
-/// rows show one rowid, which a table excludes.
+/// Every number that the store keeps about itself, asked for in the order of their names. `InvalidQuery` comes where
+/// two rows show one rowid, which a table excludes.
 pub fn read_meta<S: Alter>(
     alloc: Global,
     tx: &mut Transaction<'_, S>,
@@ -97,8 +97,8 @@ pub fn read_fixes<S: Alter>(
     decoded(alloc, shown, 1)
 }
 
-/// The remembered answers, asked for in the order of their keys. `InvalidQuery` comes where two rows show one rowid, which
-/// a table excludes.
+/// The remembered answers, asked for in the order of their keys. `InvalidQuery` comes where two rows show one rowid,
+/// which a table excludes.
 pub fn read_answers<S: Alter>(
     alloc: Global,
     tx: &mut Transaction<'_, S>,

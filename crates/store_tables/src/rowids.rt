@@ -50,8 +50,8 @@ fn are_apart(numbers: &mut Vec<i64>) -> bool
     rises(numbers)
 }
 
-/// Each row of an answer that shows the rowids first, from the column after them on. `InvalidQuery` comes where two rows
-/// show one rowid.
+/// Each row of an answer that shows the rowids first, from the column after them on. `InvalidQuery` comes where two
+/// rows show one rowid.
 pub(crate) fn decoded_apart<T: FromColumns>(alloc: Global, shown: Vec<Row>) -> Result<Vec<T>, Error>
     ensures rows { IfOk result (λ items. map T.cells items.items ≡ map (drop 1) shown.items) }
     ensures apart { IfOk result (λ items. ShowRowids shown.items) }
