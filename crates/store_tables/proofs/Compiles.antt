@@ -120,19 +120,32 @@ Compiles schema text command = (command_of (understood schema text) ≡ command)
 abbrev pub take_staged : List ℕ
 take_staged = codes "DELETE FROM staged WHERE path = ?1"
 
+abbrev pub take_meta : List ℕ
+take_meta = codes "DELETE FROM meta WHERE name = ?1"
+
+abbrev pub take_answer : List ℕ
+take_answer = codes "DELETE FROM answers WHERE words = ?1 AND seen = ?2"
+
+abbrev pub clear_staged : List ℕ
+clear_staged = codes "DELETE FROM staged"
+
 abbrev pub clear_fixes : List ℕ
 clear_fixes = codes "DELETE FROM fixes"
 
 abbrev pub clear_answers : List ℕ
 clear_answers = codes "DELETE FROM answers"
 
-abbrev pub path_is_given : List Term
-path_is_given = op2 (Compare Eq Binary) (col 1 1) (col 0 0) ∷ []
+-- the first column is the first parameter, as are a path and a name
+abbrev pub first_is_given : List Term
+first_is_given = op2 (Compare Eq Binary) (col 1 1) (col 0 0) ∷ []
+
+abbrev pub two_are_given : List Term
+two_are_given = op2 (Compare Eq Binary) (col 1 1) (col 0 0) ∷ op2 (Compare Eq Binary) (col 1 2) (col 0 1) ∷ []
 
 -- ---- queries
 
 abbrev pub all_meta : List ℕ
-all_meta = codes "SELECT name, value FROM meta ORDER BY name"
+all_meta = codes "SELECT rowid, name, value FROM meta ORDER BY name"
 
 abbrev pub all_blobs : List ℕ
 all_blobs = codes "SELECT digest, bytes FROM blobs ORDER BY digest"
@@ -194,9 +207,21 @@ module _ (more : MoreTables) where
   unfolding understood everything
   put_answer_is = (refl, (refl, refl))
 
-  pub take_staged_is : Compiles schema take_staged (Delete 2 (record { lets = []; body = plain_query 4 path_is_given (col 1 0 ∷ []) [] }))
+  pub take_staged_is : Compiles schema take_staged (Delete 2 (record { lets = []; body = plain_query 4 first_is_given (col 1 0 ∷ []) [] }))
   unfolding understood everything
   take_staged_is = (refl, (refl, refl))
+
+  pub take_meta_is : Compiles schema take_meta (Delete 0 (record { lets = []; body = plain_query 0 first_is_given (col 1 0 ∷ []) [] }))
+  unfolding understood everything
+  take_meta_is = (refl, (refl, refl))
+
+  pub take_answer_is : Compiles schema take_answer (Delete 6 (record { lets = []; body = plain_query 11 two_are_given (col 1 0 ∷ []) [] }))
+  unfolding understood everything
+  take_answer_is = (refl, (refl, refl))
+
+  pub clear_staged_is : Compiles schema clear_staged (Delete 2 (record { lets = []; body = plain_query 4 [] (col 1 0 ∷ []) [] }))
+  unfolding understood everything
+  clear_staged_is = (refl, (refl, refl))
 
   pub clear_fixes_is : Compiles schema clear_fixes (Delete 3 (record { lets = []; body = plain_query 6 [] (col 1 0 ∷ []) [] }))
   unfolding understood everything
@@ -206,7 +231,7 @@ module _ (more : MoreTables) where
   unfolding understood everything
   clear_answers_is = (refl, (refl, refl))
 
-  pub all_meta_is : Selects schema all_meta 0 (col 1 1 ∷ col 1 2 ∷ []) (rising 1 ∷ []) (codes "name" ∷ codes "value" ∷ [])
+  pub all_meta_is : Selects schema all_meta 0 (col 1 0 ∷ col 1 1 ∷ col 1 2 ∷ []) (rising 1 ∷ []) (codes "rowid" ∷ codes "name" ∷ codes "value" ∷ [])
   unfolding understood everything
   all_meta_is = ((refl, (refl, refl)), refl)
 

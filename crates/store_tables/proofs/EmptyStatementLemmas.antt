@@ -1,5 +1,5 @@
 -- The empty statement.
-use Rattle.std.proofs.Common.{ℕ, [], Ok, refl, sym, subst}
+use Rattle.std.proofs.Common.{◌≡◌, ℕ, [], Ok, refl, sym, subst}
 use Rattle.sqlite_schema.specs.declared.schema.Schema.{Schema}
 use Rattle.sqlite_schema.specs.declared.command.Command.TheVariants.{Nothing}
 use Rattle.sqlite_tied.specs.Compute.{everything}
@@ -19,7 +19,9 @@ module _ (more : MoreTables) where
   unfolding understood everything
   nothing_is = (refl, (refl, refl))
 
+  pub is_unchanged : (old new : State) (count : ℕ) → old.now.schema ≡ schema → Executes [] [] old new (Ok count) → new.now ≡ old.now
+  is_unchanged old new count has ran = (runs_as [] [] old new schema has Nothing nothing_is.0 nothing_is.1 count ran).0.0.now_is
+
   pub changes_nothing : (old new : State) (t : Tables) (count : ℕ) → HoldsIn schema old.now t → Executes [] [] old new (Ok count) → HoldsIn schema new.now t
   changes_nothing old new t count h ran =
-      let it = runs_as [] [] old new schema h.schema Nothing nothing_is.0 nothing_is.1 count ran in
-      subst (λ (db : Database). HoldsIn schema db t) (sym it.0.0.now_is) h
+      subst (λ (db : Database). HoldsIn schema db t) (sym (is_unchanged old new count h.schema ran)) h

@@ -1,7 +1,10 @@
+pub mod AnswerLemmas
 pub mod ColumnLemmas
 pub mod Compiles
 pub mod EmptyStatementLemmas
 pub mod MakeLemmas
+pub mod MetaLemmas
+pub mod OnlyLemmas
 pub mod QueryLemmas
 pub mod ReadLemmas
 pub mod RisingLemmas

@@ -1,5 +1,5 @@
 -- From what a transaction says of a query to the rows of a table.
-use Rattle.std.proofs.Common.{◌≡◌, ◌⊎◌, inl, inr, ℕ, ℤ, List, [], map, drop, true, cond, Option, None, Some, Result, Ok, Err, IfOk, IfErr, IsTrue, sym, ap, subst, ◌∙◌, IsPermutation}
+use Rattle.std.proofs.Common.{◌≡◌, ◌⊎◌, inl, inr, ℕ, ℤ, List, [], map, drop, true, cond, Option, None, Some, Result, Ok, Err, IfOk, IfErr, IsTrue, refl, sym, ap, subst, ◌∙◌, IsPermutation}
 use Rattle.std.proofs.lemmas.Bool.{both_ways}
 use Rattle.std.proofs.lemmas.Result.{IfOk-at_ok, IfOk-weaker}
 use Rattle.std.proofs.lemmas.List.Sorted.{IsPermutation-map, IsPermutation-sym}
@@ -25,9 +25,11 @@ use Rattle.sqlite.proofs.InsideLemmas.{unchanged_keeps}
 use Rattle.sqlite_keyed.proofs.ListLemmas.{map-map}
 use Rattle.store_tables.specs.Schema.{MoreTables, store_with}
 use Rattle.store_tables.specs.Steps.{IsRead}
-use Rattle.store_tables.specs.Tables.{Stored}
+use Rattle.store_tables.specs.Rowids.{ShowRowids}
+use Rattle.store_tables.specs.Tables.{Stored, AreKeyed}
 use Rattle.store_tables.proofs.Compiles.{Selects}
 use Rattle.store_tables.proofs.QueryLemmas.{shown_as}
+use Rattle.store_tables.proofs.RisingLemmas.{apart_from_ids}
 use Rattle.store_tables.proofs.RowLemmas.{has_permuted, mapped_has}
 use Rattle.store_tables.proofs.WriteLemmas.{shows}
 
@@ -81,6 +83,11 @@ ids_number rows ids same =
     test_from (λ r. is_int (rowid r)) rows (λ r h.
     let n = has_mapped Int ids (rowid r) (has_permuted (map rowid rows) (map Int ids) (rowid r) same (mapped_has rowid rows r h)) in ap is_int n.2)
 
+-- rowids of which none is shown twice
+pub keyed_as_shown : (project : List Term) (rows shown : List Row) → ((r : Row) → column (shown_as project [] r) 0 ≡ rowid r) → IsPermutation (map (shown_as project []) rows) shown → ShowRowids shown → AreKeyed rows
+keyed_as_shown project rows shown each same it =
+    let ids = ids_shown project rows shown it.0 each same it.1 in record { numbered = ids_number rows it.0 ids; apart = apart_from_ids rows it.0 ids it.2 }
+
 module _ {S : Type 0} (g : Ghosts S) (old new : Held S) (sql : List ℕ) where
   abbrev pub Answered : {V : Type 0} → (V → List Row) → Result V Error → Type 0
   Answered items r = HasCleanDisk (state g new) → IfOk r (λ rows. Shown sql [] (state g old) (state g new) (items rows))
@@ -124,8 +131,20 @@ module _ {S : Type 0} (g : Ghosts S) (old new : Held S) (sql : List ℕ) where
         survives = survives;
       }
 
+      -- with the rowids, in the first column
+      pub read_keyed : {W X : Type 0} (out : Result W Error) (listed : W → List X) (cells : X → Row) (places : List ℕ) → ((row : Row) → drop 1 (shown_as project [] row) ≡ map (column row) places) → ((row : Row) → column (shown_as project [] row) 0 ≡ rowid row)
+          → (values : List Row) → values ≡ items shown → IfOk out (λ w. map cells (listed w) ≡ map (drop 1) values) → IfOk out (λ w. ShowRowids values)
+          → IsRead g old new out (λ w trees. Stored cells places (listed w) (trees tree) × AreKeyed (trees tree))
+      read_keyed (Err e) listed cells places each ids values same done apart = read_fails (Err e) e refl _
+      read_keyed (Ok w) listed cells places each ids values same done apart =
+          read_also AreKeyed (Ok w) listed cells places 1 each values same (λ rows there. keyed_as_shown project rows values ids there apart) done
+
       pub read_ends : {W X : Type 0} (out : Result W Error) (listed : W → List X) (cells : X → Row) (places : List ℕ) (first : ℕ) → ((row : Row) → drop first (shown_as project [] row) ≡ map (column row) places)
           → (values : List Row) → values ≡ items shown → IfOk out (λ w. map cells (listed w) ≡ map (drop first) values) → IsRead g old new out (λ w trees. Stored cells places (listed w) (trees tree))
       read_ends out listed cells places first each values same done =
           let it = read_also (λ _. Unit {0}) out listed cells places first each values same (λ _ _. tt) done in
           record { rows = λ more clean has. IfOk-weaker out _ _ (λ w e. (e.0, e.1.0)) (it.rows more clean has); kept = it.kept; survives = it.survives }
+
+-- what is told of less
+pub read_weaker : {S W : Type 0} (g : Ghosts S) (old new : Held S) (out : Result W Error) (Rows Fewer : W → Trees → Type 0) → ((w : W) (trees : Trees) → Rows w trees → Fewer w trees) → IsRead g old new out Rows → IsRead g old new out Fewer
+read_weaker g old new out Rows Fewer weaker it = record { rows = λ more clean has. IfOk-weaker out _ _ (λ w e. (e.0, weaker w (state g old).now.trees e.1)) (it.rows more clean has); kept = it.kept; survives = it.survives }

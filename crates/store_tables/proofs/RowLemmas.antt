@@ -1,5 +1,5 @@
 -- What is put into a table and taken out of it, whatever the order of its rows.
-use Rattle.std.proofs.Common.{◌≡◌, ℤ, List, [], ◌∷◌, map, filter, Bool, true, false, not, ◌&&◌, ◌||◌, cond, Ordering, Less, Equal, Greater, refl, sym, ap, ◌∙◌, inl, inr, IsPermutation, true≢false}
+use Rattle.std.proofs.Common.{◌≡◌, ℤ, List, [], ◌∷◌, map, filter, Bool, true, false, not, ◌&&◌, ◌||◌, cond, Ordering, Less, Equal, Greater, refl, sym, ap, subst, ◌∙◌, inl, inr, IsPermutation, true≢false}
 use Rattle.std.specs.List.{AllByRecursion, list_any}
 use Rattle.std.specs.Ordering.{is_eq, match_ordering, ordering_reverse}
 use Rattle.std.proofs.lemmas.Bool.{or_parts, both_ways, cases_Bool, false_from_ne_true}
@@ -18,7 +18,7 @@ use Rattle.sqlite_rules.proofs.ListLemmas.{all_has, test_has, test_from, some_ha
 use Rattle.sqlite_rules.proofs.ProbeLemmas.{has_mapped}
 use Rattle.sqlite_rules.proofs.TableLemmas.{int_is, put_has}
 use Rattle.sqlite_keyed.proofs.ListLemmas.{ascending-filter}
-use Rattle.store_tables.specs.Tables.{AreApart, have_one_rowid}
+use Rattle.store_tables.specs.Tables.{AreApart, AreKeyed, have_one_rowid}
 
 pub has_permuted : {X : Type 0} (xs ys : List X) (x : X) → IsPermutation xs ys → Has xs x → Has ys x
 has_permuted xs ys x same h = has_contained ys x (Contains-permutation xs ys x same (contains_had xs x h))
@@ -140,3 +140,6 @@ filter_apart p rows apart = ascending-filter _ p rows apart
 
 pub filter_keyed : (p : Row → Bool) (rows : List Row) → have_rowids rows ≡ true → have_rowids (filter p rows) ≡ true
 filter_keyed p rows keyed = test_from (λ r. is_int (rowid r)) (filter p rows) (λ x h. test_has (λ r. is_int (rowid r)) rows x keyed (has_filtered p rows x h).0)
+
+pub left_keyed : (ids : List ℤ) (rows : List Row) → AreKeyed rows → AreKeyed (without_all rows ids)
+left_keyed ids rows keyed = subst AreKeyed (sym (without_named ids rows)) (record { numbered = filter_keyed _ rows keyed.numbered; apart = filter_apart _ rows keyed.apart })

@@ -1,23 +1,15 @@
 -- All staged files taken out.
-use Rattle.std.proofs.Common.{◌≡◌, ℕ, List, [], ◌∷◌, true, codes, Ok, refl, sym, subst, arith}
+use Rattle.std.proofs.Common.{◌≡◌, ℕ, List, [], ◌∷◌, true, Ok, refl, sym, subst, arith}
 use Rattle.std.proofs.lemmas.List.Sorted.{IsPermutation-refl}
 use Rattle.sqlite_value.specs.Order.{Row}
-use Rattle.sqlite_sql.specs.Term.{col}
 use Rattle.sqlite_schema.specs.declared.schema.Schema.{Schema}
-use Rattle.sqlite_schema.specs.declared.command.Command.TheVariants.{Delete}
 use Rattle.sqlite_rules.specs.Edit.{have_rowids}
-use Rattle.sqlite_tied.specs.Compute.{everything}
-use Rattle.sqlite.specs.Listing.{understood}
 use Rattle.sqlite.specs.State.{State, Executes}
 use Rattle.sqlite.proofs.Callers.{runs_as}
 use Rattle.store_tables.specs.Schema.{MoreTables, store_with}
 use Rattle.store_tables.specs.Tables.{Tables, HoldsIn, Stored, AreKeyed, meta_cells, blob_cells, staged_cells, fix_cells, commit_cells, entry_cells, answer_cells, without_all_staged}
-use Rattle.store_tables.proofs.Compiles.{Compiles}
-use Rattle.store_tables.proofs.QueryLemmas.{plain_query}
+use Rattle.store_tables.proofs.Compiles as text
 use Rattle.store_tables.proofs.WriteLemmas.{store_stays, empties}
-
-abbrev pub clear_text : List ℕ
-clear_text = codes "DELETE FROM staged"
 
 abbrev AreNumbered : List Row → Type 0
 AreNumbered rows = have_rowids rows ≡ true
@@ -26,13 +18,9 @@ module _ (more : MoreTables) where
   abbrev schema : Schema
   schema = store_with more
 
-  clear_is : Compiles schema clear_text (Delete 2 (record { lets = []; body = plain_query 4 [] (col 1 0 ∷ []) [] }))
-  unfolding understood everything
-  clear_is = (refl, (refl, refl))
-
-  pub clear_staged : (old new : State) (t : Tables) (count : ℕ) → HoldsIn schema old.now t → Executes clear_text [] old new (Ok count) → HoldsIn schema new.now (without_all_staged t)
+  pub clear_staged : (old new : State) (t : Tables) (count : ℕ) → HoldsIn schema old.now t → Executes text.clear_staged [] old new (Ok count) → HoldsIn schema new.now (without_all_staged t)
   clear_staged old new t count h ran =
-      let w = runs_as clear_text [] old new schema h.schema _ clear_is.0 clear_is.1 count ran in
+      let w = runs_as text.clear_staged [] old new schema h.schema _ (text.clear_staged_is more).0 (text.clear_staged_is more).1 count ran in
       let p = empties schema 2 _ 4 _ _ _ _ _ refl old new h.schema _ [] count (store_stays more.tables more.rests) h.staged_keyed.numbered w in
       let q = p.1 in
       let o = q.others in

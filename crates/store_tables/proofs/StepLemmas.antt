@@ -1,17 +1,23 @@
 -- From what a transaction says of a statement to what the statement makes of the tables.
-use Rattle.std.proofs.Common.{◌≡◌, inl, inr, ℕ, List, false, Result, Ok, Err, IsTrue, refl, sym, subst}
+use Rattle.std.proofs.Common.{◌≡◌, ◌≢◌, inl, inr, ℕ, List, true, false, Result, Ok, Err, OnOk, IsTrue, refl, sym, subst, ◌∙◌, arith}
 use Rattle.std.proofs.lemmas.Bool.{cases_Bool}
+use Rattle.std.proofs.lemmas.Result.{on_ok_weaker}
 use Rattle.sqlite_value.specs.Order.{Row}
 use Rattle.sqlite_trees.specs.declared.store.Store.{Ghosts}
 use Rattle.sqlite.specs.declared.error.Error.{Error}
 use Rattle.sqlite.specs.declared.error.Error.TheVariants.{SqliteFailure}
 use Rattle.sqlite.specs.declared.error.ErrorCode.TheVariants.{TransactionState}
 use Rattle.sqlite.specs.Held.{Held, state}
-use Rattle.sqlite.specs.State.{State, HasCleanDisk, KeepsCommit, Survives, Executes, ExecutesInside}
-use Rattle.sqlite.proofs.InsideLemmas.{inside_keeps}
-use Rattle.store_tables.specs.Tables.{Tables, HoldsIn}
+use Rattle.sqlite.specs.Effect.{Database}
+use Rattle.sqlite.specs.State.{State, HasCleanDisk, KeepsCommit, Shows, Survives, Executes, ExecutesInside}
+use Rattle.sqlite.proofs.InsideLemmas.{inside_keeps, keeps_then}
+use Rattle.sqlite.proofs.StateLemmas.{survives_then}
+use Rattle.sqlite_keyed.proofs.ListLemmas.{all_both}
+use Rattle.sqlite_schema.specs.declared.schema.Schema.{Schema}
+use Rattle.sqlite_schema.specs.declared.schema.Table.{Table}
+use Rattle.store_tables.specs.Tables.{Tables, HoldsIn, ChangesOnly}
 use Rattle.store_tables.specs.Schema.{MoreTables, store_with}
-use Rattle.store_tables.specs.Steps.{IsStep}
+use Rattle.store_tables.specs.Steps.{IsStep, IsDone, IsChange}
 
 pub keeps_itself : (s : State) → KeepsCommit s s
 keeps_itself s = record { was_open = λ h. h; committed = λ _. refl }
@@ -37,3 +43,62 @@ module _ {S : Type 0} (g : Ghosts S) (old new : Held S) (sql : List ℕ) (params
     kept = keeps;
     survives = survives;
   }
+
+  pub fails_to_change : (Change : Schema → Database → Database → Type 0) (e : Error) → IsChange {A = Unit {0}} g old new (Err e) Change
+  fails_to_change Change e = record { done = λ _ _. tt; kept = keeps; survives = survives }
+
+  pub changes : (Change : Schema → Database → Database → Type 0) (count : ℕ) → r ≡ Ok count
+      → ((more : MoreTables) → (state g old).now.schema ≡ store_with more → Executes sql params (state g old) (state g new) (Ok count) → Change (store_with more) (state g old).now (state g new).now)
+      → IsChange {A = Unit {0}} g old new (Ok tt) Change
+  changes Change count is does = record {
+    done = λ clean inside. let ran = subst (ExecutesInside 0 sql params (state g old) (state g new)) is (runs clean inside) in (ran.1, λ more has. does more has ran.0);
+    kept = keeps;
+    survives = survives;
+  }
+
+-- ---- two statements in turn
+
+abbrev Relation : Type 1
+Relation = Schema → Database → Database → Type 0
+
+abbrev Went : {S : Type 0} (g : Ghosts S) → Held S → Held S → Relation → Type 0
+Went g x y Change =
+    Shows (state g x) (state g y) (state g y).now (state g x).committed true × ((more : MoreTables) → (state g x).now.schema ≡ store_with more → Change (store_with more) (state g x).now (state g y).now)
+
+pub change_then : {S A : Type 0} (g : Ghosts S) (a b c : Held S) (r : Result A Error) (First Second Both : Relation)
+    → ((listed : Schema) (x y z : Database) → First listed x y → (y.schema ≡ listed → Second listed y z) → Both listed x z) → IsChange {A = Unit {0}} g a b (Ok tt) First → IsChange g b c r Second → IsChange g a c r Both
+change_then {S} {A} g a b c r First Second Both join one two = record {
+  done = λ clean inside. let first = one.done (omega (arith, two.survives.clean)) inside in go r (two.done clean first.0.mode) first;
+  kept = λ clean. keeps_then (state g a) (state g b) (state g c) (one.kept (omega (arith, two.survives.clean))) (two.kept clean);
+  survives = survives_then (state g a) (state g b) (state g c) _ _ (λ _. ⊥) (λ _ db none. none) (λ _ db none. none) one.survives two.survives;
+}
+  where
+    go : (r : Result A Error) → OnOk r (Went g b c Second) → Went g a b First → OnOk r (Went g a c Both)
+    go (Err e) second first = tt
+    go (Ok x) second first = (
+      record { was_open = first.0.was_open; is_open = second.0.is_open; now_is = refl; committed_is = second.0.committed_is ∙ first.0.committed_is; mode = second.0.mode },
+      λ more has. join (store_with more) (state g a).now (state g b).now (state g c).now (first.1 more has) (λ listed. second.1 more listed),
+    )
+
+pub change_stops : {S A B : Type 0} (g : Ghosts S) (a b : Held S) (e d : Error) (r : Result B Error) (First Both : Relation) → r ≡ Err d → IsChange {A = A} g a b (Err e) First → IsChange g a b r Both
+change_stops g a b e d r First Both is one = record { done = λ _ _. rw is tt; kept = one.kept; survives = one.survives }
+
+-- what a statement makes of the tables, as a change
+pub step_as_change : {S A : Type 0} (g : Ghosts S) (old new : Held S) (r : Result A Error) (makes : Tables → Tables) → IsStep g old new r makes
+    → IsChange g old new r (λ listed x y. (t : Tables) → HoldsIn listed x t → HoldsIn listed y (makes t))
+step_as_change g old new r makes h = record {
+  done = λ clean inside. on_ok_weaker r (λ (d : IsDone (state g old) (state g new) makes). (d.shown, λ more has t before. d.holds more t before)) (h.done clean inside);
+  kept = h.kept;
+  survives = h.survives;
+}
+
+-- two changes of one table are one of it
+pub only_then : (own : Table) (listed : Schema) (x y z : Database) → ChangesOnly own listed x y → (y.schema ≡ listed → ChangesOnly own listed y z) → ChangesOnly own listed x z
+only_then own listed x y z first later =
+    let second = later first.schema in
+    record {
+      schema = second.schema;
+      others = all_both (λ (t : Table). t.tree ≢ own.tree → y.trees t.tree ≡ x.trees t.tree) (λ (t : Table). t.tree ≢ own.tree → z.trees t.tree ≡ y.trees t.tree)
+          (λ (t : Table). t.tree ≢ own.tree → z.trees t.tree ≡ x.trees t.tree) (λ t a b other. b other ∙ a other) listed.tables first.others second.others;
+      keyed = λ k. second.keyed (first.keyed k);
+    }

@@ -34,7 +34,7 @@ use Rattle.store_tables.specs.declared.rows.AnswerRow.{AnswerRow}
 use Rattle.store_tables.specs.Schema.{MoreTables, store_with}
 use Rattle.store_tables.specs.Tables.{Tables, HoldsIn, Stored, AreKeyed, meta_cells, blob_cells, staged_cells, fix_cells, commit_cells, entry_cells, answer_cells, with_meta, with_blob, with_staged, without_staged, with_fix, fix_row, without_fixes, with_commit, with_entry, with_answer, without_answers}
 use Rattle.store_tables.proofs.Compiles as text
-use Rattle.store_tables.proofs.Compiles.{two, three, four, five, keyed_two, path_is_given}
+use Rattle.store_tables.proofs.Compiles.{two, three, four, five, keyed_two, first_is_given}
 use Rattle.store_tables.proofs.QueryLemmas.{passes_all}
 use Rattle.store_tables.proofs.RowLemmas.{put_permutes, put_apart, put_keyed, filter_apart, filter_keyed}
 use Rattle.store_tables.proofs.WriteLemmas.{PutsRow, store_stays, inserts, deletes, empties}
@@ -69,31 +69,31 @@ stored_more cells places x xs row rows shows free h =
     (subst (λ v. IsPermutation (cells x ∷ map cells xs) (v ∷ map show rows)) (sym shows) (IsPermutation-cons (cells x) (map cells xs) (map show rows) h))
     (IsPermutation-map show (row ∷ rows) (put_row row rows) (put_permutes row rows free))
 
-stored_filtered : {X : Type 0} (cells : X → Row) (places : List ℕ) (keeps : Row → Bool) (xs : List X) (rows : List Row) → Stored cells places xs rows
+pub stored_filtered : {X : Type 0} (cells : X → Row) (places : List ℕ) (keeps : Row → Bool) (xs : List X) (rows : List Row) → Stored cells places xs rows
     → Stored cells places (filter (λ x. keeps (cells x)) xs) (filter (λ r. keeps (map (column r) places)) rows)
 stored_filtered cells places keeps xs rows h =
     let show = λ (r : Row). map (column r) places in
     subst (λ l. IsPermutation l (map show (filter (λ r. keeps (show r)) rows))) (filter-map keeps cells xs)
     (subst (IsPermutation (filter keeps (map cells xs))) (filter-map keeps show rows) (IsPermutation-filter keeps (map cells xs) (map show rows) h))
 
-same_text : (a b : List ℕ) → is_true (binary (Compare Eq Binary) (Text a) (Text b)) ≡ bytes_eq a b
-unfolding binary
-same_text a b = truth (is_eq (value_cmp (Text a) (Text b))) ∙ ap is_eq (value_cmp-Text a b) ∙ is_eq-slice_cmp a b
-  where
-    truth : (c : Bool) → is_true (from_truth (Some c)) ≡ c
-    truth true = refl
-    truth false = refl
+pub truth_is : (c : Bool) → is_true (from_truth (Some c)) ≡ c
+truth_is true = refl
+truth_is false = refl
 
--- whether a row of staged files, as it is shown, has another path
-abbrev other_path : List ℕ → Row → Bool
+pub and_true : (b : Bool) → (b && true) ≡ b
+and_true true = refl
+and_true false = refl
+
+pub same_text : (a b : List ℕ) → is_true (binary (Compare Eq Binary) (Text a) (Text b)) ≡ bytes_eq a b
+unfolding binary
+same_text a b = truth_is (is_eq (value_cmp (Text a) (Text b))) ∙ ap is_eq (value_cmp-Text a b) ∙ is_eq-slice_cmp a b
+
+-- whether a row of staged files, as it is shown, has another path, or one of `meta` another name
+abbrev pub other_path : List ℕ → Row → Bool
 other_path path row = not (is_true (binary (Compare Eq Binary) (column row 0) (Text path)) && true)
 
 others_kept : (path : List ℕ) (xs : List StagedRow) → filter (λ x. other_path path (staged_cells x)) xs ≡ filter (λ row. not (bytes_eq row.path path)) xs
 others_kept path xs = λ i. filter (λ (x : StagedRow). not ((and_true (is_true (binary (Compare Eq Binary) (Text x.path) (Text path))) ∙ same_text x.path path) i)) xs
-  where
-    and_true : (b : Bool) → (b && true) ≡ b
-    and_true true = refl
-    and_true false = refl
 
 commit_row : (rows : List Row) (n : ℤ) (message : List ℕ) → with_rowid Chosen rows (cast Integer (Int n) ∷ cast Integer Null ∷ Blob message ∷ []) ≡ Int n ∷ Null ∷ Blob message ∷ []
 commit_row rows n message = rw (cast_int n, cast_null) refl
@@ -281,7 +281,7 @@ module _ (more : MoreTables) where
       let params = Text path ∷ [] in
       let rows = old.now.trees 4 in
       let w = runs_as text.take_staged params old new schema h.schema _ (text.take_staged_is more).0 (text.take_staged_is more).1 count ran in
-      let p = deletes schema 2 _ 4 _ _ _ _ _ refl old new h.schema _ params count path_is_given (store_stays more.tables more.rests) h.staged_keyed.numbered h.staged_keyed.apart w in
+      let p = deletes schema 2 _ 4 _ _ _ _ _ refl old new h.schema _ params count first_is_given (store_stays more.tables more.rests) h.staged_keyed.numbered h.staged_keyed.apart w in
       let q = p.1 in
       let o = q.others in
       record {
@@ -290,7 +290,7 @@ module _ (more : MoreTables) where
         meta = subst (Stored meta_cells (1 ∷ 2 ∷ []) t.meta) (sym (o.0 (omega arith))) h.meta;
         blobs = subst (Stored blob_cells (1 ∷ 2 ∷ []) t.blobs) (sym (o.1.0 (omega arith))) h.blobs;
         staged = subst (Stored staged_cells (1 ∷ 2 ∷ 3 ∷ []) (without_staged path t).staged) (sym q.rows_are)
-            (subst (λ xs. Stored staged_cells (1 ∷ 2 ∷ 3 ∷ []) xs (filter (λ r. not (passes_all path_is_given params r)) rows)) (others_kept path t.staged)
+            (subst (λ xs. Stored staged_cells (1 ∷ 2 ∷ 3 ∷ []) xs (filter (λ r. not (passes_all first_is_given params r)) rows)) (others_kept path t.staged)
             (stored_filtered staged_cells (1 ∷ 2 ∷ 3 ∷ []) (other_path path) t.staged rows h.staged));
         staged_keyed = subst AreKeyed (sym q.rows_are) (record { numbered = filter_keyed _ rows h.staged_keyed.numbered; apart = filter_apart _ rows h.staged_keyed.apart });
         fixes = subst (Stored fix_cells (1 ∷ 2 ∷ 3 ∷ []) t.fixes) (sym (o.1.1.1.0 (omega arith))) h.fixes;

@@ -1,5 +1,5 @@
 -- What INSERT and DELETE make of a table that states no default, check or action.
-use Rattle.std.proofs.Common.{◌≡◌, ◌≢◌, ◌⊎◌, inl, inr, ℕ, ◌/◌, List, [], ◌∷◌, ◌++◌, length, map, filter, flat_map, slice_get, true, false, not, eqb, Option, Some, None, Result, Ok, Err, refl, sym, ap, subst, ◌∙◌, IsPermutation}
+use Rattle.std.proofs.Common.{◌≡◌, ◌⊎◌, inl, inr, ℕ, ◌/◌, List, [], ◌∷◌, ◌++◌, length, map, filter, flat_map, slice_get, true, false, not, eqb, Option, Some, None, Result, Ok, Err, refl, sym, ap, subst, ◌∙◌, IsPermutation}
 use Rattle.std.specs.List.{AllByRecursion, filter_map}
 use Rattle.std.proofs.lemmas.Bool.{and_parts, not-true, and_right}
 use Rattle.sqlite_value.specs.Order.{Row}
@@ -32,8 +32,8 @@ use Rattle.sqlite.specs.State.{State, Writes, mode_of}
 use Rattle.sqlite.proofs.Callers.{one_step}
 use Rattle.store_tables.specs.Schema.{NoneActs, store_schema, table_of}
 use Rattle.store_tables.proofs.QueryLemmas.{plain_query, passes_all, shown_as, selected}
-use Rattle.store_tables.proofs.RowLemmas.{passing_out, all_out, all_kept}
-use Rattle.store_tables.specs.Tables.{AreApart}
+use Rattle.store_tables.proofs.RowLemmas.{passing_out, all_out, all_kept, put_apart, put_keyed, left_keyed}
+use Rattle.store_tables.specs.Tables.{AreApart, AreKeyed, ChangesOnly, KeepsOthers}
 
 -- a part that gave a value did not stop on the way
 pub went : {B E R : Type 0} {b : B} {Stops : E → Type 0} → ((stop : E) × Stops stop × (Ok b ≡ Err stop)) ⊎ R → R
@@ -79,10 +79,6 @@ module _ (schema : Schema) (depth tree : ℕ) (olds : List Row) where
 
 -- ---- the statements
 
--- the other tables are as they were
-abbrev pub KeepsOthers : Schema → ℕ → Trees → Trees → Type 0
-KeepsOthers schema tree old new = AllByRecursion (λ t. t.tree ≢ tree → new t.tree ≡ old t.tree) schema.tables
-
 -- one row was put where its rowid was free
 pub record PutsRow (schema : Schema) (tree : ℕ) (row : Row) (old new : Trees) : Type 0 where
   pub rows : new tree ≡ put_row row (old tree)
@@ -119,6 +115,18 @@ module _ (schema : Schema) (at : ℕ) (name : List ℕ) (tree : ℕ) (columns : 
         record { rows = applied.rows; free = not-true _ (and_parts _ _ applied.fresh).0; keyed = (and_parts _ _ applied.keyed).0; others = applied.tables },
       )
 
+  pub inserts_only : (terms : List Term) (width : ℕ) (source : Row) → value_rows (params ++ []) width (length terms / width) terms ≡ source ∷ []
+      → Writes old new None (Insert at (Values terms width)) text params count → ChangesOnly table schema old.now new.now
+  inserts_only terms width source one w =
+      let it = inserts terms width source one w in
+      let p = it.1 in
+      let row = with_rowid Chosen (old.now.trees tree) (cast_row table source) in
+      record {
+        schema = it.0;
+        others = p.others;
+        keyed = λ k. subst AreKeyed (sym p.rows) (record { numbered = put_keyed row (old.now.trees tree) p.keyed k.numbered; apart = put_apart row (old.now.trees tree) p.free k.apart });
+      }
+
   abbrev pub rowids_where : List Term → Program
   rowids_where tests = record { lets = []; body = plain_query tree tests (col 1 0 ∷ []) [] }
 
@@ -145,6 +153,10 @@ module _ (schema : Schema) (at : ℕ) (name : List ℕ) (tree : ℕ) (columns : 
   deletes tests none keyed apart w =
       let it = taken tests none w in
       (it.0, record { rows_are = it.3.rows_are ∙ passing_out (old.now.trees tree) keyed (passes_all tests params) it.1 it.2 apart; others = it.3.others })
+
+  pub deletes_only : (tests : List Term) → NoneActs schema.tables → Writes old new None (Delete at (rowids_where tests)) text params count → ChangesOnly table schema old.now new.now
+  deletes_only tests none w =
+      let it = taken tests none w in record { schema = it.0; others = it.3.others; keyed = λ k. subst AreKeyed (sym it.3.rows_are) (left_keyed (ids_of it.1) (old.now.trees tree) k) }
 
   -- and without one all rows
   pub empties : NoneActs schema.tables → have_rowids (old.now.trees tree) ≡ true → Writes old new None (Delete at (rowids_where [])) text params count

@@ -1,8 +1,10 @@
 -- Serves private functions only, those of the module `rowids`: numbers of which none comes twice.
-use Rattle.std.specs.Prelude.{◌≡◌, ◌≢◌, ℤ, List, Option, None, Some}
+use Rattle.std.specs.Prelude.{◌≡◌, ◌≢◌, ℤ, List, map, Option, None, Some}
 use Rattle.std.specs.Ordering.{int_cmp}
 use Rattle.std.specs.declared.cmp.Ordering.TheVariants.{Less}
 use Rattle.sqlite_trees.specs.Tree.{IsAscending}
+use Rattle.sqlite_value.specs.declared.value.Value.TheVariants.{Int}
+use Rattle.sqlite_value.specs.Order.{Row, column}
 
 -- each number is below each later one
 abbrev pub IsRising : List ℤ → Type 0
@@ -15,3 +17,7 @@ AreDistinct = IsAscending (λ a b. a ≢ b)
 abbrev pub IsBelow : Option ℤ → ℤ → Type 0
 IsBelow None next = Unit {0}
 IsBelow (Some last) next = int_cmp last next ≡ Less
+
+-- each row shows a number first, and no two show the same
+abbrev pub ShowRowids : List Row → Type 0
+ShowRowids rows = (rowids : List ℤ) × (map Int rowids ≡ map (λ row. column row 0) rows) × AreDistinct rowids

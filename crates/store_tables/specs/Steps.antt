@@ -6,6 +6,7 @@ use Rattle.sqlite.specs.declared.error.Error.{Error}
 use Rattle.sqlite.specs.Effect.{Database}
 use Rattle.sqlite.specs.Held.{Held, state}
 use Rattle.sqlite.specs.State.{State, HasCleanDisk, IsUnchanged, KeepsCommit, Shows, Survives}
+use Rattle.sqlite_schema.specs.declared.schema.Schema.{Schema}
 use Rattle.store_tables.specs.Schema.{MoreTables, store_with}
 use Rattle.store_tables.specs.Tables.{Tables, HoldsIn}
 
@@ -19,6 +20,15 @@ pub record IsDone (old new : State) (makes : Tables → Tables) : Type 0 where
 -- back. A crash leaves no more than before.
 pub record IsStep {S A : Type 0} (g : Ghosts S) (old new : Held S) (result : Result A Error) (makes : Tables → Tables) : Type 0 where
   pub done : HasCleanDisk (state g new) → IsTrue (state g old).in_transaction → OnOk result (IsDone (state g old) (state g new) makes)
+  pub kept : HasCleanDisk (state g new) → KeepsCommit (state g old) (state g new)
+  pub survives : Survives (state g old) (state g new) (λ _. ⊥)
+
+-- The same for what a statement makes of the whole database, where it has the tables of a store, whatever tables are
+-- listed after them: at `Ok` the database is so related to what it was.
+pub record IsChange {S A : Type 0} (g : Ghosts S) (old new : Held S) (result : Result A Error) (Change : Schema → Database → Database → Type 0) : Type 0 where
+  pub done : HasCleanDisk (state g new) → IsTrue (state g old).in_transaction
+      → OnOk result (Shows (state g old) (state g new) (state g new).now (state g old).committed true
+      × ((more : MoreTables) → (state g old).now.schema ≡ store_with more → Change (store_with more) (state g old).now (state g new).now))
   pub kept : HasCleanDisk (state g new) → KeepsCommit (state g old) (state g new)
   pub survives : Survives (state g old) (state g new) (λ _. ⊥)
 

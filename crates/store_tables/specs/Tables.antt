@@ -1,5 +1,5 @@
 -- What the trees of a database hold, table by table.
-use Rattle.std.specs.Prelude.{◌≡◌, ℕ, Bool, true, false, not, List, [], ◌∷◌, map, filter, take, pos, Option, None, Some, IsPermutation}
+use Rattle.std.specs.Prelude.{◌≡◌, ◌≢◌, ℕ, Bool, true, false, not, ◌&&◌, List, [], ◌∷◌, map, filter, take, pos, Option, None, Some, IsPermutation}
 use Rattle.std.specs.Borrow.{Bor}
 use Rattle.std.specs.Ordering.{is_eq}
 use Rattle.std.specs.Str.{bytes_eq}
@@ -17,6 +17,7 @@ use Rattle.store_tables.specs.declared.rows.CommitRow.{CommitRow}
 use Rattle.store_tables.specs.declared.rows.EntryRow.{EntryRow}
 use Rattle.store_tables.specs.declared.rows.AnswerRow.{AnswerRow}
 use Rattle.sqlite_schema.specs.declared.schema.Schema.{Schema}
+use Rattle.sqlite_schema.specs.declared.schema.Table.{Table}
 use Rattle.std.specs.List.{AllByRecursion}
 use Rattle.store_tables.specs.Schema.{store_schema}
 
@@ -98,10 +99,37 @@ Holds = HoldsIn store_schema
 abbrev pub with_schema : Trees → Database
 with_schema trees = record { schema = store_schema; trees = trees }
 
+-- ---- what a statement leaves as it was
+
+-- the trees of all tables that are listed, but for that of one of them, are as they were
+abbrev pub KeepsOthers : Schema → ℕ → Trees → Trees → Type 0
+KeepsOthers listed own old new = AllByRecursion (λ t. t.tree ≢ own → new t.tree ≡ old t.tree) listed.tables
+
+-- Of the tables that are listed only this one changes: the same are listed, and all others have the rows that they had.
+-- Where each of its own rows had a rowid of its own, each still has.
+pub record ChangesOnly (own : Table) (listed : Schema) (old new : Database) : Type 0 where
+  pub schema : new.schema ≡ listed
+  pub others : KeepsOthers listed own.tree old.trees new.trees
+  pub keyed : AreKeyed (old.trees own.tree) → AreKeyed (new.trees own.tree)
+
+abbrev pub ChangesNothing : Schema → Database → Database → Type 0
+ChangesNothing listed old new = new ≡ old
+
 -- ---- what the statements make of the tables
+
+-- It makes this of the tables of a store, where each row of the one that it changes has a rowid of its own.
+abbrev pub MakesIfKeyed : Table → (Tables → Tables) → Schema → Database → Database → Type 0
+MakesIfKeyed own makes listed old new = (t : Tables) → HoldsIn listed old t → AreKeyed (old.trees own.tree) → HoldsIn listed new (makes t)
 
 abbrev pub with_meta : MetaRow → Tables → Tables
 with_meta row t = record t { meta = row ∷ t.meta }
+
+abbrev pub without_meta : List ℕ → Tables → Tables
+without_meta name t = record t { meta = filter (λ row. not (bytes_eq row.name name)) t.meta }
+
+-- the row in place of the one of its name, if there is one
+abbrev pub with_new_meta : MetaRow → Tables → Tables
+with_new_meta row t = with_meta row (without_meta row.name t)
 
 abbrev pub with_blob : BlobRow → Tables → Tables
 with_blob row t = record t { blobs = row ∷ t.blobs }
@@ -134,6 +162,10 @@ with_entry row t = record t { entries = row ∷ t.entries }
 
 abbrev pub with_answer : AnswerRow → Tables → Tables
 with_answer row t = record t { answers = row ∷ t.answers }
+
+-- an answer's key is the words of its command and the files that it saw
+abbrev pub without_answer : List ℕ → List ℕ → Tables → Tables
+without_answer words seen t = record t { answers = filter (λ row. not (bytes_eq row.words words && bytes_eq row.seen seen)) t.answers }
 
 abbrev pub without_answers : Tables → Tables
 without_answers t = record t { answers = [] }

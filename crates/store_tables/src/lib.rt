@@ -21,5 +21,5 @@ pub use rows::{AnswerRow, BlobRow, CommitRow, EntryRow, FixRow, MetaRow, StagedR
 pub use schema::has_store_tables;
 pub use writes::{
     change_nothing, clear_answers, clear_fixes, clear_staged, put_answer, put_blob, put_commit,
-    put_entry, put_fix, put_meta, put_staged, take_staged,
+    put_entry, put_fix, put_meta, put_staged, replace_meta, take_answer, take_staged,
 };

@@ -7,21 +7,23 @@ ghost use Rattle.store_tables.specs.Steps.{IsRead};
 ghost use Rattle.store_tables.specs.Tables.{Stored, AreKeyed, meta_cells, blob_cells, staged_cells, fix_cells, commit_cells, entry_cells, answer_cells};
 
 use crate::columns::decoded;
-use crate::rowids::{are_apart, rowids_in};
+use crate::rowids::{decoded_apart, rowids_in};
 use crate::rows::{AnswerRow, BlobRow, CommitRow, EntryRow, FixRow, MetaRow, StagedRow};
 use sqlite::{Alter, Error, Transaction};
 use std::alloc::Global;
 
-/// Every number that the store keeps about itself, asked for in the order of their names.
+/// Every number that the store keeps about itself, asked for in the order of their names. `InvalidQuery` comes where
+/// two rows show one rowid, which a table excludes.
 pub fn read_meta<S: Alter>(
     alloc: Global,
     tx: &mut Transaction<'_, S>,
 ) -> Result<Vec<MetaRow>, Error>
     ensures same_reference { tx.new.conn.ghost_name ≡ tx.old.conn.ghost_name }
     ensures read { IsRead S.Store tx.old.conn.now tx.new.conn.now result (λ rows trees. Stored meta_cells (1 ∷ 2 ∷ []) rows.items (trees 0)) }
+    ensures keyed { IsRead S.Store tx.old.conn.now tx.new.conn.now result (λ rows trees. AreKeyed (trees 0)) }
 {
-    let shown = tx.query_all("SELECT name, value FROM meta ORDER BY name", &[])?;
-    decoded(alloc, shown, 0)
+    let shown = tx.query_all("SELECT rowid, name, value FROM meta ORDER BY name", &[])?;
+    decoded_apart(alloc, shown)
 }
 
 /// All contents, asked for in the order of their digests.
@@ -63,7 +65,8 @@ pub fn read_entries<S: Alter>(
     decoded(alloc, shown, 0)
 }
 
-/// The staged files, asked for in the order of their paths.
+/// The staged files, asked for in the order of their paths. `InvalidQuery` comes where two rows show one rowid, which a
+/// table excludes.
 pub fn read_staged<S: Alter>(
     alloc: Global,
     tx: &mut Transaction<'_, S>,
@@ -75,11 +78,7 @@ pub fn read_staged<S: Alter>(
         "SELECT rowid, path, mode, digest FROM staged ORDER BY path",
         &[],
     )?;
-    let mut rowids = rowids_in(alloc, &shown)?;
-    if !are_apart(&mut rowids) {
-        return Err(Error::InvalidQuery);
-    }
-    decoded(alloc, shown, 1)
+    decoded_apart(alloc, shown)
 }
 
 /// The fixes, asked for in the order of their paths.
@@ -98,18 +97,19 @@ pub fn read_fixes<S: Alter>(
     decoded(alloc, shown, 1)
 }
 
-/// The remembered answers, asked for in the order of their keys.
+/// The remembered answers, asked for in the order of their keys. `InvalidQuery` comes where two rows show one rowid,
+/// which a table excludes.
 pub fn read_answers<S: Alter>(
     alloc: Global,
     tx: &mut Transaction<'_, S>,
 ) -> Result<Vec<AnswerRow>, Error>
     ensures same_reference { tx.new.conn.ghost_name ≡ tx.old.conn.ghost_name }
     ensures read { IsRead S.Store tx.old.conn.now tx.new.conn.now result (λ rows trees. Stored answer_cells (1 ∷ 2 ∷ 3 ∷ 4 ∷ 5 ∷ []) rows.items (trees 11) × (have_rowids (trees 11) ≡ true)) }
+    ensures keyed { IsRead S.Store tx.old.conn.now tx.new.conn.now result (λ rows trees. AreKeyed (trees 11)) }
 {
     let shown = tx.query_all(
         "SELECT rowid, words, seen, output, changes, status FROM answers ORDER BY words, seen",
         &[],
     )?;
-    let _rowids = rowids_in(alloc, &shown)?;
-    decoded(alloc, shown, 1)
+    decoded_apart(alloc, shown)
 }

@@ -1,11 +1,11 @@
 //! The rowids that a query shows, and whether each is another.
 
-ghost use Rattle.std.specs.Prelude.{◌≡◌, map, IfOk, IsTrue};
+ghost use Rattle.std.specs.Prelude.{◌≡◌, drop, map, IfOk, IsTrue};
 ghost use Rattle.sqlite_value.specs.declared.value.Value.TheVariants.{Int};
 ghost use Rattle.sqlite_value.specs.Order.{column};
-ghost use Rattle.store_tables.specs.Rowids.{AreDistinct, IsBelow, IsRising};
+ghost use Rattle.store_tables.specs.Rowids.{AreDistinct, IsBelow, IsRising, ShowRowids};
 
-use crate::columns::number_at;
+use crate::columns::{FromColumns, decoded, number_at};
 use sqlite::{Error, Row};
 use std::alloc::Global;
 
@@ -43,9 +43,22 @@ fn rises(numbers: &[i64]) -> bool
 }
 
 /// Whether no number comes twice. It sorts them.
-pub(crate) fn are_apart(numbers: &mut Vec<i64>) -> bool
+fn are_apart(numbers: &mut Vec<i64>) -> bool
     ensures { IsTrue result → AreDistinct numbers.old.items }
 {
     numbers.sort_unstable();
     rises(numbers)
+}
+
+/// Each row of an answer that shows the rowids first, from the column after them on. `InvalidQuery` comes where two
+/// rows show one rowid.
+pub(crate) fn decoded_apart<T: FromColumns>(alloc: Global, shown: Vec<Row>) -> Result<Vec<T>, Error>
+    ensures rows { IfOk result (λ items. map T.cells items.items ≡ map (drop 1) shown.items) }
+    ensures apart { IfOk result (λ items. ShowRowids shown.items) }
+{
+    let mut rowids = rowids_in(alloc, &shown)?;
+    if !are_apart(&mut rowids) {
+        return Err(Error::InvalidQuery);
+    }
+    decoded(alloc, shown, 1)
 }

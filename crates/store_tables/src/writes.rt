@@ -1,9 +1,11 @@
-//! One statement for each change of a table. Each is done at `Ok`; at an error, which is the database's own, it isn't
-//! done, or the whole transaction is rolled back. Nothing is committed.
+//! One statement for each change of a table, but two where a number is replaced. Each is done at `Ok`; at an error,
+//! which is the database's own, it isn't done, or the whole transaction is rolled back. Nothing is committed. All
+//! tables but its own stay as they were, also those that a later version of a store lists after the seven.
 
 ghost use Rattle.std.specs.Prelude.{◌≡◌, pos};
-ghost use Rattle.store_tables.specs.Steps.{IsStep};
-ghost use Rattle.store_tables.specs.Tables.{with_meta, with_blob, with_staged, without_staged, without_all_staged, with_fix, fix_row, without_fixes, with_commit, with_entry, with_answer, without_answers};
+ghost use Rattle.store_tables.specs.Schema as spec;
+ghost use Rattle.store_tables.specs.Steps.{IsChange, IsStep};
+ghost use Rattle.store_tables.specs.Tables.{ChangesNothing, ChangesOnly, MakesIfKeyed, with_meta, with_new_meta, without_meta, with_blob, with_staged, without_staged, without_all_staged, with_fix, fix_row, without_fixes, with_commit, with_entry, with_answer, without_answer, without_answers};
 
 use sqlite::{Alter, Error, Transaction, params};
 
@@ -11,12 +13,38 @@ use sqlite::{Alter, Error, Transaction, params};
 pub fn put_meta<S: Alter>(tx: &mut Transaction<'_, S>, name: &str, value: u32) -> Result<(), Error>
     ensures same_reference { tx.new.conn.ghost_name ≡ tx.old.conn.ghost_name }
     ensures step { IsStep S.Store tx.old.conn.now tx.new.conn.now result (with_meta (record { name = name.now; value = pos value })) }
+    ensures only { IsChange S.Store tx.old.conn.now tx.new.conn.now result (ChangesOnly spec.meta) }
 {
     tx.execute(
         "INSERT INTO meta (name, value) VALUES (?1, ?2)",
         params![name, value],
     )?;
     Ok(())
+}
+
+// Takes out the number under a name, where there is one.
+fn take_meta<S: Alter>(tx: &mut Transaction<'_, S>, name: &str) -> Result<(), Error>
+    ensures same_reference { tx.new.conn.ghost_name ≡ tx.old.conn.ghost_name }
+    ensures step { IsChange S.Store tx.old.conn.now tx.new.conn.now result (MakesIfKeyed spec.meta (without_meta name.now)) }
+    ensures only { IsChange S.Store tx.old.conn.now tx.new.conn.now result (ChangesOnly spec.meta) }
+{
+    tx.execute("DELETE FROM meta WHERE name = ?1", params![name])?;
+    Ok(())
+}
+
+/// Keeps a number under a name, in place of the one that stands there, if any does. These are two statements: after an
+/// error the old number may be out, so the transaction isn't to be committed.
+pub fn replace_meta<S: Alter>(
+    tx: &mut Transaction<'_, S>,
+    name: &str,
+    value: u32,
+) -> Result<(), Error>
+    ensures same_reference { tx.new.conn.ghost_name ≡ tx.old.conn.ghost_name }
+    ensures step { IsChange S.Store tx.old.conn.now tx.new.conn.now result (MakesIfKeyed spec.meta (with_new_meta (record { name = name.now; value = pos value }))) }
+    ensures only { IsChange S.Store tx.old.conn.now tx.new.conn.now result (ChangesOnly spec.meta) }
+{
+    take_meta(tx, name)?;
+    put_meta(tx, name, value)
 }
 
 /// Keeps contents under their digest, where none are yet.
@@ -27,6 +55,7 @@ pub fn put_blob<S: Alter>(
 ) -> Result<(), Error>
     ensures same_reference { tx.new.conn.ghost_name ≡ tx.old.conn.ghost_name }
     ensures step { IsStep S.Store tx.old.conn.now tx.new.conn.now result (with_blob (record { digest = digest.now; bytes = bytes.now })) }
+    ensures only { IsChange S.Store tx.old.conn.now tx.new.conn.now result (ChangesOnly spec.blobs) }
 {
     tx.execute(
         "INSERT INTO blobs (digest, bytes) VALUES (?1, ?2)",
@@ -44,6 +73,7 @@ pub fn put_staged<S: Alter>(
 ) -> Result<(), Error>
     ensures same_reference { tx.new.conn.ghost_name ≡ tx.old.conn.ghost_name }
     ensures step { IsStep S.Store tx.old.conn.now tx.new.conn.now result (with_staged (record { path = path.now; mode = pos mode; digest = digest.now })) }
+    ensures only { IsChange S.Store tx.old.conn.now tx.new.conn.now result (ChangesOnly spec.staged) }
 {
     tx.execute(
         "INSERT INTO staged (path, mode, digest) VALUES (?1, ?2, ?3)",
@@ -60,6 +90,7 @@ pub fn put_commit<S: Alter>(
 ) -> Result<(), Error>
     ensures same_reference { tx.new.conn.ghost_name ≡ tx.old.conn.ghost_name }
     ensures step { IsStep S.Store tx.old.conn.now tx.new.conn.now result (with_commit (record { n = pos n; message = message.now })) }
+    ensures only { IsChange S.Store tx.old.conn.now tx.new.conn.now result (ChangesOnly spec.commits) }
 {
     tx.execute(
         "INSERT INTO commits (n, message) VALUES (?1, ?2)",
@@ -78,6 +109,7 @@ pub fn put_entry<S: Alter>(
 ) -> Result<(), Error>
     ensures same_reference { tx.new.conn.ghost_name ≡ tx.old.conn.ghost_name }
     ensures step { IsStep S.Store tx.old.conn.now tx.new.conn.now result (with_entry (record { n = pos n; path = path.now; mode = pos mode; digest = digest.now })) }
+    ensures only { IsChange S.Store tx.old.conn.now tx.new.conn.now result (ChangesOnly spec.entries) }
 {
     tx.execute(
         "INSERT INTO entries (n, path, mode, digest) VALUES (?1, ?2, ?3, ?4)",
@@ -97,6 +129,7 @@ pub fn put_answer<S: Alter>(
 ) -> Result<(), Error>
     ensures same_reference { tx.new.conn.ghost_name ≡ tx.old.conn.ghost_name }
     ensures step { IsStep S.Store tx.old.conn.now tx.new.conn.now result (with_answer (record { words = words.now; seen = seen.now; output = output.now; changes = changes.now; status = pos status })) }
+    ensures only { IsChange S.Store tx.old.conn.now tx.new.conn.now result (ChangesOnly spec.answers) }
 {
     tx.execute(
         "INSERT INTO answers (words, seen, output, changes, status) VALUES (?1, ?2, ?3, ?4, ?5)",
@@ -113,6 +146,7 @@ pub fn put_fix<S: Alter>(
 ) -> Result<(), Error>
     ensures same_reference { tx.new.conn.ghost_name ≡ tx.old.conn.ghost_name }
     ensures step { IsStep S.Store tx.old.conn.now tx.new.conn.now result (with_fix (fix_row path.now now.entry)) }
+    ensures only { IsChange S.Store tx.old.conn.now tx.new.conn.now result (ChangesOnly spec.fixes) }
 {
     tx.execute(
         "INSERT INTO fixes (path, gone, digest) VALUES (?1, ?2, ?3)",
@@ -125,6 +159,7 @@ pub fn put_fix<S: Alter>(
 pub fn take_staged<S: Alter>(tx: &mut Transaction<'_, S>, path: &str) -> Result<(), Error>
     ensures same_reference { tx.new.conn.ghost_name ≡ tx.old.conn.ghost_name }
     ensures step { IsStep S.Store tx.old.conn.now tx.new.conn.now result (without_staged path.now) }
+    ensures only { IsChange S.Store tx.old.conn.now tx.new.conn.now result (ChangesOnly spec.staged) }
 {
     tx.execute("DELETE FROM staged WHERE path = ?1", params![path])?;
     Ok(())
@@ -134,6 +169,7 @@ pub fn take_staged<S: Alter>(tx: &mut Transaction<'_, S>, path: &str) -> Result<
 pub fn clear_staged<S: Alter>(tx: &mut Transaction<'_, S>) -> Result<(), Error>
     ensures same_reference { tx.new.conn.ghost_name ≡ tx.old.conn.ghost_name }
     ensures step { IsStep S.Store tx.old.conn.now tx.new.conn.now result without_all_staged }
+    ensures only { IsChange S.Store tx.old.conn.now tx.new.conn.now result (ChangesOnly spec.staged) }
 {
     tx.execute("DELETE FROM staged", &[])?;
     Ok(())
@@ -143,8 +179,26 @@ pub fn clear_staged<S: Alter>(tx: &mut Transaction<'_, S>) -> Result<(), Error>
 pub fn clear_fixes<S: Alter>(tx: &mut Transaction<'_, S>) -> Result<(), Error>
     ensures same_reference { tx.new.conn.ghost_name ≡ tx.old.conn.ghost_name }
     ensures step { IsStep S.Store tx.old.conn.now tx.new.conn.now result (without_fixes) }
+    ensures only { IsChange S.Store tx.old.conn.now tx.new.conn.now result (ChangesOnly spec.fixes) }
 {
     tx.execute("DELETE FROM fixes", &[])?;
+    Ok(())
+}
+
+/// Takes the answer under a key out of those that are remembered, where it is there.
+pub fn take_answer<S: Alter>(
+    tx: &mut Transaction<'_, S>,
+    words: &[u8],
+    seen: &[u8],
+) -> Result<(), Error>
+    ensures same_reference { tx.new.conn.ghost_name ≡ tx.old.conn.ghost_name }
+    ensures step { IsChange S.Store tx.old.conn.now tx.new.conn.now result (MakesIfKeyed spec.answers (without_answer words.now seen.now)) }
+    ensures only { IsChange S.Store tx.old.conn.now tx.new.conn.now result (ChangesOnly spec.answers) }
+{
+    tx.execute(
+        "DELETE FROM answers WHERE words = ?1 AND seen = ?2",
+        params![words, seen],
+    )?;
     Ok(())
 }
 
@@ -152,6 +206,7 @@ pub fn clear_fixes<S: Alter>(tx: &mut Transaction<'_, S>) -> Result<(), Error>
 pub fn clear_answers<S: Alter>(tx: &mut Transaction<'_, S>) -> Result<(), Error>
     ensures same_reference { tx.new.conn.ghost_name ≡ tx.old.conn.ghost_name }
     ensures step { IsStep S.Store tx.old.conn.now tx.new.conn.now result (without_answers) }
+    ensures only { IsChange S.Store tx.old.conn.now tx.new.conn.now result (ChangesOnly spec.answers) }
 {
     tx.execute("DELETE FROM answers", &[])?;
     Ok(())
@@ -161,6 +216,7 @@ pub fn clear_answers<S: Alter>(tx: &mut Transaction<'_, S>) -> Result<(), Error>
 pub fn change_nothing<S: Alter>(tx: &mut Transaction<'_, S>) -> Result<(), Error>
     ensures same_reference { tx.new.conn.ghost_name ≡ tx.old.conn.ghost_name }
     ensures step { IsStep S.Store tx.old.conn.now tx.new.conn.now result (λ t. t) }
+    ensures nothing { IsChange S.Store tx.old.conn.now tx.new.conn.now result ChangesNothing }
 {
     tx.execute("", &[])?;
     Ok(())

@@ -1,12 +1,9 @@
-use Rattle.std.proofs.Common.{◌≡◌, [], ◌∷◌, map, true, refl, subst, Vec, Global}
-use Rattle.sqlite_value.specs.declared.value.Value.TheVariants.{Int}
-use Rattle.sqlite_value.specs.Order.{Row, column}
+use Rattle.std.proofs.Common.{◌≡◌, [], ◌∷◌, true, refl, Vec, Global}
 use Rattle.std.proofs.lemmas.Result.{err_from_is_err_and}
 use Rattle.sqlite.specs.declared.rows.Row as Rows
-use Rattle.sqlite_sql.specs.Term.{col}
 use Rattle.sqlite_rules.specs.Edit.{have_rowids}
-use Rattle.store_tables.specs.Tables.{Stored, answer_cells}
-use Rattle.store_tables.proofs.ReadLemmas.{read_fails, read_also, ids_shown, ids_number}
+use Rattle.store_tables.specs.Tables.{Stored, AreKeyed, answer_cells}
+use Rattle.store_tables.proofs.ReadLemmas.{read_fails, read_keyed, read_weaker}
 use Rattle.store_tables.proofs.Compiles as text
 use Rattle.store_tables.proofs.reads.read_answers.Goals as goal
 
@@ -15,12 +12,17 @@ returns-in_err-shown-clause-read g c =
     let p = err_from_is_err_and c.from_residual.result c.from_residual.ensures.1 in
     read_fails g.S.Store c.args.tx.now.conn.now c.query_all.new.self.conn.now _ (λ (v : Vec Rows.Row Global). v.items) c.query_all.result c.query_all.ensures.ok c.query_all.ensures.err c.query_all.ensures.survives c.from_residual.result p.0 p.1 (λ rows trees. Stored answer_cells (1 ∷ 2 ∷ 3 ∷ 4 ∷ 5 ∷ []) rows.items (trees 11) × (have_rowids (trees 11) ≡ true))
 
-pub returns-in_err-_rowids-clause-read : goal.returns-in_err-_rowids-clause-read
-returns-in_err-_rowids-clause-read g c =
-    let p = err_from_is_err_and c.from_residual-in_err-_rowids.result c.from_residual-in_err-_rowids.ensures.1 in
-    read_fails g.S.Store c.args.tx.now.conn.now c.query_all.new.self.conn.now _ (λ (v : Vec Rows.Row Global). v.items) c.query_all.result c.query_all.ensures.ok c.query_all.ensures.err c.query_all.ensures.survives c.from_residual-in_err-_rowids.result p.0 p.1 (λ rows trees. Stored answer_cells (1 ∷ 2 ∷ 3 ∷ 4 ∷ 5 ∷ []) rows.items (trees 11) × (have_rowids (trees 11) ≡ true))
-
 pub returns-clause-read : goal.returns-clause-read
 returns-clause-read g c =
-    read_also g.S.Store c.args.tx.now.conn.now c.query_all.new.self.conn.now _ (λ (v : Vec Rows.Row Global). v.items) c.query_all.result c.query_all.ensures.ok c.query_all.ensures.err c.query_all.ensures.survives 11 _ _ _ text.all_answers_is c.in_ok-shown.shown c.in_ok-shown.was (λ rows. have_rowids rows ≡ true) c.decoded.result (λ rows. rows.items) answer_cells (1 ∷ 2 ∷ 3 ∷ 4 ∷ 5 ∷ []) 1 (λ row. refl) c.in_ok-shown.shown.items refl
-    (λ rows same. ids_number rows c.in_ok-_rowids._rowids.items (ids_shown (col 1 0 ∷ col 1 1 ∷ col 1 2 ∷ col 1 3 ∷ col 1 4 ∷ col 1 5 ∷ []) rows _ c.in_ok-_rowids._rowids.items (λ row. refl) same (subst (λ l. map Int c.in_ok-_rowids._rowids.items ≡ map (λ (r : Row). column r 0) l) c.deref.ensures.value c.in_ok-_rowids.ensures))) c.decoded.ensures
+    read_weaker g.S.Store c.args.tx.now.conn.now c.query_all.new.self.conn.now c.decoded_apart.result (λ rows trees. Stored answer_cells (1 ∷ 2 ∷ 3 ∷ 4 ∷ 5 ∷ []) rows.items (trees 11) × AreKeyed (trees 11)) (λ rows trees. Stored answer_cells (1 ∷ 2 ∷ 3 ∷ 4 ∷ 5 ∷ []) rows.items (trees 11) × (have_rowids (trees 11) ≡ true)) (λ rows trees it. (it.0, it.1.numbered))
+    (read_keyed g.S.Store c.args.tx.now.conn.now c.query_all.new.self.conn.now _ (λ (v : Vec Rows.Row Global). v.items) c.query_all.result c.query_all.ensures.ok c.query_all.ensures.err c.query_all.ensures.survives 11 _ _ _ text.all_answers_is c.in_ok-shown.shown c.in_ok-shown.was c.decoded_apart.result (λ rows. rows.items) answer_cells (1 ∷ 2 ∷ 3 ∷ 4 ∷ 5 ∷ []) (λ row. refl) (λ row. refl) c.in_ok-shown.shown.items refl c.decoded_apart.ensures.rows c.decoded_apart.ensures.apart)
+
+pub returns-in_err-shown-clause-keyed : goal.returns-in_err-shown-clause-keyed
+returns-in_err-shown-clause-keyed g c =
+    let p = err_from_is_err_and c.from_residual.result c.from_residual.ensures.1 in
+    read_fails g.S.Store c.args.tx.now.conn.now c.query_all.new.self.conn.now _ (λ (v : Vec Rows.Row Global). v.items) c.query_all.result c.query_all.ensures.ok c.query_all.ensures.err c.query_all.ensures.survives c.from_residual.result p.0 p.1 (λ rows trees. AreKeyed (trees 11))
+
+pub returns-clause-keyed : goal.returns-clause-keyed
+returns-clause-keyed g c =
+    read_weaker g.S.Store c.args.tx.now.conn.now c.query_all.new.self.conn.now c.decoded_apart.result (λ rows trees. Stored answer_cells (1 ∷ 2 ∷ 3 ∷ 4 ∷ 5 ∷ []) rows.items (trees 11) × AreKeyed (trees 11)) (λ rows trees. AreKeyed (trees 11)) (λ rows trees it. it.1)
+    (read_keyed g.S.Store c.args.tx.now.conn.now c.query_all.new.self.conn.now _ (λ (v : Vec Rows.Row Global). v.items) c.query_all.result c.query_all.ensures.ok c.query_all.ensures.err c.query_all.ensures.survives 11 _ _ _ text.all_answers_is c.in_ok-shown.shown c.in_ok-shown.was c.decoded_apart.result (λ rows. rows.items) answer_cells (1 ∷ 2 ∷ 3 ∷ 4 ∷ 5 ∷ []) (λ row. refl) (λ row. refl) c.in_ok-shown.shown.items refl c.decoded_apart.ensures.rows c.decoded_apart.ensures.apart)

@@ -1,7 +1,10 @@
 use Rattle.sqlite.specs.Held.{state}
 use Rattle.store_tables.specs.Tables.{without_fixes}
-use Rattle.store_tables.proofs.StepLemmas.{finishes}
+use Rattle.store_tables.proofs.StepLemmas.{finishes, changes}
 use Rattle.store_tables.proofs.TableLemmas.{clear_fixes}
+use Rattle.store_tables.specs.Schema as spec
+use Rattle.store_tables.specs.Tables.{ChangesOnly}
+use Rattle.store_tables.proofs.OnlyLemmas as only
 use Rattle.store_tables.proofs.writes.clear_fixes.Goals as goal
 
 pub returns-clause-step : goal.returns-clause-step
@@ -10,3 +13,10 @@ returns-clause-step g c =
     let new = c.execute.new.self.conn.now in
     finishes g.S.Store old new _ _ c.execute.result c.execute.ensures.ended c.execute.ensures.runs c.execute.ensures.survives (without_fixes)
     c.in_ok-execute.field-0 c.in_ok-execute.was (λ more t h ran. clear_fixes more (state g.S.Store old) (state g.S.Store new) t _ h ran)
+
+pub returns-clause-only : goal.returns-clause-only
+returns-clause-only g c =
+    let old = c.args.tx.now.conn.now in
+    let new = c.execute.new.self.conn.now in
+    changes g.S.Store old new _ _ c.execute.result c.execute.ensures.ended c.execute.ensures.runs c.execute.ensures.survives (ChangesOnly spec.fixes)
+    c.in_ok-execute.field-0 c.in_ok-execute.was (λ more has ran. only.clear_fixes more (state g.S.Store old) (state g.S.Store new) _ has ran)

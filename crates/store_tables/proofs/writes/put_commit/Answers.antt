@@ -2,8 +2,11 @@ use Rattle.sqlite.specs.Held.{state}
 use Rattle.std.proofs.Common.{pos}
 use Rattle.store_tables.specs.declared.rows.CommitRow.{CommitRow}
 use Rattle.store_tables.specs.Tables.{with_commit}
-use Rattle.store_tables.proofs.StepLemmas.{finishes}
+use Rattle.store_tables.proofs.StepLemmas.{finishes, changes}
 use Rattle.store_tables.proofs.TableLemmas.{put_commit}
+use Rattle.store_tables.specs.Schema as spec
+use Rattle.store_tables.specs.Tables.{ChangesOnly}
+use Rattle.store_tables.proofs.OnlyLemmas as only
 use Rattle.store_tables.proofs.writes.put_commit.Goals as goal
 
 pub returns-clause-step : goal.returns-clause-step
@@ -13,3 +16,10 @@ returns-clause-step g c =
     let row : CommitRow = record { n = pos c.args.n; message = c.args.message.now } in
     finishes g.S.Store old new _ _ c.execute.result c.execute.ensures.ended (rw (c.params-to_sql.ensures, c.params-to_sql-2.ensures) at c.execute.ensures.runs) c.execute.ensures.survives (with_commit row)
     c.in_ok-execute.field-0 c.in_ok-execute.was (λ more t h ran. put_commit more (state g.S.Store old) (state g.S.Store new) t row _ h ran)
+
+pub returns-clause-only : goal.returns-clause-only
+returns-clause-only g c =
+    let old = c.args.tx.now.conn.now in
+    let new = c.execute.new.self.conn.now in
+    changes g.S.Store old new _ _ c.execute.result c.execute.ensures.ended (rw (c.params-to_sql.ensures, c.params-to_sql-2.ensures) at c.execute.ensures.runs) c.execute.ensures.survives (ChangesOnly spec.commits)
+    c.in_ok-execute.field-0 c.in_ok-execute.was (λ more has ran. only.put_commit more (state g.S.Store old) (state g.S.Store new) _ _ _ has ran)
