@@ -1,8 +1,10 @@
 pub mod AllOrNothing
 pub mod Calls
+pub mod Clashes
 pub mod Complete
 pub mod Contents
 pub mod Faults
+pub mod FileRefs
 pub mod FromRows
 pub mod Kept
 pub mod Limits
