@@ -56,6 +56,9 @@ no_folder f folder p path f_is p_is apart = (
 abbrev pub Leads : List ℕ → List ℕ → Type 0
 Leads path other = IsFolderOf other path ⊎ IsFolderOf path other
 
+pub leads_moved : (p path o other : List ℕ) → p ≡ path → o ≡ other → Leads p o → Leads path other
+leads_moved p path o other p_is o_is leads = subst (λ (l : List ℕ). Leads l other) p_is (subst (Leads p) o_is leads)
+
 -- none of the first files has such a path
 abbrev pub NoneLeads : List ℕ → List SharedFile → ℕ → Type 0
 NoneLeads path files n = (k : ℕ) → k < n → (d : SharedFile) → Leads path (get_or files k d).path → ⊥

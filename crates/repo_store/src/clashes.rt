@@ -1,6 +1,6 @@
 //! Whether a path can stand beside files.
 
-ghost use Rattle.std.specs.Prelude.{◌↔◌, map, IsTrue};
+ghost use Rattle.std.specs.Prelude.{◌⊎◌, ◌↔◌, map, IsTrue};
 ghost use Rattle.repo_store.specs.Clashes.{Clashes, IsFolderOf};
 ghost use Rattle.repo_store.specs.Lists.{file_of};
 
@@ -17,14 +17,20 @@ fn is_folder_of(folder: &str, path: &str) -> bool
     }
 }
 
+// Whether one of two paths is a folder of the other.
+fn are_nested(path: &str, other: &str) -> bool
+    ensures { IsTrue result ↔ (IsFolderOf other.now path.now ⊎ IsFolderOf path.now other.now) }
+{
+    is_folder_of(other, path) || is_folder_of(path, other)
+}
+
 /// Whether some file's path is a folder of the path, or the path is a folder of some file's.
 pub(crate) fn clashes(files: &[SharedFile], path: &RepoPath) -> bool
     ensures { IsTrue result ↔ Clashes path.now (map file_of files.now) }
 {
     let text = path.as_str();
     'files: for file in files {
-        let other = file.path.as_str();
-        if is_folder_of(other, text) || is_folder_of(text, other) {
+        if are_nested(text, file.path.as_str()) {
             return true;
         }
     }
