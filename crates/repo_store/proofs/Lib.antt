@@ -1,3 +1,4 @@
+pub mod AcceptLemmas
 pub mod CallLemmas
 pub mod CellLemmas
 pub mod ChangeLemmas

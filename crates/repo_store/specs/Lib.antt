@@ -1,3 +1,4 @@
+pub mod Accepted
 pub mod AllOrNothing
 pub mod Calls
 pub mod Clashes

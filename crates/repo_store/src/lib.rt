@@ -6,9 +6,9 @@
 //! `specs/Limits`, `specs/Faults` (the refusals, and when each may come), `specs/Rows` (the tables of a repository),
 //! `specs/RowRules` (the rules of their rows), `specs/Sound` (a repository in order and within the limits), `specs/Complete`
 //! (a complete one, with its contents), `specs/Calls` and `specs/Shown` (what is seen of a store, and what a refusal or a crash
-//! leaves), and `specs/Unfit` (why a database isn't opened). `specs/Lists`, `specs/FromRows`, `specs/Opening` and
-//! `specs/Transactions` serve private functions only. [`laws`] says that a database holds one complete repository at most, and
-//! that what the calls and a crash leave is never taken for a damaged store or for none.
+//! leaves), and `specs/Unfit` (why a database isn't opened). `specs/Lists`, `specs/Accepted`,
+//! `specs/FromRows`, `specs/Opening` and `specs/Transactions` serve private functions only. [`laws`] says that a database holds
+//! one complete repository at most, and that what the calls and a crash leave is never taken for a damaged store or for none.
 #![tactic(auto)]
 
 mod accept;

@@ -442,9 +442,17 @@ impl Lists {
         self.fixes.len() as u32
     }
 
+    /// The fixes as they are kept.
+    pub(crate) fn shared_fixes(&self) -> &[SharedFix]
+        ensures { map fix_of result.now ≡ self.now.kept.repo.fixes }
+    {
+        self.fixes.as_slice()
+    }
+
     /// The staged files with the fixes applied.
     pub(crate) fn prepare_accept(&self) -> Result<Vec<SharedFile>, OutOfMemory>
-        ensures { IfOk result (λ files. map file_of files.items ≡ apply_changes self.now.kept.repo.fixes self.now.kept.repo.staged) }
+        ensures files { IfOk result (λ files. map file_of files.items ≡ apply_changes self.now.kept.repo.fixes self.now.kept.repo.staged) }
+        ensures rising { IfOk result (λ files. IsRising (map file_of files.items)) }
     {
         with_fixes(&self.staged, self.fixes.as_slice())
     }

@@ -197,7 +197,8 @@ impl<S: Alter> Store<S> {
     {
         let number = self.lists.count_fixes();
         let files = self.lists.prepare_accept()?;
-        if let Err(error) = accept_rows(&mut self.conn, files.as_slice()) {
+        let fixes = self.lists.shared_fixes();
+        if let Err(error) = accept_rows(&mut self.conn, fixes, files.as_slice()) {
             return Err(fault_of(error));
         }
         self.lists.accept(files);

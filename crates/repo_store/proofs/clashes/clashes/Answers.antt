@@ -1,4 +1,4 @@
-use Rattle.std.proofs.Common.{◌≡◌, ◌<◌, length, true, false, refl, arith}
+use Rattle.std.proofs.Common.{◌≡◌, true, false, refl, arith}
 use Rattle.repo_store.proofs.ClashLemmas.{clash_here, leads_moved, no_clash}
 use Rattle.repo_store.proofs.clashes.clashes.Goals as goal
 
