@@ -8,7 +8,7 @@ use lib.ListN.{take-append-drop}
 use Rattle.hook_base.specs.declared.file.File.{File}
 use Rattle.hook_base.specs.Rising.{IsBelowAll}
 use Rattle.hook_base.specs.RisingLemmas.{path_cases, path_itself, bytes_same, above_differs, greater_from_below, below_all_later}
-use Rattle.hook_base.specs.Trees.{IsRising, path_of, put_row, remove_file, apply_changes}
+use Rattle.hook_base.specs.Trees.{IsRising, path_of, put_row, remove_file}
 use Rattle.hook_base.specs.TreeLemmas.{remove_file-later}
 use Rattle.store_tables.specs.declared.rows.StagedRow.{StagedRow}
 use Rattle.store_tables.specs.declared.rows.CommitRow.{CommitRow}
@@ -16,9 +16,9 @@ use Rattle.store_tables.specs.declared.rows.EntryRow.{EntryRow}
 use Rattle.store_tables.specs.Tables as tables
 use Rattle.store_tables.specs.Tables.{Tables, without_fixes}
 use Rattle.repo_store.specs.Contents.{has_content, with_content, with_changes}
-use Rattle.repo_store.specs.Kept.{Kept, staging, unstaging, keeping, committing, setting, accepting}
+use Rattle.repo_store.specs.Kept.{Kept, staging, unstaging, keeping, committing, setting}
 use Rattle.repo_store.specs.Repository.{Commit, staged_changes}
-use Rattle.repo_store.specs.Rows.{blob_row, staged_row, with_blobs, with_entries, commit_row, commit_rows, entry_row, entry_rows, version_row, fix_row, with_fix_rows, with_staged_rows}
+use Rattle.repo_store.specs.Rows.{blob_row, staged_row, with_blobs, with_entries, commit_row, commit_rows, entry_row, entry_rows, version_row, fix_row, with_fix_rows}
 use Rattle.repo_store.proofs.FixLemmas.{changes_before}
 use Rattle.hook_base.specs.declared.change.Change.{Change}
 use Rattle.repo_store.proofs.ListLemmas.{others_staged}
@@ -146,7 +146,3 @@ setting_handed changes fixes news kept fixes_is news_is =
 pub forgotten_changes : (changes : List Change) (kept mid now : Kept) (count : ℕ) → count ≡ length kept.contents → mid ≡ record kept { contents = with_changes changes kept.contents } → now ≡ record mid { contents = take count mid.contents } → now ≡ kept
 forgotten_changes changes kept mid now count count_is mid_is is =
     is ∙ ap₂ (λ (n : ℕ) (k : Kept). record k { contents = take n k.contents }) count_is mid_is ∙ ap (λ (l : List (List ℕ)). record kept { contents = l }) (changes_before changes kept.contents (with_changes changes kept.contents) refl)
-
-pub accepting_handed : (files : List File) (kept : Kept) → files ≡ apply_changes kept.repo.fixes kept.repo.staged → IsSame (with_staged_rows (map staged_row files) (without_fixes (tables_in kept))) (tables_in (accepting kept))
-accepting_handed files kept is =
-    subst (λ (l : List File). IsSame (with_staged_rows (map staged_row l) (without_fixes (tables_in kept))) (tables_in (accepting kept))) (sym is) (same_itself (tables_in (accepting kept)))

@@ -1,6 +1,8 @@
+pub mod AcceptLemmas
 pub mod CallLemmas
 pub mod CellLemmas
 pub mod ChangeLemmas
+pub mod ClashLemmas
 pub mod CompleteLemmas
 pub mod FitLemmas
 pub mod FixLemmas
@@ -15,6 +17,7 @@ pub mod ReadingLemmas
 pub mod RowRuleLemmas
 pub mod RuleLemmas
 pub mod SameLemmas
+pub mod SameRowLemmas
 pub mod SoundLemmas
 pub mod StandLemmas
 pub mod StepLemmas

@@ -112,7 +112,7 @@ same_contents a b same =
 
 module _ (a b : List (List ℕ)) (same : IsPermutation a b) (apart : HaveDistinctDigests b) where
   -- one digest stands for the same bytes among both
-  same_bytes : (x y : List ℕ) → IsAmong a x → IsAmong b y → sha256 x ≡ sha256 y → x ≡ y
+  pub same_bytes : (x y : List ℕ) → IsAmong a x → IsAmong b y → sha256 x ≡ sha256 y → x ≡ y
   same_bytes x y x_in y_in digests =
       let one : Any (λ z. bytes_eq x z ≡ true) b = Any-from_list_any (bytes_eq x) b (sym (list_any-IsPermutation (bytes_eq x) a b same) ∙ x_in) in
       let two : Any (λ z. bytes_eq y z ≡ true) b = Any-from_list_any (bytes_eq y) b y_in in
@@ -136,7 +136,7 @@ module _ (a b : List (List ℕ)) (same : IsPermutation a b) (apart : HaveDistinc
 
   -- files are the same where their rows are
   module _ {Y : Type 0} (row : File → Y) (shown : Y → StagedRow) (shows : (f : File) → shown (row f) ≡ staged_row f) where
-    same_files : (fs gs : List File) → HaveContents a fs → HaveContents b gs → map row fs ≡ map row gs → fs ≡ gs
+    pub same_files : (fs gs : List File) → HaveContents a fs → HaveContents b gs → map row fs ≡ map row gs → fs ≡ gs
     same_files [] [] fs_in gs_in rows = refl
     same_files [] (g ∷ gs) fs_in gs_in rows = absurd (let count = ap length rows in omega arith)
     same_files (f ∷ fs) [] fs_in gs_in rows = absurd (let count = ap length rows in omega arith)

@@ -1,7 +1,7 @@
 -- The place of a path among held files, and what a file put there makes of them.
 use Rattle.repo_store.specs.declared.shared.SharedFix.{SharedFix}
 use Rattle.hook_base.specs.declared.change.Change.{Change}
-use Rattle.std.proofs.Common.{◌≡◌, ℕ, zero, suc, ◌+◌, ◌<◌, ◌≤◌, List, [], ◌∷◌, ◌++◌, map, length, take, drop, get_or, set, true, false, IsTrue, Result, Ok, Err, MatchResult, OnErr, is_ok, if◌then◌else◌, sym, ap, ap₂, ◌∙◌, arith, is_some, refl, Option, None, Some}
+use Rattle.std.proofs.Common.{◌≡◌, ℕ, zero, suc, ◌+◌, ◌<◌, ◌≤◌, List, [], ◌∷◌, ◌++◌, map, length, take, drop, get_or, set, true, false, IsTrue, Result, Ok, Err, MatchResult, OnErr, is_ok, if◌then◌else◌, sym, ap, ap₂, ◌∙◌, arith, is_some, refl, Option, None, Some, option_map, slice_get}
 use Rattle.std.specs.List.{insert, drop-map, HoldsAt, remove}
 use Rattle.std.specs.List.Sorted.{IsNonDecreasingBy, IsBinarySearchResult}
 use Rattle.std.specs.Str.{bytes_eq}
@@ -19,14 +19,14 @@ use lib.Dec.{leb}
 use Rattle.hook_base.specs.declared.file.File.{File}
 use Rattle.hook_base.specs.declared.file.Mode.TheVariants.{Plain}
 use Rattle.hook_base.specs.Rising.{IsBelowAll, IsRisingBy, path_cmp}
-use Rattle.hook_base.specs.RisingLemmas.{below_from_greater, greater_from_below, path_tied, path_itself, rising_pair}
+use Rattle.hook_base.specs.RisingLemmas.{above_differs, below_from_greater, bytes_same, greater_from_below, path_tied, path_itself, rising_pair}
 use Rattle.hook_base.specs.Places.{IsAt, IsGap}
 use Rattle.hook_base.specs.Trees.{IsRising, path_of, put_row, remove_file, entry_of, rewrite_file, with_bytes, apply_at, apply_change, apply_changes}
 use Rattle.hook_base.specs.TreeLemmas.{put_row-at, put_row-gap, gap_within, entry_of-at, entry_of-gap, rewrite_file-at, remove_file-at, rewrite_file-gap, remove_file-gap, apply_changes-append}
 use Rattle.hook_base.proofs.PlaceLemmas.{found}
 use Rattle.repo_store.specs.declared.shared.SharedFile.{SharedFile}
 use Rattle.repo_store.specs.Limits.{Fits, path_bytes, most_files, most_tree_path_bytes}
-use Rattle.repo_store.specs.Lists.{file_of, fix_of}
+use Rattle.repo_store.specs.Lists.{entry_in, file_of, fix_of}
 
 abbrev path_in : SharedFile → List ℕ
 path_in file = file.path
@@ -141,6 +141,11 @@ made_room (Err y) n most x a b full room is = absurd (omega arith)
 pub has_placed : (path : List ℕ) (rows : List File) (r : Result ℕ ℕ) → MatchResult r (IsAt path rows) (IsGap path rows) → is_ok r ≡ is_some (entry_of path rows)
 has_placed path rows (Ok k) at = rw (entry_of-at path rows k (record { path = []; entry = record { mode = Plain; bytes = [] } }) at) refl
 has_placed path rows (Err k) gap = rw (entry_of-gap path rows k gap) refl
+
+pub found_at : (path : List ℕ) (files : List SharedFile) (k : ℕ) → IsAt path (map file_of files) k → option_map entry_in (slice_get files k) ≡ entry_of path (map file_of files)
+found_at path [] k at = absurd at
+found_at path (file ∷ files) zero at = rw (bytes_same path file.path at) refl
+found_at path (file ∷ files) (suc k) at = rw (above_differs path file.path at.0) (found_at path files k at.1)
 
 -- ---- a fix among held files
 

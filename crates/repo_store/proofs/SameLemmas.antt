@@ -1,5 +1,5 @@
 -- The order of the rows in a table says nothing.
-use Rattle.std.proofs.Common.{ℕ, List, ◌∷◌, [], Result, Err, IsPermutation}
+use Rattle.std.proofs.Common.{ℕ, List, ◌∷◌, [], Result, IsPermutation}
 use Rattle.std.proofs.lemmas.Result.{on_ok_weaker}
 use Rattle.std.proofs.lemmas.List.Sorted.{IsPermutation-refl, IsPermutation-map, IsPermutation-sym, IsPermutation-trans}
 use Rattle.sqlite_value.specs.Order.{Row}

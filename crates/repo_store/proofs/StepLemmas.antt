@@ -1,5 +1,4 @@
 -- One row more, at a step of a loop.
-use Rattle.store_tables.specs.declared.rows.StagedRow.{StagedRow}
 use Rattle.std.proofs.Common.{◌≡◌, ℕ, ◌+◌, ◌<◌, ◌≤◌, List, [], ◌∷◌, ◌++◌, map, length, take, get_or, Ok, IsPermutation, sym, ap, subst, subst₂, ◌∙◌, append_assoc, append-nil}
 use Rattle.std.proofs.lemmas.List.{take_all, take_more, map-append}
 use Rattle.std.proofs.lemmas.List.Sorted.{IsPermutation-middle, IsPermutation-sym}
@@ -9,14 +8,14 @@ use Rattle.sqlite.specs.Held.{Held}
 use Rattle.store_tables.specs.declared.rows.BlobRow.{BlobRow}
 use Rattle.store_tables.specs.declared.rows.EntryRow.{EntryRow}
 use Rattle.store_tables.specs.Steps.{IsStep}
-use Rattle.store_tables.specs.Tables.{Tables, with_blob, with_entry, with_fix, with_staged}
+use Rattle.store_tables.specs.Tables.{Tables, with_blob, with_entry, with_fix}
 use Rattle.repo_store.specs.declared.shared.SharedFix.{SharedFix}
 use Rattle.store_tables.specs.declared.rows.FixRow.{FixRow}
 use Rattle.repo_store.specs.declared.shared.SharedFile.{SharedFile}
 use Rattle.repo_store.specs.Lists.{file_of, fix_of}
-use Rattle.repo_store.specs.Rows.{blob_row, with_blobs, entry_row, with_entries, fix_row, with_fix_rows, staged_row, with_staged_rows}
+use Rattle.repo_store.specs.Rows.{blob_row, with_blobs, entry_row, with_entries, fix_row, with_fix_rows}
 use Rattle.repo_store.proofs.CallLemmas.{step_then}
-use Rattle.repo_store.proofs.SameLemmas.{same_blobs, same_entries, same_fixes, step_same, same_staged}
+use Rattle.repo_store.proofs.SameLemmas.{same_blobs, same_entries, same_fixes, step_same}
 
 -- the rows of the first items and of others, as those of one item more
 pub one_more : {X Y : Type 0} (f : X → Y) (xs : List X) (i : ℕ) (x : X) (rest : List Y) → i < length xs → x ≡ get_or xs i x → IsPermutation (f x ∷ (map f (take i xs) ++ rest)) (map f (take (i + 1) xs) ++ rest)
@@ -61,16 +60,3 @@ fix_more g old mid new fixes i fix within is one put =
     (one_more (λ (f : SharedFix). fix_row (fix_of f)) fixes i fix [] within is) in
     step_same g old new (Ok tt) (λ t. with_fix (fix_row (fix_of fix)) (before t)) (λ t. with_fix_rows (map fix_row (map fix_of (take (i + 1) fixes))) t)
     (λ t. same_fixes (with_fix (fix_row (fix_of fix)) (before t)) (map fix_row (map fix_of (take (i + 1) fixes))) rows) both
-
-pub staged_more : {S : Type 0} (g : Ghosts S) (old mid new : Held S) (files : List SharedFile) (i : ℕ) (file : SharedFile) (row : StagedRow) → i < length files → file ≡ get_or files i file → row ≡ staged_row (file_of file)
-    → IsStep {A = Unit {0}} g old mid (Ok tt) (λ t. with_staged_rows (map staged_row (map file_of (take i files))) t) → IsStep {A = Unit {0}} g mid new (Ok tt) (with_staged row)
-    → IsStep {A = Unit {0}} g old new (Ok tt) (λ t. with_staged_rows (map staged_row (map file_of (take (i + 1) files))) t)
-staged_more g old mid new files i file row within is row_is one two =
-    let put = subst (λ (r : StagedRow). IsStep {A = Unit {0}} g mid new (Ok tt) (with_staged r)) row_is two in
-    let before : Tables → Tables = λ t. with_staged_rows (map staged_row (map file_of (take i files))) t in
-    let both = step_then g old mid new (Ok tt) before (with_staged (staged_row (file_of file))) one put in
-    let rows = subst₂ (λ (a b : List StagedRow). IsPermutation (staged_row (file_of file) ∷ a) b)
-    (append-nil (map (λ (f : SharedFile). staged_row (file_of f)) (take i files)) ∙ sym (map-map staged_row file_of (take i files))) (append-nil (map (λ (f : SharedFile). staged_row (file_of f)) (take (i + 1) files)) ∙ sym (map-map staged_row file_of (take (i + 1) files)))
-    (one_more (λ (f : SharedFile). staged_row (file_of f)) files i file [] within is) in
-    step_same g old new (Ok tt) (λ t. with_staged (staged_row (file_of file)) (before t)) (λ t. with_staged_rows (map staged_row (map file_of (take (i + 1) files))) t)
-    (λ t. same_staged (with_staged (staged_row (file_of file)) (before t)) (map staged_row (map file_of (take (i + 1) files))) rows) both

@@ -1,9 +1,10 @@
 -- Trees and logs that are read from the lists.
-use Rattle.std.proofs.Common.{◌≡◌, ℕ, zero, suc, ◌+◌, ◌-◌, ◌<◌, List, [], ◌∷◌, ◌++◌, map, length, take, get_or, slice_get, None, Some, refl, sym, ap, subst, ◌∙◌, arith, ap₂, option_map, length-take, ◌≤◌}
+use Rattle.std.proofs.Common.{◌≡◌, ℕ, zero, suc, ◌+◌, ◌-◌, ◌<◌, List, [], ◌∷◌, ◌++◌, map, length, take, get_or, slice_get, Option, None, Some, IfSome, option_copied, refl, sym, ap, subst, ◌∙◌, arith, ap₂, option_map, length-take}
+use Rattle.std.specs.Borrow.{Bor}
 use Rattle.std.specs.List.{AllByRecursion}
+use Rattle.std.specs.Slice.{IsItemAt}
 use Rattle.std.proofs.lemmas.List.{take_more, map-append, take-map, length-map}
-use Rattle.std.proofs.lemmas.Option.{slice_get_read}
-use lib.ListN.{get_or-map}
+use Rattle.std.proofs.lemmas.Option.{slice_get-get_or, slice_get-map, slice_get_past}
 use Rattle.hook_base.specs.declared.file.File.{File}
 use Rattle.hook_base.specs.Rising.{IsBelow, IsBelowAll}
 use Rattle.hook_base.specs.RisingLemmas.{greater_from_below}
@@ -80,21 +81,35 @@ read_at : (n : ℕ) (history : List Commit) → (n ≡ 0 → ⊥) → commit_at 
 read_at zero history some = absurd (some refl)
 read_at (suc n) history some = ap (λ (k : ℕ). slice_get history k) (omega arith)
 
-none_at : {X : Type 0} (xs : List X) (k : ℕ) → length xs ≤ k → slice_get xs k ≡ None
-none_at [] k past = refl
-none_at (x ∷ xs) zero past = absurd (omega arith)
-none_at (x ∷ xs) (suc k) past = none_at xs k (omega arith)
-
 abbrev tree_in : Commit → List File
 tree_in commit = commit.tree
 
-pub tree_there : (history : List SharedCommit) (n : ℕ) (commit : SharedCommit) (tree : List File) → (n ≡ 0 → ⊥) → n - 1 < length history → commit ≡ get_or history (n - 1) commit → tree ≡ map file_of commit.files.items
-    → Some tree ≡ option_map tree_in (commit_at n (map commit_of history))
-tree_there history n commit tree some within is tree_is =
-    let at : n - 1 < length (map commit_of history) = omega (arith, length-map history commit_of) in
-    let found : slice_get (map commit_of history) (n - 1) ≡ Some (commit_of commit) =
-    slice_get_read (map commit_of history) (length (map commit_of history)) (n - 1) (commit_of commit) refl at (ap commit_of is ∙ sym (get_or-map commit_of history (n - 1) commit)) in
-    ap Some tree_is ∙ sym (ap (option_map tree_in) (read_at n (map commit_of history) some ∙ found))
+-- what `get` says of a slice
+pub got : {X : Type 0} (xs : List X) (k : ℕ) (r : Option (Bor X)) → IsItemAt xs k r → option_copied r ≡ slice_get xs k
+got xs k None it = sym (slice_get_past xs k it.3)
+got xs k (Some x) it = sym (slice_get-get_or xs k x.now it.3.0 ∙ ap Some (sym it.1))
 
-pub tree_absent : (history : List SharedCommit) (n : ℕ) → (n ≡ 0 → ⊥) → length history ≤ n - 1 → None ≡ option_map tree_in (commit_at n (map commit_of history))
-tree_absent history n some past = sym (ap (option_map tree_in) (read_at n (map commit_of history) some ∙ none_at (map commit_of history) (n - 1) (omega (arith, length-map history commit_of))))
+pub commit_read : (history : List SharedCommit) (n : ℕ) → (n ≡ 0 → ⊥) → option_map commit_of (slice_get history (n - 1)) ≡ commit_at n (map commit_of history)
+commit_read history n some = sym (read_at n (map commit_of history) some ∙ slice_get-map commit_of history (n - 1))
+
+pub commit_rises : (history : List SharedCommit) (k : ℕ) (r : Option (Bor SharedCommit)) → AllByRecursion (λ (c : Commit). IsRising c.tree) (map commit_of history) → IsItemAt history k r → IfSome r (λ commit. IsRising (map file_of commit.now.files.items))
+commit_rises history k None all it = tt
+commit_rises history k (Some commit) all it = rising_at history k commit.now all it.3.0 it.1
+
+-- ---- trees rise
+
+pub last_rises : (history : List Commit) → AllByRecursion (λ (c : Commit). IsRising c.tree) history → IsRising (last_tree history)
+last_rises [] all = tt
+last_rises (commit ∷ []) all = all.0
+last_rises (commit ∷ next ∷ more) all = last_rises (next ∷ more) all.1
+
+rises_at : (history : List Commit) (k : ℕ) (found : Option Commit) → AllByRecursion (λ (c : Commit). IsRising c.tree) history → slice_get history k ≡ found → IfSome (option_map tree_in found) IsRising
+rises_at history k None all is = tt
+rises_at history k (Some commit) all is = all_at (λ (c : Commit). IsRising c.tree) history k commit all is
+
+commit_tree_rises : (n : ℕ) (history : List Commit) → AllByRecursion (λ (c : Commit). IsRising c.tree) history → IfSome (option_map tree_in (commit_at n history)) IsRising
+commit_tree_rises zero history all = tt
+commit_tree_rises (suc n) history all = rises_at history n (slice_get history n) all refl
+
+pub found_tree_rises : (n : ℕ) (history : List Commit) (tree : Option (List File)) → AllByRecursion (λ (c : Commit). IsRising c.tree) history → tree ≡ option_map (λ (c : Commit). c.tree) (commit_at n history) → IfSome tree IsRising
+found_tree_rises n history tree all is = subst (λ (o : Option (List File)). IfSome o IsRising) (sym is) (commit_tree_rises n history all)

@@ -1,5 +1,5 @@
--- The refusals: the number of each, which one an error of the database is, and in which cases each comes.
-use Rattle.std.specs.Prelude.{ℕ}
+-- The refusals: the number and the printed name of each, which one an error of the database is, and in which cases each comes.
+use Rattle.std.specs.Prelude.{ℕ, List, codes}
 use Rattle.sqlite.specs.declared.error.Error.{Error}
 use Rattle.sqlite.specs.declared.error.Error.TheVariants.{SqliteFailure}
 use Rattle.sqlite.specs.declared.error.ErrorCode.TheVariants as code
@@ -14,6 +14,15 @@ number_of OutOfMemory = 4
 number_of Collision = 5
 number_of TooLarge = 6
 number_of TooMany = 7
+
+abbrev pub name_of : StoreFault → List ℕ
+name_of NotAStore = codes "NotAStore"
+name_of Damaged = codes "Damaged"
+name_of (Sql error) = codes "Sql"
+name_of OutOfMemory = codes "OutOfMemory"
+name_of Collision = codes "Collision"
+name_of TooLarge = codes "TooLarge"
+name_of TooMany = codes "TooMany"
 
 -- the refusal that an error of the database is: want of memory is its own, and every other error is handed on
 abbrev pub fault_of : Error → StoreFault

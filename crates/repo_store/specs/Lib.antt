@@ -1,8 +1,11 @@
+pub mod Accepted
 pub mod AllOrNothing
 pub mod Calls
+pub mod Clashes
 pub mod Complete
 pub mod Contents
 pub mod Faults
+pub mod FileRefs
 pub mod FromRows
 pub mod Kept
 pub mod Limits

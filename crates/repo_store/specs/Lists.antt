@@ -1,15 +1,19 @@
--- Serves private functions only, those of the modules `lists`, `files` and `trees` and of the transactions: what the lists
+-- Serves private functions only, those of the modules `lists`, `files`, `look_ups`, `clashes`, `differences` and `trees` and of the transactions: what the lists
 -- in memory stand for.
 use Rattle.std.specs.Prelude.{List, map}
 use Rattle.hook_base.specs.declared.file.File.{File}
+use Rattle.hook_base.specs.declared.file.FileEntry.{FileEntry}
 use Rattle.hook_base.specs.declared.change.Change.{Change}
 use Rattle.repo_store.specs.declared.shared.SharedFile.{SharedFile}
 use Rattle.repo_store.specs.declared.shared.SharedFix.{SharedFix}
 use Rattle.repo_store.specs.declared.shared.SharedCommit.{SharedCommit}
 use Rattle.repo_store.specs.Repository.{Commit, Repository}
 
+abbrev pub entry_in : SharedFile → FileEntry
+entry_in shared = record { mode = shared.mode; bytes = shared.content }
+
 abbrev pub file_of : SharedFile → File
-file_of shared = record { path = shared.path; entry = record { mode = shared.mode; bytes = shared.content } }
+file_of shared = record { path = shared.path; entry = entry_in shared }
 
 abbrev pub fix_of : SharedFix → Change
 fix_of shared = record { path = shared.path; now = shared.now }

@@ -1,50 +1,71 @@
-//! The tables when the fixes are accepted: one transaction.
+//! The tables when the fixes are accepted: one transaction, in which the rows of the fixed files alone are written.
 
 ghost use Rattle.std.specs.Prelude.{◌≡◌, false, map};
+ghost use Rattle.hook_base.specs.Trees.{IsRising};
 ghost use Rattle.store_tables.specs.Steps.{IsStep};
 ghost use Rattle.store_tables.specs.Tables.{Tables, Holds, without_fixes};
+ghost use Rattle.repo_store.specs.Accepted.{all_rewritten, rewritten};
 ghost use Rattle.repo_store.specs.Transactions.{IsCall};
-ghost use Rattle.repo_store.specs.Lists.{file_of};
-ghost use Rattle.repo_store.specs.Rows.{staged_row, with_staged_rows};
+ghost use Rattle.repo_store.specs.Lists.{file_of, fix_of};
+ghost use Rattle.repo_store.specs.Rows.{with_staged_rows};
 
+use crate::look_ups::file_at;
 use crate::mode::number_of;
-use crate::shared::SharedFile;
+use crate::shared::{SharedFile, SharedFix};
+use hook_base::RepoPath;
 use sqlite::{Alter, Connection, Error, Transaction};
-use store_tables::{clear_fixes, clear_staged, put_staged};
+use store_tables::{clear_fixes, put_staged, take_staged};
 
-fn put_files<S: Alter>(tx: &mut Transaction<'_, S>, files: &[SharedFile]) -> Result<(), Error>
+// Puts the file that the files have at a path, if any, in place of the one that stands there.
+fn rewrite<S: Alter>(
+    tx: &mut Transaction<'_, S>,
+    path: &RepoPath,
+    files: &[SharedFile],
+) -> Result<(), Error>
+    requires { IsRising (map file_of files.now) }
     ensures same_reference { tx.new.conn.ghost_name ≡ tx.old.conn.ghost_name }
-    ensures step { IsStep S.Store tx.old.conn.now tx.new.conn.now result (λ t. with_staged_rows (map staged_row (map file_of files.now)) t) }
+    ensures step { IsStep S.Store tx.old.conn.now tx.new.conn.now result (λ t. with_staged_rows (rewritten (map file_of files.now) path.now t.staged) t) }
 {
-    clear_staged(tx)?;
-    for file in files {
-        put_staged(
+    take_staged(tx, path.as_str())?;
+    match file_at(files, path) {
+        Some(file) => put_staged(
             tx,
-            file.path.as_str(),
+            path.as_str(),
             number_of(file.mode),
             file.content.digest(),
-        )?;
+        ),
+        None => Ok(()),
+    }
+}
+
+fn accept_in<S: Alter>(
+    tx: &mut Transaction<'_, S>,
+    fixes: &[SharedFix],
+    files: &[SharedFile],
+) -> Result<(), Error>
+    requires { IsRising (map file_of files.now) }
+    ensures same_reference { tx.new.conn.ghost_name ≡ tx.old.conn.ghost_name }
+    ensures step { IsStep S.Store tx.old.conn.now tx.new.conn.now result (λ t. with_staged_rows (all_rewritten (map file_of files.now) (map fix_of fixes.now) t.staged) (without_fixes t)) }
+{
+    clear_fixes(tx)?;
+    'fixes: for fix in fixes {
+        rewrite(tx, &fix.path, files)?;
     }
     Ok(())
 }
 
-fn accept_in<S: Alter>(tx: &mut Transaction<'_, S>, files: &[SharedFile]) -> Result<(), Error>
-    ensures same_reference { tx.new.conn.ghost_name ≡ tx.old.conn.ghost_name }
-    ensures step { IsStep S.Store tx.old.conn.now tx.new.conn.now result (λ t. with_staged_rows (map staged_row (map file_of files.now)) (without_fixes t)) }
-{
-    clear_fixes(tx)?;
-    put_files(tx, files)
-}
-
-/// Puts these files in place of the staged ones, and forgets the fixes, in one transaction.
+/// Puts those of the files that are at the paths of the fixes in place of the staged ones there, and forgets the fixes, in
+/// one transaction.
 pub(crate) fn accept_rows<S: Alter>(
     conn: &mut Connection<S>,
+    fixes: &[SharedFix],
     files: &[SharedFile],
 ) -> Result<(), Error>
-    requires { conn.old.in_transaction ≡ false }
-    ensures { (t : Tables) → IsCall S.Store conn.old conn.new result (λ db. Holds db t) (λ db. Holds db (with_staged_rows (map staged_row (map file_of files.now)) (without_fixes t))) }
+    requires outside { conn.old.in_transaction ≡ false }
+    requires rising { IsRising (map file_of files.now) }
+    ensures { (t : Tables) → IsCall S.Store conn.old conn.new result (λ db. Holds db t) (λ db. Holds db (with_staged_rows (all_rewritten (map file_of files.now) (map fix_of fixes.now) t.staged) (without_fixes t))) }
 {
     let mut tx = conn.transaction();
-    accept_in(&mut tx, files)?;
+    accept_in(&mut tx, fixes, files)?;
     tx.commit()
 }

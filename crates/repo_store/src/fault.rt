@@ -7,7 +7,7 @@ use thiserror::Error;
 
 /// Why a call on a store is refused. What the store shows is as before the call, and so are the tables while the connection
 /// is open. Where a fault of the disk has shut it, and after a crash, the file holds what stood before or all of the change.
-#[derive(Debug, Drop, Error)]
+#[derive(Clone, Copy, Debug, PartialEq, Eq, Error)]
 pub enum StoreFault {
     /// The database that is opened has no store in it, or one of another version.
     #[error("the database holds no store of this version")]
@@ -35,7 +35,7 @@ pub enum StoreFault {
 
 impl StoreFault {
     ghost use Rattle.std.specs.Prelude.{◌≡◌};
-    ghost use Rattle.repo_store.specs.Faults.{number_of};
+    ghost use Rattle.repo_store.specs.Faults.{name_of, number_of};
 
     /// The number of the refusal, from 1 to 7.
     pub fn number(&self) -> u8
@@ -49,6 +49,21 @@ impl StoreFault {
             StoreFault::Collision => 5,
             StoreFault::TooLarge => 6,
             StoreFault::TooMany => 7,
+        }
+    }
+
+    /// The refusal's name, as it is printed after its number.
+    pub fn name(&self) -> &'static str
+        ensures { result.now ≡ name_of self.now }
+    {
+        match self {
+            StoreFault::NotAStore => "NotAStore",
+            StoreFault::Damaged => "Damaged",
+            StoreFault::Sql(_) => "Sql",
+            StoreFault::OutOfMemory => "OutOfMemory",
+            StoreFault::Collision => "Collision",
+            StoreFault::TooLarge => "TooLarge",
+            StoreFault::TooMany => "TooMany",
         }
     }
 }

@@ -13,8 +13,8 @@ use crate::limits::{MOST_FILES, MOST_TREE_PATH_BYTES};
 use crate::shared::{SharedCommit, SharedFile, SharedFix};
 use hook_base::{Bytes, OutOfMemory, RepoPath};
 
-// Where a path stands in files that rise: at the file of an index, or before it.
-fn place_of(files: &[SharedFile], path: &RepoPath) -> Result<usize, usize>
+/// Where a path stands in files that rise: at the file of an index, or before it.
+pub(crate) fn place_of(files: &[SharedFile], path: &RepoPath) -> Result<usize, usize>
     requires { IsRising (map file_of files.now) }
     ensures { MatchResult result (IsAt path.now (map file_of files.now)) (IsGap path.now (map file_of files.now)) }
 {

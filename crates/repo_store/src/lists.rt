@@ -1,9 +1,14 @@
 //! What a store shows, in memory: its commits, staged files, fixes and contents.
 
-ghost use Rattle.std.specs.Prelude.{◌≡◌, ◌<◌, ◌≤◌, [], true, map, length, take, drop, is_some, option_map, MatchOption, IfOk, IfErr, OnOk, OnErr};
+ghost use Rattle.std.specs.Prelude.{◌≡◌, ◌≢◌, ◌↔◌, ◌<◌, ◌≤◌, [], true, map, length, take, drop, is_some, option_map, slice_get, MatchOption, IfOk, IfErr, IfSome, IsTrue, OnOk, OnErr};
+ghost use Rattle.std.specs.Option.{option_copied};
 ghost use Rattle.std.specs.Str.{IsUtf8};
+ghost use Rattle.hook_base.specs.declared.file.FileEntry.{FileEntry};
 ghost use Rattle.hook_base.specs.Paths.{IsRepoPath};
 ghost use Rattle.hook_base.specs.Trees.{IsRising, IsRisingChanges, apply_changes, entry_of, put_file};
+ghost use Rattle.repo_store.specs.Clashes.{Clashes};
+ghost use Rattle.repo_store.specs.Complete.{IsComplete};
+ghost use Rattle.repo_store.specs.FileRefs.{copied_file};
 ghost use Rattle.repo_store.specs.Kept.{FixCollides, HasLarge, accepting, committing, keeping, unstaging};
 ghost use Rattle.repo_store.specs.Lists.{commit_of, file_of, fix_of, repository_of};
 ghost use Rattle.repo_store.specs.Contents.{Collides, with_changes, with_new};
@@ -13,13 +18,16 @@ ghost use Rattle.repo_store.specs.Log.{log_from};
 ghost use Rattle.repo_store.specs.Repository.{Commit, commit_at, empty, last_tree, staged_changes, with_staged};
 ghost use Rattle.repo_store.specs.Sound.{IsSound};
 
+use crate::clashes::clashes;
 use crate::content::Content;
 use crate::contents::Contents;
+use crate::differences::{are_same_rows, differ_at};
 use crate::files::{commit_with, has_path, keep_others, may_put, put_file, with_fixes};
 use crate::limits::{MOST_COMMITS, MOST_CONTENT_BYTES};
+use crate::look_ups::{file_at, shown_at};
 use crate::shared::{SharedCommit, SharedFile, SharedFix};
 use crate::trees::{changes_of, log_of, tree_of};
-use crate::{LogEntry, StoreFault};
+use crate::{FileRef, LogEntry, StoreFault};
 use hook_base::{Change, Mode, OutOfMemory, RepoPath, Tree};
 use std::alloc::Global;
 use std::marker::Model;
@@ -234,8 +242,8 @@ impl Lists {
         }
     }
 
-    // Whether a path is staged.
-    fn is_staged(&self, path: &RepoPath) -> bool
+    /// Whether a path is staged.
+    pub(crate) fn is_staged(&self, path: &RepoPath) -> bool
         ensures { result ≡ is_some (entry_of path.now self.now.kept.repo.staged) }
     {
         has_path(self.staged.as_slice(), path)
@@ -306,14 +314,22 @@ impl Lists {
         tree_of(*self.staged.allocator(), self.staged.as_slice())
     }
 
+    // The files of the last commit, and none where there is no commit.
+    fn head_files(&self) -> &[SharedFile]
+        ensures files { map file_of result.now ≡ last_tree self.now.kept.repo.history }
+        ensures rising { IsRising (map file_of result.now) }
+    {
+        match self.history.as_slice() {
+            [.., commit] => commit.files.as_slice(),
+            [] => &[],
+        }
+    }
+
     /// The files of the last commit, and none where there is no commit, in memory of their own.
     pub(crate) fn head(&self) -> Result<Tree, OutOfMemory>
         ensures { IfOk result (λ tree. tree ≡ last_tree self.now.kept.repo.history) }
     {
-        match self.history.as_slice() {
-            [.., commit] => tree_of(*self.staged.allocator(), commit.files.as_slice()),
-            [] => Ok(Tree::new(*self.staged.allocator())),
-        }
+        tree_of(*self.staged.allocator(), self.head_files())
     }
 
     /// The fixes, in memory of their own.
@@ -330,20 +346,93 @@ impl Lists {
         log_of(*self.staged.allocator(), self.history.as_slice())
     }
 
+    // The commit of a number, if there is one.
+    fn commit_at(&self, number: u32) -> Option<&SharedCommit>
+        ensures commit { option_map commit_of (option_copied result) ≡ commit_at number self.now.kept.repo.history }
+        ensures rising { IfSome result (λ commit. IsRising (map file_of commit.now.files.items)) }
+    {
+        if number == 0 {
+            return None;
+        }
+        self.history.get(number as usize - 1)
+    }
+
     /// The files of a commit, or none where there is no commit of this number.
     pub(crate) fn tree_of(&self, number: u32) -> Result<Option<Tree>, OutOfMemory>
         ensures { IfOk result (λ tree. tree ≡ option_map (λ (commit : Commit). commit.tree) (commit_at number self.now.kept.repo.history)) }
     {
-        if number == 0 {
-            return Ok(None);
-        }
-        match self.history.get(number as usize - 1) {
+        match self.commit_at(number) {
             Some(commit) => {
                 let tree = tree_of(*self.staged.allocator(), commit.files.as_slice())?;
                 Ok(Some(tree))
             }
             None => Ok(None),
         }
+    }
+
+    /// The message of a commit, or none where there is no commit of this number.
+    pub(crate) fn message_of(&self, number: u32) -> Option<&[u8]>
+        ensures { option_copied result ≡ option_map (λ (commit : Commit). commit.message) (commit_at number self.now.kept.repo.history) }
+    {
+        match self.commit_at(number) {
+            Some(commit) => Some(commit.message.as_slice()),
+            None => None,
+        }
+    }
+
+    /// The mode of a staged file, or none where the path isn't staged.
+    pub(crate) fn staged_mode(&self, path: &RepoPath) -> Option<Mode>
+        ensures { result ≡ option_map (λ (entry : FileEntry). entry.mode) (entry_of path.now self.now.kept.repo.staged) }
+    {
+        match file_at(self.staged.as_slice(), path) {
+            Some(file) => Some(file.mode),
+            None => None,
+        }
+    }
+
+    /// The contents of a staged file, or none where the path isn't staged.
+    pub(crate) fn staged_bytes(&self, path: &RepoPath) -> Option<&[u8]>
+        ensures { option_copied result ≡ option_map (λ (entry : FileEntry). entry.bytes) (entry_of path.now self.now.kept.repo.staged) }
+    {
+        match file_at(self.staged.as_slice(), path) {
+            Some(file) => Some(file.content.as_slice()),
+            None => None,
+        }
+    }
+
+    /// Whether a path can't stand beside the staged files.
+    pub(crate) fn clashes(&self, path: &RepoPath) -> bool
+        ensures { IsTrue result ↔ Clashes path.now self.now.kept.repo.staged }
+    {
+        clashes(self.staged.as_slice(), path)
+    }
+
+    /// The staged file of an index, without a copy.
+    pub(crate) fn staged_file(&self, index: usize) -> Option<FileRef<'_>>
+        ensures { option_map copied_file result ≡ slice_get self.now.kept.repo.staged index }
+    {
+        shown_at(self.staged.as_slice(), index)
+    }
+
+    /// The file of an index in the last commit, without a copy.
+    pub(crate) fn head_file(&self, index: usize) -> Option<FileRef<'_>>
+        ensures { option_map copied_file result ≡ slice_get (last_tree self.now.kept.repo.history) index }
+    {
+        shown_at(self.head_files(), index)
+    }
+
+    /// Whether the staged files are others than those of the last commit.
+    pub(crate) fn differs_from_head(&self) -> bool
+        ensures { IsComplete self.now.kept → IsTrue result ↔ (self.now.kept.repo.staged ≢ last_tree self.now.kept.repo.history) }
+    {
+        !are_same_rows(self.staged.as_slice(), self.head_files())
+    }
+
+    /// Whether what is staged at a path is another than what the last commit has there.
+    pub(crate) fn differs_from_head_at(&self, path: &RepoPath) -> bool
+        ensures { IsComplete self.now.kept → IsTrue result ↔ (entry_of path.now self.now.kept.repo.staged ≢ entry_of path.now (last_tree self.now.kept.repo.history)) }
+    {
+        differ_at(self.staged.as_slice(), self.head_files(), path)
     }
 
     /// How many fixes there are.
@@ -353,9 +442,17 @@ impl Lists {
         self.fixes.len() as u32
     }
 
+    /// The fixes as they are kept.
+    pub(crate) fn shared_fixes(&self) -> &[SharedFix]
+        ensures { map fix_of result.now ≡ self.now.kept.repo.fixes }
+    {
+        self.fixes.as_slice()
+    }
+
     /// The staged files with the fixes applied.
     pub(crate) fn prepare_accept(&self) -> Result<Vec<SharedFile>, OutOfMemory>
-        ensures { IfOk result (λ files. map file_of files.items ≡ apply_changes self.now.kept.repo.fixes self.now.kept.repo.staged) }
+        ensures files { IfOk result (λ files. map file_of files.items ≡ apply_changes self.now.kept.repo.fixes self.now.kept.repo.staged) }
+        ensures rising { IfOk result (λ files. IsRising (map file_of files.items)) }
     {
         with_fixes(&self.staged, self.fixes.as_slice())
     }

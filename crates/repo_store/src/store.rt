@@ -1,18 +1,22 @@
 //! The calls on a store. Each prepares in memory what can be refused there, then changes the tables, then the memory.
 
-ghost use Rattle.std.specs.Prelude.{◌≡◌, ◌≢◌, ◌+◌, ◌<◌, ◌≤◌, [], false, length, option_map, IfOk, IfErr, OnOk, MatchResult, IsTrue};
+ghost use Rattle.std.specs.Prelude.{◌≡◌, ◌≢◌, ◌↔◌, ◌+◌, ◌<◌, ◌≤◌, [], false, length, is_some, option_map, slice_get, IfOk, IfErr, IfSome, OnOk, MatchResult, IsTrue};
+ghost use Rattle.std.specs.Option.{option_copied};
 ghost use Rattle.sha2.specs.Sha256.{sha256};
+ghost use Rattle.hook_base.specs.declared.file.FileEntry.{FileEntry};
 ghost use Rattle.hook_base.specs.Paths.{message_path};
-ghost use Rattle.hook_base.specs.Trees.{IsRisingChanges, put_file};
+ghost use Rattle.hook_base.specs.Trees.{IsRising, IsRisingChanges, entry_of, put_file};
 ghost use Rattle.store_tables.specs.Schema.{no_schema};
 ghost use Rattle.sqlite.specs.Held.{state};
 ghost use Rattle.sqlite.specs.State.{HasCleanDisk, Survives};
 ghost use Rattle.store_tables.specs.Tables.{Holds};
 ghost use Rattle.repo_store.specs.Calls.{Rests};
 ghost use Rattle.repo_store.specs.AllOrNothing.{IsAllOrNothing};
+ghost use Rattle.repo_store.specs.Clashes.{Clashes};
 ghost use Rattle.repo_store.specs.Complete.{AreAlike};
 ghost use Rattle.repo_store.specs.Contents.{Collides};
 ghost use Rattle.repo_store.specs.Faults.{IsRefusal};
+ghost use Rattle.repo_store.specs.FileRefs.{copied_file};
 ghost use Rattle.repo_store.specs.Kept.{FixCollides, HasLarge, Kept, accepting, committing, keeping, setting, staging, unstaging};
 ghost use Rattle.repo_store.specs.Limits.{Fits, IsSmall, most_commits};
 ghost use Rattle.repo_store.specs.Log.{log_from};
@@ -31,7 +35,7 @@ use crate::lists::Lists;
 use crate::opening::{has_tables, read_store};
 use crate::stage::stage_rows;
 use crate::unstage::unstage_rows;
-use crate::{Digest, LogEntry, StoreFault};
+use crate::{Digest, FileRef, LogEntry, StoreFault};
 use hook_base::{Change, Mode, OutOfMemory, RepoPath, Tree};
 use sqlite::{Alter, Connection, Error, ErrorCode};
 use std::alloc::Global;
@@ -193,7 +197,8 @@ impl<S: Alter> Store<S> {
     {
         let number = self.lists.count_fixes();
         let files = self.lists.prepare_accept()?;
-        if let Err(error) = accept_rows(&mut self.conn, files.as_slice()) {
+        let fixes = self.lists.shared_fixes();
+        if let Err(error) = accept_rows(&mut self.conn, fixes, files.as_slice()) {
             return Err(fault_of(error));
         }
         self.lists.accept(files);
@@ -242,21 +247,24 @@ impl<S: Alter> Store<S> {
 
     /// The staged files. It fails for want of memory alone.
     pub fn staged(&self) -> Result<Tree, OutOfMemory>
-        ensures { IfOk result (λ tree. tree ≡ self.now.kept.repo.staged) }
+        ensures tree { IfOk result (λ tree. tree ≡ self.now.kept.repo.staged) }
+        ensures rising { IsRising self.now.kept.repo.staged }
     {
         self.lists.staged()
     }
 
     /// The files of the last commit, and an empty tree where there is no commit. It fails for want of memory alone.
     pub fn head(&self) -> Result<Tree, OutOfMemory>
-        ensures { IfOk result (λ tree. tree ≡ last_tree self.now.kept.repo.history) }
+        ensures tree { IfOk result (λ tree. tree ≡ last_tree self.now.kept.repo.history) }
+        ensures rising { IsRising (last_tree self.now.kept.repo.history) }
     {
         self.lists.head()
     }
 
     /// The fixes, in the order of their paths. It fails for want of memory alone.
     pub fn fixes(&self) -> Result<Vec<Change>, OutOfMemory>
-        ensures { IfOk result (λ fixes. fixes.items ≡ self.now.kept.repo.fixes) }
+        ensures fixes { IfOk result (λ fixes. fixes.items ≡ self.now.kept.repo.fixes) }
+        ensures rising { IsRisingChanges self.now.kept.repo.fixes }
     {
         self.lists.fixes()
     }
@@ -270,9 +278,91 @@ impl<S: Alter> Store<S> {
 
     /// The files of a commit, or none where no commit has the number. It fails for want of memory alone.
     pub fn tree_of(&self, number: u32) -> Result<Option<Tree>, OutOfMemory>
-        ensures { IfOk result (λ tree. tree ≡ option_map (λ (commit : Commit). commit.tree) (commit_at number self.now.kept.repo.history)) }
+        ensures tree { IfOk result (λ tree. tree ≡ option_map (λ (commit : Commit). commit.tree) (commit_at number self.now.kept.repo.history)) }
+        ensures rising { IfOk result (λ tree. IfSome tree IsRising) }
     {
         self.lists.tree_of(number)
+    }
+
+    /// Whether a path is staged. It takes no memory.
+    pub fn is_staged(&self, path: &RepoPath) -> bool
+        ensures { result ≡ is_some (entry_of path.now self.now.kept.repo.staged) }
+    {
+        self.lists.is_staged(path)
+    }
+
+    /// The mode of the file that is staged at a path, or `None` where none is. It takes no memory.
+    pub fn staged_mode(&self, path: &RepoPath) -> Option<Mode>
+        ensures { result ≡ option_map (λ (entry : FileEntry). entry.mode) (entry_of path.now self.now.kept.repo.staged) }
+    {
+        self.lists.staged_mode(path)
+    }
+
+    /// The contents of the file that is staged at a path, or `None` where none is. It takes no memory.
+    pub fn staged_bytes(&self, path: &RepoPath) -> Option<&[u8]>
+        ensures { option_copied result ≡ option_map (λ (entry : FileEntry). entry.bytes) (entry_of path.now self.now.kept.repo.staged) }
+    {
+        self.lists.staged_bytes(path)
+    }
+
+    /// Whether a path can't stand beside the staged files: one of them is at a folder of the path, or the path is a folder of
+    /// one of them. `stage` doesn't ask this. It takes no memory.
+    pub fn clashes(&self, path: &RepoPath) -> bool
+        ensures { IsTrue result ↔ Clashes path.now self.now.kept.repo.staged }
+    {
+        self.lists.clashes(path)
+    }
+
+    /// The staged file of an index in the order of the paths, counted from 0, or `None` past the last. It takes no memory.
+    pub fn staged_file(&self, index: usize) -> Option<FileRef<'_>>
+        ensures { option_map copied_file result ≡ slice_get self.now.kept.repo.staged index }
+    {
+        self.lists.staged_file(index)
+    }
+
+    /// The file of the last commit of an index in the order of the paths, counted from 0, or `None` past the last and where
+    /// there is no commit. It takes no memory.
+    pub fn head_file(&self, index: usize) -> Option<FileRef<'_>>
+        ensures { option_map copied_file result ≡ slice_get (last_tree self.now.kept.repo.history) index }
+    {
+        self.lists.head_file(index)
+    }
+
+    /// Whether the staged files are others than those of the last commit, by their paths, modes or contents; before the first
+    /// commit, whether any is staged. It takes no memory, and reads no contents.
+    pub fn differs_from_head(&self) -> bool
+        ensures { IsTrue result ↔ (self.now.kept.repo.staged ≢ last_tree self.now.kept.repo.history) }
+    {
+        self.lists.differs_from_head()
+    }
+
+    /// Whether a path's staged file has another mode or other contents than in the last commit, or only one of both has the
+    /// path. It takes no memory, and reads no contents.
+    pub fn differs_from_head_at(&self, path: &RepoPath) -> bool
+        ensures { IsTrue result ↔ (entry_of path.now self.now.kept.repo.staged ≢ entry_of path.now (last_tree self.now.kept.repo.history)) }
+    {
+        self.lists.differs_from_head_at(path)
+    }
+
+    /// How many fixes there are. It takes no memory.
+    pub fn count_fixes(&self) -> u32
+        ensures { result ≡ length self.now.kept.repo.fixes }
+    {
+        self.lists.count_fixes()
+    }
+
+    /// How many commits there are, which is the number of the last. It takes no memory.
+    pub fn commits(&self) -> u32
+        ensures { result ≡ length self.now.kept.repo.history }
+    {
+        self.lists.commits()
+    }
+
+    /// The message of a commit, or `None` where no commit has the number. It takes no memory.
+    pub fn message_of(&self, number: u32) -> Option<&[u8]>
+        ensures { option_copied result ≡ option_map (λ (commit : Commit). commit.message) (commit_at number self.now.kept.repo.history) }
+    {
+        self.lists.message_of(number)
     }
 
     /// The connection, outside a transaction, with the store as it stands.

@@ -1,10 +1,10 @@
 use Rattle.std.proofs.Common.{◌≡◌, Ok, Err, map, refl, ap, subst, ◌∙◌}
 use Rattle.hook_base.specs.Trees.{apply_changes}
 use Rattle.repo_store.specs.Kept.{accepting}
-use Rattle.repo_store.specs.Lists.{file_of}
+use Rattle.repo_store.specs.Lists.{file_of, fix_of}
 use Rattle.repo_store.specs.AllOrNothing.{IsAllOrNothing}
 use Rattle.repo_store.specs.Shown.{Shown, IsOneTransaction}
-use Rattle.repo_store.proofs.KeptLemmas.{accepting_handed}
+use Rattle.repo_store.proofs.AcceptLemmas.{accepting_handed}
 use Rattle.repo_store.proofs.CompleteLemmas.{complete_accepted}
 use Rattle.repo_store.proofs.RuleLemmas.{obeys_accepted}
 use Rattle.repo_store.proofs.StandLemmas.{tables_in, refused_stands, done_stands, refused_transaction, done_transaction}
@@ -14,8 +14,8 @@ pub invariant_of-self : goal.invariant_of-self
 invariant_of-self g c =
     let new = c.accept_rows.new.conn in
     let kept = c.self.inside.lists.kept in
-    let files : map file_of c.as_slice.result.now ≡ apply_changes kept.repo.fixes kept.repo.staged = ap (map file_of) c.as_slice.ensures.value ∙ c.in_ok-files.ensures in
-    let same = accepting_handed (map file_of c.as_slice.result.now) kept files in
+    let files : map file_of c.as_slice.result.now ≡ apply_changes kept.repo.fixes kept.repo.staged = ap (map file_of) c.as_slice.ensures.value ∙ c.in_ok-files.ensures.files in
+    let same = accepting_handed (map file_of c.as_slice.result.now) (map fix_of c.shared_fixes-fixes.result.now) kept c.self.invariant.complete.sound files c.shared_fixes-fixes.ensures in
     let complete = complete_accepted kept c.self.invariant.complete in
     let obeys = obeys_accepted kept c.self.invariant.obeys complete in
     refused_stands g.S.Store c.self.inside.conn new kept (accepting kept) _ c.self.invariant same (g.met.S.Store.shut_if_dirty new.store) complete obeys
@@ -30,8 +30,8 @@ pub returns-in-Err-clause-transaction : goal.returns-in-Err-clause-transaction
 returns-in-Err-clause-transaction g c =
     let new = c.accept_rows.new.conn in
     let kept = c.self.inside.lists.kept in
-    let files : map file_of c.as_slice.result.now ≡ apply_changes kept.repo.fixes kept.repo.staged = ap (map file_of) c.as_slice.ensures.value ∙ c.in_ok-files.ensures in
-    let same = accepting_handed (map file_of c.as_slice.result.now) kept files in
+    let files : map file_of c.as_slice.result.now ≡ apply_changes kept.repo.fixes kept.repo.staged = ap (map file_of) c.as_slice.ensures.value ∙ c.in_ok-files.ensures.files in
+    let same = accepting_handed (map file_of c.as_slice.result.now) (map fix_of c.shared_fixes-fixes.result.now) kept c.self.invariant.complete.sound files c.shared_fixes-fixes.ensures in
     let complete = complete_accepted kept c.self.invariant.complete in
     let obeys = obeys_accepted kept c.self.invariant.obeys complete in
     subst (λ (s : Shown g.row.S.Denot). IsOneTransaction g.S.Store s (record { conn = new; kept = kept }) (Err c.fault_of.result) (accepting s.kept)) c.self.view_is
@@ -42,8 +42,8 @@ pub invariant_of-self-2 : goal.invariant_of-self-2
 invariant_of-self-2 g c =
     let new = c.accept_rows.new.conn in
     let kept = c.self.inside.lists.kept in
-    let files : map file_of c.as_slice.result.now ≡ apply_changes kept.repo.fixes kept.repo.staged = ap (map file_of) c.as_slice.ensures.value ∙ c.in_ok-files.ensures in
-    let same = accepting_handed (map file_of c.as_slice.result.now) kept files in
+    let files : map file_of c.as_slice.result.now ≡ apply_changes kept.repo.fixes kept.repo.staged = ap (map file_of) c.as_slice.ensures.value ∙ c.in_ok-files.ensures.files in
+    let same = accepting_handed (map file_of c.as_slice.result.now) (map fix_of c.shared_fixes-fixes.result.now) kept c.self.invariant.complete.sound files c.shared_fixes-fixes.ensures in
     let complete = complete_accepted kept c.self.invariant.complete in
     let obeys = obeys_accepted kept c.self.invariant.obeys complete in
     done_stands g.S.Store c.self.inside.conn new kept (accepting kept) _ c.self.invariant same (g.met.S.Store.shut_if_dirty new.store) complete obeys
@@ -57,8 +57,8 @@ pub returns-clause-transaction : goal.returns-clause-transaction
 returns-clause-transaction g c =
     let new = c.accept_rows.new.conn in
     let kept = c.self.inside.lists.kept in
-    let files : map file_of c.as_slice.result.now ≡ apply_changes kept.repo.fixes kept.repo.staged = ap (map file_of) c.as_slice.ensures.value ∙ c.in_ok-files.ensures in
-    let same = accepting_handed (map file_of c.as_slice.result.now) kept files in
+    let files : map file_of c.as_slice.result.now ≡ apply_changes kept.repo.fixes kept.repo.staged = ap (map file_of) c.as_slice.ensures.value ∙ c.in_ok-files.ensures.files in
+    let same = accepting_handed (map file_of c.as_slice.result.now) (map fix_of c.shared_fixes-fixes.result.now) kept c.self.invariant.complete.sound files c.shared_fixes-fixes.ensures in
     let complete = complete_accepted kept c.self.invariant.complete in
     let obeys = obeys_accepted kept c.self.invariant.obeys complete in
     subst (λ (s : Shown g.row.S.Denot). IsOneTransaction g.S.Store s (record { conn = new; kept = c.accept.new.self.kept }) (Ok c.count_fixes-number.result) (accepting s.kept)) c.self.view_is

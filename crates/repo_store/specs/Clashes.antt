@@ -1,0 +1,17 @@
+-- Which paths can't stand beside a path: what is a file is no folder.
+use Rattle.std.specs.Prelude.{◌≡◌, ◌⊎◌, ℕ, List, ◌∷◌, ◌++◌}
+use Rattle.std.specs.List.{Any}
+use Rattle.hook_base.specs.declared.file.File.{File}
+
+-- the byte `/`
+abbrev pub slash : ℕ
+slash = 47
+
+-- the path is that of the folder, a slash and more
+pub record IsFolderOf (folder path : List ℕ) : Type 0 where
+  pub more : List ℕ
+  pub is : path ≡ folder ++ slash ∷ more
+
+-- some file's path is a folder of the path, or the path is a folder of some file's
+abbrev pub Clashes : List ℕ → List File → Type 0
+Clashes path files = Any (λ (file : File). IsFolderOf file.path path ⊎ IsFolderOf path file.path) files

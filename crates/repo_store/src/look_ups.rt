@@ -1,0 +1,44 @@
+//! Single files, found among others and shown without a copy.
+
+ghost use Rattle.std.specs.Prelude.{◌≡◌, map, option_map, slice_get};
+ghost use Rattle.std.specs.Option.{option_copied};
+ghost use Rattle.hook_base.specs.Trees.{IsRising, entry_of};
+ghost use Rattle.repo_store.specs.FileRefs.{copied_file};
+ghost use Rattle.repo_store.specs.Lists.{entry_in, file_of};
+
+use crate::FileRef;
+use crate::files::place_of;
+use crate::shared::SharedFile;
+use hook_base::RepoPath;
+
+/// The file of a path, if it has one.
+pub(crate) fn file_at<'a>(files: &'a [SharedFile], path: &RepoPath) -> Option<&'a SharedFile>
+    requires { IsRising (map file_of files.now) }
+    ensures { option_map entry_in (option_copied result) ≡ entry_of path.now (map file_of files.now) }
+{
+    match place_of(files, path) {
+        Ok(index) => files.get(index),
+        Err(_) => None,
+    }
+}
+
+/// The file without a copy.
+pub(crate) fn shown(file: &SharedFile) -> FileRef<'_>
+    ensures { copied_file result ≡ file_of file.now }
+{
+    FileRef {
+        path: &file.path,
+        mode: file.mode,
+        bytes: file.content.as_slice(),
+    }
+}
+
+/// The file of an index, without a copy, if there is one.
+pub(crate) fn shown_at(files: &[SharedFile], index: usize) -> Option<FileRef<'_>>
+    ensures { option_map copied_file result ≡ slice_get (map file_of files.now) index }
+{
+    match files.get(index) {
+        Some(file) => Some(shown(file)),
+        None => None,
+    }
+}
