@@ -6,6 +6,7 @@ pub mod ClashLemmas
 pub mod CompleteLemmas
 pub mod FitLemmas
 pub mod FixLemmas
+pub mod FixedLemmas
 pub mod FromRowsLemmas
 pub mod IndexLemmas
 pub mod KeptLemmas

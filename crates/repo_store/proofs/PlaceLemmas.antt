@@ -1,8 +1,7 @@
 -- The place of a path among held files, and what a file put there makes of them.
-use Rattle.repo_store.specs.declared.shared.SharedFix.{SharedFix}
 use Rattle.hook_base.specs.declared.change.Change.{Change}
 use Rattle.std.proofs.Common.{◌≡◌, ℕ, zero, suc, ◌+◌, ◌<◌, ◌≤◌, List, [], ◌∷◌, ◌++◌, map, length, take, drop, get_or, set, true, false, IsTrue, Result, Ok, Err, MatchResult, OnErr, is_ok, if◌then◌else◌, sym, ap, ap₂, ◌∙◌, arith, is_some, refl, Option, None, Some, option_map, slice_get}
-use Rattle.std.specs.List.{insert, drop-map, HoldsAt, remove}
+use Rattle.std.specs.List.{insert, drop-map, HoldsAt}
 use Rattle.std.specs.List.Sorted.{IsNonDecreasingBy, IsBinarySearchResult}
 use Rattle.std.specs.Str.{bytes_eq}
 use Rattle.std.specs.Ordering.{is_lt, ordering_index}
@@ -10,7 +9,7 @@ use Rattle.std.specs.declared.cmp.Ordering.{Ordering}
 use Rattle.std.specs.declared.cmp.Ordering.TheVariants.{Less, Equal, Greater}
 use Rattle.std.specs.Cmp.Lexicographic.{nat_list_cmp_total}
 use Rattle.std.proofs.lemmas.Bool.{leb-true, le-leb}
-use Rattle.std.proofs.lemmas.List.{map-append, map-set, length-map, take-map, length-set, take_more}
+use Rattle.std.proofs.lemmas.List.{map-append, map-set, length-map, take-map, length-set}
 use Rattle.std.proofs.lemmas.List.Edits.{length-insert}
 use Rattle.std.proofs.lemmas.List.Sums.{sum_by-insert, sum_by-cons}
 use Rattle.std.proofs.lemmas.List.Sorted.{searchable_from_sorted}
@@ -21,12 +20,12 @@ use Rattle.hook_base.specs.declared.file.Mode.TheVariants.{Plain}
 use Rattle.hook_base.specs.Rising.{IsBelowAll, IsRisingBy, path_cmp}
 use Rattle.hook_base.specs.RisingLemmas.{above_differs, below_from_greater, bytes_same, greater_from_below, path_tied, path_itself, rising_pair}
 use Rattle.hook_base.specs.Places.{IsAt, IsGap}
-use Rattle.hook_base.specs.Trees.{IsRising, path_of, put_row, remove_file, entry_of, rewrite_file, with_bytes, apply_at, apply_change, apply_changes}
-use Rattle.hook_base.specs.TreeLemmas.{put_row-at, put_row-gap, gap_within, entry_of-at, entry_of-gap, rewrite_file-at, remove_file-at, rewrite_file-gap, remove_file-gap, apply_changes-append}
+use Rattle.hook_base.specs.Trees.{IsRising, path_of, put_row, remove_file, entry_of, rewrite_file, with_bytes, apply_at, apply_changes}
+use Rattle.hook_base.specs.TreeLemmas.{put_row-at, put_row-gap, gap_within, entry_of-at, entry_of-gap}
 use Rattle.hook_base.proofs.PlaceLemmas.{found}
 use Rattle.repo_store.specs.declared.shared.SharedFile.{SharedFile}
 use Rattle.repo_store.specs.Limits.{Fits, path_bytes, most_files, most_tree_path_bytes}
-use Rattle.repo_store.specs.Lists.{entry_in, file_of, fix_of}
+use Rattle.repo_store.specs.Lists.{entry_in, file_of}
 
 abbrev path_in : SharedFile → List ℕ
 path_in file = file.path
@@ -149,20 +148,6 @@ found_at path (file ∷ files) (suc k) at = rw (above_differs path file.path at.
 
 -- ---- a fix among held files
 
-pub held_rewrite : (path : List ℕ) (files : List SharedFile) (k : ℕ) (file : SharedFile) (bytes : List ℕ) → IsRising (map file_of files) → IsAt path (map file_of files) k → file ≡ get_or files k file
-    → map file_of (set files k (record file { content = bytes })) ≡ rewrite_file path bytes (map file_of files)
-held_rewrite path files k file bytes rising at is =
-    map-set file_of files k (record file { content = bytes }) ∙ ap (λ (f : File). set (map file_of files) k (with_bytes bytes f)) (ap file_of is ∙ sym (get_or-map file_of files k file))
-    ∙ sym (rewrite_file-at path bytes (map file_of files) k (file_of file) rising at)
-
-pub held_remove : (path : List ℕ) (files : List SharedFile) (k : ℕ) → IsRising (map file_of files) → IsAt path (map file_of files) k → map file_of (remove files k) ≡ remove_file path (map file_of files)
-held_remove path files k rising at =
-    map-append file_of (take k files) (drop (suc k) files) ∙ ap₂ (λ (a b : List File). a ++ b) (sym (take-map file_of k files)) (sym (drop-map file_of (suc k) files)) ∙ sym (remove_file-at path (map file_of files) k rising at)
-
-pub apply_gap : (path : List ℕ) (now : Option (List ℕ)) (rows : List File) (k : ℕ) → IsGap path rows k → rows ≡ apply_at path now rows
-apply_gap path None rows k gap = sym (remove_file-gap path rows k gap)
-apply_gap path (Some bytes) rows k gap = sym (rewrite_file-gap path bytes rows k gap)
-
 fits_rewritten : (path bytes : List ℕ) (rows : List File) → (length (rewrite_file path bytes rows) ≡ length rows) × (path_bytes (rewrite_file path bytes rows) ≡ path_bytes rows)
 fits_rewritten path bytes [] = (refl, refl)
 fits_rewritten path bytes (row ∷ rows) =
@@ -184,10 +169,3 @@ fits_applied_one path (Some bytes) rows fits =
 pub fits_applied : (changes : List Change) (rows : List File) → Fits rows → Fits (apply_changes changes rows)
 fits_applied [] rows fits = fits
 fits_applied (change ∷ changes) rows fits = fits_applied changes (apply_at change.path change.now rows) (fits_applied_one change.path change.now rows fits)
-
-pub applied_more : (fixes : List SharedFix) (i : ℕ) (fix : SharedFix) (rows now : List File) → i < length fixes → fix ≡ get_or fixes i fix → now ≡ apply_changes (map fix_of (take i fixes)) rows
-    → apply_change (fix_of fix) now ≡ apply_changes (map fix_of (take (i + 1) fixes)) rows
-applied_more fixes i fix rows now within is now_is =
-    let step : map fix_of (take (i + 1) fixes) ≡ map fix_of (take i fixes) ++ fix_of fix ∷ [] =
-    ap (map fix_of) (take_more fixes i fix within ∙ ap (λ (f : SharedFix). take i fixes ++ f ∷ []) (sym is)) ∙ map-append fix_of (take i fixes) (fix ∷ []) in
-    ap (apply_change (fix_of fix)) now_is ∙ sym (apply_changes-append (map fix_of (take i fixes)) (fix_of fix ∷ []) rows) ∙ ap (λ (l : List Change). apply_changes l rows) (sym step)

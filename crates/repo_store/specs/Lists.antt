@@ -1,5 +1,5 @@
--- Serves private functions only, those of the modules `lists`, `files`, `look_ups`, `clashes`, `differences` and `trees` and of the transactions: what the lists
--- in memory stand for.
+-- Serves private functions only, those of the modules `lists`, `files`, `look_ups`, `clashes`, `differences`,
+-- `fixed_files` and `trees` and of the transactions: what the lists in memory stand for.
 use Rattle.std.specs.Prelude.{List, map}
 use Rattle.hook_base.specs.declared.file.File.{File}
 use Rattle.hook_base.specs.declared.file.FileEntry.{FileEntry}

@@ -1,16 +1,16 @@
-//! A tree as a list of files that share their contents: looking up, putting, taking out, applying fixes.
+//! A tree as a list of files that share their contents: looking up, putting, taking out.
 
 ghost use Rattle.std.specs.Prelude.{◌≡◌, ◌↔◌, ◌<◌, ◌^◌, map, filter, not, is_some, IfOk, OnOk, MatchResult, IsTrue, vec_len, vec_capacity};
 ghost use Rattle.std.specs.Str.{IsUtf8, bytes_eq};
 ghost use Rattle.hook_base.specs.Paths.{IsRepoPath};
 ghost use Rattle.hook_base.specs.Places.{IsAt, IsGap};
 ghost use Rattle.hook_base.specs.declared.file.FileEntry.{FileEntry};
-ghost use Rattle.hook_base.specs.Trees.{IsRising, apply_change, apply_changes, entry_of, put_file, put_row};
+ghost use Rattle.hook_base.specs.Trees.{IsRising, entry_of, put_file, put_row};
 ghost use Rattle.repo_store.specs.Limits.{Fits, path_bytes};
-ghost use Rattle.repo_store.specs.Lists.{file_of, fix_of};
+ghost use Rattle.repo_store.specs.Lists.{file_of};
 
 use crate::limits::{MOST_FILES, MOST_TREE_PATH_BYTES};
-use crate::shared::{SharedCommit, SharedFile, SharedFix};
+use crate::shared::{SharedCommit, SharedFile};
 use hook_base::{Bytes, OutOfMemory, RepoPath};
 
 /// Where a path stands in files that rise: at the file of an index, or before it.
@@ -104,40 +104,4 @@ pub(crate) fn commit_with(
     let message = Bytes::copy_of(*files.allocator(), message)?;
     let files = files.clone()?;
     Ok(SharedCommit { message, files })
-}
-
-// Applies a fix, where its path has a file.
-fn apply_fix(files: &mut Vec<SharedFile>, fix: &SharedFix) -> Result<(), OutOfMemory>
-    requires { IsRising (map file_of files.old.items) }
-    ensures { OnOk result (map file_of files.new.items ≡ apply_change (fix_of fix.entry.now) (map file_of files.old.items)) }
-{
-    match place_of(files.as_slice(), &fix.path) {
-        Ok(index) => match &fix.now {
-            Some(content) => {
-                let content = content.clone()?;
-                let file = &mut files[index];
-                file.content = content;
-            }
-            None => {
-                files.remove(index);
-            }
-        },
-        Err(_) => {}
-    }
-    Ok(())
-}
-
-/// The files with the fixes applied.
-pub(crate) fn with_fixes(
-    files: &Vec<SharedFile>,
-    fixes: &[SharedFix],
-) -> Result<Vec<SharedFile>, OutOfMemory>
-    requires { IsRising (map file_of files.now.items) }
-    ensures { IfOk result (λ made. map file_of made.items ≡ apply_changes (map fix_of fixes.now) (map file_of files.now.items)) }
-{
-    let mut made = files.clone()?;
-    for fix in fixes {
-        apply_fix(&mut made, fix)?;
-    }
-    Ok(made)
 }

@@ -23,6 +23,7 @@ mod digest;
 mod fault;
 mod file_ref;
 mod files;
+mod fixed_files;
 mod fixes;
 mod from_rows;
 pub mod laws;

@@ -22,7 +22,8 @@ use crate::clashes::clashes;
 use crate::content::Content;
 use crate::contents::Contents;
 use crate::differences::{are_same_rows, differ_at};
-use crate::files::{commit_with, has_path, keep_others, may_put, put_file, with_fixes};
+use crate::files::{commit_with, has_path, keep_others, may_put, put_file};
+use crate::fixed_files::with_fixes;
 use crate::limits::{MOST_COMMITS, MOST_CONTENT_BYTES};
 use crate::look_ups::{file_at, shown_at};
 use crate::shared::{SharedCommit, SharedFile, SharedFix};
@@ -454,7 +455,8 @@ impl Lists {
         ensures files { IfOk result (λ files. map file_of files.items ≡ apply_changes self.now.kept.repo.fixes self.now.kept.repo.staged) }
         ensures rising { IfOk result (λ files. IsRising (map file_of files.items)) }
     {
-        with_fixes(&self.staged, self.fixes.as_slice())
+        let alloc = *self.staged.allocator();
+        with_fixes(alloc, self.staged.as_slice(), self.fixes.as_slice())
     }
 
     /// Stages the files with the fixes applied, and forgets the fixes.

@@ -1,0 +1,103 @@
+//! The files with the fixes applied, in one walk over both: files and fixes stand in the order of their paths.
+
+ghost use Rattle.std.specs.Prelude.{◌≡◌, ◌++◌, ◌∷◌, [], ℕ, List, map, IfNone, IfSome, IfOk, OnOk};
+ghost use Rattle.hook_base.specs.declared.file.File.{File};
+ghost use Rattle.hook_base.specs.Rising.{IsBelow, IsBelowAll};
+ghost use Rattle.hook_base.specs.Trees.{IsRising, IsRisingChanges, apply_change, apply_changes, path_of, with_bytes};
+ghost use Rattle.repo_store.specs.Accepted.{HasReached};
+ghost use Rattle.repo_store.specs.Lists.{file_of, fix_of};
+
+use crate::content::Content;
+use crate::shared::{SharedFile, SharedFix};
+use hook_base::{OutOfMemory, RepoPath};
+use std::alloc::Global;
+use std::cmp::Ordering;
+
+// The fixes without those of earlier paths, which are of no file from the path on.
+fn from_path<'a>(fixes: &'a [SharedFix], path: &RepoPath) -> &'a [SharedFix]
+    requires { IsRisingChanges (map fix_of fixes.now) }
+    ensures rising { IsRisingChanges (map fix_of result.now) }
+    ensures reached { HasReached path.now (map fix_of result.now) }
+    ensures same { (files : List File) → ((earlier : List ℕ) → IsBelow earlier path.now → IsBelowAll path_of earlier files) → apply_changes (map fix_of fixes.now) files ≡ apply_changes (map fix_of result.now) files }
+{
+    let mut left = fixes;
+    'earlier: while let [fix, later @ ..] = left {
+        match fix.path.cmp(path) {
+            Ordering::Less => left = later,
+            Ordering::Equal | Ordering::Greater => return left,
+        }
+    }
+    left
+}
+
+// The first of the fixes, if it is of the path. None of the others is.
+fn first_at<'a>(fixes: &'a [SharedFix], path: &RepoPath) -> Option<&'a SharedFix>
+    requires rising { IsRisingChanges (map fix_of fixes.now) }
+    requires reached { HasReached path.now (map fix_of fixes.now) }
+    ensures absent { IfNone result ((file : File) → file.path ≡ path.now → apply_changes (map fix_of fixes.now) (file ∷ []) ≡ file ∷ []) }
+    ensures found { IfSome result (λ fix. (file : File) → file.path ≡ path.now → apply_changes (map fix_of fixes.now) (file ∷ []) ≡ apply_change (fix_of fix.now) (file ∷ [])) }
+    ensures same { IfSome result (λ fix. fix.now.path ≡ path.now) }
+{
+    match fixes {
+        [fix, ..] => {
+            if fix.path == *path {
+                return Some(fix);
+            }
+            None
+        }
+        [] => None,
+    }
+}
+
+// The file with these contents.
+fn with_content(file: &SharedFile, content: &Content) -> Result<SharedFile, OutOfMemory>
+    ensures { IfOk result (λ made. file_of made ≡ with_bytes content.now (file_of file.now)) }
+{
+    let path = file.path.clone()?;
+    let content = content.clone()?;
+    Ok(SharedFile {
+        path,
+        mode: file.mode,
+        content,
+    })
+}
+
+// Adds a file as the fixes leave it, of which none is of an earlier path.
+fn push_fixed(
+    made: &mut Vec<SharedFile>,
+    file: &SharedFile,
+    fixes: &[SharedFix],
+) -> Result<(), OutOfMemory>
+    requires rising { IsRisingChanges (map fix_of fixes.now) }
+    requires reached { HasReached file.now.path (map fix_of fixes.now) }
+    ensures { OnOk result (map file_of made.new.items ≡ map file_of made.old.items ++ apply_changes (map fix_of fixes.now) (file_of file.now ∷ [])) }
+{
+    match first_at(fixes, &file.path) {
+        Some(fix) => {
+            if let Some(content) = &fix.now {
+                made.push(with_content(file, content)?)?;
+            }
+        }
+        None => made.push(with_content(file, &file.content)?)?,
+    }
+    Ok(())
+}
+
+/// The files with the fixes applied.
+pub(crate) fn with_fixes(
+    alloc: Global,
+    files: &[SharedFile],
+    fixes: &[SharedFix],
+) -> Result<Vec<SharedFile>, OutOfMemory>
+    requires files { IsRising (map file_of files.now) }
+    requires fixes { IsRisingChanges (map fix_of fixes.now) }
+    ensures { IfOk result (λ made. map file_of made.items ≡ apply_changes (map fix_of fixes.now) (map file_of files.now)) }
+{
+    let mut made = Vec::with_capacity(alloc, files.len())?;
+    let mut left = fixes;
+    'files: for file in files {
+        left = from_path(left, &file.path);
+        push_fixed(&mut made, file, left)?;
+    }
+    Ok(made)
+}
