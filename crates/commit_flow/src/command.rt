@@ -11,7 +11,7 @@ pub enum Command {
         path: Text,
         /// The file's bytes.
         bytes: Bytes,
-        /// The mode, or `None` to leave that of the staged file.
+        /// The mode, or `None` for that of the staged file, and plain where none is staged.
         mode: Option<Mode>,
     },
     /// [`Host::remove`](crate::Host::remove).
