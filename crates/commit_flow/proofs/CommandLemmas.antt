@@ -1,0 +1,73 @@
+-- What a command leaves, from what the store's call leaves.
+use Rattle.std.proofs.Common.{◌≡◌, ℕ, List, Option, Ok, Err, inl, refl, sym, subst, arith}
+use Rattle.sqlite_trees.specs.declared.store.Store.{Ghosts}
+use Rattle.sqlite_trees.specs.Tree.{Trees}
+use Rattle.sqlite.specs.Held.{state}
+use Rattle.sqlite.specs.State.{State, Survives}
+use Rattle.sqlite.proofs.StateLemmas.{survives_weaker}
+use Rattle.hook_base.specs.declared.file.Mode.{Mode}
+use Rattle.hook_base.specs.Trees.{entry_of}
+use Rattle.repo_store.specs.Kept.{Kept, staging, unstaging}
+use Rattle.repo_store.specs.Shown.{IsOneTransaction, Leaves, LeavesOnly, Shown}
+use Rattle.commit_flow.specs.declared.command.Command.{Command}
+use Rattle.commit_flow.specs.declared.command.Command.TheVariants.{Add, Remove}
+use Rattle.commit_flow.specs.declared.host_refusal.HostRefusal.{HostRefusal}
+use Rattle.commit_flow.specs.declared.reply.Reply.TheVariants.{Added, Removed}
+use Rattle.commit_flow.specs.Crashes.{IsOneCommand, LeavesDone}
+use Rattle.commit_flow.specs.Hosts.{Hosted}
+use Rattle.commit_flow.specs.Steps.{IsAddable, IsLegal, IsStaged, entry_to_add, mode_to_add}
+
+survives_itself : (s : State) (P : Trees → Type 0) → Survives s s P
+survives_itself s P = record {
+  clean = omega arith;
+  shield = λ shielded. shielded;
+  counts = omega arith;
+  limit = refl;
+  closes = λ _ is_open. inl is_open;
+  crash = λ _ trees left. inl left;
+}
+
+-- a command that is refused before the store is asked
+pub unchanged : {S A : Type 0} (g : Ghosts S) (host : Hosted S) (command : Command) (refusal : HostRefusal) → IsOneCommand {A = A} g host host command (Err refusal)
+unchanged g host command refusal = record {
+  stands = λ stands. stands;
+  crash = survives_itself (state g host.store.conn) (LeavesDone host.store.kept.repo command);
+  durable = tt;
+}
+
+-- a command that asks the store for one change
+module _ {S : Type 0} (g : Ghosts S) (old new : Shown S) (command : Command) (asked after : Kept) (is : asked ≡ after) (reached : (trees : Trees) → Leaves after trees → LeavesDone old.kept.repo command trees) where
+  leaves_done : Survives (state g old.conn) (state g new.conn) (Leaves asked) → Survives (state g old.conn) (state g new.conn) (LeavesDone old.kept.repo command)
+  leaves_done =
+      survives_weaker (state g old.conn) (state g new.conn) (Leaves asked) (LeavesDone old.kept.repo command) (λ _ trees leaves. reached trees (subst (λ (kept : Kept). Leaves kept trees) is leaves))
+
+  pub refused_command : {A B E : Type 0} (fault : E) (refusal : HostRefusal) → IsOneTransaction {A = A} g old new (Err fault) asked → IsOneCommand {A = B} g (record { store = old }) (record { store = new }) command (Err refusal)
+  refused_command fault refusal one = record { stands = λ _. one.stands; crash = leaves_done one.crash; durable = tt }
+
+  pub done_command : {A B E : Type 0} (x : A) (y : B) → new.kept ≡ asked → IsOneTransaction {E = E} g old new (Ok x) asked → IsOneCommand {A = B} g (record { store = old }) (record { store = new }) command (Ok y)
+  done_command x y same one = record { stands = λ _. one.stands; crash = leaves_done one.crash; durable = subst (LeavesOnly g new.conn) (sym same) one.durable }
+
+-- what the commands ask the store for, and what they reach
+pub same_staging : (kept : Kept) (path bytes : List ℕ) (asked : Option Mode) (taken : List ℕ) (mode : Mode) → taken ≡ path → mode ≡ mode_to_add asked (entry_of taken kept.repo.staged)
+    → staging taken (record { mode = mode; bytes = bytes }) kept ≡ staging path (entry_to_add kept.repo path bytes asked) kept
+same_staging kept path bytes asked taken mode same is = let moded = rw same at is in rw (same, moded) refl
+
+pub add_reached : (kept : Kept) (path bytes : List ℕ) (asked : Option Mode) → IsAddable kept.repo path bytes → (trees : Trees) → Leaves (staging path (entry_to_add kept.repo path bytes asked) kept) trees → LeavesDone kept.repo (Add path bytes asked) trees
+add_reached kept path bytes asked addable trees leaves = record {
+  kept = staging path (entry_to_add kept.repo path bytes asked) kept;
+  reply = Added;
+  done = tt;
+  faults = 0;
+  step = (record { addable = addable; fits = leaves.complete.sound.staged_fit; made = refl }, refl);
+  leaves = leaves;
+}
+
+pub remove_reached : (kept : Kept) (path : List ℕ) → IsLegal path → IsStaged path kept.repo → (trees : Trees) → Leaves (unstaging path kept) trees → LeavesDone kept.repo (Remove path) trees
+remove_reached kept path legal staged trees leaves = record {
+  kept = unstaging path kept;
+  reply = Removed;
+  done = tt;
+  faults = 0;
+  step = (record { legal = legal; staged = staged; made = refl }, refl);
+  leaves = leaves;
+}

@@ -1,0 +1,16 @@
+-- The commands' replies.
+use Rattle.std.specs.Prelude.{Result, Ok, Err}
+use Rattle.commit_flow.specs.declared.host_refusal.HostRefusal.{HostRefusal}
+use Rattle.commit_flow.specs.declared.reply.Reply.{Reply}
+use Rattle.commit_flow.specs.declared.reply.Reply.TheVariants.{Added, Removed, Refused}
+
+-- the reply that a call's answer is
+abbrev pub reply_of : {A : Type 0} → (A → Reply) → Result A HostRefusal → Reply
+reply_of done (Ok answer) = done answer
+reply_of done (Err refusal) = Refused refusal
+
+-- the command was done
+abbrev pub IsDone : Reply → Type 0
+IsDone Added = Unit {0}
+IsDone Removed = Unit {0}
+IsDone (Refused refusal) = ⊥

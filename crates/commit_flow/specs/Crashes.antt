@@ -1,0 +1,32 @@
+-- What a command leaves in the store's tables, and what a crash leaves of it.
+use Rattle.std.specs.Prelude.{ℕ, Result, OnOk}
+use Rattle.sqlite_trees.specs.declared.store.Store.{Ghosts}
+use Rattle.sqlite_trees.specs.Tree.{Trees}
+use Rattle.sqlite.specs.Held.{state}
+use Rattle.sqlite.specs.State.{Survives}
+use Rattle.repo_store.specs.Kept.{Kept}
+use Rattle.repo_store.specs.Repository.{Repository}
+use Rattle.repo_store.specs.Shown.{Leaves, LeavesOnly, Stands}
+use Rattle.commit_flow.specs.declared.command.Command.{Command}
+use Rattle.commit_flow.specs.declared.host_refusal.HostRefusal.{HostRefusal}
+use Rattle.commit_flow.specs.declared.reply.Reply.{Reply}
+use Rattle.commit_flow.specs.Commands.{IsDone}
+use Rattle.commit_flow.specs.Hosts.{Hosted}
+use Rattle.commit_flow.specs.Steps.{Step}
+
+-- opened again, the trees are a store that keeps a repository which the command reaches from this one where it is done
+pub record LeavesDone (before : Repository) (command : Command) (trees : Trees) : Type 0 where
+  pub kept : Kept
+  pub reply : Reply
+  pub done : IsDone reply
+  pub faults : ℕ
+  pub step : Step before command reply faults kept.repo
+  pub leaves : Leaves kept trees
+
+-- A command changes the store in one transaction, or not at all: where what the store showed stood in its tables, it stands
+-- there after the command, after a refusal too. A crash leaves what it could leave before, or all that the command makes;
+-- once the command is done, only what the store shows.
+pub record IsOneCommand {S A : Type 0} (g : Ghosts S) (old new : Hosted S) (command : Command) (result : Result A HostRefusal) : Type 0 where
+  pub stands : Stands g old.store.conn old.store.kept → Stands g new.store.conn new.store.kept
+  pub crash : Survives (state g old.store.conn) (state g new.store.conn) (LeavesDone old.store.kept.repo command)
+  pub durable : OnOk result (LeavesOnly g new.store.conn new.store.kept)

@@ -1,0 +1,106 @@
+-- The host as a machine: what each command may answer, and what it makes of the repository. A command that is added gets its
+-- cases in Step, for what it does, and in IsRefused.
+use Rattle.std.specs.Prelude.{◌≡◌, ℕ, List, Option, None, Some, IsSome, option_map, unwrap_or}
+use Rattle.hook_base.specs.declared.file.File.{File}
+use Rattle.hook_base.specs.declared.file.FileEntry.{FileEntry}
+use Rattle.hook_base.specs.declared.file.Mode.{Mode}
+use Rattle.hook_base.specs.declared.file.Mode.TheVariants.{Plain}
+use Rattle.hook_base.specs.Paths.{path_fault}
+use Rattle.hook_base.specs.Trees.{entry_of, put_file}
+use Rattle.repo_store.specs.declared.fault.StoreFault.{StoreFault}
+use Rattle.repo_store.specs.declared.fault.StoreFault.TheVariants.{Sql}
+use Rattle.repo_store.specs.Clashes.{Clashes}
+use Rattle.repo_store.specs.Limits.{Fits, IsSmall}
+use Rattle.repo_store.specs.Repository.{Repository, with_staged, without_staged}
+use Rattle.commit_flow.specs.declared.command.Command.{Command}
+use Rattle.commit_flow.specs.declared.command.Command.TheVariants.{Add, Remove}
+use Rattle.commit_flow.specs.declared.host_refusal.HostRefusal.{HostRefusal}
+use Rattle.commit_flow.specs.declared.host_refusal.HostRefusal.TheVariants.{OutOfMemory, Store, BadPath, NotStaged, TooLarge, TooMany, Collision, Clash}
+use Rattle.commit_flow.specs.declared.reply.Reply.{Reply}
+use Rattle.commit_flow.specs.declared.reply.Reply.TheVariants.{Added, Removed, Refused}
+
+-- the text is a path inside a repository
+abbrev pub IsLegal : List ℕ → Type 0
+IsLegal path = path_fault path ≡ None
+
+abbrev pub IsStaged : List ℕ → Repository → Type 0
+IsStaged path repo = IsSome (entry_of path repo.staged)
+
+-- the refusal is the database's own
+abbrev pub IsOfDatabase : StoreFault → Type 0
+IsOfDatabase (Sql error) = Unit {0}
+IsOfDatabase fault = ⊥
+
+-- ---- a file is added
+
+-- the mode that is asked for, else that of the file that is staged at the path, else plain
+abbrev pub mode_to_add : Option Mode → Option FileEntry → Mode
+mode_to_add asked staged = unwrap_or asked (unwrap_or (option_map (λ (entry : FileEntry). entry.mode) staged) Plain)
+
+abbrev pub entry_to_add : Repository → List ℕ → List ℕ → Option Mode → FileEntry
+entry_to_add before path bytes asked = record { mode = mode_to_add asked (entry_of path before.staged); bytes = bytes }
+
+-- the staged files with this one among them
+abbrev pub tree_with : Repository → List ℕ → List ℕ → Option Mode → List File
+tree_with before path bytes asked = put_file path (entry_to_add before path bytes asked) before.staged
+
+-- a file may be added, if the staged files with it are within their limits
+pub record IsAddable (before : Repository) (path bytes : List ℕ) : Type 0 where
+  pub legal : IsLegal path
+  pub small : IsSmall bytes
+  pub apart : ¬ Clashes path before.staged
+
+-- a file is added, and the fixes are forgotten
+pub record IsAdded (before : Repository) (path bytes : List ℕ) (asked : Option Mode) (after : Repository) : Type 0 where
+  pub addable : IsAddable before path bytes
+  pub fits : Fits (tree_with before path bytes asked)
+  pub made : after ≡ with_staged path (entry_to_add before path bytes asked) before
+
+-- Why a file isn't addable, in this order: its path is none, it has too many bytes, its path and a staged one clash. Want of
+-- memory comes after a fault of the path.
+abbrev pub IsUnaddable : Repository → List ℕ → List ℕ → HostRefusal → Type 0
+IsUnaddable before path bytes (BadPath fault) = path_fault path ≡ Some fault
+IsUnaddable before path bytes TooLarge = IsLegal path × (¬ IsSmall bytes)
+IsUnaddable before path bytes Clash = IsLegal path × IsSmall bytes × Clashes path before.staged
+IsUnaddable before path bytes OutOfMemory = IsLegal path
+IsUnaddable before path bytes refusal = ⊥
+
+-- why an addable file isn't added: the staged files with it break a limit, its contents collide with others that are kept,
+-- or the database refuses
+abbrev pub IsAddRefusal : Repository → List ℕ → List ℕ → Option Mode → HostRefusal → Type 0
+IsAddRefusal before path bytes asked TooMany = IsAddable before path bytes × (¬ Fits (tree_with before path bytes asked))
+IsAddRefusal before path bytes asked Collision = IsAddable before path bytes × Fits (tree_with before path bytes asked)
+IsAddRefusal before path bytes asked (Store fault) = IsAddable before path bytes × IsOfDatabase fault
+IsAddRefusal before path bytes asked refusal = IsUnaddable before path bytes refusal
+
+-- ---- a file is removed
+
+-- a path is staged no more, and the fixes are forgotten
+pub record IsRemoved (before : Repository) (path : List ℕ) (after : Repository) : Type 0 where
+  pub legal : IsLegal path
+  pub staged : IsStaged path before
+  pub made : after ≡ without_staged path before
+
+-- why a path isn't removed, in this order: it is none, it isn't staged, or the database refuses. Want of memory comes after
+-- a fault of the path.
+abbrev pub IsRemoveRefusal : Repository → List ℕ → HostRefusal → Type 0
+IsRemoveRefusal before path (BadPath fault) = path_fault path ≡ Some fault
+IsRemoveRefusal before path NotStaged = IsLegal path × (¬ IsStaged path before)
+IsRemoveRefusal before path (Store fault) = IsLegal path × IsStaged path before × IsOfDatabase fault
+IsRemoveRefusal before path OutOfMemory = IsLegal path
+IsRemoveRefusal before path refusal = ⊥
+
+-- ---- the steps
+
+-- the refusal may answer the command
+abbrev pub IsRefused : Repository → Command → HostRefusal → Type 0
+IsRefused before (Add path bytes asked) refusal = IsAddRefusal before path bytes asked refusal
+IsRefused before (Remove path) refusal = IsRemoveRefusal before path refusal
+
+-- The command may answer so, and then leaves this repository: any refusal leaves the one before. The number counts the
+-- children that failed in the runs of which the reply reports; no command of today runs any.
+abbrev pub Step : Repository → Command → Reply → ℕ → Repository → Type 0
+Step before (Add path bytes asked) Added faults after = IsAdded before path bytes asked after × (faults ≡ 0)
+Step before (Remove path) Removed faults after = IsRemoved before path after × (faults ≡ 0)
+Step before command (Refused refusal) faults after = IsRefused before command refusal × (after ≡ before) × (faults ≡ 0)
+Step before command reply faults after = ⊥

@@ -1,0 +1,177 @@
+//! The commands of a host. Each looks for what the host itself refuses, in a fixed order, and then makes at most one call
+//! that changes the store.
+
+ghost use Rattle.std.specs.Prelude.{◌≡◌, IfOk, IfErr, IfSome, OnOk, option_map};
+ghost use Rattle.hook_base.specs.Trees.{IsRising, IsRisingChanges, entry_of};
+ghost use Rattle.repo_store.specs.AllOrNothing.{IsAllOrNothing};
+ghost use Rattle.repo_store.specs.Contents.{Collides};
+ghost use Rattle.repo_store.specs.Kept.{staging, unstaging};
+ghost use Rattle.repo_store.specs.Log.{log_from};
+ghost use Rattle.repo_store.specs.Repository.{Commit, commit_at, last_tree};
+ghost use Rattle.commit_flow.specs.declared.command.Command.TheVariants.{Add, Remove};
+ghost use Rattle.commit_flow.specs.declared.reply.Reply.TheVariants.{Added, Removed};
+ghost use Rattle.commit_flow.specs.Commands.{reply_of};
+ghost use Rattle.commit_flow.specs.Crashes.{IsOneCommand};
+ghost use Rattle.commit_flow.specs.Steps.{IsAddable, IsLegal, IsRemoveRefusal, IsStaged, IsUnaddable, Step, entry_to_add, mode_to_add};
+
+use crate::HostRefusal;
+use hook_base::{Change, Mode, OutOfMemory, RepoPath, Tree};
+use repo_store::{LogEntry, MOST_CONTENT_BYTES, Store};
+use sqlite::Alter;
+use std::alloc::Global;
+use std::marker::Model;
+
+/// The host of a repository, which stands in a store. Each command changes the repository as a whole or not at all, whatever
+/// stops it.
+pub struct Host<S: Alter> {
+    store: Store<S>,
+}
+
+// It is written out, so that a caller doesn't prove again how each part is dropped.
+impl<S: Alter + Drop> Drop for Host<S> {
+    fn drop(self) {
+        let Host { store: _ } = self;
+    }
+}
+
+impl<S: Alter> Model for Host<S> {
+    ghost use Rattle.commit_flow.specs.Hosts.{Hosted, hosted_code};
+
+    ghost Value = { Hosted S };
+
+    ghost coded = { hosted_code S.code };
+
+    ghost view = { λ host. record { store = host.store } };
+}
+
+impl<S: Alter> Host<S> {
+    /// The host of the repository in a store. It takes no memory.
+    pub fn over(store: Store<S>) -> Host<S>
+        ensures { result ≡ record { store = store } }
+    {
+        Host { store }
+    }
+
+    /// The store, as the host leaves it. It takes no memory.
+    pub fn into_store(self) -> Store<S>
+        ensures { result ≡ self.store }
+    {
+        let Host { store } = self;
+        store
+    }
+
+    /// Stages a file, in place of the one at its path, and forgets the fixes. Without a mode the file keeps that of the one
+    /// that is staged at its path, and is plain where none is. Refused are, in this order, a text that is no path (`BadPath`),
+    /// more than 16 MiB (`TooLarge`), a path and a staged one of which one is a folder of the other (`Clash`), a staged tree of
+    /// more than 100,000 files or 8 MiB of paths (`TooMany`), and contents whose digest is that of others (`Collision`);
+    /// `OutOfMemory` and `Store` come where memory or the database refuses. A refusal leaves the repository as it was.
+    pub fn add(
+        &mut self,
+        alloc: Global,
+        path: &str,
+        bytes: &[u8],
+        mode: Option<Mode>,
+    ) -> Result<(), HostRefusal>
+        ensures step { Step self.old.store.kept.repo (Add path.now bytes.now mode) (reply_of (λ _. Added) result) 0 self.new.store.kept.repo }
+        ensures change { IsAllOrNothing self.old.store.kept self.new.store.kept result (staging path.now (entry_to_add self.old.store.kept.repo path.now bytes.now mode) self.old.store.kept) }
+        ensures command { IsOneCommand S.Store self.old self.new (Add path.now bytes.now mode) result }
+        ensures apart { OnOk result (¬ Collides bytes.now self.old.store.kept.contents) }
+        ensures collides { IfErr result (λ refusal. refusal ≡ HostRefusal.Collision → Collides bytes.now self.old.store.kept.contents) }
+    {
+        let path = self.addable(alloc, path, bytes)?;
+        let mode = self.mode_to_add(&path, mode);
+        self.store.stage(&path, mode, bytes)?;
+        Ok(())
+    }
+
+    /// Takes a path out of the staged files, and forgets the fixes. Refused are, in this order, a text that is no path
+    /// (`BadPath`) and a path that isn't staged (`NotStaged`); `OutOfMemory` and `Store` come where memory or the database
+    /// refuses. A refusal leaves the repository as it was.
+    pub fn remove(&mut self, alloc: Global, path: &str) -> Result<(), HostRefusal>
+        ensures step { Step self.old.store.kept.repo (Remove path.now) (reply_of (λ _. Removed) result) 0 self.new.store.kept.repo }
+        ensures change { IsAllOrNothing self.old.store.kept self.new.store.kept result (unstaging path.now self.old.store.kept) }
+        ensures command { IsOneCommand S.Store self.old self.new (Remove path.now) result }
+    {
+        let path = self.removable(alloc, path)?;
+        self.store.unstage(&path)?;
+        Ok(())
+    }
+
+    /// The staged files. It fails for want of memory alone.
+    pub fn staged(&self) -> Result<Tree, OutOfMemory>
+        ensures tree { IfOk result (λ tree. tree ≡ self.now.store.kept.repo.staged) }
+        ensures rising { IsRising self.now.store.kept.repo.staged }
+    {
+        self.store.staged()
+    }
+
+    /// The files of the last commit, and an empty tree where there is no commit. It fails for want of memory alone.
+    pub fn head(&self) -> Result<Tree, OutOfMemory>
+        ensures tree { IfOk result (λ tree. tree ≡ last_tree self.now.store.kept.repo.history) }
+        ensures rising { IsRising (last_tree self.now.store.kept.repo.history) }
+    {
+        self.store.head()
+    }
+
+    /// The fixes, in the order of their paths. It fails for want of memory alone.
+    pub fn fixes(&self) -> Result<Vec<Change>, OutOfMemory>
+        ensures fixes { IfOk result (λ fixes. fixes.items ≡ self.now.store.kept.repo.fixes) }
+        ensures rising { IsRisingChanges self.now.store.kept.repo.fixes }
+    {
+        self.store.fixes()
+    }
+
+    /// The commits with their numbers, the oldest first. It fails for want of memory alone.
+    pub fn log(&self) -> Result<Vec<LogEntry>, OutOfMemory>
+        ensures { IfOk result (λ log. log.items ≡ log_from 1 self.now.store.kept.repo.history) }
+    {
+        self.store.log()
+    }
+
+    /// The files of a commit, or none where no commit has the number. It fails for want of memory alone.
+    pub fn tree_of(&self, number: u32) -> Result<Option<Tree>, OutOfMemory>
+        ensures tree { IfOk result (λ tree. tree ≡ option_map (λ (commit : Commit). commit.tree) (commit_at number self.now.store.kept.repo.history)) }
+        ensures rising { IfOk result (λ tree. IfSome tree IsRising) }
+    {
+        self.store.tree_of(number)
+    }
+
+    // The path of a file that may be added, if the staged files with it are within their limits.
+    fn addable(&self, alloc: Global, path: &str, bytes: &[u8]) -> Result<RepoPath, HostRefusal>
+        ensures same { IfOk result (λ taken. taken ≡ path.now) }
+        ensures addable { OnOk result (IsAddable self.now.store.kept.repo path.now bytes.now) }
+        ensures refused { IfErr result (IsUnaddable self.now.store.kept.repo path.now bytes.now) }
+    {
+        let path = RepoPath::read(alloc, path)?;
+        if bytes.len() > MOST_CONTENT_BYTES {
+            return Err(HostRefusal::TooLarge);
+        }
+        if self.store.clashes(&path) {
+            return Err(HostRefusal::Clash);
+        }
+        Ok(path)
+    }
+
+    // The mode that is asked for, else that of the file that is staged at the path, else plain.
+    fn mode_to_add(&self, path: &RepoPath, asked: Option<Mode>) -> Mode
+        ensures { result ≡ mode_to_add asked (entry_of path.now self.now.store.kept.repo.staged) }
+    {
+        match asked {
+            Some(mode) => mode,
+            None => self.store.staged_mode(path).unwrap_or(Mode::Plain),
+        }
+    }
+
+    // The path of a staged file.
+    fn removable(&self, alloc: Global, path: &str) -> Result<RepoPath, HostRefusal>
+        ensures same { IfOk result (λ taken. taken ≡ path.now) }
+        ensures removable { OnOk result (IsLegal path.now × IsStaged path.now self.now.store.kept.repo) }
+        ensures refused { IfErr result (IsRemoveRefusal self.now.store.kept.repo path.now) }
+    {
+        let path = RepoPath::read(alloc, path)?;
+        if !self.store.is_staged(&path) {
+            return Err(HostRefusal::NotStaged);
+        }
+        Ok(path)
+    }
+}

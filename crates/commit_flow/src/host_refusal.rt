@@ -1,0 +1,171 @@
+//! Why a command of a host is refused.
+
+ghost use Rattle.std.specs.Prelude.{◌≡◌};
+ghost use Rattle.commit_flow.specs.Refusals.{inner_number_of, name_of, number_of};
+
+use hook_base::PathFault;
+use hook_config::{ConfigFault, ConfigKind};
+use repo_store::StoreFault;
+use thiserror::Error;
+
+/// Why a command of a host is refused. The commits, the staged files and the fixes are as before the command; `Store` says
+/// more of the tables.
+#[derive(Clone, Copy, Debug, PartialEq, Eq, Error)]
+pub enum HostRefusal {
+    /// Memory was refused, by whatever part of the program.
+    #[error("out of memory")]
+    OutOfMemory,
+    /// The store refuses, for another reason than want of memory, a collision or too many commits or files. What it shows is
+    /// as before. Where a fault of the disk has shut it, and after a crash, its file holds what stood before or all that the
+    /// command makes.
+    #[error("the store refuses: {0}")]
+    Store(StoreFault),
+    /// A text is no path inside a repository.
+    #[error("{0}")]
+    BadPath(PathFault),
+    /// Nothing is staged at a path.
+    #[error("the path is not staged")]
+    NotStaged,
+    /// A file of more than 16 MiB.
+    #[error("the file has more than 16 MiB")]
+    TooLarge,
+    /// More than 100,000 commits, or a staged tree of more than 100,000 files or 8 MiB of paths.
+    #[error("more commits, staged files or paths than a store takes")]
+    TooMany,
+    /// No configuration is staged.
+    #[error("no configuration is staged")]
+    NoConfig,
+    /// The staged configuration can't be read.
+    #[error("the configuration is refused: {0}")]
+    BadConfig(ConfigFault),
+    /// Hooks are asked for by a name that no hook of the stage has.
+    #[error("no hook of the stage has that id or alias")]
+    NoSuchHook,
+    /// The staged files are those of the last commit.
+    #[error("nothing is staged that is not committed")]
+    NothingStaged,
+    /// There are no fixes to accept.
+    #[error("there are no fixes")]
+    NoFixes,
+    /// The message of a commit is empty once it is cleaned.
+    #[error("the message is empty")]
+    EmptyMessage,
+    /// Other contents are kept under the same digest.
+    #[error("other contents have the same digest")]
+    Collision,
+    /// A child is needed, and the children have told as many outcomes as can be counted.
+    #[error("no more children can be counted")]
+    Spent,
+    /// A staged path is a folder of the new path, or the new path a folder of a staged one.
+    #[error("a staged path is a folder of the path, or lies in it")]
+    Clash,
+}
+
+impl HostRefusal {
+    /// The refusal's number, from 1 to 15.
+    pub fn number(&self) -> u8
+        ensures { result ≡ number_of self.now }
+    {
+        match self {
+            HostRefusal::OutOfMemory => 1,
+            HostRefusal::Store(_) => 2,
+            HostRefusal::BadPath(_) => 3,
+            HostRefusal::NotStaged => 4,
+            HostRefusal::TooLarge => 5,
+            HostRefusal::TooMany => 6,
+            HostRefusal::NoConfig => 7,
+            HostRefusal::BadConfig(_) => 8,
+            HostRefusal::NoSuchHook => 9,
+            HostRefusal::NothingStaged => 10,
+            HostRefusal::NoFixes => 11,
+            HostRefusal::EmptyMessage => 12,
+            HostRefusal::Collision => 13,
+            HostRefusal::Spent => 14,
+            HostRefusal::Clash => 15,
+        }
+    }
+
+    /// The refusal's name, as it is printed after its number.
+    pub fn name(&self) -> &'static str
+        ensures { result.now ≡ name_of self.now }
+    {
+        match self {
+            HostRefusal::OutOfMemory => "OutOfMemory",
+            HostRefusal::Store(_) => "Store",
+            HostRefusal::BadPath(_) => "BadPath",
+            HostRefusal::NotStaged => "NotStaged",
+            HostRefusal::TooLarge => "TooLarge",
+            HostRefusal::TooMany => "TooMany",
+            HostRefusal::NoConfig => "NoConfig",
+            HostRefusal::BadConfig(_) => "BadConfig",
+            HostRefusal::NoSuchHook => "NoSuchHook",
+            HostRefusal::NothingStaged => "NothingStaged",
+            HostRefusal::NoFixes => "NoFixes",
+            HostRefusal::EmptyMessage => "EmptyMessage",
+            HostRefusal::Collision => "Collision",
+            HostRefusal::Spent => "Spent",
+            HostRefusal::Clash => "Clash",
+        }
+    }
+
+    /// The number of the fault of a store, a path or a configuration that the refusal hands on, among those of its kind:
+    /// it is printed after the name. `None` for the other refusals.
+    pub fn inner_number(&self) -> Option<u8>
+        ensures { result ≡ inner_number_of self.now }
+    {
+        match self {
+            HostRefusal::Store(fault) => Some(fault.number()),
+            HostRefusal::BadPath(fault) => Some(fault.number()),
+            HostRefusal::BadConfig(fault) => Some(fault.number()),
+            _ => None,
+        }
+    }
+}
+
+impl From<PathFault> for HostRefusal {
+    ghost use Rattle.std.specs.Prelude.{◌≡◌};
+    ghost use Rattle.commit_flow.specs.Refusals.{of_path};
+
+    ghost from_gives = { λ fault refusal. refusal ≡ of_path fault };
+
+    /// Want of memory is `OutOfMemory`, and every other fault `BadPath`.
+    fn from(fault: PathFault) -> Self {
+        match fault {
+            PathFault::OutOfMemory => HostRefusal::OutOfMemory,
+            other => HostRefusal::BadPath(other),
+        }
+    }
+}
+
+impl From<StoreFault> for HostRefusal {
+    ghost use Rattle.std.specs.Prelude.{◌≡◌};
+    ghost use Rattle.commit_flow.specs.Refusals.{of_store};
+
+    ghost from_gives = { λ fault refusal. refusal ≡ of_store fault };
+
+    /// Want of memory, a collision and too many commits or files are the host's own refusals, and every other fault is
+    /// `Store`.
+    fn from(fault: StoreFault) -> Self {
+        match fault {
+            StoreFault::OutOfMemory => HostRefusal::OutOfMemory,
+            StoreFault::Collision => HostRefusal::Collision,
+            StoreFault::TooMany => HostRefusal::TooMany,
+            other => HostRefusal::Store(other),
+        }
+    }
+}
+
+impl From<ConfigFault> for HostRefusal {
+    ghost use Rattle.std.specs.Prelude.{◌≡◌};
+    ghost use Rattle.commit_flow.specs.Refusals.{of_config};
+
+    ghost from_gives = { λ fault refusal. refusal ≡ of_config fault };
+
+    /// Want of memory is `OutOfMemory`, and every other fault `BadConfig`.
+    fn from(fault: ConfigFault) -> Self {
+        match fault.kind {
+            ConfigKind::OutOfMemory => HostRefusal::OutOfMemory,
+            _ => HostRefusal::BadConfig(fault),
+        }
+    }
+}

@@ -1,0 +1,20 @@
+//! The host of a repository: the commands by which files are staged, and what each answers.
+//!
+//! A [`Host`] works on a store. A [`HostRefusal`] says why a command is refused; [`Command`] and [`Reply`] are the commands
+//! and their answers as values.
+//!
+//! The contracts cite `Step` of `specs/Steps.antt` (what each command may answer, and what it makes of the repository), which
+//! stands on `specs/Commands.antt` (the replies); `IsOneCommand` of `specs/Crashes.antt` (what a crash leaves);
+//! `specs/Hosts.antt` (what is seen of a host) and `specs/Refusals.antt`. [`laws`] says that a step has one answer.
+#![tactic(auto)]
+
+mod command;
+mod host;
+mod host_refusal;
+pub mod laws;
+mod reply;
+
+pub use command::Command;
+pub use host::Host;
+pub use host_refusal::HostRefusal;
+pub use reply::Reply;
