@@ -1,4 +1,4 @@
--- The commands' replies.
+-- The reply that a call's answer is, and which replies say that the command was done.
 use Rattle.std.specs.Prelude.{Result, Ok, Err}
 use Rattle.commit_flow.specs.declared.host_refusal.HostRefusal.{HostRefusal}
 use Rattle.commit_flow.specs.declared.reply.Reply.{Reply}

@@ -14,7 +14,7 @@ use Rattle.commit_flow.specs.Commands.{IsDone}
 use Rattle.commit_flow.specs.Hosts.{Hosted}
 use Rattle.commit_flow.specs.Steps.{Step}
 
--- opened again, the trees are a store that keeps a repository which the command reaches from this one where it is done
+-- opened again, the trees are a store that keeps a repository which the command, done, makes of this one
 pub record LeavesDone (before : Repository) (command : Command) (trees : Trees) : Type 0 where
   pub kept : Kept
   pub reply : Reply
@@ -23,9 +23,9 @@ pub record LeavesDone (before : Repository) (command : Command) (trees : Trees) 
   pub step : Step before command reply faults kept.repo
   pub leaves : Leaves kept trees
 
--- A command changes the store in one transaction, or not at all: where what the store showed stood in its tables, it stands
--- there after the command, after a refusal too. A crash leaves what it could leave before, or all that the command makes;
--- once the command is done, only what the store shows.
+-- A command changes the store in one transaction, or not at all: where what the store showed stood in its tables, what it
+-- shows after the command stands there, after a refusal too. A crash leaves what it could leave before, or all that the
+-- command makes; once the command is done, on a clean disk, only what the store shows.
 pub record IsOneCommand {S A : Type 0} (g : Ghosts S) (old new : Hosted S) (command : Command) (result : Result A HostRefusal) : Type 0 where
   pub stands : Stands g old.store.conn old.store.kept → Stands g new.store.conn new.store.kept
   pub crash : Survives (state g old.store.conn) (state g new.store.conn) (LeavesDone old.store.kept.repo command)

@@ -3,7 +3,7 @@ use Rattle.std.specs.Prelude.{refl}
 use Rattle.std.specs.Coded.{Coded, code_by}
 use Rattle.repo_store.specs.Shown.{Shown, shown_code}
 
--- The store, which keeps the repository. Answers that a host remembers by itself would stand beside it.
+-- the store, which keeps the repository: a host holds nothing else
 pub record Hosted (S : Type 0) : Type 0 where
   pub store : Shown S
 

@@ -48,7 +48,7 @@ name_of Collision = codes "Collision"
 name_of Spent = codes "Spent"
 name_of Clash = codes "Clash"
 
--- the number that the fault of a store, of a path or of a configuration has among its own
+-- the number that the fault of a store, of a path or of a configuration has among the faults of its kind
 abbrev pub inner_number_of : HostRefusal → Option ℕ
 inner_number_of (Store fault) = Some (store_number_of fault)
 inner_number_of (BadPath fault) = Some (path_number_of fault)
@@ -72,7 +72,7 @@ abbrev pub of_path : PathFault → HostRefusal
 of_path path.OutOfMemory = OutOfMemory
 of_path fault = BadPath fault
 
--- contents that collide, and too many commits or files, are the host's own refusals too
+-- contents that collide, and too many commits, files or paths, are the host's own refusals too
 abbrev pub of_store : StoreFault → HostRefusal
 of_store store.OutOfMemory = OutOfMemory
 of_store store.Collision = Collision

@@ -1,4 +1,4 @@
--- A word that the laws of steps use.
+-- The replies that neither memory nor the database decides.
 use Rattle.commit_flow.specs.declared.host_refusal.HostRefusal.TheVariants.{OutOfMemory, Store, Collision}
 use Rattle.commit_flow.specs.declared.reply.Reply.{Reply}
 use Rattle.commit_flow.specs.declared.reply.Reply.TheVariants.{Refused}

@@ -1,5 +1,5 @@
 -- The host as a machine: what each command may answer, and what it makes of the repository. A command that is added gets its
--- cases in Step, for what it does, and in IsRefused.
+-- cases in Step, for what it does, and in IsRefused, and its reply one in IsDone of Commands.
 use Rattle.std.specs.Prelude.{◌≡◌, ℕ, List, Option, None, Some, IsSome, option_map, unwrap_or}
 use Rattle.hook_base.specs.declared.file.File.{File}
 use Rattle.hook_base.specs.declared.file.FileEntry.{FileEntry}
@@ -44,7 +44,7 @@ entry_to_add before path bytes asked = record { mode = mode_to_add asked (entry_
 abbrev pub tree_with : Repository → List ℕ → List ℕ → Option Mode → List File
 tree_with before path bytes asked = put_file path (entry_to_add before path bytes asked) before.staged
 
--- a file may be added, if the staged files with it are within their limits
+-- what a file must be to be added, the limits of the staged files aside
 pub record IsAddable (before : Repository) (path bytes : List ℕ) : Type 0 where
   pub legal : IsLegal path
   pub small : IsSmall bytes
@@ -56,8 +56,8 @@ pub record IsAdded (before : Repository) (path bytes : List ℕ) (asked : Option
   pub fits : Fits (tree_with before path bytes asked)
   pub made : after ≡ with_staged path (entry_to_add before path bytes asked) before
 
--- Why a file isn't addable, in this order: its path is none, it has too many bytes, its path and a staged one clash. Want of
--- memory comes after a fault of the path.
+-- Why a file isn't addable, in this order: its path is no path, it has too many bytes, its path and a staged one clash. Want
+-- of memory comes after a fault of the path.
 abbrev pub IsUnaddable : Repository → List ℕ → List ℕ → HostRefusal → Type 0
 IsUnaddable before path bytes (BadPath fault) = path_fault path ≡ Some fault
 IsUnaddable before path bytes TooLarge = IsLegal path × (¬ IsSmall bytes)
@@ -65,8 +65,8 @@ IsUnaddable before path bytes Clash = IsLegal path × IsSmall bytes × Clashes p
 IsUnaddable before path bytes OutOfMemory = IsLegal path
 IsUnaddable before path bytes refusal = ⊥
 
--- why an addable file isn't added: the staged files with it break a limit, its contents collide with others that are kept,
--- or the database refuses
+-- why an addable file isn't added: the staged files with it break a limit, its contents collide with others that are kept
+-- (which a repository doesn't tell, so a clause of the call says it), or the database refuses
 abbrev pub IsAddRefusal : Repository → List ℕ → List ℕ → Option Mode → HostRefusal → Type 0
 IsAddRefusal before path bytes asked TooMany = IsAddable before path bytes × (¬ Fits (tree_with before path bytes asked))
 IsAddRefusal before path bytes asked Collision = IsAddable before path bytes × Fits (tree_with before path bytes asked)
@@ -81,8 +81,8 @@ pub record IsRemoved (before : Repository) (path : List ℕ) (after : Repository
   pub staged : IsStaged path before
   pub made : after ≡ without_staged path before
 
--- why a path isn't removed, in this order: it is none, it isn't staged, or the database refuses. Want of memory comes after
--- a fault of the path.
+-- why a path isn't removed, in this order: it is no path, it isn't staged, or the database refuses. Want of memory comes
+-- after a fault of the path.
 abbrev pub IsRemoveRefusal : Repository → List ℕ → HostRefusal → Type 0
 IsRemoveRefusal before path (BadPath fault) = path_fault path ≡ Some fault
 IsRemoveRefusal before path NotStaged = IsLegal path × (¬ IsStaged path before)

@@ -136,7 +136,7 @@ impl<S: Alter> Host<S> {
         self.store.tree_of(number)
     }
 
-    // The path of a file that may be added, if the staged files with it are within their limits.
+    // The path of a file that may be added, the limits of the staged files aside.
     fn addable(&self, alloc: Global, path: &str, bytes: &[u8]) -> Result<RepoPath, HostRefusal>
         ensures same { IfOk result (λ taken. taken ≡ path.now) }
         ensures addable { OnOk result (IsAddable self.now.store.kept.repo path.now bytes.now) }

@@ -8,16 +8,14 @@ use hook_config::{ConfigFault, ConfigKind};
 use repo_store::StoreFault;
 use thiserror::Error;
 
-/// Why a command of a host is refused. The commits, the staged files and the fixes are as before the command; `Store` says
-/// more of the tables.
+/// Why a command of a host is refused. The commits, the staged files and the fixes are as before the command. Where a fault
+/// of the disk has shut the store, and after a crash, its file holds what stood before or all that the command makes.
 #[derive(Clone, Copy, Debug, PartialEq, Eq, Error)]
 pub enum HostRefusal {
     /// Memory was refused, by whatever part of the program.
     #[error("out of memory")]
     OutOfMemory,
-    /// The store refuses, for another reason than want of memory, a collision or too many commits or files. What it shows is
-    /// as before. Where a fault of the disk has shut it, and after a crash, its file holds what stood before or all that the
-    /// command makes.
+    /// The store refuses, for another reason than want of memory, a collision or too many commits, files or paths.
     #[error("the store refuses: {0}")]
     Store(StoreFault),
     /// A text is no path inside a repository.
@@ -26,8 +24,8 @@ pub enum HostRefusal {
     /// Nothing is staged at a path.
     #[error("the path is not staged")]
     NotStaged,
-    /// A file of more than 16 MiB.
-    #[error("the file has more than 16 MiB")]
+    /// A file or a message of more than 16 MiB.
+    #[error("a file or a message of more than 16 MiB")]
     TooLarge,
     /// More than 100,000 commits, or a staged tree of more than 100,000 files or 8 MiB of paths.
     #[error("more commits, staged files or paths than a store takes")]
@@ -41,7 +39,7 @@ pub enum HostRefusal {
     /// Hooks are asked for by a name that no hook of the stage has.
     #[error("no hook of the stage has that id or alias")]
     NoSuchHook,
-    /// The staged files are those of the last commit.
+    /// The staged files are those of the last commit, or none before the first.
     #[error("nothing is staged that is not committed")]
     NothingStaged,
     /// There are no fixes to accept.
@@ -143,8 +141,8 @@ impl From<StoreFault> for HostRefusal {
 
     ghost from_gives = { λ fault refusal. refusal ≡ of_store fault };
 
-    /// Want of memory, a collision and too many commits or files are the host's own refusals, and every other fault is
-    /// `Store`.
+    /// Want of memory, a collision and too many commits, files or paths are the host's own refusals, and every other
+    /// fault is `Store`.
     fn from(fault: StoreFault) -> Self {
         match fault {
             StoreFault::OutOfMemory => HostRefusal::OutOfMemory,

@@ -8,8 +8,8 @@ ghost use Rattle.commit_flow.specs.declared.reply.Reply.{Reply};
 ghost use Rattle.commit_flow.specs.StepLaws.{IsDecided};
 ghost use Rattle.commit_flow.specs.Steps.{Step};
 
-/// A command has one reply and leaves one repository, unless memory or the database refuses, or contents collide. So the
-/// refusals of a command come in one order, and none in place of what could be done.
+/// A command has at most one reply and leaves at most one repository, unless memory or the database refuses, or contents
+/// collide. So the refusals of a command come in one order, and none in place of what could be done.
 pub fn a_command_has_one_answer()
     ensures { (before after other : Repository) (command : Command) (reply second : Reply) (faults more : ℕ) → Step before command reply faults after → Step before command second more other → IsDecided reply → IsDecided second → (reply ≡ second) × (faults ≡ more) × (after ≡ other) }
 {}

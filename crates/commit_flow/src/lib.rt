@@ -3,9 +3,10 @@
 //! A [`Host`] works on a store. A [`HostRefusal`] says why a command is refused; [`Command`] and [`Reply`] are the commands
 //! and their answers as values.
 //!
-//! The contracts cite `Step` of `specs/Steps.antt` (what each command may answer, and what it makes of the repository), which
-//! stands on `specs/Commands.antt` (the replies); `IsOneCommand` of `specs/Crashes.antt` (what a crash leaves);
-//! `specs/Hosts.antt` (what is seen of a host) and `specs/Refusals.antt`. [`laws`] says that a step has one answer.
+//! The contracts cite `Step` of `specs/Steps.antt` (what each command may answer, and what it makes of the repository),
+//! `specs/Commands.antt` (the reply that a call's answer is), `IsOneCommand` of `specs/Crashes.antt` (what a crash leaves),
+//! `specs/Hosts.antt` (what is seen of a host) and `specs/Refusals.antt`; of the repository and its files they cite
+//! definitions of `repo_store` and `hook_base`. [`laws`] says that a step has one answer at most.
 #![tactic(auto)]
 
 mod command;
