@@ -19,8 +19,9 @@ import tempfile
 import time
 from concurrent.futures import ThreadPoolExecutor
 
-from store_cases import (ANSWER_ROWS, BAD_LINES, COMMITTED_ROWS, DAMAGED, FAULTS, FILLING, FIXES_AFTER, KEPT_ROWS, NOT_A_STORE, ONE, ONE_STAGED,
-                         OTHER_TABLES, PLANTS, REFUSED_ROWS, SCHEMA, SHOWN, SQL, STORY, TAKEN_ROWS, TOO_LARGE, TOO_MANY, UNSTAGED_STORY)
+from store_cases import (ANSWER_ROWS, ANSWER_ROWS_LEFT, BAD_LINES, COMMITTED_ROWS, DAMAGED, FACTS, FAULTS, FILLING, FIXES_AFTER, HOST_STORY, KEPT_ROWS, META_ROWS,
+                         NOT_A_STORE, ONE, ONE_STAGED, OTHER_PATHS, OTHER_TABLES, PLANTS, REFUSED_ROWS, REPLACED_META_ROWS, SCHEMA, SHOWN, SQL, STORY, TAKEN_ROWS,
+                         TOO_LARGE, TOO_MANY, UNSTAGED_STORY)
 
 HERE = os.path.dirname(os.path.abspath(__file__))
 PROGRAM = os.path.abspath(sys.argv[1] if len(sys.argv) > 1 else os.path.join(HERE, "..", "crates/store_trial/out/store_trial"))
@@ -73,6 +74,14 @@ def digest_of(text):
     return hashlib.sha256(unescaped(text)).hexdigest()
 
 
+def path_fault(path):
+    """The number of the first fault that a text has as a path, in the order in which they are looked for, or none."""
+    parts = path.split("/")
+    faults = {1: not path, 5: len(path.encode()) > 4096, 6: any(ord(c) < 32 or ord(c) == 127 for c in path), 2: path.startswith("/"),
+              4: "" in parts, 3: "." in parts or ".." in parts, 7: parts[0] == ".git"}
+    return next((number for number, is_so in faults.items() if is_so), None)
+
+
 class Model:
     """What a store holds, and what it answers to a line. Contents and messages stay as the lines write them."""
 
@@ -85,7 +94,7 @@ class Model:
             return getattr(self, word)()
         if not self.is_open:
             return "no store"
-        return getattr(self, word.replace("-", "_"))(*rest.split(" ", {"stage": 2, "fix": 1}.get(word, 0))) if rest else getattr(self, word)()
+        return getattr(self, word.replace("-", "_"))(*rest.split(" ", {"stage": 2, "add": 2, "fix": 1}.get(word, 0))) if rest else getattr(self, word)()
 
     def create(self):
         if self.store is not None:
@@ -113,6 +122,27 @@ class Model:
         self.store["staged"].pop(path, None)
         self.store["fixes"] = {}
         return "ok"
+
+    def add(self, mode, path, content):
+        staged = self.store["staged"]
+        others = [each for each in staged if each != path]
+        if number := path_fault(path):
+            return f"refused\t3\tBadPath\t{number}"
+        if len(unescaped(content)) > 16777216:
+            return "refused\t5\tTooLarge\tnone"
+        if self.clashes(path):
+            return "refused\t15\tClash\tnone"
+        if len(others) >= 100000 or sum(len(each.encode()) for each in [*others, path]) > 8388608:
+            return "refused\t6\tTooMany\tnone"
+        return self.stage(staged.get(path, ("plain", ""))[0] if mode == "-" else mode, path, content)
+
+    def remove(self, path):
+        if number := path_fault(path):
+            return f"refused\t3\tBadPath\t{number}"
+        return self.unstage(path) if path in self.store["staged"] else "refused\t4\tNotStaged\tnone"
+
+    def clashes(self, path):
+        return any(path.startswith(each + "/") or each.startswith(path + "/") for each in self.store["staged"])
 
     def fix(self, path, content):
         self.waiting[path] = content
@@ -150,7 +180,7 @@ class Model:
         return self.tree_line(self.store["staged"])
 
     def head(self):
-        return self.tree_line(self.store["history"][-1][1] if self.store["history"] else {})
+        return self.tree_line(self.last_tree())
 
     def tree(self, number):
         at = int(number)
@@ -165,6 +195,25 @@ class Model:
     def fixes(self):
         rows = sorted(self.store["fixes"].items())
         return "".join(["ok"] + [f"\t{path}\tgone" if now is None else f"\t{path}\tnow\t{now}" for path, now in rows])
+
+    def last_tree(self):
+        return self.store["history"][-1][1] if self.store["history"] else {}
+
+    def look(self, path):
+        staged = self.store["staged"]
+        mode, content = staged.get(path, ("none", "none"))
+        facts = path in staged, mode, content, self.clashes(path), staged.get(path) != self.last_tree().get(path)
+        return "\t".join(["ok", *(str(fact).lower() if isinstance(fact, bool) else fact for fact in facts)])
+
+    def count(self):
+        return f"ok\t{len(self.store['fixes'])}\t{len(self.store['history'])}\t{str(self.store['staged'] != self.last_tree()).lower()}"
+
+    def message(self, number):
+        at = int(number)
+        return "ok\t" + (self.store["history"][at - 1][0] if 0 < at <= len(self.store["history"]) else "none")
+
+    def walk(self):
+        return f"ok{self.files_of(self.store['staged'])}\thead{self.files_of(self.last_tree())}"
 
     @staticmethod
     def files_of(tree):
@@ -186,7 +235,7 @@ def random_play(seed, length):
     lines = ["create"]
     while len(lines) < length:
         path, content = chance.choice(paths), chance.choice(contents)
-        kind = chance.randrange(10)
+        kind = chance.randrange(13)
         if kind < 4:
             lines.append(f"stage {chance.choice(['plain', 'executable'])} {path} {content}")
         elif kind == 4:
@@ -196,8 +245,12 @@ def random_play(seed, length):
         elif kind < 8:
             chosen = chance.sample(paths, chance.randrange(1, 4))
             lines += [chance.choice([f"fix-gone {each}", f"fix {each} {content}"]) for each in chosen] + ["set"]
-        else:
+        elif kind < 10:
             lines.append(chance.choice(["accept", "accept", f"commit {content or 'm'}"]))
+        elif kind < 12:
+            lines.append(f"add {chance.choice(['-', 'plain', 'executable'])} {chance.choice([*paths, *OTHER_PATHS])} {content}")
+        else:
+            lines.append(f"remove {chance.choice([*paths, *OTHER_PATHS])}")
     return lines
 
 
@@ -285,6 +338,16 @@ def plays_the_story_of_an_unstaged_file(folder):
         check(answer == wanted, f"{line!r} is answered {answer!r}, wanted {wanted!r}")
 
 
+def plays_the_story_of_a_host(folder):
+    path = os.path.join(folder, "store.db")
+    large = "1" * 16777217
+    story = [*HOST_STORY, (f"add - /a {large}", "refused\t3\tBadPath\t2"), (f"add - a.txt/b {large}", "refused\t5\tTooLarge\tnone"),
+             (f"add - a.txt {large[1:]}", "ok"), ("weigh", "ok\t2\t16777220")]
+    given = answers(path, [line for line, _ in story])
+    for (line, wanted), answer in zip(story, given):
+        check(answer == wanted, f"{line[:80]!r} is answered {answer[:200]!r}, wanted {wanted!r}")
+
+
 def keeps_fixes_of_staged_files_until_the_next_stage(folder):
     for at, (lines, wanted) in enumerate(FIXES_AFTER):
         given = answers(os.path.join(folder, f"{at}.db"), ["create", "stage plain a.txt 1", *lines, "fixes"])
@@ -297,9 +360,11 @@ def numbers_and_says_each_refusal(folder):
 
 
 def reads_rows_in_the_order_of_their_keys(folder):
-    filled = [*KEPT_ROWS, *TAKEN_ROWS, *COMMITTED_ROWS, *ANSWER_ROWS]
-    left = [*KEPT_ROWS, *COMMITTED_ROWS]
-    wanted = "\t".join(["ok", *(field for row in [*filled, ("emptied",), *left] for field in row)])
+    filled = [*META_ROWS, *KEPT_ROWS, *TAKEN_ROWS, *COMMITTED_ROWS, *ANSWER_ROWS]
+    changed = [*REPLACED_META_ROWS, *KEPT_ROWS, *TAKEN_ROWS, *COMMITTED_ROWS, *ANSWER_ROWS_LEFT]
+    left = [*REPLACED_META_ROWS, *KEPT_ROWS, *COMMITTED_ROWS]
+    rows = [*filled, ("changed",), *changed, ("emptied",), *left]
+    wanted = "\t".join(["ok", *(field for row in rows for field in row)])
     for words in ([os.path.join(folder, "tables.db")], ["log", "100000"]):
         given, status, _ = run_words(words, ["play-tables", "open"])
         check(status == 0 and given[:1] == [wanted], f"answered {given!r}")
@@ -318,8 +383,8 @@ def plays_as_the_model(folder):
         path = os.path.join(folder, f"{seed}.db")
         model, lines, wanted = Model(), [], []
         for line in random_play(seed, 60):
-            lines += [line, *SHOWN]
-            wanted += [model.play(line), *model.shown()]
+            lines += [line, *SHOWN, *FACTS]
+            wanted += [model.play(line), *model.shown(), *(model.play(fact) for fact in FACTS)]
         given = answers(path, lines)
         for line, answer, right in zip(lines, given, wanted):
             check(answer == right, f"play {seed}: {line!r} is answered {answer!r}, wanted {right!r}")
@@ -437,11 +502,12 @@ def refuses_more_files_than_a_tree_may_have(folder):
         answers(path, ["create", "blob 1", "close"])
         ask(path, f"WITH RECURSIVE c(n) AS (SELECT 1 UNION ALL SELECT n + 1 FROM c WHERE n < {count}) "
             f"INSERT INTO staged SELECT {path_of}, 0, x'{ONE}' FROM c")
-        given = answers(path, ["open", f"stage plain {there} 2", f"stage plain {new} 2", "stage-many 1 16777217 0", "weigh", f"unstage {there}",
-                               f"stage plain {new} 2", "close"])
+        given = answers(path, ["open", f"stage plain {there} 2", f"stage plain {new} 2", "stage-many 1 16777217 0", "weigh", f"add - {new} 2",
+                               f"add - {there} 3", f"unstage {there}", f"stage plain {new} 2", "close"])
         check(given[2].startswith(TOO_MANY), f"{count} files: answered {given[2]!r}")
         check(given[3] == TOO_LARGE, f"{count} files, and contents too large: answered {given[3]!r}")
-        check(given[:2] + given[4:] == ["ok", "ok", f"ok\t{count}\t{count}", "ok", "ok", "ok"], f"{count} files: answered {given!r}")
+        check(given[5] == "refused\t6\tTooMany\tnone", f"{count} files: one more is answered {given[5]!r} by a host")
+        check(given[:2] + given[4:5] + given[6:] == ["ok", "ok", f"ok\t{count}\t{count}", *["ok"] * 4], f"{count} files: answered {given!r}")
 
 
 def refuses_more_commits_than_a_store_may_have(folder):
@@ -502,7 +568,7 @@ def is_left_whole_by_a_kill(folder):
 
 # ---- memory that is refused
 
-REFUSED_PLAY = ["create", "stage plain a.txt 1", "fix a.txt 2", "set", "accept", "commit m\\n", "blob abc", "unstage a.txt", "close", "open",
+REFUSED_PLAY = ["create", "stage plain a.txt 1", "fix a.txt 2", "set", "accept", "commit m\\n", "blob abc", "add - h 1", "remove h", "unstage a.txt", "close", "open",
                 *SHOWN, "tree 1"]
 
 
@@ -513,8 +579,8 @@ def refusing_library(folder):
 
 
 def is_want(answer):
-    """The call was refused for want of memory, as which the database's own want comes too."""
-    return answer.startswith("refused\t4\tOutOfMemory\t")
+    """The call, or the command of a host, was refused for want of memory, as which the database's own want comes too."""
+    return answer.startswith(("refused\t4\tOutOfMemory\t", "refused\t1\tOutOfMemory\t"))
 
 
 def states_after(given, status):
@@ -652,7 +718,7 @@ def is_left_before_or_after_a_call_by_a_stop(_folder):
     print(f"stops: at {counts['log']} operations on the log and {counts['database']} on the database file")
 
 
-CASES = [plays_the_story, plays_the_story_of_an_unstaged_file, keeps_fixes_of_staged_files_until_the_next_stage,
+CASES = [plays_the_story, plays_the_story_of_an_unstaged_file, plays_the_story_of_a_host, keeps_fixes_of_staged_files_until_the_next_stage,
          numbers_and_says_each_refusal, reads_rows_in_the_order_of_their_keys, keeps_each_content_once, plays_as_the_model,
          refuses_bad_lines, refuses_a_second_store, refuses_planted_files, refuses_rows_of_contents_and_commits_that_are_not_there,
          refuses_files_that_hold_no_store, refuses_files_with_other_tables, refuses_what_is_too_large,

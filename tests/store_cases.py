@@ -2,6 +2,8 @@
 import hashlib
 
 SHOWN = ["staged", "head", "log", "fixes", "trees"]
+# Single facts that a store is asked for: paths that are staged in some plays, their folders, and paths below them.
+FACTS = [*(f"look {path}" for path in ["a", "b.txt", "dir/c", "dir", "di", "dir/c/d", "a/b/c", "dir/cd"]), "count", "walk", "message 0", "message 1", "message 2"]
 # What a store shows that has a.txt staged, with the contents 1, and nothing else.
 ONE_STAGED = ["ok\tplain\ta.txt\t1", "ok", "ok", "ok", "ok"]
 SCHEMA = [
@@ -75,6 +77,43 @@ UNSTAGED_STORY = [
     ("trees", "ok\t1\tplain\ta.txt\t2\t2"),
     ("staged", "ok\tplain\tb.txt\t2\texecutable\ttools/run\t#!/bin/sh\\n"),
 ]
+# A host's commands: what each answers, and what stands staged then.
+HOST_STORY = [
+    ("add - a.txt 1", "no store"),
+    ("create", "ok"),
+    ("remove a.txt", "refused\t4\tNotStaged\tnone"),
+    ("add - a.txt 1", "ok"),
+    ("add - a.txt/b 2", "refused\t15\tClash\tnone"),
+    ("add executable dir/run 2", "ok"),
+    ("add - dir 2", "refused\t15\tClash\tnone"),
+    ("staged", "ok\tplain\ta.txt\t1\texecutable\tdir/run\t2"),
+    ("fix a.txt 2", "ok"),
+    ("set", "ok"),
+    ("remove b.txt", "refused\t4\tNotStaged\tnone"),
+    ("add -  3", "refused\t3\tBadPath\t1"),
+    ("add - a//b 3", "refused\t3\tBadPath\t4"),
+    ("add - .git/x 3", "refused\t3\tBadPath\t7"),
+    ("remove ../a.txt", "refused\t3\tBadPath\t3"),
+    ("fixes", "ok\ta.txt\tnow\t2"),
+    ("add - dir/run 3", "ok"),
+    ("fixes", "ok"),
+    ("staged", "ok\tplain\ta.txt\t1\texecutable\tdir/run\t3"),
+    ("add plain dir/run 3", "ok"),
+    ("fix a.txt 2", "ok"),
+    ("set", "ok"),
+    ("remove a.txt", "ok"),
+    ("fixes", "ok"),
+    ("staged", "ok\tplain\tdir/run\t3"),
+    ("add - dir/run 3\\n..", "ok"),
+    ("commit m\\n", "ok\t1"),
+    ("remove dir/run", "ok"),
+    ("count", "ok\t0\t1\ttrue"),
+    ("add - dir/run 3\\n..", "ok"),
+    ("count", "ok\t0\t1\tfalse"),
+    ("add - a.txt 1", "ok"),
+]
+# Paths that clash with those of the random plays, and texts that are none.
+OTHER_PATHS = ["a/b", "dir", "dir/c/x", "b.txt.old", "", "/a", "a/", "./a", ".git/a", "e\x7f"]
 # Calls on a store that has a.txt staged, and the fixes that it has then.
 FIXES_AFTER = [
     (["fix a.txt 2", "set"], "ok\ta.txt\tnow\t2"),
@@ -98,10 +137,18 @@ FAULTS = [
     ("6", "TooLarge", "contents or a message of more than 16 MiB"),
     ("7", "TooMany", "more commits, staged files or paths than a store takes"),
 ]
-# The rows of the play of statements: in the order of their keys, and what is left once some are taken out.
-KEPT_ROWS = [
+# The rows of the play of statements, in the order of their keys: the numbers, and those once some are replaced; what is left
+# once some rows are taken out, and what is taken out.
+META_ROWS = [
     ("meta", "limit", "2"),
     ("meta", "version", "1"),
+]
+REPLACED_META_ROWS = [
+    ("meta", "limit", "9"),
+    ("meta", "new", "5"),
+    ("meta", "version", "1"),
+]
+KEPT_ROWS = [
     ("blobs", "four", "4"),
     ("blobs", "one", "1"),
     ("blobs", "three", "3"),
@@ -124,6 +171,7 @@ ANSWER_ROWS = [
     ("answers", "one", "two", "three", "four", "3"),
     ("answers", "two", "one", "four", "three", "0"),
 ]
+ANSWER_ROWS_LEFT = ANSWER_ROWS[1:]
 # Lines that end the program with status 2, on an open store.
 BAD_LINES = ["", "stag", "stage", "staged ", "staged a.txt", "create a", "set a", "execute", "faults a", "stage plain a.txt", "stage odd a.txt 1", "stage plain ../a.txt 1", "stage plain .git/COMMIT_EDITMSG 1",
              "stage plain a.txt \\x", "stage plain a.txt \\", "unstage /a", "tree x", "create", "open", "stage-many 1 1"]

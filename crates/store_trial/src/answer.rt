@@ -3,7 +3,7 @@
 
 use crate::stop::Stop;
 use crate::text::write_text;
-use hook_base::{Change, Mode, Tree};
+use hook_base::{Change, Mode, RepoPath, Tree};
 use repo_store::{LogEntry, StoreFault};
 use std::alloc::Global;
 use std::fmt::Display;
@@ -61,7 +61,7 @@ impl Answer {
     /// Adds a refusal's number, its name and what it says.
     pub(crate) fn add_fault(&mut self, fault: &StoreFault) -> Result<(), Stop> {
         self.show(fault.number())?;
-        self.add(name_of(fault).as_bytes())?;
+        self.add(fault.name().as_bytes())?;
         self.show(fault)
     }
 
@@ -89,11 +89,20 @@ impl Answer {
     pub(crate) fn add_tree(&mut self, tree: &Tree) -> Result<(), Stop> {
         for at in 0..tree.len() {
             let file = tree.entry(at);
-            self.add(word_of(file.entry.mode).as_bytes())?;
-            self.add(file.path.as_str().as_bytes())?;
-            self.add(file.entry.bytes.as_slice())?;
+            self.add_file(file.entry.mode, &file.path, file.entry.bytes.as_slice())?;
         }
         Ok(())
+    }
+
+    /// Adds the mode, the path and the contents of a file.
+    pub(crate) fn add_file(
+        &mut self,
+        mode: Mode,
+        path: &RepoPath,
+        bytes: &[u8],
+    ) -> Result<(), Stop> {
+        self.add(word_of(mode).as_bytes())?;
+        self.add_all(&[path.as_str().as_bytes(), bytes])
     }
 
     /// Adds the path of each fix, and its contents after `now`, or `gone`.
@@ -137,21 +146,10 @@ impl Answer {
     }
 }
 
-fn word_of(mode: Mode) -> &'static str {
+/// The word for a mode.
+pub(crate) fn word_of(mode: Mode) -> &'static str {
     match mode {
         Mode::Plain => "plain",
         Mode::Executable => "executable",
-    }
-}
-
-fn name_of(fault: &StoreFault) -> &'static str {
-    match fault {
-        StoreFault::NotAStore => "NotAStore",
-        StoreFault::Damaged => "Damaged",
-        StoreFault::Sql(_) => "Sql",
-        StoreFault::OutOfMemory => "OutOfMemory",
-        StoreFault::Collision => "Collision",
-        StoreFault::TooLarge => "TooLarge",
-        StoreFault::TooMany => "TooMany",
     }
 }

@@ -2,6 +2,7 @@
 
 use crate::answer::Answer;
 use crate::bulk::{contents_of, number, stage_many, staged_path};
+use crate::look_ups::{add_message, count, look, walk};
 use crate::stop::Stop;
 use crate::text::read_text;
 use hook_base::{Mode, RepoPath};
@@ -10,7 +11,7 @@ use sqlite::Alter;
 
 /// The calls that are a line by themselves.
 pub(crate) const CALLS: &[&str] = &[
-    "set", "accept", "staged", "head", "fixes", "log", "trees", "weigh",
+    "set", "accept", "staged", "head", "fixes", "log", "trees", "weigh", "count", "walk",
 ];
 
 /// The calls whose word something follows.
@@ -24,6 +25,8 @@ pub(crate) const CALLS_OF: &[&str] = &[
     "blob-of",
     "stage-many",
     "tree",
+    "look",
+    "message",
 ];
 
 /// Plays a call that changes the store, or one that only reads.
@@ -63,6 +66,10 @@ fn show<S: Alter>(
         "tree" => add_tree_of(store, number(rest)?, answer),
         "trees" => add_trees(store, answer),
         "weigh" => weigh(store, answer),
+        "look" => look(store, rest, answer),
+        "count" => count(store, answer),
+        "message" => add_message(store, number(rest)?, answer),
+        "walk" => walk(store, answer),
         _ => Err(Stop::BadLine),
     }
 }
@@ -104,7 +111,8 @@ fn stage<S: Alter>(store: &mut Store<S>, rest: &str, answer: &mut Answer) -> Res
     answer.done(store.stage(&path, mode, bytes.as_slice()))
 }
 
-fn read_mode(word: &str) -> Result<Mode, Stop> {
+/// The mode of a word.
+pub(crate) fn read_mode(word: &str) -> Result<Mode, Stop> {
     match word {
         "plain" => Ok(Mode::Plain),
         "executable" => Ok(Mode::Executable),

@@ -8,6 +8,8 @@ mod ask;
 mod bulk;
 mod calls;
 mod fixes;
+mod host;
+mod look_ups;
 mod play;
 mod real_file;
 mod stop;

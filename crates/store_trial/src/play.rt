@@ -5,7 +5,9 @@ use crate::answer::Answer;
 use crate::ask::Ask;
 use crate::calls::{CALLS, CALLS_OF, play_call};
 use crate::fixes::{collect, set};
+use crate::host::{self, play_command};
 use crate::stop::Stop;
+use commit_flow::Host;
 use hook_base::Change;
 use repo_store::{Store, StoreFault};
 use sqlite::{Alter, Connection, Error};
@@ -104,6 +106,9 @@ impl<S: Alter + Drop> Play<S> {
         if line == "faults" {
             return add_faults(answer);
         }
+        if is_of(line, &[], host::COMMANDS) {
+            return self.command(line, answer);
+        }
         if !is_of(line, CALLS, CALLS_OF) {
             return Err(Stop::BadLine);
         }
@@ -115,6 +120,20 @@ impl<S: Alter + Drop> Play<S> {
                 "set" => set(store, &mut self.fixes, answer),
                 _ => play_call(store, word, rest, answer),
             },
+        }
+    }
+
+    /// Hands the store to a host for one command.
+    fn command(&mut self, line: &str, answer: &mut Answer) -> Result<(), Stop> {
+        match self.store.take() {
+            None => answer.begin("no store"),
+            Some(store) => {
+                let (word, rest) = parted(line);
+                let mut host = Host::over(store);
+                let played = play_command(&mut host, word, rest, answer);
+                self.store = Some(host.into_store());
+                played
+            }
         }
     }
 }

@@ -8,7 +8,7 @@ use sqlite::{Alter, Connection, Error, Transaction};
 use store_tables::{
     FixRow, clear_answers, clear_fixes, make_tables, put_answer, put_blob, put_commit, put_entry,
     put_fix, put_meta, put_staged, read_answers, read_blobs, read_commits, read_entries,
-    read_fixes, read_meta, read_staged, take_staged,
+    read_fixes, read_meta, read_staged, replace_meta, take_answer, take_staged,
 };
 
 /// Plays the statements in a database that has no tables.
@@ -25,6 +25,9 @@ pub(crate) fn play_tables<S: Alter>(
     }
     fill(&mut tx)?;
     fill_more(&mut tx)?;
+    add_rows(&mut tx, answer)?;
+    change_some(&mut tx)?;
+    answer.add(b"changed")?;
     add_rows(&mut tx, answer)?;
     empty_some(&mut tx)?;
     answer.add(b"emptied")?;
@@ -53,6 +56,13 @@ fn fill_more<S: Alter>(tx: &mut Transaction<'_, S>) -> Result<(), Error> {
     put_fix(tx, "a.txt", Some(b"two"))?;
     put_answer(tx, b"two", b"one", b"four", b"three", 0)?;
     put_answer(tx, b"one", b"two", b"three", b"four", 3)
+}
+
+fn change_some<S: Alter>(tx: &mut Transaction<'_, S>) -> Result<(), Error> {
+    replace_meta(tx, "limit", 9)?;
+    replace_meta(tx, "new", 5)?;
+    take_answer(tx, b"two", b"two")?;
+    take_answer(tx, b"one", b"two")
 }
 
 fn empty_some<S: Alter>(tx: &mut Transaction<'_, S>) -> Result<(), Error> {
