@@ -89,12 +89,12 @@ class Model:
         self.store, self.is_open, self.waiting = None, False, {}
 
     def play(self, line):
-        word, _, rest = line.partition(" ")
+        word, blank, rest = line.partition(" ")
         if word in ("create", "open", "close"):
             return getattr(self, word)()
         if not self.is_open:
             return "no store"
-        return getattr(self, word.replace("-", "_"))(*rest.split(" ", {"stage": 2, "add": 2, "fix": 1}.get(word, 0))) if rest else getattr(self, word)()
+        return getattr(self, word.replace("-", "_"))(*rest.split(" ", {"stage": 2, "add": 2, "fix": 1}.get(word, 0))) if blank else getattr(self, word)()
 
     def create(self):
         if self.store is not None:
