@@ -34,7 +34,7 @@ LIMITS = [
 # The constants of hook_cli with what the help of a command says, and the enum whose refusals the command prints.
 HELP = {"TRY_HELP": "TryFault", "CHECK_HELP": "ConfigKind"}
 # The refusals of which the reference says what to do, though no command prints them yet.
-UNPRINTED = ["HostRefusal"]
+UNPRINTED = ["StoreFault", "HostRefusal"]
 # The tables of tags by the head of their first column, and the constants of the code.
 TAG_TABLES = {"name": "NAMES", "extension": "EXTENSIONS", "interpreter": "INTERPRETERS"}
 

@@ -238,13 +238,13 @@ LINES = [
         "Options:\n"
         "  -h, --help  Print help\n\n"
         "Without words, the configuration is read from standard input, and its hooks are\n"
-        "run on no files.\n\n"
+        "run on no files. What that refuses, hookhost try --help explains.\n\n"
         "Example:\n"
         "  hookhost try .pre-commit-config.yaml README.md src/main.c\n\n"
         "Exit status:\n"
         "   0  every hook passed or was skipped; check took the configuration\n"
         "   1  a hook failed\n"
-        "   2  the words name no command, or ask for help\n"
+        "   2  the words are wrong, or ask for help\n"
         "   3  something was refused: standard error says what\n\n"
         "hookhost COMMAND --help explains what that command refuses.\n",
     ),

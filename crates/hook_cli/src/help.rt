@@ -5,7 +5,7 @@
 /// Behind the help of the program.
 pub(crate) const PROGRAM_HELP: &str = "\
 Without words, the configuration is read from standard input, and its hooks are
-run on no files.
+run on no files. What that refuses, hookhost try --help explains.
 
 Example:
   hookhost try .pre-commit-config.yaml README.md src/main.c
@@ -13,7 +13,7 @@ Example:
 Exit status:
    0  every hook passed or was skipped; check took the configuration
    1  a hook failed
-   2  the words name no command, or ask for help
+   2  the words are wrong, or ask for help
    3  something was refused: standard error says what
 
 hookhost COMMAND --help explains what that command refuses.";
@@ -32,12 +32,13 @@ Exit status:
    2  the words are wrong, or ask for help
    3  something was refused: standard error says what
 
-A file that can't be used is told as 'hookhost: cannot use PATH': it can't be read,
-its path isn't allowed, or it has more than 16 MiB. Everything else is told as
+'hookhost: cannot use WORD' says that CONFIG or a PATH can't be read, or that a PATH
+isn't allowed or its file has more than 16 MiB. A PATH is relative, without empty
+parts and . or .., and not below .git. Everything else is told as
 'hookhost: refused: NUMBER NAME':
-   1 Read         standard input gave an error
+   1 Read         standard input, read where there are no words, gave an error
                   try again
-   2 Config       the configuration is none
+   2 Config       the text is no configuration, or has more than 1 MiB
                   mend it: as .pre-commit-config.yaml, hookhost check tells why
    3 Write        standard output took no more
                   see what reads it; a part of the report may have gone out
@@ -60,7 +61,8 @@ Exit status:
    3  something was refused: standard error says what
 
 A file that can't be read is told as 'hookhost: cannot use .pre-commit-config.yaml',
-an output that takes no more as 'hookhost: refused: 3 Write', and everything else as
+an output that takes no more as 'hookhost: refused: 3 Write', want of memory before
+the file is read as '4 OutOfMemory', and everything else as
 'hookhost: refused: NUMBER NAME':
    1 Yaml         the text isn't in the profile of YAML that is read
                   write it in that of docs/REFERENCE.md

@@ -46,11 +46,11 @@ pub record StopsAtFile (words : List (List ℕ)) (stop : Stop) : Type 0 where
   pub read : AreFilesOf before files
   pub stops : IsStopOfFile word stop
 
--- the files of words stop the program at the first that can't be used, or because memory was refused
+-- the files of words stop the program at one of them, or because memory was refused
 abbrev pub IsStopOfFiles : List (List ℕ) → Stop → Type 0
 IsStopOfFiles words stop = StopsAtFile words stop ⊎ (stop ≡ Refused OutOfMemory)
 
--- the same for an error of the words
+-- what StopsFor says, of an error of the command line's parser
 pub record IsUsageOf (error : WordsError) (stop : Stop) : Type 0 where
   pub memory : kind_of error ≡ WordsMemory → stop ≡ Refused OutOfMemory
   pub other : kind_of error ≢ WordsMemory → stop ≡ Usage error

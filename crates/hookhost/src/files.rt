@@ -13,7 +13,7 @@ use std::rt::Files;
 use std::{fs, io};
 
 /// The files of the words, as plain files of a tree. The first word whose path isn't allowed, or whose file can't be
-/// read or is over 16 MiB, is `Stop::CannotUse`.
+/// read or is over 16 MiB, is `Stop::CannotUse`; want of memory is `Stop::Refused`.
 pub(crate) fn read_tree<R: Files + AllocGlobal>(rt: &R, words: Items<Text>) -> Result<Tree, Stop>
     ensures tree { IfOk result (IsTreeOf words) }
     ensures refused { IfErr result (IsStopOfFiles words) }
