@@ -1,5 +1,6 @@
 //! One query for each table. A contract says which rows are answered; that they come in the order that is asked for is
-//! shown by a test. An error is the database's own or want of memory; nothing is changed.
+//! shown by a test. An error is the database's own or want of memory, or where it says so `InvalidQuery`; nothing is
+//! changed.
 
 ghost use Rattle.std.specs.Prelude.{◌≡◌, [], ◌∷◌, true};
 ghost use Rattle.sqlite_rules.specs.Edit.{have_rowids};

@@ -42,7 +42,7 @@ fn rises(numbers: &[i64]) -> bool
     true
 }
 
-/// Whether no number comes twice. It sorts them.
+// Whether no number comes twice. It sorts them.
 fn are_apart(numbers: &mut Vec<i64>) -> bool
     ensures { IsTrue result → AreDistinct numbers.old.items }
 {

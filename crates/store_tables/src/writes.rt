@@ -1,6 +1,7 @@
 //! One statement for each change of a table, but two where a number is replaced. Each is done at `Ok`; at an error,
-//! which is the database's own, it isn't done, or the whole transaction is rolled back. Nothing is committed. All
-//! tables but its own stay as they were, also those that a later version of a store lists after the seven.
+//! which is the database's own, that statement isn't done, or the whole transaction is rolled back. Nothing is
+//! committed. All tables but its own stay as they were, also those that a later version of a store lists after the
+//! seven.
 
 ghost use Rattle.std.specs.Prelude.{◌≡◌, pos};
 ghost use Rattle.store_tables.specs.Schema as spec;

@@ -1,5 +1,5 @@
-//! The program `store_trial`: plays calls on the store in a file, one a line of standard input, and answers each by a
-//! line. Scripts drive, time and stop a store by it.
+//! The program `store_trial`: plays calls on the store in a file and commands of a host over it, one a line of standard
+//! input, and answers each by a line. Scripts drive, time and stop a store by it.
 #![tactic(auto)]
 
 mod alone;
