@@ -92,7 +92,7 @@ def report_of(words):
     return subprocess.run(words, capture_output=True).stdout
 
 
-def beside_pre_commit(what, ours, paths):
+def beside_pre_commit(what, ours, paths, aim=1):
     """The same configuration by pre-commit, on all files of the repository, which has to report the same of them."""
     if PRE_COMMIT:
         words = [PRE_COMMIT, "run", "--all-files", "--color", "never"]
@@ -100,7 +100,7 @@ def beside_pre_commit(what, ours, paths):
             sys.exit(f"bench/selection.py: {what}: pre-commit reports something else")
         slow = once(piped(words)) / 1000
         other = medians([piped(words)], 3)[0] if slow < 3 else slow
-        show(what, ours, other, "pre-commit", 1)
+        show(what, ours, other, "pre-commit", aim)
 
 
 # ---- what is timed
@@ -117,20 +117,25 @@ def time_many_files(paths):
     beside_pre_commit(what, ours, paths)
 
 
-def time_large_file():
-    """`pygrep` over one file of 16 MiB, in a repository of its own."""
-    for what, every, aim in (("without a match", 0, 5), ("one line in ten matches", 10, 3)):
-        folder = tempfile.mkdtemp(dir=".")
-        os.chdir(folder)
-        write("large.txt", lines(16 * 1024 * 1024 // 40, every))
-        configuration(CONFIGURATION, [grep_hook("TODO")])
-        stage()
-        paths = [CONFIGURATION, "large.txt"]
-        ours, grep = medians([tried(CONFIGURATION, paths), piped(["grep", "-n", "TODO", *paths])], 15)
-        show(f"pygrep, one file of 16 MiB, {what}", ours, grep, "grep -n | cat", aim)
-        beside_pre_commit(f"pygrep, one file of 16 MiB, {what}", ours, paths)
-        os.chdir("..")
-        shutil.rmtree(folder)
+def time_files_alone():
+    """`pygrep` over one file of a line, and over one of 16 MiB, each in a repository of its own."""
+    time_file_alone("pygrep, one file of 40 bytes", 1, 0, "", 0.01)
+    time_file_alone("pygrep, one file of 16 MiB, without a match", 16 * 1024 * 1024 // 40, 0, 5, 1)
+    time_file_alone("pygrep, one file of 16 MiB, one line in ten matches", 16 * 1024 * 1024 // 40, 10, 3, 1)
+
+
+def time_file_alone(what, count, every, aim, pre_commit_aim):
+    folder = tempfile.mkdtemp(dir=".")
+    os.chdir(folder)
+    write("alone.txt", lines(count, every))
+    configuration(CONFIGURATION, [grep_hook("TODO")])
+    stage()
+    paths = [CONFIGURATION, "alone.txt"]
+    ours, grep = medians([tried(CONFIGURATION, paths), piped(["grep", "-n", "TODO", *paths])], 15)
+    show(what, ours, grep, "grep -n | cat", aim)
+    beside_pre_commit(what, ours, paths, pre_commit_aim)
+    os.chdir("..")
+    shutil.rmtree(folder)
 
 
 def time_hooks(paths):
@@ -154,12 +159,14 @@ def time_hooks(paths):
 
 
 def time_patterns(paths):
-    """A configuration of 500 patterns, beside a program that builds the same patterns."""
+    """A configuration of 500 patterns that is read, and then run too, beside a program that builds the same patterns."""
     patterns = [rf"^src/module{number}/.*\.(c|h)$" for number in range(500)]
-    configuration("patterns.yaml", fail_hooks(500, by_files))
+    configuration(CONFIGURATION, fail_hooks(500, by_files))
     write("patterns.rows", "".join(f"pattern {each.encode().hex()}\n" for each in patterns))
-    ours, alone, none = medians([tried("patterns.yaml", paths[:1]), piped([TRIAL], "patterns.rows"), piped([TRIAL])], 31)
-    show("a configuration with 500 patterns, one path", ours, alone, "building them", 1.5)
+    commands = [piped([PROGRAM, "check"]), tried(CONFIGURATION, paths[:1]), piped([TRIAL], "patterns.rows"), piped([TRIAL])]
+    read, run, alone, none = medians(commands, 31)
+    show("`check` of a configuration with 500 patterns", read, alone, "building them", 1.5)
+    show("`try` of it on one path, 500 hooks in its report", run, alone, "building them")
     print(f"{'':58} {none:8.4f} s  of which the program for tests takes without a pattern")
 
 
@@ -188,7 +195,7 @@ def main():
         time_hooks(paths)
         time_patterns(paths)
         os.chdir("..")
-        time_large_file()
+        time_files_alone()
     finally:
         os.chdir("/")
         shutil.rmtree(folder)
