@@ -3,7 +3,7 @@ use Rattle.std.proofs.Common.{◌≡◌, ◌∙◌, ap, codes, inl, sym, subst, 
 use Rattle.std.specs.Prelude.{unwrap_or}
 use Rattle.clap.specs.Words.{Row, Text}
 use Rattle.hook_cli.specs.CommandLine.{IsLineOf, try_line}
-use Rattle.hook_cli.specs.declared.command_line.Line.{Line}
+use Rattle.hook_cli.specs.declared.line.Line.{Line}
 
 pub text_or : (found : Option (Bor (List ℕ))) (empty : Bor (List ℕ)) (text : List ℕ) (rows : Option (List ℕ))
     → empty.now ≡ [] → option_map (λ s. s.now) found ≡ rows → text ≡ (unwrap_or found empty).now → text ≡ unwrap_or rows []

@@ -3,8 +3,8 @@ use Rattle.std.specs.Prelude.{◌≡◌, ◌⊎◌, List, [], Option, Some, None
 use Rattle.clap.specs.Words.{App, Row, Rule, Text, all_of, first_of, new_app, new_rule, with_rule, with_subcommand}
 use Rattle.clap.specs.Simple.{on_top}
 use Rattle.clap.specs.Lexer.{usize_max}
-use Rattle.hook_cli.specs.declared.command_line.Line.{Line}
-use Rattle.hook_cli.specs.declared.command_line.Line.TheVariants.{Try, Check}
+use Rattle.hook_cli.specs.declared.line.Line.{Line}
+use Rattle.hook_cli.specs.declared.line.Line.TheVariants.{Try, Check}
 
 -- the configuration of `try`: one word
 abbrev pub config_rule : Rule

@@ -7,24 +7,11 @@ ghost use Rattle.clap.specs.Words.{FailsBy, all_of, app_of, fault_of, first_of, 
 ghost use Rattle.clap.specs.declared.builder.Command.TheViews.{out-Command as fields_of};
 ghost use Rattle.hook_cli.specs.CommandLine.{IsLineOf, IsNamed, check_app, config_rule, hookhost_app, path_rule, try_app};
 
+use crate::Line;
 use crate::help::{CHECK_HELP, PROGRAM_HELP, TRY_HELP};
 use clap::{Arg, ArgMatches, Command, Error};
 use hook_base::{Items, Text};
 use std::alloc::{AllocError, Global};
-
-/// What a line of words asks the program for.
-#[derive(Debug, Drop)]
-pub enum Line {
-    /// A run of the configuration over the files, with its report written out.
-    Try {
-        /// The name of the file that holds the configuration.
-        config: Text,
-        /// The names of the files, one at least.
-        paths: Items<Text>,
-    },
-    /// A reading of the working folder's configuration, and what it says.
-    Check,
-}
 
 /// What the words, without the program's own name, ask for.
 ///

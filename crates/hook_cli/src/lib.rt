@@ -11,11 +11,13 @@ mod command_line;
 mod configuration_bytes;
 mod configuration_run;
 mod help;
+mod line;
 mod run_ask;
 mod try_fault;
 
 pub use check::check_text;
-pub use command_line::{Line, line_of};
+pub use command_line::line_of;
 pub use configuration_bytes::MOST_CONFIGURATION_BYTES;
 pub use configuration_run::try_over;
+pub use line::Line;
 pub use try_fault::TryFault;

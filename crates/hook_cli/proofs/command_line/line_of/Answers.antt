@@ -2,7 +2,7 @@ use Rattle.std.proofs.Common.{ap₂, refl}
 use Rattle.clap.specs.declared.parser.ArgMatches.TheViews.{out-ArgMatches, out-SubCommand}
 use Rattle.clap.specs.Words.{found_of, rows_of}
 use Rattle.std.specs.Box.{box_value}
-use Rattle.hook_cli.specs.declared.command_line.Line.TheVariants.{Try}
+use Rattle.hook_cli.specs.declared.line.Line.TheVariants.{Try}
 use Rattle.hook_cli.proofs.ValueLemmas.{line_from}
 use Rattle.hook_cli.proofs.command_line.line_of.Goals as goal
 

@@ -1,0 +1,45 @@
+//! What a line of words asks the program for, as a value.
+
+use hook_base::{Items, Mode, Text};
+
+/// What a line of words asks the program for.
+#[derive(Debug, Drop)]
+pub enum Line {
+    /// A new repository in the working folder.
+    Init,
+    /// A run of the configuration over the files, with its report written out.
+    Try {
+        /// The name of the file that holds the configuration.
+        config: Text,
+        /// The names of the files, one at least.
+        paths: Items<Text>,
+    },
+    /// A reading of the working folder's configuration, and what it says.
+    Check,
+    /// A file of the working folder is staged.
+    Add {
+        /// The name of the file, which is its path in the repository too.
+        path: Text,
+        /// The mode that is asked for, or `None` for that of the staged file.
+        mode: Option<Mode>,
+    },
+    /// A path is taken out of the staged files.
+    Remove {
+        /// The path, as a text that needn't be one.
+        path: Text,
+    },
+    /// The staged files that differ from those of the last commit.
+    Status,
+    /// The bytes of a staged file.
+    Cat {
+        /// The path, as a text that needn't be one.
+        path: Text,
+    },
+    /// The commits, the newest first.
+    Log,
+    /// A commit's message and its paths.
+    Show {
+        /// The commit's number.
+        number: u32,
+    },
+}
