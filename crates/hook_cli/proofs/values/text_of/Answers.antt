@@ -2,7 +2,7 @@ use Rattle.std.proofs.Common.{◌∙◌, ap, refl}
 use Rattle.clap.specs.Words.{found_of}
 use Rattle.clap.proofs.WalkLemmas.{first_value-rows}
 use Rattle.hook_cli.proofs.ValueLemmas.{text_or}
-use Rattle.hook_cli.proofs.command_line.text_of.Goals as goal
+use Rattle.hook_cli.proofs.values.text_of.Goals as goal
 
 pub returns : goal.returns
 returns c =
