@@ -2,10 +2,9 @@
 //!
 //! The contracts cite `specs/CommandLine.antt`, which states the command line as `clap` sees it.
 
-ghost use Rattle.std.specs.Prelude.{◌≡◌, IfOk, Some, codes, map, true};
-ghost use Rattle.clap.specs.Words.{FailsBy, fault_of, found_of, rows_of, subcommand_of, subcommand_name_of, subcommand_rows_of};
-ghost use Rattle.clap.specs.Matches.{has_subcommand};
-ghost use Rattle.hook_cli.specs.CommandLine.{IsValueOf, add_line, hookhost_app, is_command, line_asked, line_by, line_fault, show_line, try_line, word_in};
+ghost use Rattle.std.specs.Prelude.{◌≡◌, IfOk, Some, is_some, map, option_map, true};
+ghost use Rattle.clap.specs.Words.{FailsBy, fault_of, found_of, rows_of, subcommand_of, subcommand_rows_of};
+ghost use Rattle.hook_cli.specs.CommandLine.{IsValueOf, add_line, hookhost_app, is_command, line_asked, line_by, line_fault, show_line, try_line};
 
 use crate::Line;
 use crate::commands::hookhost;
@@ -23,19 +22,26 @@ pub fn line_of<'a>(alloc: Global, words: &'a [&'a str]) -> Result<Line, Error>
     ensures fault { FailsBy (line_fault (map (λ s. s.now) words.entry.now)) result }
 {
     let matches = matches_of(alloc, words)?;
-    let Some((name, values)) = matches.subcommand() else {
-        unreachable!()
-    };
-    line_by(alloc, name, values)
+    match command_of(&matches) {
+        Some((name, values)) => line_by(alloc, name, values),
+        None => unreachable!(),
+    }
 }
 
 // What `clap` finds in the words. A command must be there.
 fn matches_of<'a>(alloc: Global, words: &'a [&'a str]) -> Result<ArgMatches<'a>, Error>
     ensures rows { IfOk result (λ m. subcommand_rows_of m ≡ subcommand_of hookhost_app (map (λ s. s.now) words.entry.now)) }
-    ensures met { IfOk result (λ m. has_subcommand m ≡ true) }
+    ensures met { IfOk result (λ m. is_some (subcommand_rows_of m) ≡ true) }
     ensures fault { FailsBy (fault_of hookhost_app (map (λ s. s.now) words.entry.now)) result }
 {
     hookhost(alloc)?.try_get_matches_from(words)
+}
+
+// The command that was met, with its values.
+fn command_of<'m, 'a>(matches: &'m ArgMatches<'a>) -> Option<(&'a str, &'m ArgMatches<'a>)>
+    ensures { option_map (λ p. (p.0.now, rows_of (found_of p.1.now))) result ≡ subcommand_rows_of matches.now }
+{
+    matches.subcommand()
 }
 
 // What a command asks for with its values.
