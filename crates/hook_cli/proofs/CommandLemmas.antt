@@ -1,16 +1,16 @@
 -- The commands of the program, as `clap` finds them.
-use Rattle.std.proofs.Common.{◌≡◌, ◌≢◌, ◌∙◌, ap, ap₂, absurd, cc, codes, inl, inr, refl, subst, sym, true, false, Bool, ℕ, List, [], ◌∷◌, Option, None, Some, Ok, Err, Result, Bor, IfOk, option_map}
+use Rattle.std.proofs.Common.{◌≡◌, ◌≢◌, ◌∙◌, ap, ap₂, codes, inl, inr, refl, subst, sym, true, false, Bool, ℕ, List, [], ◌∷◌, Option, None, Some, Ok, Err, Result, Bor, IfOk, option_map}
 use Rattle.std.proofs.lemmas.Bool.{false_from_ne_true}
 use Rattle.std.proofs.lemmas.Slice.Eq.{bytes_eq-Decides}
-use Rattle.std.specs.Prelude.{Box, find}
+use Rattle.std.specs.Prelude.{Box, find, if◌then◌else◌, option_and_then}
 use Rattle.std.specs.Box.{box_value}
 use Rattle.std.specs.List.{list_all}
 use Rattle.std.specs.Str.{bytes_eq}
 use Rattle.clap.specs.Faults.{fault_of, is_simple_and_free}
 use Rattle.clap.specs.Kinds.{FailsBy, HasKind, Kinds, or_else}
 use Rattle.clap.specs.Matches.{found_of}
-use Rattle.clap.specs.Simple.{App, HasMatchesOf, Shape, built, entered, is_simple, label_of, rows_at, subcommand_of, subcommand_rows, subcommand_rows_of}
-use Rattle.clap.specs.Walk.{Row, Text, answers_to, rows_of}
+use Rattle.clap.specs.Simple.{App, HasMatchesOf, Shape, built, entered, is_simple, label_of, names_of, rows_at, subcommand_of, subcommand_rows, subcommand_rows_of}
+use Rattle.clap.specs.Walk.{Row, Text, answers_to, rows_of, stop_after}
 use Rattle.clap.specs.declared.error.Error.{Error}
 use Rattle.clap.specs.declared.parser.matches.ArgMatches.{ArgMatches}
 use Rattle.clap.specs.declared.parser.matches.ArgMatches.TheViews.{out-SubCommand}
@@ -54,11 +54,13 @@ found-passes passes test [] item all found = absurd (none-is-some item found)
   where
     none-is-some : {X : Type 0} (item : X) → None ≡ Some item → ⊥
     none-is-some item is = cc
-found-passes passes test (first ∷ rest) item all found = go (test first) refl
+found-passes passes test (first ∷ rest) item all found = go (found-passes passes test rest item (both _ _ all).1) (test first) refl
   where
-    go : (b : Bool) → test first ≡ b → passes item ≡ true
-    go true is = ap passes (sym (some-is first item (rw is found))) ∙ (both _ _ all).0
-    go false is = found-passes passes test rest item (both _ _ all).1 (rw is found)
+    go : (find test rest ≡ Some item → passes item ≡ true) → (b : Bool) → test first ≡ b → passes item ≡ true
+    go later true is =
+        let first_found : Some first ≡ Some item = subst (λ b. (if b then Some first else find test rest) ≡ Some item) is found in
+        ap passes (sym (some-is first item first_found)) ∙ (both _ _ all).0
+    go later false is = later (subst (λ b. (if b then Some first else find test rest) ≡ Some item) is found)
 
 entered-is-command : (app : App) (stop : Option (Text × List Text)) (asked : Text × List Row) → list_all (λ s. is_command s.name) app.subs ≡ true
     → entered app stop ≡ Some asked → is_command asked.0 ≡ true
@@ -76,7 +78,7 @@ commands_are_built : list_all (λ s. is_command s.name) (built hookhost_app).sub
 commands_are_built = refl
 
 pub asked-is-command : (words : List Text) (asked : Text × List Row) → subcommand_of hookhost_app words ≡ Some asked → is_command asked.0 ≡ true
-asked-is-command words asked is = entered-is-command (built hookhost_app) _ asked commands_are_built is
+asked-is-command words asked is = entered-is-command (built hookhost_app) (stop_after (built hookhost_app).top.rules (names_of (built hookhost_app)) words) asked commands_are_built is
 
 -- the command that was met, with its values
 module _ {Z : Type 0} where
@@ -88,3 +90,27 @@ module _ {Z : Type 0} where
   command-met None (Some b) name rows = cc
   command-met (Some p) None name rows = cc
   command-met (Some p) (Some b) name rows = ap₂ (λ (n : Text) (r : List Row). Some (n, r)) (some-is _ _ name) (some-is _ _ rows)
+
+-- ---- what the command asks for
+
+-- a refusal of `clap` comes before that of a value
+pub fails-first : (kinds next : Kinds) (error : Error) → HasKind kinds error → HasKind (or_else kinds next) error
+fails-first [] next error (inl memory) = inl memory
+fails-first [] next error (inr among) = absurd among
+fails-first (kind ∷ kinds) next error has = has
+
+pub asked-by : (words : List Text) (asked : Option (Text × List Row)) (name : Text) (rows : List Row) → asked ≡ subcommand_of hookhost_app words
+    → Some (name, rows) ≡ asked → line_by name rows ≡ line_asked words
+asked-by words asked name rows named met = ap (option_and_then (λ p. line_by p.0 p.1)) (met ∙ named)
+
+pub line-is : (words : List Text) (asked : Option Line) (line : Result Line Error) → asked ≡ line_asked words → IsValueOf asked line
+    → IfOk line (λ l. line_asked words ≡ Some l)
+line-is words asked (Ok line) same is = sym same ∙ is
+line-is words asked (Err error) same is = tt
+
+pub fault-is : (words : List Text) (asked : Option Line) (line : Result Line Error) → asked ≡ line_asked words → fault_of hookhost_app words ≡ []
+    → IsValueOf asked line → FailsBy (line_fault words) line
+fault-is words asked (Ok line) same none is =
+    ap₂ or_else none (ap value_fault (sym same ∙ is))
+fault-is words asked (Err error) same none is =
+    subst (λ kinds. HasKind kinds error) (sym (ap₂ or_else none (ap value_fault (sym same)))) is
