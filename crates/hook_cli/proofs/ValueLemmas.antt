@@ -1,10 +1,10 @@
 -- From what `clap` answers to the values of a command.
-use Rattle.std.proofs.Common.{◌≡◌, ◌≢◌, ◌∙◌, ap, codes, inl, inr, refl, subst, sym, false, true, ◌-◌, ◌^◌, ◌<◌, ℕ, List, [], ◌∷◌, Option, None, Some, Ok, Err, Result, Bor, option_map, arith}
+use Rattle.std.proofs.Common.{◌≡◌, ◌≢◌, ◌∙◌, ap, codes, refl, subst, sym, false, true, ◌-◌, ◌^◌, ℕ, List, [], ◌∷◌, Option, None, Some, Ok, Err, Result, Bor, option_map, arith}
 use Rattle.std.proofs.lemmas.Bool.{false_from_ne_true}
 use Rattle.std.proofs.lemmas.Slice.Eq.{bytes_eq-Decides}
 use Rattle.std.specs.Prelude.{unwrap_or}
 use Rattle.std.specs.Str.{bytes_eq}
-use Rattle.std.specs.Str.Parse.{IsNumeral, ParsesUnsigned, digits_value, without_leading_plus}
+use Rattle.std.specs.Str.Parse.{ParsesUnsigned}
 use Rattle.clap.specs.Words.{HasKind, Text}
 use Rattle.clap.specs.ValueTests.{is_unsigned_in}
 use Rattle.clap.specs.declared.builder.value_parser.ValueParser.TheVariants.{Unsigned}

@@ -1,4 +1,4 @@
-use Rattle.std.proofs.Common.{ap, subst, ◌∙◌}
+use Rattle.std.proofs.Common.{subst}
 use Rattle.hook_cli.proofs.ValueLemmas.{number-read, number-refused}
 use Rattle.hook_cli.proofs.values.number_of.Goals as goal
 use Rattle.hook_cli.specs.CommandLine.{number_in, value_fault}
