@@ -7,9 +7,9 @@ ghost use Rattle.clap.specs.Words.{app_of, rule_of};
 ghost use Rattle.clap.specs.declared.builder.Command.TheViews.{out-Command as fields_of};
 ghost use Rattle.hook_cli.specs.CommandLine.{add_app, cat_app, check_app, chmod_rule, hookhost_app, hookhost_base, init_app, log_app, remove_app, show_app, status_app, try_app, with_commands, word_rule, words_rule};
 
-use crate::help::{
-    ADD_HELP, CAT_HELP, CHECK_HELP, INIT_HELP, LOG_HELP, PROGRAM_HELP, REMOVE_HELP, SHOW_HELP,
-    STATUS_HELP, TRY_HELP,
+use crate::help::{CHECK_HELP, PROGRAM_HELP, TRY_HELP};
+use crate::repository_help::{
+    ADD_HELP, CAT_HELP, INIT_HELP, LOG_HELP, REMOVE_HELP, SHOW_HELP, STATUS_HELP,
 };
 use clap::{Arg, Command};
 use std::alloc::{AllocError, Global};
@@ -91,9 +91,7 @@ fn check_command<'a>(alloc: Global) -> Command<'a>
     ensures local { (fields_of result).has_globals ≡ false }
 {
     Command::new(alloc, "check")
-        .about(
-            "Reads .pre-commit-config.yaml, and prints how many hooks it has and which keys are ignored",
-        )
+        .about("Prints how many hooks .pre-commit-config.yaml has, and its ignored keys")
         .override_usage("hookhost check")
         .after_help(CHECK_HELP)
 }

@@ -13,6 +13,7 @@ mod configuration_bytes;
 mod configuration_run;
 mod help;
 mod line;
+mod repository_help;
 mod run_ask;
 mod try_fault;
 mod values;
