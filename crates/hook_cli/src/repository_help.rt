@@ -14,10 +14,10 @@ Exit status:
    2  the words are wrong, or ask for help
    3  something was refused: standard error says what
 
-'hookhost: cannot use .hookhost/store.db' says that no store is here, or that it can't
-be opened: hookhost init makes one. 'hookhost: cannot use .hookhost/lock' says that
-another hookhost works here: wait for it. What opening the store refuses is told as
-'hookhost: refused: NUMBER NAME':
+'hookhost: cannot use .hookhost/store.db' says that no store is here, or that it
+can't be opened: hookhost init makes one. 'hookhost: cannot use .hookhost/lock' says
+that another hookhost works here: wait for it. What opening the store refuses is
+told as 'hookhost: refused: NUMBER NAME':
    1 NotAStore    the file is no store of this version
                   move it away, and make a store by hookhost init
    2 Damaged      the store holds what no store holds
@@ -51,8 +51,8 @@ Exit status:
    3  something was refused: standard error says what
 
 'hookhost: cannot use .hookhost/store.db' says that .hookhost or the file can't be
-made: see whose folder it is. 'hookhost: cannot use .hookhost/lock' says that another
-hookhost works here: wait for it. Everything else is told as
+made: see whose folder it is. 'hookhost: cannot use .hookhost/lock' says that
+another hookhost works here: wait for it. Everything else is told as
 'hookhost: refused: NUMBER NAME':
    3 Sql          a store is here already, or the database refused
                   go on with that store, or see that the disk has room
@@ -62,9 +62,9 @@ hookhost works here: wait for it. Everything else is told as
 /// Behind the help of `add`.
 pub(crate) const ADD_HELP: &str = opening_help!(
     "\
-The file's bytes are staged as they are now. A file that is staged already keeps its
-mode, and a new one isn't executable, unless --chmod=+x is given. What hooks fixed at
-the path is forgotten.
+The file's bytes are staged as they are now. A file that is staged already keeps
+its mode, and a new one isn't executable, unless --chmod=+x is given. What hooks
+fixed at the path is forgotten.
 
 Examples:
   hookhost add README.md
@@ -88,7 +88,8 @@ read: name a file that can."
 /// Behind the help of `rm`.
 pub(crate) const REMOVE_HELP: &str = opening_help!(
     "\
-The path leaves the staged files. The file in the folder stays, and so do the commits.
+The path leaves the staged files. The file in the folder stays, and so do the
+commits.
 
 Example:
   hookhost rm README.md",
@@ -102,9 +103,9 @@ Example:
 /// Behind the help of `status`.
 pub(crate) const STATUS_HELP: &str = opening_help!(
     "\
-A line is A PATH for a file that was added, M PATH for one whose bytes or mode differ,
-and D PATH for one that was taken out, in the order of the paths. Before the first
-commit every staged file is an added one. The folder's files aren't looked at.
+A line is A PATH for a file that was added, M PATH for one whose bytes or mode
+differ, and D PATH for one that was taken out, in the order of the paths. Before the
+first commit every staged file is an added one. The folder's files aren't looked at.
 
 Example:
   hookhost status",
@@ -146,5 +147,6 @@ Example:
   hookhost show 1",
     "
 
-'hookhost: no commit N' says that no commit has that number: hookhost log lists them."
+'hookhost: no commit N' says that no commit has that number: hookhost log lists
+them."
 );
