@@ -71,7 +71,7 @@ Examples:
   hookhost add --chmod=+x tools/build.sh",
     "
    3 BadPath N    PATH isn't allowed; docs/REFERENCE.md has the number N
-                  name a file inside the folder, and none below .git
+                  name a path inside the folder, and none below .git
    5 TooLarge     the file has more than 16 MiB
                   make it smaller
    6 TooMany      more than 100,000 files would be staged, or 8 MiB of paths
@@ -95,7 +95,7 @@ Example:
   hookhost rm README.md",
     "
    3 BadPath N    PATH isn't allowed; docs/REFERENCE.md has the number N
-                  name a file inside the folder, and none below .git
+                  name a path inside the folder, and none below .git
    4 NotStaged    nothing is staged at PATH
                   stage it first, by hookhost add"
 );
@@ -122,7 +122,7 @@ Example:
   hookhost cat README.md",
     "
    3 BadPath N    PATH isn't allowed; docs/REFERENCE.md has the number N
-                  name a file inside the folder, and none below .git
+                  name a path inside the folder, and none below .git
    4 NotStaged    nothing is staged at PATH
                   stage it first, by hookhost add"
 );
