@@ -34,10 +34,7 @@ fn program<'a>(alloc: Global) -> Command<'a>
         .subcommand_required(true)
 }
 
-fn with_configurations<'a>(
-    alloc: Global,
-    program: Command<'a>,
-) -> Result<Command<'a>, AllocError>
+fn with_configurations<'a>(alloc: Global, program: Command<'a>) -> Result<Command<'a>, AllocError>
     ensures { IfOk result (λ command. app_of command ≡ with_commands (app_of program.entry) (init_app ∷ try_app ∷ check_app ∷ [])) }
 {
     program
@@ -82,7 +79,11 @@ fn try_command<'a>(alloc: Global) -> Result<Command<'a>, AllocError>
         .about("Runs the hooks of a configuration on files, and prints the report")
         .override_usage("hookhost try <CONFIG> <PATH>...")
         .after_help(TRY_HELP)
-        .arg(word(alloc, "CONFIG", "The configuration, as a .pre-commit-config.yaml"))?
+        .arg(word(
+            alloc,
+            "CONFIG",
+            "The configuration, as a .pre-commit-config.yaml",
+        ))?
         .arg(words(alloc, "PATH", "The files to run the hooks on"))
 }
 
@@ -168,9 +169,7 @@ fn word<'a>(alloc: Global, id: &'a str, help: &'a str) -> Arg<'a>
     ensures rule { rule_of result ≡ word_rule id.entry.now }
     ensures local { result.global ≡ false }
 {
-    Arg::new(alloc, id)
-        .required(true)
-        .help(help)
+    Arg::new(alloc, id).required(true).help(help)
 }
 
 // A value of one word or more.
@@ -178,10 +177,7 @@ fn words<'a>(alloc: Global, id: &'a str, help: &'a str) -> Arg<'a>
     ensures rule { rule_of result ≡ words_rule id.entry.now }
     ensures local { result.global ≡ false }
 {
-    Arg::new(alloc, id)
-        .required(true)
-        .num_args(1..)
-        .help(help)
+    Arg::new(alloc, id).required(true).num_args(1..).help(help)
 }
 
 fn chmod<'a>(alloc: Global) -> Arg<'a>
