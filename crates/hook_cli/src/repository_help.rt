@@ -63,8 +63,7 @@ another hookhost works here: wait for it. Everything else is told as
 pub(crate) const ADD_HELP: &str = opening_help!(
     "\
 The file's bytes are staged as they are now. A file that is staged already keeps
-its mode, and a new one isn't executable, unless --chmod=+x is given. What hooks
-fixed at the path is forgotten.
+its mode, and a new one isn't executable, unless --chmod=+x is given.
 
 Examples:
   hookhost add README.md
