@@ -347,7 +347,7 @@ REPOSITORY_LINES = [
     # No word is short for another.
     (["help"], no_command("help")),
     (["stat"], no_command("stat", "  tip: a similar subcommand exists: 'status'\n\n")),
-    (["remove"], no_command("remove")),
+    (["remove"], no_command("remove", "  tip: a similar subcommand exists: 'rm'\n\n")),
     (["ADD", "a"], no_command("ADD")),
     (
         ["add", "--ch=+x", "a"],
