@@ -7,11 +7,17 @@ pub(crate) const PROGRAM_HELP: &str = "\
 Without words, the configuration is read from standard input, and its hooks are
 run on no files. What that refuses, hookhost try --help explains.
 
-Example:
+A repository lies in .hookhost of the current folder: init makes it, and all
+commands but try and check work on it.
+
+Examples:
   hookhost try .pre-commit-config.yaml README.md src/main.c
+  hookhost init
+  hookhost add README.md
+  hookhost status
 
 Exit status:
-   0  every hook passed or was skipped; check took the configuration
+   0  every hook passed or was skipped, or the command did what it says
    1  a hook failed
    2  the words are wrong, or ask for help
    3  something was refused: standard error says what
