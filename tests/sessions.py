@@ -16,6 +16,7 @@ A session file holds cases. `== NAME` begins a case, in an empty folder. Within 
   -- run WORD ..    runs `hookhost WORD ..`, the words cut as a shell cuts them
   -- run-bytes WORD ..   the same with Python's escapes, the words cut at blanks, for words that no text file keeps
   -- stdout, -- stderr   what that command printed there, to the byte (nothing where left out)
+  -- stdout bytes   the same of standard output with Python's escapes; line ends are as written
   -- shown in PATH  what it printed stands in that file of the repository, to the byte
   -- stderr contains TEXT   a part of what it printed there
   -- status N       its exit status (0 where left out)
@@ -86,7 +87,7 @@ def commands_of(steps):
             stdin, is_locked = b"", False
             yield "run", command, None
         elif word == "stdout":
-            command["stdout"] = body.encode()
+            command["stdout"] = unescaped(body.replace("\n", "")) if rest == "bytes" else body.encode()
         elif word == "stderr" and rest.startswith("contains "):
             command["part"] = rest[len("contains "):].encode()
         elif word == "stderr":
