@@ -1,7 +1,7 @@
 #!/usr/bin/env python3
 """Runs the sessions of tests/sessions/ with the built program and compares every byte that it prints.
 
-Usage: tests/sessions.py [PROGRAM [CASE]]   (default: crates/hookhost/out/hookhost, all cases; CASE: part of their names)
+Usage: tests/sessions.py [PROGRAM [CASE]]   (default: crates/hookhost/out/hookhost, all cases; CASE: a part of FILE: NAME)
 
 A session file holds cases. `== NAME` begins a case, in an empty folder. Within it:
   -- file PATH      the lines that follow are the file's content
@@ -9,17 +9,27 @@ A session file holds cases. `== NAME` begins a case, in an empty folder. Within 
   -- fill PATH N    `#` after `#` is put at the file's end, until it has N bytes
   -- repeat N PATH  the lines that follow are put at the file's end N times
   -- folder PATH    an empty folder
+  -- remove PATH    the file is removed, or the folder with all that lies in it
   -- demo           the files of demo/
   -- stdin          the lines that follow are the next command's standard input
   -- stdin PATH     the file's content is, or the folder itself, which can't be read
   -- run WORD ..    runs `hookhost WORD ..`, the words cut as a shell cuts them
   -- run-bytes WORD ..   the same with Python's escapes, the words cut at blanks, for words that no text file keeps
   -- stdout, -- stderr   what that command printed there, to the byte (nothing where left out)
+  -- stdout bytes   the same of standard output with Python's escapes; line ends are as written
   -- shown in PATH  what it printed stands in that file of the repository, to the byte
   -- stderr contains TEXT   a part of what it printed there
   -- status N       its exit status (0 where left out)
   -- output FILE    its standard output goes to this file, as /dev/full, and isn't compared
+  -- locked         another process holds the lock while the next command runs
+  -- play           store_trial plays the lines that follow on the folder's store, and answers `ok` to each
+  -- sql TEXT       sqlite3 answers this to SQL on the store: the lines that follow, and nothing else
+  -- files          the lines that follow are the folder's files, all of them, in order
+
+After each command but an `init`, `add` or `rm` that is done, every file has to be as it was. Two may change, since every
+command that opens a store does that to them: the lock, and the log that the database begins anew.
 """
+import fcntl
 import os
 import shlex
 import shutil
@@ -31,6 +41,10 @@ HERE = os.path.dirname(os.path.abspath(__file__))
 TOP = os.path.dirname(HERE)
 PROGRAM = os.path.abspath(sys.argv[1] if len(sys.argv) > 1 else os.path.join(TOP, "crates/hookhost/out/hookhost"))
 CASE = sys.argv[2] if len(sys.argv) > 2 else ""
+STORE_TRIAL = os.path.join(TOP, "crates/store_trial/out/store_trial")
+STORE, LOCK = ".hookhost/store.db", ".hookhost/lock"
+LAID = ("file", "bytes", "fill", "repeat", "folder", "remove", "demo")
+LOOKED_AT = ("play", "sql", "files")
 
 
 def unescaped(text):
@@ -56,22 +70,24 @@ def cases_of(path):
 
 
 def commands_of(steps):
-    """The steps as a list of files to lay and commands with what they must print."""
-    stdin, command = b"", None
+    """The steps as a list of files to lay, commands with what they must print, and looks at the folder."""
+    stdin, is_locked, command = b"", False, None
     for head, body in steps:
         word, _, rest = head.partition(" ")
-        if word in ("file", "bytes", "fill", "repeat", "folder", "demo"):
+        if word in LAID or word in LOOKED_AT:
             yield word, rest, body
         elif word == "stdin":
             stdin = rest or body.encode()
+        elif word == "locked":
+            is_locked = True
         elif word in ("run", "run-bytes"):
             words = shlex.split(rest) if word == "run" else [unescaped(each) for each in rest.split()]
             command = {"words": words, "stdin": stdin, "stdout": b"", "stderr": b"", "part": None, "status": 0,
-                       "output": None, "shown": None}
-            stdin = b""
+                       "output": None, "shown": None, "is_locked": is_locked}
+            stdin, is_locked = b"", False
             yield "run", command, None
         elif word == "stdout":
-            command["stdout"] = body.encode()
+            command["stdout"] = unescaped(body.replace("\n", "")) if rest == "bytes" else body.encode()
         elif word == "stderr" and rest.startswith("contains "):
             command["part"] = rest[len("contains "):].encode()
         elif word == "stderr":
@@ -89,6 +105,28 @@ def commands_of(steps):
 def content(path):
     with open(path, "rb") as file:
         return file.read()
+
+
+def files_that_stay():
+    """The folders and the files below this folder with their contents, but for the two that commands may change."""
+    found = {}
+    for folder, folders, names in os.walk("."):
+        found.update((os.path.join(folder, name), None) for name in folders)
+        found.update((os.path.join(folder, name), content(os.path.join(folder, name))) for name in names)
+    return {path: held for path, held in found.items() if path not in ("./" + LOCK, "./" + STORE + "-wal")}
+
+
+def run_alone(command):
+    """What is wrong with the command's answer, or with the files after it, or None."""
+    before = files_that_stay()
+    held = open(LOCK, "a") if command["is_locked"] else None
+    if held:
+        fcntl.flock(held, fcntl.LOCK_EX)
+    wrong = run(command)
+    if held:
+        held.close()
+    may_change = command["status"] == 0 and command["words"][:1] in (["init"], ["add"], ["rm"])
+    return wrong or (None if may_change or files_that_stay() == before else "it changed the folder's files")
 
 
 def run(command):
@@ -111,10 +149,32 @@ def run(command):
     return None if done.stderr == command["stderr"] else f"standard error {done.stderr[:600]!r}, wanted {command['stderr'][:600]!r}"
 
 
+def look(kind, what, body):
+    """What is wrong with the folder or its store, or None."""
+    wanted = body
+    if kind == "files":
+        found = sorted(os.path.relpath(os.path.join(folder, name)) for folder, _, names in os.walk(".") for name in names)
+        text = "".join(path + "\n" for path in found)
+    elif kind == "sql":
+        text = answer_of(["sqlite3", "-batch", STORE, what], "")
+    else:
+        lines = "open\n" + body + "close\n"
+        text = "".join(line.split("\t")[0] + "\n" for line in answer_of([STORE_TRIAL, STORE], lines).splitlines())
+        wanted = "ok\n" * lines.count("\n")
+    return None if text == wanted else f"it is {text[:600]!r}, wanted {wanted[:600]!r}"
+
+
+def answer_of(words, given):
+    """What another program prints, whatever its status."""
+    return subprocess.run(words, input=given, stdout=subprocess.PIPE, stderr=subprocess.STDOUT, text=True, timeout=60).stdout
+
+
 def lay(kind, what, body):
     """Lays the files of a step."""
     if kind == "folder":
         os.makedirs(what)
+    elif kind == "remove":
+        shutil.rmtree(what) if os.path.isdir(what) else os.remove(what)
     elif kind == "demo":
         shutil.copytree(os.path.join(TOP, "demo"), ".", dirs_exist_ok=True)
     elif kind == "repeat":
@@ -134,9 +194,12 @@ def lay(kind, what, body):
 
 def play(steps):
     for kind, what, body in list(commands_of(steps)):
-        if kind != "run":
+        if kind in LAID:
             lay(kind, what, body)
-        elif wrong := run(what):
+        elif kind in LOOKED_AT:
+            if wrong := look(kind, what, body):
+                return f"{kind} {what}: {wrong}"
+        elif wrong := run_alone(what):
             return f"hookhost {' '.join(map(str, what['words']))}: {wrong}"
     return None
 
@@ -146,7 +209,7 @@ def main():
     folder = os.path.join(HERE, "sessions")
     for name in sorted(os.listdir(folder)):
         for case, steps in cases_of(os.path.join(folder, name)):
-            if CASE not in case:
+            if CASE not in f"{name}: {case}":
                 continue
             with tempfile.TemporaryDirectory() as place:
                 os.chdir(place)

@@ -1,0 +1,386 @@
+#!/usr/bin/env python3
+"""Plays the commands on a repository with the built program: files with hard names, files and folders that can't be used,
+several programs at once, and kills.
+
+Usage: tests/host.py [KILLS [PROGRAM [STORE_TRIAL]]]   (default: 30 kills of each command, and the built programs)
+
+What one program alone prints stands in tests/sessions/. Here stands what no session can make: names that no text file
+keeps, another user, fifos, programs side by side. Each kill is a SIGKILL at a random moment of a command on a copy of a
+repository, which then has to be the one before the command or the one after it. The commits are made by store_trial.
+"""
+import os
+import random
+import shutil
+import signal
+import subprocess
+import sys
+import tempfile
+import time
+from concurrent.futures import ThreadPoolExecutor
+from pathlib import Path
+
+CRATES = Path(__file__).resolve().parent.parent / "crates"
+KILLS = int(sys.argv[1]) if len(sys.argv) > 1 else 30
+PROGRAM = os.path.abspath(sys.argv[2] if len(sys.argv) > 2 else CRATES / "hookhost/out/hookhost")
+STORE_TRIAL = os.path.abspath(sys.argv[3] if len(sys.argv) > 3 else CRATES / "store_trial/out/store_trial")
+STORE, LOCK = ".hookhost/store.db", ".hookhost/lock"
+NOBODY = 65534
+HARD_NAMES = [
+    "a b", " a", "a ", "a'b", 'a"b', "a\\b", "a\\nb", "-x", "--chmod=+x", "--help", "--", "-", "é", "e\u0301", "日本語", "🙂", "\u0085", "\u2028x", "\ufeffx",
+    "*", "[a]", "$HOME", "`x`", "%s%n", "'); DROP TABLE staged; --", "~", "#", "...", "..a", "a..", "a:b", "A b/é'/\"x\"", ".gitx/a", "sub/.git/a", "x" * 255,
+]
+
+
+class Wrong(Exception):
+    """What is wrong, in words."""
+
+
+def check(holds, text):
+    if not holds:
+        raise Wrong(text)
+
+
+# ---- the program
+
+def run(folder, *words, **how):
+    """The exit status and what was printed on both outputs, of the program with these words in the folder."""
+    done = subprocess.run([how.pop("program", PROGRAM), *words], cwd=folder, stdin=subprocess.DEVNULL, capture_output=True, timeout=120, **how)
+    return done.returncode, done.stdout, done.stderr
+
+
+def do(folder, *words):
+    """What the command prints, which has to be done."""
+    status, out, err = run(folder, *words)
+    check((status, err) == (0, b""), f"{words!r} in {os.listdir(folder)!r} ends with {status} and says {err!r}")
+    return out
+
+
+def refuses(folder, words, text, **how):
+    answer = run(folder, *words, **how)
+    wanted = (3, b"", b"hookhost: " + text.encode() + b"\n")
+    check(answer == wanted, f"{words!r} is answered {answer!r}, wanted {wanted!r}")
+
+
+def play(folder, lines):
+    """What store_trial answers to lines on the folder's store."""
+    text = "".join(line + "\n" for line in ["open", *lines, "close"])
+    done = subprocess.run([STORE_TRIAL, STORE], cwd=folder, input=text.encode(), capture_output=True, timeout=120)
+    answers = done.stdout.decode().splitlines()
+    check(len(answers) == len(lines) + 2 and all(answer.startswith("ok") for answer in answers), f"store_trial answers {answers!r}")
+    return answers[1:-1]
+
+
+def rows(folder, text):
+    """What sqlite3 answers to SQL on the folder's store, which isn't to be open."""
+    done = subprocess.run(["sqlite3", "-batch", os.path.join(folder, STORE), text], capture_output=True, timeout=60)
+    check(done.returncode == 0, f"sqlite3 refuses {text!r}: {done.stderr!r}")
+    return done.stdout.decode().splitlines()
+
+
+def staged_rows(folder):
+    """The staged files as sqlite3 reads them: mode and contents by path."""
+    found = (line.split("|") for line in rows(folder, "SELECT hex(path), mode, hex(bytes) FROM staged JOIN blobs USING (digest)"))
+    return {bytes.fromhex(path): (int(mode), bytes.fromhex(held)) for path, mode, held in found}
+
+
+def write(folder, path, held):
+    path = os.path.join(folder, path)
+    os.makedirs(os.path.dirname(path), exist_ok=True)
+    with open(path, "wb") as file:
+        file.write(held)
+
+
+# ---- names
+
+def keeps_files_of_hard_names(folder):
+    do(folder, "init")
+    files = {name.encode(): (0, b"the contents of " + name.encode() + b"\r\n\0\xff" * at) for at, name in enumerate(HARD_NAMES)}
+    for name, (_, held) in files.items():
+        write(os.fsencode(folder), name, held)
+        check(do(folder, "add", "--", name) == b"", f"add of {name!r} prints something")
+    for name, (_, held) in files.items():
+        check(do(folder, "cat", "--", name) == held, f"{name!r} has other bytes")
+    check(do(folder, "status") == b"".join(b"A " + name + b"\n" for name in sorted(files)), "status has other names")
+    check(staged_rows(folder) == files, "sqlite3 reads other files")
+    for name in files:
+        do(folder, "rm", "--", name)
+    check(do(folder, "status") == b"" and staged_rows(folder) == {}, "not all names are taken out")
+
+
+def write_deep(folder, path, held):
+    """Writes a file that is too deep to be named in one piece."""
+    *folders, name = path.split("/")
+    at = os.open(folder, os.O_RDONLY)
+    for part in folders:
+        os.mkdir(part, dir_fd=at)
+        at, above = os.open(part, os.O_RDONLY, dir_fd=at), at
+        os.close(above)
+    with open(os.open(name, os.O_WRONLY | os.O_CREAT, dir_fd=at), "wb") as file:
+        file.write(held)
+    os.close(at)
+
+
+def keeps_the_longest_path_that_the_system_opens(folder):
+    do(folder, "init")
+    longest = ("a" * 255 + "/") * 15 + "b" * 255
+    longer = ("c" * 251 + "/") * 16 + "d" * 64
+    check((len(longest), len(longer)) == (4095, 4096), "the paths have other lengths")
+    write_deep(folder, longest, b"deep")
+    write_deep(folder, longer, b"deeper")
+    do(folder, "add", longest)
+    check(do(folder, "cat", longest) == b"deep" and do(folder, "status") == b"A " + longest.encode() + b"\n", "the longest path is another")
+    refuses(folder, ["add", longer], f"cannot use {longer}")
+    refuses(folder, ["cat", longer], "refused: 4 NotStaged")
+    refuses(folder, ["rm", longer + "d"], "refused: 3 BadPath 5")
+    check(list(staged_rows(folder)) == [longest.encode()], "sqlite3 reads another path")
+
+
+def refuses_control_bytes(folder):
+    do(folder, "init")
+    for byte in ("\n", "\t", "\x01", "\x1f", "\x7f"):
+        name = f"a{byte}b"
+        refuses(folder, ["add", name], f"cannot use {name}")
+        write(folder, name, b"1")
+        for word in ("add", "rm", "cat"):
+            refuses(folder, [word, name], "refused: 3 BadPath 6")
+    check(do(folder, "status") == b"", "something is staged")
+
+
+def takes_no_mode_from_the_working_file(folder):
+    do(folder, "init")
+    for name, mode in (("run", 0o755), ("text", 0o644)):
+        write(folder, name, b"1")
+        os.chmod(os.path.join(folder, name), mode)
+        do(folder, "add", name)
+    check(staged_rows(folder) == {b"run": (0, b"1"), b"text": (0, b"1")}, "a file is executable that wasn't asked for")
+
+
+# ---- what can't be used
+
+def owned_by_nobody(folder):
+    """A copy of the program that anyone may run, and how to run it as a user whom permissions hold back."""
+    if os.geteuid() != 0:
+        return PROGRAM, {}
+    program = shutil.copy(PROGRAM, os.path.join(folder, "program"))
+    for path in (folder, program):
+        os.chmod(path, 0o755)
+    return program, {"user": NOBODY, "group": NOBODY, "extra_groups": []}
+
+
+def refuses_what_may_not_be_read_or_written(folder):
+    program, user = owned_by_nobody(folder)
+    how = {"program": program, **user}
+    work = os.path.join(folder, "work")
+    write(work, "a.txt", b"1")
+    write(work, "secret.txt", b"2")
+    os.chmod(os.path.join(work, "secret.txt"), 0)
+    os.chmod(work, 0o555)
+    refuses(work, ["init"], f"cannot use {STORE}", **how)
+    check(sorted(os.listdir(work)) == ["a.txt", "secret.txt"], "a refused init leaves something")
+    os.chmod(work, 0o777)
+    check(run(work, "init", **how) == (0, b"", b"") and run(work, "add", "a.txt", **how) == (0, b"", b""), "nobody has no repository")
+    refuses(work, ["add", "secret.txt"], "cannot use secret.txt", **how)
+    for path, mode, named in ((LOCK, 0o444, LOCK), (STORE, 0, STORE), (".hookhost", 0, STORE)):
+        path = os.path.join(work, path)
+        before = os.stat(path).st_mode
+        os.chmod(path, mode)
+        refuses(work, ["status"], f"cannot use {named}", **how)
+        os.chmod(path, before)
+    check(run(work, "status", **how) == (0, b"A a.txt\n", b""), "the repository is another")
+
+
+def refuses_fifos_and_waits_for_none(folder):
+    """To open a fifo waits for its other end, so a program that does would never end."""
+    for at, (path, named) in enumerate(((".hookhost", STORE), (STORE, STORE), (LOCK, LOCK))):
+        work = os.path.join(folder, str(at))
+        os.mkdir(work)
+        if path == LOCK:
+            do(work, "init")
+            os.remove(os.path.join(work, LOCK))
+        elif path == STORE:
+            os.mkdir(os.path.join(work, ".hookhost"))
+        os.mkfifo(os.path.join(work, path))
+        for words in (["status"], ["init"], ["add", "a.txt"]):
+            refuses(work, words, f"cannot use {named}")
+
+
+# ---- several programs at once
+
+def lets_one_program_work_at_a_time(folder):
+    """Beside a program that adds a large file, another is refused, or sees the repository before it or after it."""
+    do(folder, "init")
+    held, refused = random.Random(1).randbytes(16777216), 0
+    for at in range(20):
+        name = f"large{at}"
+        write(folder, name, held)
+        before = do(folder, "status")
+        with subprocess.Popen([PROGRAM, "add", name], cwd=folder) as child:
+            while child.poll() is None:
+                status, out, err = run(folder, "status")
+                is_refused = (status, out, err) == (3, b"", f"hookhost: cannot use {LOCK}\n".encode())
+                check(is_refused or (status == 0 and out in (before, do_sorted(before, name))), f"beside an add: {(status, out, err)!r}")
+                refused += is_refused
+            # The other may have had the lock just when this one asked for it.
+            check(child.returncode in (0, 3), f"add ends with {child.returncode}")
+        after = do(folder, "status")
+        check(after == (do_sorted(before, name) if child.returncode == 0 else before), f"after an add that ended with {child.returncode}: {after!r}")
+        if refused and child.returncode == 0:
+            return print(f"beside a large add: {refused} times refused")
+        os.remove(os.path.join(folder, name))
+    raise Wrong("in 20 rounds no program met another")
+
+
+def do_sorted(text, name):
+    return b"".join(sorted([*text.splitlines(keepends=True), f"A {name}\n".encode()]))
+
+
+def loses_nothing_of_programs_at_once(folder):
+    """Many writers, each of which tries again while another has the lock."""
+    do(folder, "init")
+    names = [[f"{writer}/{at}" for at in range(10)] for writer in range(4)]
+
+    def add_all(mine):
+        refused = 0
+        for name in mine:
+            write(folder, name, name.encode())
+            while (answer := run(folder, "add", name)) != (0, b"", b""):
+                check(answer == (3, b"", f"hookhost: cannot use {LOCK}\n".encode()), f"add of {name} beside others: {answer!r}")
+                refused += 1
+        return refused
+
+    with ThreadPoolExecutor(len(names)) as pool:
+        refused = sum(pool.map(add_all, names))
+    check(refused > 0, "no program met another")
+    wanted = {name.encode(): (0, name.encode()) for mine in names for name in mine}
+    check(staged_rows(folder) == wanted, f"sqlite3 reads {sorted(staged_rows(folder))!r}")
+    print(f"four writers at once: {len(wanted)} files added, {refused} times refused")
+
+
+# ---- kills
+
+class Killed:
+    """Commands that are killed at random moments, each on a copy of a folder."""
+
+    def __init__(self, folder, base):
+        self.folder, self.base, self.chance = folder, base, random.Random(2)
+
+    def copy(self):
+        work = os.path.join(self.folder, "work")
+        shutil.rmtree(work, ignore_errors=True)
+        return shutil.copytree(self.base, work)
+
+    def play(self, words, given, seconds):
+        """Plays a command on a copy, and kills it after so many seconds. Answers the copy, whether the command ended by
+        itself, and what it printed."""
+        work = self.copy()
+        child = subprocess.Popen(words, cwd=work, stdin=subprocess.PIPE, stdout=subprocess.PIPE, stderr=subprocess.PIPE)
+        try:
+            child.communicate(given, timeout=seconds)
+        except subprocess.TimeoutExpired:
+            child.send_signal(signal.SIGKILL)
+        out, err = child.communicate()
+        check(child.returncode in (0, -signal.SIGKILL), f"{words!r} ends with {child.returncode} and says {err!r}")
+        return work, child.returncode == 0, out
+
+    def seconds(self, words, given):
+        start = time.monotonic()
+        self.play(words, given, None)
+        return time.monotonic() - start
+
+    def each(self, words, given=b""):
+        """The answers of `play` for each kill, up to the time that the command takes: the least of three, so that a busy
+        moment doesn't put all kills after its end."""
+        whole, in_time = min(self.seconds(words, given) for _ in range(3)), 0
+        for _ in range(KILLS):
+            work, is_ended, out = self.play(words, given, self.chance.uniform(0, whole))
+            in_time += not is_ended
+            yield work, is_ended, out
+        check(in_time > 0, f"no kill came before the end of {words!r}")
+        print(f"kills of {' '.join(words[1:])}: {in_time} of {KILLS} came before its end")
+
+
+def state(folder):
+    """All that a repository shows, to the program and then to sqlite3."""
+    shown, files = [do(folder, word) for word in ("status", "log")], staged_rows(folder)
+    check(rows(folder, "PRAGMA integrity_check; PRAGMA foreign_key_check") == ["ok"], "sqlite3 finds the file broken")
+    for path, (_, held) in files.items():
+        check(do(folder, "cat", "--", path) == held, f"cat of {path!r} gives other bytes than sqlite3")
+    return shown, files, rows(folder, "SELECT n, hex(message) FROM commits"), rows(folder, "SELECT n, path, mode, hex(digest) FROM entries")
+
+
+def filled(folder):
+    """A repository with a commit, staged files and a fix, and files that aren't staged yet."""
+    base, chance = os.path.join(folder, "base"), random.Random(3)
+    os.mkdir(base)
+    do(base, "init")
+    for name in ("a", "b", "dir/c"):
+        write(base, name, chance.randbytes(1000))
+        do(base, "add", name)
+    play(base, ["commit first\\n", "fix a 2", "set"])
+    write(base, "b", chance.randbytes(300000))
+    write(base, "new", chance.randbytes(300000))
+    return base
+
+
+def is_left_whole_by_kills_of_add_and_rm(folder):
+    killed = Killed(folder, filled(folder))
+    before = state(killed.copy())
+    for words in (["add", "b"], ["add", "new"], ["rm", "a"]):
+        work = killed.copy()
+        do(work, *words)
+        after = state(work)
+        check(before != after, f"{words!r} changes nothing")
+        for work, is_ended, _ in killed.each([PROGRAM, *words]):
+            found = state(work)
+            check(found == after or (found == before and not is_ended), f"after a kill of {words!r} it shows {found!r:.1000}")
+
+
+def is_left_whole_by_kills_of_init(folder):
+    """A killed init leaves a store, or what the next one makes a store of."""
+    base = os.path.join(folder, "base")
+    os.mkdir(base)
+    for work, is_ended, _ in Killed(folder, base).each([PROGRAM, "init"]):
+        if run(work, "status")[0] != 0:
+            check(not is_ended, "an init that was done left no store")
+            do(work, "init")
+        check(do(work, "status") == b"" and rows(work, "SELECT name, value FROM meta") == ["version|1"], "it is no new store")
+
+
+def is_left_whole_by_kills_of_commits(folder):
+    """Of commits in a play that is killed those stand that were answered, and perhaps one more, each with all its files."""
+    count = 20
+    given = "open\n" + "".join(f"stage plain x{at:02} {at}\ncommit m{at}\\n\n" for at in range(1, count + 1))
+    for work, _, out in Killed(folder, filled(folder)).each([STORE_TRIAL, STORE], given.encode()):
+        answered = sum(line.startswith(b"ok\t") for line in out.splitlines(keepends=True) if line.endswith(b"\n"))
+        lines = do(work, "log").decode().splitlines()
+        made = len(lines) - 1
+        check(lines == [f"{at + 1} m{at}" for at in range(made, 0, -1)] + ["1 first"], f"after a kill the log is {lines!r}")
+        check(made in (answered, answered + 1), f"{answered} commits were answered, and there are {made}")
+        files = ["a", "b", "dir/c", *(f"x{at:02}" for at in range(1, made + 1))]
+        check(do(work, "show", str(made + 1)).decode().splitlines()[2:] == files, f"commit {made + 1} hasn't its files")
+        state(work)
+
+
+CASES = [keeps_files_of_hard_names, keeps_the_longest_path_that_the_system_opens, refuses_control_bytes, takes_no_mode_from_the_working_file,
+         refuses_what_may_not_be_read_or_written, refuses_fifos_and_waits_for_none, lets_one_program_work_at_a_time,
+         loses_nothing_of_programs_at_once, is_left_whole_by_kills_of_init, is_left_whole_by_kills_of_add_and_rm,
+         is_left_whole_by_kills_of_commits]
+
+
+def main():
+    passed, failed = 0, 0
+    for case in CASES:
+        with tempfile.TemporaryDirectory() as folder:
+            try:
+                case(folder)
+                wrong = None
+            except (Wrong, subprocess.TimeoutExpired) as error:
+                wrong = error
+        passed, failed = (passed, failed + 1) if wrong else (passed + 1, failed)
+        if wrong:
+            print(f"FAILED {case.__name__.replace('_', ' ')}: {str(wrong)[:2000]}")
+    print(f"host: {passed} passed, {failed} failed")
+    sys.exit(1 if failed or not passed else 0)
+
+
+main()
