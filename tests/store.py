@@ -186,6 +186,9 @@ class Model:
         at = int(number)
         return self.tree_line(self.store["history"][at - 1][1]) if 0 < at <= len(self.store["history"]) else "ok\tnone"
 
+    def files(self, number):
+        return self.tree_line(self.tree_at(int(number)))
+
     def trees(self):
         return "".join(["ok"] + [f"\t{at + 1}{self.files_of(tree)}" for at, (_, tree) in enumerate(self.store["history"])])
 
@@ -196,13 +199,17 @@ class Model:
         rows = sorted(self.store["fixes"].items())
         return "".join(["ok"] + [f"\t{path}\tgone" if now is None else f"\t{path}\tnow\t{now}" for path, now in rows])
 
+    def tree_at(self, number):
+        return self.store["history"][number - 1][1] if 0 < number <= len(self.store["history"]) else {}
+
     def last_tree(self):
         return self.store["history"][-1][1] if self.store["history"] else {}
 
     def look(self, path):
         staged = self.store["staged"]
         mode, content = staged.get(path, ("none", "none"))
-        facts = path in staged, mode, content, self.clashes(path), staged.get(path) != self.last_tree().get(path)
+        head = self.last_tree()
+        facts = path in staged, mode, content, self.clashes(path), path in head, staged.get(path) != head.get(path)
         return "\t".join(["ok", *(str(fact).lower() if isinstance(fact, bool) else fact for fact in facts)])
 
     def count(self):

@@ -3,7 +3,8 @@ import hashlib
 
 SHOWN = ["staged", "head", "log", "fixes", "trees"]
 # Single facts that a store is asked for: paths that are staged in some plays, their folders, and paths below them.
-FACTS = [*(f"look {path}" for path in ["a", "b.txt", "dir/c", "dir", "di", "dir/c/d", "a/b/c", "dir/cd"]), "count", "walk", "message 0", "message 1", "message 2"]
+FACTS = [*(f"look {path}" for path in ["a", "b.txt", "dir/c", "dir", "di", "dir/c/d", "a/b/c", "dir/cd"]), "count", "walk",
+         *(f"{word} {number}" for word in ("message", "files") for number in range(3))]
 # What a store shows that has a.txt staged, with the contents 1, and nothing else.
 ONE_STAGED = ["ok\tplain\ta.txt\t1", "ok", "ok", "ok", "ok"]
 SCHEMA = [

@@ -2,7 +2,7 @@
 
 use crate::answer::Answer;
 use crate::bulk::{contents_of, number, stage_many, staged_path};
-use crate::look_ups::{add_message, count, look, walk};
+use crate::look_ups::{add_files, add_message, count, look, walk};
 use crate::stop::Stop;
 use crate::text::read_text;
 use hook_base::{Mode, RepoPath};
@@ -25,6 +25,7 @@ pub(crate) const CALLS_OF: &[&str] = &[
     "blob-of",
     "stage-many",
     "tree",
+    "files",
     "look",
     "message",
 ];
@@ -66,6 +67,7 @@ fn show<S: Alter>(
         "tree" => add_tree_of(store, number(rest)?, answer),
         "trees" => add_trees(store, answer),
         "weigh" => weigh(store, answer),
+        "files" => add_files(store, number(rest)?, answer),
         "look" => look(store, rest, answer),
         "count" => count(store, answer),
         "message" => add_message(store, number(rest)?, answer),

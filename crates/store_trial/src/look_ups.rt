@@ -7,7 +7,7 @@ use repo_store::Store;
 use sqlite::Alter;
 
 /// Adds what the store says of a path: whether it is staged, with its mode and its contents or `none`, whether it clashes
-/// with a staged one, and whether it differs from HEAD there.
+/// with a staged one, whether HEAD has it, and whether it differs from HEAD there.
 pub(crate) fn look<S: Alter>(
     store: &Store<S>,
     path: &str,
@@ -18,6 +18,7 @@ pub(crate) fn look<S: Alter>(
     answer.add(store.staged_mode(&path).map_or("none", word_of).as_bytes())?;
     answer.add(store.staged_bytes(&path).unwrap_or(b"none"))?;
     answer.show(store.clashes(&path))?;
+    answer.show(store.is_in_head(&path))?;
     answer.show(store.differs_from_head_at(&path))
 }
 
@@ -48,6 +49,21 @@ pub(crate) fn walk<S: Alter>(store: &Store<S>, answer: &mut Answer) -> Result<()
     answer.add(b"head")?;
     for index in 0..usize::MAX {
         let Some(file) = store.head_file(index) else {
+            break;
+        };
+        answer.add_file(file.mode, file.path, file.bytes)?;
+    }
+    Ok(())
+}
+
+/// Adds the files of a commit one by one.
+pub(crate) fn add_files<S: Alter>(
+    store: &Store<S>,
+    number: u32,
+    answer: &mut Answer,
+) -> Result<(), Stop> {
+    for index in 0..usize::MAX {
+        let Some(file) = store.commit_file(number, index) else {
             break;
         };
         answer.add_file(file.mode, file.path, file.bytes)?;
