@@ -11,13 +11,16 @@ mod command_line;
 mod configuration_bytes;
 mod configuration_run;
 mod help;
+mod host_line;
 mod line;
 mod run_ask;
+mod stub_line;
 mod try_fault;
 
 pub use check::check_text;
-pub use command_line::line_of;
 pub use configuration_bytes::MOST_CONFIGURATION_BYTES;
 pub use configuration_run::try_over;
+pub use host_line::command_over;
 pub use line::Line;
+pub use stub_line::line_of;
 pub use try_fault::TryFault;
