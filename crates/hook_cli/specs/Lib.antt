@@ -7,5 +7,6 @@ pub mod Reading
 pub mod RefusalText
 pub mod ShowText
 pub mod StatusText
+pub mod StatusWalk
 pub mod TryFaults
 pub mod TryOver

@@ -7,15 +7,18 @@
 #![tactic(auto)]
 
 mod check;
+mod command_ending;
 mod command_line;
 mod configuration_bytes;
 mod configuration_run;
 mod help;
 mod line;
+mod printing;
 mod run_ask;
 mod try_fault;
 
 pub use check::check_text;
+pub use command_ending::CommandEnding;
 pub use command_line::line_of;
 pub use configuration_bytes::MOST_CONFIGURATION_BYTES;
 pub use configuration_run::try_over;
