@@ -60,6 +60,13 @@ impl<S: Alter> Host<S> {
         store
     }
 
+    /// The store, for look-ups that copy nothing. It takes no memory.
+    pub fn store(&self) -> &Store<S>
+        ensures { result.now ≡ self.now.store }
+    {
+        &self.store
+    }
+
     /// Stages a file, in place of the one at its path, and forgets the fixes. Without a mode the file keeps that of the one
     /// that is staged at its path, and is plain where none is. Refused are, in this order, a text that is no path (`BadPath`),
     /// more than 16 MiB (`TooLarge`), a path and a staged one of which one is a folder of the other (`Clash`), a staged tree of

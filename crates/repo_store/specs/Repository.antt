@@ -1,5 +1,5 @@
 -- A repository as plain lists: its commits, the staged files and the fixes, with whole contents.
-use Rattle.std.specs.Prelude.{ℕ, zero, suc, List, [], ◌∷◌, ◌++◌, filter, slice_get, Option, None, is_some}
+use Rattle.std.specs.Prelude.{ℕ, zero, suc, List, [], ◌∷◌, ◌++◌, filter, slice_get, Option, None, is_some, option_map, unwrap_or}
 use Rattle.hook_base.specs.declared.file.File.{File}
 use Rattle.hook_base.specs.declared.file.FileEntry.{FileEntry}
 use Rattle.hook_base.specs.declared.change.Change.{Change}
@@ -52,3 +52,7 @@ last_tree (commit ∷ more) = last_tree more
 abbrev pub commit_at : ℕ → List Commit → Option Commit
 commit_at zero history = None
 commit_at (suc n) history = slice_get history n
+
+-- the files of a commit, and no files where no commit has the number
+abbrev pub tree_at : ℕ → List Commit → List File
+tree_at number history = unwrap_or (option_map (λ (commit : Commit). commit.tree) (commit_at number history)) []

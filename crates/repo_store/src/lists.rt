@@ -15,7 +15,7 @@ ghost use Rattle.repo_store.specs.Contents.{Collides, with_changes, with_new};
 ghost use Rattle.repo_store.specs.Faults.{IsRefusal};
 ghost use Rattle.repo_store.specs.Limits.{Fits, IsSmall, most_commits, most_files};
 ghost use Rattle.repo_store.specs.Log.{log_from};
-ghost use Rattle.repo_store.specs.Repository.{Commit, commit_at, empty, last_tree, staged_changes, with_staged};
+ghost use Rattle.repo_store.specs.Repository.{Commit, commit_at, empty, last_tree, staged_changes, tree_at, with_staged};
 ghost use Rattle.repo_store.specs.Sound.{IsSound};
 
 use crate::clashes::clashes;
@@ -185,7 +185,7 @@ impl Lists {
     }
 
     /// How many commits there are.
-    pub(crate) fn commits(&self) -> u32
+    pub(crate) fn count_commits(&self) -> u32
         ensures { result ≡ length self.now.kept.repo.history }
     {
         self.history.len() as u32
@@ -358,6 +358,16 @@ impl Lists {
         self.history.get(number as usize - 1)
     }
 
+    // The files of a commit, and none where no commit has the number.
+    fn files_at(&self, number: u32) -> &[SharedFile]
+        ensures { map file_of result.now ≡ tree_at number self.now.kept.repo.history }
+    {
+        match self.commit_at(number) {
+            Some(commit) => commit.files.as_slice(),
+            None => &[],
+        }
+    }
+
     /// The files of a commit, or none where there is no commit of this number.
     pub(crate) fn tree_of(&self, number: u32) -> Result<Option<Tree>, OutOfMemory>
         ensures { IfOk result (λ tree. tree ≡ option_map (λ (commit : Commit). commit.tree) (commit_at number self.now.kept.repo.history)) }
@@ -420,6 +430,20 @@ impl Lists {
         ensures { option_map copied_file result ≡ slice_get (last_tree self.now.kept.repo.history) index }
     {
         shown_at(self.head_files(), index)
+    }
+
+    /// The file of an index in a commit, without a copy.
+    pub(crate) fn commit_file(&self, number: u32, index: usize) -> Option<FileRef<'_>>
+        ensures { option_map copied_file result ≡ slice_get (tree_at number self.now.kept.repo.history) index }
+    {
+        shown_at(self.files_at(number), index)
+    }
+
+    /// Whether the last commit has a file at a path.
+    pub(crate) fn is_in_head(&self, path: &RepoPath) -> bool
+        ensures { result ≡ is_some (entry_of path.now (last_tree self.now.kept.repo.history)) }
+    {
+        has_path(self.head_files(), path)
     }
 
     /// Whether the staged files are others than those of the last commit.

@@ -20,7 +20,7 @@ ghost use Rattle.repo_store.specs.FileRefs.{copied_file};
 ghost use Rattle.repo_store.specs.Kept.{FixCollides, HasLarge, Kept, accepting, committing, keeping, setting, staging, unstaging};
 ghost use Rattle.repo_store.specs.Limits.{Fits, IsSmall, most_commits};
 ghost use Rattle.repo_store.specs.Log.{log_from};
-ghost use Rattle.repo_store.specs.Repository.{Commit, commit_at, empty, last_tree, staged_changes};
+ghost use Rattle.repo_store.specs.Repository.{Commit, commit_at, empty, last_tree, staged_changes, tree_at};
 ghost use Rattle.repo_store.specs.Rows.{tables_of};
 ghost use Rattle.repo_store.specs.Shown.{IsOneTransaction, Leaves, LeavesOnly, Stands};
 ghost use Rattle.repo_store.specs.Unfit.{IsUnfit};
@@ -216,7 +216,7 @@ impl<S: Alter> Store<S> {
         ensures why { IfErr result (IsRefusal (¬ IsSmall message.now) (IsSmall message.now × (most_commits ≤ length self.old.kept.repo.history)) ⊥) }
     {
         let commit = self.lists.prepare_commit(message)?;
-        let number = self.lists.commits() + 1;
+        let number = self.lists.count_commits() + 1;
         if let Err(error) = commit_rows(&mut self.conn, number, &commit) {
             return Err(fault_of(error));
         }
@@ -291,6 +291,13 @@ impl<S: Alter> Store<S> {
         self.lists.is_staged(path)
     }
 
+    /// Whether the last commit has a file at a path; before the first commit none has. It takes no memory.
+    pub fn is_in_head(&self, path: &RepoPath) -> bool
+        ensures { result ≡ is_some (entry_of path.now (last_tree self.now.kept.repo.history)) }
+    {
+        self.lists.is_in_head(path)
+    }
+
     /// The mode of the file that is staged at a path, or `None` where none is. It takes no memory.
     pub fn staged_mode(&self, path: &RepoPath) -> Option<Mode>
         ensures { result ≡ option_map (λ (entry : FileEntry). entry.mode) (entry_of path.now self.now.kept.repo.staged) }
@@ -315,7 +322,8 @@ impl<S: Alter> Store<S> {
 
     /// The staged file of an index in the order of the paths, counted from 0, or `None` past the last. It takes no memory.
     pub fn staged_file(&self, index: usize) -> Option<FileRef<'_>>
-        ensures { option_map copied_file result ≡ slice_get self.now.kept.repo.staged index }
+        ensures file { option_map copied_file result ≡ slice_get self.now.kept.repo.staged index }
+        ensures rising { IsRising self.now.kept.repo.staged }
     {
         self.lists.staged_file(index)
     }
@@ -323,9 +331,19 @@ impl<S: Alter> Store<S> {
     /// The file of the last commit of an index in the order of the paths, counted from 0, or `None` past the last and where
     /// there is no commit. It takes no memory.
     pub fn head_file(&self, index: usize) -> Option<FileRef<'_>>
-        ensures { option_map copied_file result ≡ slice_get (last_tree self.now.kept.repo.history) index }
+        ensures file { option_map copied_file result ≡ slice_get (last_tree self.now.kept.repo.history) index }
+        ensures rising { IsRising (last_tree self.now.kept.repo.history) }
     {
         self.lists.head_file(index)
+    }
+
+    /// The file of a commit of an index in the order of the paths, counted from 0, or `None` past the last and where no commit
+    /// has the number. It takes no memory.
+    pub fn commit_file(&self, number: u32, index: usize) -> Option<FileRef<'_>>
+        ensures file { option_map copied_file result ≡ slice_get (tree_at number self.now.kept.repo.history) index }
+        ensures rising { IsRising (tree_at number self.now.kept.repo.history) }
+    {
+        self.lists.commit_file(number, index)
     }
 
     /// Whether the staged files are others than those of the last commit, by their paths, modes or contents; before the first
@@ -352,10 +370,10 @@ impl<S: Alter> Store<S> {
     }
 
     /// How many commits there are, which is the number of the last. It takes no memory.
-    pub fn commits(&self) -> u32
+    pub fn count_commits(&self) -> u32
         ensures { result ≡ length self.now.kept.repo.history }
     {
-        self.lists.commits()
+        self.lists.count_commits()
     }
 
     /// The message of a commit, or `None` where no commit has the number. It takes no memory.

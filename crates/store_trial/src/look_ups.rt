@@ -24,7 +24,7 @@ pub(crate) fn look<S: Alter>(
 /// Adds how many fixes and commits there are, and whether anything differs from HEAD.
 pub(crate) fn count<S: Alter>(store: &Store<S>, answer: &mut Answer) -> Result<(), Stop> {
     answer.show(store.count_fixes())?;
-    answer.show(store.commits())?;
+    answer.show(store.count_commits())?;
     answer.show(store.differs_from_head())
 }
 

@@ -15,8 +15,8 @@ invariant_of-self-in-Err g c =
     let new = c.commit_rows.new.conn in
     let kept = c.self.inside.lists.kept in
     let prepared = c.in_ok-commit.ensures in
-    let count : c.commits-number.result + 1 ≡ length kept.repo.history + 1 = ap (λ (n : ℕ). n + 1) (c.commits-number.ensures ∙ ap (λ (k : Kept). length k.repo.history) prepared.same) in
-    let same = committing_handed c.args.message.now c.in_ok-commit.commit.message (c.commits-number.result + 1) (map file_of c.in_ok-commit.commit.files.items) kept
+    let count : c.count_commits-number.result + 1 ≡ length kept.repo.history + 1 = ap (λ (n : ℕ). n + 1) (c.count_commits-number.ensures ∙ ap (λ (k : Kept). length k.repo.history) prepared.same) in
+    let same = committing_handed c.args.message.now c.in_ok-commit.commit.message (c.count_commits-number.result + 1) (map file_of c.in_ok-commit.commit.files.items) kept
     (ap (λ (commit : Commit). commit.message) prepared.commit) count (ap (λ (commit : Commit). commit.tree) prepared.commit) in
     let complete = complete_committed c.args.message.now kept c.self.invariant.complete prepared.within.1 in
     let obeys = obeys_committed kept c.self.invariant.obeys c.args.message.now prepared.within.0 complete in
@@ -33,8 +33,8 @@ returns-in-Err-clause-transaction g c =
     let new = c.commit_rows.new.conn in
     let kept = c.self.inside.lists.kept in
     let prepared = c.in_ok-commit.ensures in
-    let count : c.commits-number.result + 1 ≡ length kept.repo.history + 1 = ap (λ (n : ℕ). n + 1) (c.commits-number.ensures ∙ ap (λ (k : Kept). length k.repo.history) prepared.same) in
-    let same = committing_handed c.args.message.now c.in_ok-commit.commit.message (c.commits-number.result + 1) (map file_of c.in_ok-commit.commit.files.items) kept
+    let count : c.count_commits-number.result + 1 ≡ length kept.repo.history + 1 = ap (λ (n : ℕ). n + 1) (c.count_commits-number.ensures ∙ ap (λ (k : Kept). length k.repo.history) prepared.same) in
+    let same = committing_handed c.args.message.now c.in_ok-commit.commit.message (c.count_commits-number.result + 1) (map file_of c.in_ok-commit.commit.files.items) kept
     (ap (λ (commit : Commit). commit.message) prepared.commit) count (ap (λ (commit : Commit). commit.tree) prepared.commit) in
     let complete = complete_committed c.args.message.now kept c.self.invariant.complete prepared.within.1 in
     let obeys = obeys_committed kept c.self.invariant.obeys c.args.message.now prepared.within.0 complete in
@@ -47,8 +47,8 @@ invariant_of-self-2 g c =
     let new = c.commit_rows.new.conn in
     let kept = c.self.inside.lists.kept in
     let prepared = c.in_ok-commit.ensures in
-    let count : c.commits-number.result + 1 ≡ length kept.repo.history + 1 = ap (λ (n : ℕ). n + 1) (c.commits-number.ensures ∙ ap (λ (k : Kept). length k.repo.history) prepared.same) in
-    let same = committing_handed c.args.message.now c.in_ok-commit.commit.message (c.commits-number.result + 1) (map file_of c.in_ok-commit.commit.files.items) kept
+    let count : c.count_commits-number.result + 1 ≡ length kept.repo.history + 1 = ap (λ (n : ℕ). n + 1) (c.count_commits-number.ensures ∙ ap (λ (k : Kept). length k.repo.history) prepared.same) in
+    let same = committing_handed c.args.message.now c.in_ok-commit.commit.message (c.count_commits-number.result + 1) (map file_of c.in_ok-commit.commit.files.items) kept
     (ap (λ (commit : Commit). commit.message) prepared.commit) count (ap (λ (commit : Commit). commit.tree) prepared.commit) in
     let now = c.commit.ensures ∙ ap₂ (λ (m : List ℕ) (k : Kept). committing m k) (ap (λ (commit : Commit). commit.message) prepared.commit) prepared.same in
     let complete = complete_committed c.args.message.now kept c.self.invariant.complete prepared.within.1 in
@@ -60,19 +60,19 @@ pub returns-clause-change : goal.returns-clause-change
 returns-clause-change g c =
     let prepared = c.in_ok-commit.ensures in
     let now = c.commit.ensures ∙ ap₂ (λ (m : List ℕ) (k : Kept). committing m k) (ap (λ (commit : Commit). commit.message) prepared.commit) prepared.same in
-    subst (λ (s : Shown g.row.S.Denot). IsAllOrNothing s.kept c.commit.new.self.kept (Ok (c.commits-number.result + 1)) (committing c.args.message.now s.kept)) c.self.view_is (record { done = now; same = tt })
+    subst (λ (s : Shown g.row.S.Denot). IsAllOrNothing s.kept c.commit.new.self.kept (Ok (c.count_commits-number.result + 1)) (committing c.args.message.now s.kept)) c.self.view_is (record { done = now; same = tt })
 
 pub returns-clause-transaction : goal.returns-clause-transaction
 returns-clause-transaction g c =
     let new = c.commit_rows.new.conn in
     let kept = c.self.inside.lists.kept in
     let prepared = c.in_ok-commit.ensures in
-    let count : c.commits-number.result + 1 ≡ length kept.repo.history + 1 = ap (λ (n : ℕ). n + 1) (c.commits-number.ensures ∙ ap (λ (k : Kept). length k.repo.history) prepared.same) in
-    let same = committing_handed c.args.message.now c.in_ok-commit.commit.message (c.commits-number.result + 1) (map file_of c.in_ok-commit.commit.files.items) kept
+    let count : c.count_commits-number.result + 1 ≡ length kept.repo.history + 1 = ap (λ (n : ℕ). n + 1) (c.count_commits-number.ensures ∙ ap (λ (k : Kept). length k.repo.history) prepared.same) in
+    let same = committing_handed c.args.message.now c.in_ok-commit.commit.message (c.count_commits-number.result + 1) (map file_of c.in_ok-commit.commit.files.items) kept
     (ap (λ (commit : Commit). commit.message) prepared.commit) count (ap (λ (commit : Commit). commit.tree) prepared.commit) in
     let now = c.commit.ensures ∙ ap₂ (λ (m : List ℕ) (k : Kept). committing m k) (ap (λ (commit : Commit). commit.message) prepared.commit) prepared.same in
     let complete = complete_committed c.args.message.now kept c.self.invariant.complete prepared.within.1 in
     let obeys = obeys_committed kept c.self.invariant.obeys c.args.message.now prepared.within.0 complete in
-    subst (λ (s : Shown g.row.S.Denot). IsOneTransaction g.S.Store s (record { conn = new; kept = c.commit.new.self.kept }) (Ok (c.commits-number.result + 1)) (committing c.args.message.now s.kept)) c.self.view_is
+    subst (λ (s : Shown g.row.S.Denot). IsOneTransaction g.S.Store s (record { conn = new; kept = c.commit.new.self.kept }) (Ok (c.count_commits-number.result + 1)) (committing c.args.message.now s.kept)) c.self.view_is
     (done_transaction g.S.Store c.self.inside.conn new kept (committing c.args.message.now kept) _ c.self.invariant same (g.met.S.Store.shut_if_dirty new.store) complete obeys
-    (g.met.S.Store.settled new.store) c.commit.new.self.kept now c.in_default.field-0 (c.in_default.ensures (tables_in kept)) (c.commits-number.result + 1))
+    (g.met.S.Store.settled new.store) c.commit.new.self.kept now c.in_default.field-0 (c.in_default.ensures (tables_in kept)) (c.count_commits-number.result + 1))
