@@ -123,10 +123,13 @@ pub record Refuses (repo : Repository) (line : Line) (out err : Output) (ending 
   pub told : IsTold err text ending
   pub silent : IsSilent out
 
+abbrev pub IsLookUp : Repository → Line → Output → Output → CommandEnding → Type 0
+IsLookUp repo line out err ending = Answers repo line out err ending ⊎ Refuses repo line out err ending
+
 -- a look-up leaves the host as it was
 pub record IsLookedUp {S : Type 0} (old new : Hosted S) (line : Line) (out err : Output) (ending : CommandEnding) : Type 0 where
   pub same : new ≡ old
-  pub answered : Answers old.store.kept.repo line out err ending ⊎ Refuses old.store.kept.repo line out err ending
+  pub answered : IsLookUp old.store.kept.repo line out err ending
 
 -- ---- all of them
 

@@ -25,7 +25,7 @@ pub(crate) fn log_text<S: Alter>(alloc: Global, store: &Store<S>) -> Result<Vec<
 fn push_log_lines<S: Alter>(text: &mut Vec<u8>, store: &Store<S>) -> Result<(), OutOfMemory>
     ensures { OnOk result (text.new.items ≡ text.old.items ++ log_text store.now.kept.repo.history) }
 {
-    let mut number = store.commits();
+    let mut number = store.count_commits();
     // No commit has the number 0.
     'commits: while let Some(message) = store.message_of(number) {
         push_log_line(text, number, message)?;
