@@ -2,11 +2,11 @@
 //!
 //! The contracts cite `specs/Printing.antt` and `specs/RefusalText.antt`.
 
-ghost use Rattle.std.specs.Prelude.{OnOk, OnErr, map};
-ghost use Rattle.std.specs.Io.KnownBytes.{Keeps};
+ghost use Rattle.std.specs.Prelude.{◌++◌, ◌≤◌, IfOk, OnOk, OnErr, Some, codes, length, map, take};
 ghost use Rattle.std.specs.List.{concat};
-ghost use Rattle.hook_cli.specs.Printing.{Has, HasBeginning, IsSaid, IsTold};
-ghost use Rattle.hook_cli.specs.RefusalText.{no_commit_text, refusal_text};
+ghost use Rattle.report_text.specs.Report.{line};
+ghost use Rattle.hook_cli.specs.Printing.{Has, HasBeginning, IsSaid, IsSilent, IsTold};
+ghost use Rattle.hook_cli.specs.RefusalText.{inner_text, no_commit_text, refusal_text};
 
 use crate::CommandEnding;
 use commit_flow::HostRefusal;
@@ -31,21 +31,21 @@ pub(crate) fn say<O: Write>(out: &mut O, text: &[u8]) -> CommandEnding
 pub(crate) fn tell<E: Write>(err: &mut E, refusal: &HostRefusal) -> CommandEnding
     ensures { IsTold (record { held = E.contents err.old; holds = E.contents err.new }) (refusal_text refusal.now) result }
 {
-    let mut number = Buffer::new();
-    let mut inner = Buffer::new();
-    let (blank, inner) = match refusal.inner_number() {
-        Some(number) => (" ", inner.format(number)),
-        None => ("", ""),
-    };
-    tell_pieces(err, &[
-        "hookhost: refused: ",
-        number.format(refusal.number()),
-        " ",
-        refusal.name(),
-        blank,
-        inner,
-        "\n",
-    ])
+    let mut digits = Buffer::new();
+    let number = digits.format(refusal.number());
+    match refusal.inner_number() {
+        Some(inner) => tell_refusal_of(err, number, refusal.name(), inner),
+        None => tell_pieces(err, &["hookhost: refused: ", number, " ", refusal.name(), "\n"]),
+    }
+}
+
+// Tells a refusal that hands on the fault with this number.
+fn tell_refusal_of<E: Write>(err: &mut E, number: &str, name: &str, inner: u8) -> CommandEnding
+    ensures { IsTold (record { held = E.contents err.old; holds = E.contents err.new }) (line (codes "hookhost: refused: " ++ number.now ++ codes " " ++ name.now ++ inner_text (Some inner))) result }
+{
+    let mut digits = Buffer::new();
+    let inner = digits.format(inner);
+    tell_pieces(err, &["hookhost: refused: ", number, " ", name, " ", inner, "\n"])
 }
 
 /// Tells that no commit has the number. It takes no memory.
@@ -95,18 +95,27 @@ fn write_piece<W: Write>(writer: &mut W, text: &[u8]) -> Result<(), Unwritten>
         if written == text.len() {
             return Ok(());
         }
-        match writer.write(&text[written..]) {
-            Ok(0) => return Err(Unwritten),
-            Ok(count) => written += count,
-            Err(error) if error.kind() == ErrorKind::Interrupted => {}
-            Err(_) => return Err(Unwritten),
-        }
+        written += write_some(writer, &text[written..])?;
     }
     Err(Unwritten)
 }
 
+// Writes once, and answers how many bytes the writer took: none where it was interrupted.
+fn write_some<W: Write>(writer: &mut W, text: &[u8]) -> Result<usize, Unwritten>
+    ensures count { IfOk result (λ count. count ≤ length text.now) }
+    ensures ok { IfOk result (λ count. Has (record { held = W.contents writer.old; holds = W.contents writer.new }) (take count text.now)) }
+    ensures err { OnErr result (IsSilent (record { held = W.contents writer.old; holds = W.contents writer.new })) }
+{
+    match writer.write(text) {
+        Ok(0) => Err(Unwritten),
+        Ok(count) => Ok(count),
+        Err(error) if error.kind() == ErrorKind::Interrupted => Ok(0),
+        Err(_) => Err(Unwritten),
+    }
+}
+
 fn flush<W: Write>(writer: &mut W) -> Result<(), Unwritten>
-    ensures { Keeps (W.contents writer.old) (W.contents writer.new) }
+    ensures { IsSilent (record { held = W.contents writer.old; holds = W.contents writer.new }) }
 {
     writer.flush().map_err(|_| Unwritten)
 }
