@@ -1,11 +1,11 @@
 -- Texts that a writer takes piece by piece, and the texts of refusals in pieces.
-use Rattle.std.proofs.Common.{◌≡◌, ◌∙◌, ap, sym, subst, refl, arith, add-one, append_assoc, ℕ, zero, suc, ◌+◌, ◌<◌, List, [], ◌∷◌, ◌++◌, length, take, drop, get_or, map, Option, None, Some, Bor, Result, Ok, Err}
+use Rattle.std.proofs.Common.{◌≡◌, ◌∙◌, ap, sym, subst, refl, arith, add-one, append_assoc, ℕ, ◌+◌, ◌-◌, ◌<◌, ◌≤◌, List, [], ◌∷◌, ◌++◌, length, take, drop, length-drop, get_or, map, Option, None, Some, Bor, Result, Ok, Err}
 use Rattle.std.specs.Prelude.{OnErr, codes}
 use Rattle.std.specs.List.{concat}
 use Rattle.std.specs.Fmt.{decimal}
 use Rattle.std.specs.Io.KnownBytes.{Appends, Keeps}
 use Rattle.std.proofs.Math.Seq.{take-add}
-use Rattle.std.proofs.lemmas.List.{append-nil, take_more, take-append-drop}
+use Rattle.std.proofs.lemmas.List.{append-nil, take_all, take_more, take-append-drop}
 use Rattle.report_text.specs.Report.{line}
 use Rattle.commit_flow.specs.declared.host_refusal.HostRefusal.{HostRefusal}
 use Rattle.commit_flow.specs.Refusals.{inner_number_of, name_of, number_of}
@@ -39,11 +39,21 @@ begun held holds text written taken = record {
   written = taken;
 }
 
+drop_whole : (text : List ℕ) (written : ℕ) → take (length text - written) (drop written text) ≡ drop written text
+drop_whole text written = take_all (length text - written) (drop written text) (omega (arith, length-drop written text))
+
+pub taken-within : (text : List ℕ) (written count : ℕ) → written ≤ length text
+    → count ≤ length (take (length text - written) (drop written text)) → written + count ≤ length text
+taken-within text written count within few =
+    let fits : count ≤ length (drop written text) = subst (λ (rest : List ℕ). count ≤ length rest) (drop_whole text written) few in
+    omega (arith, length-drop written text)
+
 pub taken-more : (held mid holds : Option (List ℕ)) (text : List ℕ) (written count : ℕ) → Appends held mid (take written text)
-    → Appends mid holds (take count (drop written text)) → Appends held holds (take (written + count) text)
+    → Appends mid holds (take count (take (length text - written) (drop written text))) → Appends held holds (take (written + count) text)
 taken-more held mid holds text written count taken more =
     subst (λ (bytes : List ℕ). Appends held holds bytes) (sym (take-add written count text))
-    (appends-more held mid holds (take written text) (take count (drop written text)) taken more)
+    (appends-more held mid holds (take written text) (take count (drop written text)) taken
+    (subst (λ (rest : List ℕ). Appends mid holds (take count rest)) (drop_whole text written) more))
 
 -- ---- a text in pieces
 
@@ -94,7 +104,7 @@ plain_pieces head number name = simp (append_assoc, append-nil)
 
 inner_pieces : (head number name inner : List ℕ)
     → head ++ (number ++ (32 ∷ (name ++ (32 ∷ (inner ++ (10 ∷ [])))))) ≡ line (head ++ number ++ codes " " ++ name ++ (codes " " ++ inner))
-inner_pieces head number name inner = simp (append_assoc, append-nil)
+inner_pieces head number name inner = simp append_assoc
 
 abbrev refusal_head : List ℕ
 refusal_head = codes "hookhost: refused: "

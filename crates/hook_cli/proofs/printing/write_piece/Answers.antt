@@ -1,5 +1,4 @@
-use Rattle.std.proofs.Common.{arith}
-use Rattle.hook_cli.proofs.PrintingLemmas.{begun, begun-and-kept, on-err, taken-more}
+use Rattle.hook_cli.proofs.PrintingLemmas.{begun, begun-and-kept, on-err, taken-more, taken-within}
 use Rattle.hook_cli.proofs.printing.write_piece.Goals as goal
 
 pub returns-in_err-written-clause-err : goal.returns-in_err-written-clause-err
@@ -10,7 +9,7 @@ returns-in_err-written-clause-err g c =
 
 pub tries-preserved : goal.tries-preserved
 tries-preserved g c = record {
-  within = let count = c.in_ok-written.ensures.count in ?;
+  within = taken-within c.args.text.now c.tries.written c.in_ok-written.field-0 c.tries.invariant.within c.in_ok-written.ensures.count;
   taken = taken-more (g.W.Write.contents c.args.writer.now) (g.W.Write.contents c.tries.writer) (g.W.Write.contents c.write_some.new.writer)
       c.args.text.now c.tries.written c.in_ok-written.field-0 c.tries.invariant.taken c.in_ok-written.ensures.ok;
 }
