@@ -4,4 +4,6 @@ pub mod LineLemmas
 pub mod PrintingLemmas
 pub mod ReadingLemmas
 pub mod RunLemmas
+pub mod StatusLemmas
+pub mod TextLemmas
 pub mod ValueLemmas
