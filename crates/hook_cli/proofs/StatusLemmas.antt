@@ -11,12 +11,11 @@ use Rattle.hook_base.specs.declared.file.FileEntry.{FileEntry}
 use Rattle.hook_base.specs.declared.file.Mode.{Mode}
 use Rattle.hook_base.specs.declared.file.Mode.TheVariants.{Plain, Executable}
 use Rattle.hook_base.specs.Rising.{path_cmp}
-use Rattle.hook_base.specs.RisingLemmas.{false_from_not}
 use Rattle.hook_base.specs.Trees.{path_of}
 use Rattle.report_text.specs.Report.{line}
 use Rattle.hook_cli.specs.StatusText.{change_line, in_order, is_same_entry, is_same_mode, paths_from, paths_of_both}
 use Rattle.hook_cli.specs.StatusWalk.{mark_of}
-use Rattle.hook_cli.proofs.TextLemmas.{drop-none, drop-some}
+use Rattle.hook_cli.proofs.TextLemmas.{drop-none, drop-some, false_from_not}
 
 -- ---- where the walk goes on
 

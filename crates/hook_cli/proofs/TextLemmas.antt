@@ -6,10 +6,13 @@ use Rattle.std.proofs.lemmas.List.{append-nil, drop_all, take_all}
 use Rattle.std.proofs.lemmas.List.Sums.{position_or_len_is}
 use Rattle.std.proofs.lemmas.Option.{slice_get-get_or}
 use Rattle.memchr.specs.Find.{NoneBefore, Nowhere, Passes, is_byte}
-use Rattle.hook_base.specs.RisingLemmas.{false_from_not}
 use Rattle.repo_store.specs.Repository.{Commit, commit_at}
 use Rattle.hook_cli.specs.LogText.{first_line_of, log_line, log_text, log_text_from}
 use Rattle.hook_cli.specs.ShowText.{ended}
+
+pub false_from_not : (b : Bool) → (b ≡ true → ⊥) → b ≡ false
+false_from_not true differs = absurd (differs refl)
+false_from_not false differs = refl
 
 -- ---- a list from an index on
 
@@ -89,6 +92,9 @@ nothing_there commit (Some other) is none = cc
 
 abbrev no_commit : Commit
 no_commit = record { message = []; tree = [] }
+
+pub log-line-said : (before after line whole rest : List ℕ) → whole ≡ rest ++ line → before ≡ rest → after ≡ before ++ line → after ≡ whole
+log-line-said before after line whole rest is so_far made = made ∙ ap (λ text. text ++ line) so_far ∙ sym is
 
 pub log-end : (history : List Commit) (number : ℕ) → number ≤ length history → None ≡ option_map message_in (commit_at number history)
     → log_text_from (number + 1) (drop number history) ≡ log_text history
