@@ -1,6 +1,7 @@
 pub mod AskLemmas
 pub mod KnownBytesLemmas
 pub mod LineLemmas
+pub mod OverHostLemmas
 pub mod PrintingLemmas
 pub mod ReadingLemmas
 pub mod RunLemmas
