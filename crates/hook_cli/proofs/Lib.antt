@@ -2,6 +2,7 @@ pub mod AskLemmas
 pub mod KnownBytesLemmas
 pub mod LineLemmas
 pub mod OverHostLemmas
+pub mod PathLemmas
 pub mod PrintingLemmas
 pub mod ReadingLemmas
 pub mod RunLemmas

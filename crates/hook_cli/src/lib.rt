@@ -12,6 +12,7 @@ mod command_line;
 mod configuration_bytes;
 mod configuration_run;
 mod help;
+pub mod laws;
 mod line;
 mod log_text;
 mod look_up;
