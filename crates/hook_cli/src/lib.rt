@@ -1,9 +1,12 @@
-//! The command line of `hookhost` as a library: the run of a configuration over a tree with its report written out
-//! (`try_over`), what `check` prints of a configuration (`check_text`), and what a line of words asks for (`line_of`).
+//! The command line of `hookhost` as a library: what a line of words asks for (`line_of`), the run of a configuration over
+//! a tree with its report written out (`try_over`), what `check` prints of a configuration (`check_text`), and the commands
+//! over a repository with what they print (`command_over`).
 //!
-//! Their contracts cite `specs/TryOver.antt`, which stands on the definitions of `hook_run` (what a run is) and of
-//! `report_text` (its report), `specs/CheckText.antt`, `specs/CommandLine.antt` and `specs/TryFaults.antt` (the refusals of
-//! a run).
+//! Their contracts cite `specs/CommandLine.antt`, `specs/TryOver.antt`, which stands on the definitions of `hook_run` (what a
+//! run is) and of `report_text` (its report), `specs/TryFaults.antt` (the refusals of a run), `specs/CheckText.antt`, and
+//! `specs/CommandOver.antt`, which stands on those of `commit_flow` (what a command makes of a repository) and on
+//! `specs/Printing.antt`, `specs/StatusText.antt`, `specs/LogText.antt`, `specs/ShowText.antt` and `specs/RefusalText.antt` (what
+//! is printed). [`laws`] says what follows from these definitions alone.
 #![tactic(auto)]
 
 mod check;
