@@ -86,8 +86,14 @@ both-true true true is = (refl, refl)
 both-true true false is = cc
 both-true false b is = cc
 
+abbrev entry_with : Mode → List ℕ → FileEntry
+entry_with mode bytes = record { mode = mode; bytes = bytes }
+
+same_parts : (mode other : Mode) (bytes more : List ℕ) → mode ≡ other → bytes ≡ more → entry_with mode bytes ≡ entry_with other more
+same_parts mode other bytes more modes contents = cc
+
 entry_of_parts : (entry other : FileEntry) → entry.mode ≡ other.mode → entry.bytes ≡ other.bytes → entry ≡ other
-entry_of_parts entry other modes bytes = cc
+entry_of_parts entry other modes bytes = same_parts entry.mode other.mode entry.bytes other.bytes modes bytes
 
 same-entry : (entry other : FileEntry) → is_same_entry entry other ≡ true → entry ≡ other
 same-entry entry other same =

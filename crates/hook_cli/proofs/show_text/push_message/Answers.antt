@@ -10,8 +10,8 @@ returns-in_default c =
 
 pub returns-then-last-eq10 : goal.returns-then-last-eq10
 returns-then-last-eq10 c =
-    subst (λ (text : List ℕ). OnOk c.push-2.result (c.push-2.new.report.items ≡ c.args.text.now.items ++ text))
-    (sym (ended-line c.args.message.now c.in-Some.last.now (sym c.in-Some.ensures.value) c.if-last-eq10.true)) c.push-2.ensures
+    subst (λ (text : List ℕ). OnOk c.push-then-last-eq10.result (c.push-then-last-eq10.new.report.items ≡ c.args.text.now.items ++ text))
+    (sym (ended-line c.args.message.now c.in-Some.last.now (sym c.in-Some.ensures.value) c.if-last-eq10.true)) c.push-then-last-eq10.ensures
 
 pub returns : goal.returns
 returns c =
