@@ -2,13 +2,14 @@
 
 ghost use Rattle.std.specs.Prelude.{IfErr, IfOk};
 ghost use Rattle.hookhost.specs.FileTrees.{AreFilesOf, IsFileOf, IsTreeOf};
-ghost use Rattle.hookhost.specs.Stops.{IsStopOfFile, IsStopOfFiles};
+ghost use Rattle.hookhost.specs.Stops.{IsStopOfAdd, IsStopOfFile, IsStopOfFiles};
 
 use crate::file_tree::{plain_file, tree_of};
 use crate::stop::Stop;
 use hook_base::{File, Items, MOST_FILE_BYTES, PathFault, RepoPath, Text, Tree};
-use hook_cli::{MOST_CONFIGURATION_BYTES, TryFault};
+use hook_cli::{Line, MOST_CONFIGURATION_BYTES, TryFault};
 use std::io::Read;
+use std::os::unix::fs::FileTypeExt;
 use std::rt::Files;
 use std::{fs, io};
 
@@ -57,6 +58,39 @@ pub(crate) fn read_configuration<R: Files + AllocGlobal>(
     match read_up_to(rt, word.as_str(), MOST_CONFIGURATION_BYTES + 1) {
         Ok(bytes) => Ok(bytes),
         Err(error) => Err(Stop::of_file(&error, word)),
+    }
+}
+
+/// The bytes of the file that a line stages, up to one past the limit: the host refuses one that is longer. There are none
+/// for another line. A file that isn't there or can't be read is `Stop::CannotUse`, and want of memory
+/// `Stop::RefusedCommand`.
+pub(crate) fn read_file_of<R: Files + AllocGlobal>(rt: &R, line: &Line) -> Result<Vec<u8>, Stop>
+    ensures { IfErr result (IsStopOfAdd line.now) }
+{
+    match line {
+        Line::Add { path, .. } => read_staged(rt, path).map_err(Stop::of_command),
+        _ => Ok(Vec::new(rt.alloc())),
+    }
+}
+
+fn read_staged<R: Files + AllocGlobal>(rt: &R, path: &Text) -> Result<Vec<u8>, Stop>
+    ensures { IfErr result (IsStopOfFile path.now) }
+{
+    let word = path.clone()?;
+    // To open it would wait for a writer, while the lock keeps other commands out.
+    if is_fifo(rt, word.as_str()) {
+        return Err(Stop::CannotUse(word));
+    }
+    match read_up_to(rt, word.as_str(), MOST_FILE_BYTES + 1) {
+        Ok(bytes) => Ok(bytes),
+        Err(error) => Err(Stop::of_file(&error, word)),
+    }
+}
+
+fn is_fifo<R: Files>(rt: &R, path: &str) -> bool {
+    match fs::metadata(rt, path) {
+        Ok(found) => found.file_type().is_fifo(),
+        Err(_) => false,
     }
 }
 

@@ -2,54 +2,82 @@
 //! status.
 #![tactic(auto)]
 
+ghost use Rattle.std.specs.Prelude.{◌≡◌};
+ghost use Rattle.hookhost.specs.Stops.{status_of_run};
+
+mod commands;
+mod database;
 mod file_tree;
 mod files;
+mod new_repository;
+mod repository;
 mod stop;
 
 use child_port::TableChildren;
+use commands::host_command;
 use files::{read_configuration, read_tree};
 use hook_base::{Items, Text, Tree};
 use hook_cli::{Line, TryFault, check_text, line_of, try_over};
 use hook_config::read_config_with_node;
+use new_repository::init;
 use std::io::{Read, Write};
 use std::process::ExitCode;
-use std::rt::{Env, Files};
+use std::rt::Files;
 use std::{env, io, mem};
 use stop::{Stop, tell};
 
 // The file that `check` reads, in the working folder.
 const CONFIGURATION: &str = ".pre-commit-config.yaml";
 
+// The exit status where what was asked for is done, and no hook failed.
+const DONE: u8 = 0;
+
 // The exit status of a run in which a hook failed.
 const HOOK_FAILED: u8 = 1;
 
 fn main(rt: HostRuntime) -> ExitCode {
     match run(&rt) {
-        Ok(true) => ExitCode::SUCCESS,
-        Ok(false) => ExitCode::from(HOOK_FAILED),
+        Ok(status) => ExitCode::from(status),
         Err(stop) => ExitCode::from(tell(&rt, &stop)),
     }
 }
 
-// Does what the process's words ask for, and answers whether every hook that was run passed.
-fn run<R: Env + Files + Input + Print + AllocGlobal>(rt: &R) -> Result<bool, Stop> {
+// Does what the process's words ask for, and answers its exit status.
+fn run(rt: &HostRuntime) -> Result<u8, Stop> {
     let mut words = env::args(rt).map_err(Stop::of_words)?;
     let _program = words.next();
     let words: Vec<String> = words.collect(rt.alloc())?;
     if words.is_empty() {
-        return report(rt, &mut rt.reader(), &Tree::new(rt.alloc()));
+        let passed = report(rt, &mut rt.reader(), &Tree::new(rt.alloc()))?;
+        return Ok(status_of_run(passed));
     }
     let mut texts = Vec::with_capacity(rt.alloc(), words.len())?;
     for word in &words {
         texts.push(word.as_str())?;
     }
-    match line_of(rt.alloc(), texts.as_slice())? {
-        Line::Try { config, paths } => try_files(rt, config, paths),
+    do_line(rt, line_of(rt.alloc(), texts.as_slice())?)
+}
+
+fn do_line(rt: &HostRuntime, line: Line) -> Result<u8, Stop> {
+    match line {
+        Line::Try { config, paths } => Ok(status_of_run(try_files(rt, config, paths)?)),
         Line::Check => {
             check(rt).map_err(Stop::of_check)?;
-            Ok(true)
+            Ok(DONE)
         }
+        Line::Init => {
+            init(rt)?;
+            Ok(DONE)
+        }
+        line => host_command(rt, &line),
     }
+}
+
+// The exit status of a run of hooks.
+fn status_of_run(passed: bool) -> u8
+    ensures { result ≡ status_of_run passed }
+{
+    if passed { DONE } else { HOOK_FAILED }
 }
 
 // `check`: reads the working folder's configuration, and prints how many hooks it has and which keys are ignored.
@@ -78,7 +106,10 @@ fn try_files<R: Files + Print + AllocGlobal>(
 ) -> Result<bool, Stop> {
     let bytes = read_configuration(rt, config)?;
     let tree = read_tree(rt, paths)?;
-    report(rt, &mut bytes.as_slice(), &tree)
+    let passed = report(rt, &mut bytes.as_slice(), &tree)?;
+    // As above, of the files.
+    mem::forget(tree);
+    Ok(passed)
 }
 
 // Runs the configuration over the tree and prints the report.

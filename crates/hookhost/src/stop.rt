@@ -1,11 +1,15 @@
 //! Why the program ends without having done what its words ask for, and how it says so.
 
 ghost use Rattle.std.specs.Prelude.{◌≡◌, ◌↔◌, IsTrue};
-ghost use Rattle.hookhost.specs.Stops.{IsNoMemory, IsStopOfFile, StopsFor, of_check, status_of};
+ghost use Rattle.hookhost.specs.Stops.{IsNoMemory, IsStopOfFile, StopsFor, of_check, of_command, of_database, status_of};
 
+use crate::repository::{LOCK, STORE};
+use commit_flow::HostRefusal;
 use hook_base::{OutOfMemory, Text};
 use hook_cli::TryFault;
 use hook_config::ConfigFault;
+use repo_store::StoreFault;
+use sqlite::ErrorCode;
 use std::alloc::{AllocError, AllocFailed};
 use std::io;
 
@@ -28,6 +32,14 @@ pub(crate) enum Stop {
     Refused(TryFault),
     /// The configuration was read alone, and refused.
     NoConfiguration(ConfigFault),
+    /// The file of the repository's store can't be used.
+    CannotUseStore,
+    /// The lock of the repository can't be had.
+    CannotUseLock,
+    /// The repository's store can't be made or opened.
+    NoStore(StoreFault),
+    /// A command on the repository was refused before the host was asked.
+    RefusedCommand(HostRefusal),
 }
 
 impl Stop {
@@ -65,6 +77,33 @@ impl Stop {
                 Stop::NoConfiguration(ConfigFault::from(OutOfMemory))
             }
             stop => stop,
+        }
+    }
+
+    /// The same stop where a command on the repository is asked for: want of memory is then the host's refusal.
+    pub(crate) fn of_command(self) -> Stop
+        ensures { result ≡ of_command self }
+    {
+        match self {
+            Stop::Refused(TryFault::OutOfMemory) => Stop::RefusedCommand(HostRefusal::OutOfMemory),
+            stop => stop,
+        }
+    }
+
+    /// What an error of opening the store's database means: where the file is at fault, it can't be used, and any other
+    /// error is the store's.
+    pub(crate) fn of_database(error: sqlite::Error) -> Stop
+        ensures { result ≡ of_database error }
+    {
+        match error {
+            sqlite::Error::SqliteFailure(
+                ErrorCode::CannotOpen
+                | ErrorCode::DatabaseBusy
+                | ErrorCode::NotADatabase
+                | ErrorCode::DatabaseCorrupt
+                | ErrorCode::SystemIoFailure,
+            ) => Stop::CannotUseStore,
+            error => Stop::NoStore(StoreFault::from(error)),
         }
     }
 }
@@ -112,6 +151,17 @@ impl From<ConfigFault> for Stop {
     }
 }
 
+impl From<StoreFault> for Stop {
+    ghost use Rattle.std.specs.Prelude.{◌≡◌};
+    ghost use Rattle.hookhost.specs.declared.stop.Stop.TheVariants.{NoStore};
+
+    ghost from_gives = { λ fault stop. stop ≡ NoStore fault };
+
+    fn from(fault: StoreFault) -> Stop {
+        Stop::NoStore(fault)
+    }
+}
+
 impl From<OutOfMemory> for Stop {
     ghost use Rattle.std.specs.Prelude.{◌≡◌};
     ghost use Rattle.hookhost.specs.declared.stop.Stop.TheVariants.{Refused};
@@ -156,17 +206,23 @@ pub(crate) fn tell<R: Eprint>(rt: &R, stop: &Stop) -> u8
     let (said, status) = match stop {
         Stop::Usage(error) => (rt.eprint(error), USAGE),
         Stop::NotText => (rt.eprintln("error: a word is not UTF-8"), USAGE),
-        Stop::CannotUse(word) => (say_unusable(rt, word), REFUSED),
+        Stop::CannotUse(word) => (say_unusable(rt, word.as_str()), REFUSED),
         Stop::Refused(fault) => (say_refused(rt, fault.number(), fault.name()), REFUSED),
         Stop::NoConfiguration(fault) => (say_refused(rt, fault.number(), fault.name()), REFUSED),
+        Stop::CannotUseStore => (say_unusable(rt, STORE), REFUSED),
+        Stop::CannotUseLock => (say_unusable(rt, LOCK), REFUSED),
+        Stop::NoStore(fault) => (say_refused(rt, fault.number(), fault.name()), REFUSED),
+        Stop::RefusedCommand(refusal) => (
+            say_refused(rt, refusal.number(), refusal.name()),
+            REFUSED,
+        ),
     };
     let _ = said;
     status
 }
 
-fn say_unusable<R: Eprint>(rt: &R, word: &Text) -> io::Result<()> {
-    let word = word.as_str();
-    eprintln!(rt; "hookhost: cannot use {word}")
+fn say_unusable<R: Eprint>(rt: &R, name: &str) -> io::Result<()> {
+    eprintln!(rt; "hookhost: cannot use {name}")
 }
 
 fn say_refused<R: Eprint>(rt: &R, number: u8, name: &str) -> io::Result<()> {

@@ -1,0 +1,76 @@
+//! The commands on the repository of the working folder.
+
+ghost use Rattle.std.specs.Prelude.{◌≡◌, ◌⊎◌, IfErr, IfOk};
+ghost use Rattle.hook_cli.specs.CommandOver.{IsOverHost};
+ghost use Rattle.hookhost.specs.Stops.{IsStopOfCommand, IsStopOfOpening};
+
+use crate::database::{Before, leave, open_database};
+use crate::files::read_file_of;
+use crate::repository::{Found, Lock, look_at_store, take_lock};
+use crate::stop::Stop;
+use commit_flow::Host;
+use hook_cli::{Line, command_over};
+use repo_store::{Store, StoreFault};
+use sqlite::{File, FileStore};
+use std::{io, mem};
+
+// The exit status of a command that was done.
+const DONE: u8 = 0;
+
+/// Does what a line asks of the repository, and answers the exit status, as `command_over` does. The errors are, in this
+/// order: `Stop::CannotUseStore` where the store's file isn't there, `Stop::CannotUseLock`, what `read_file_of` says of the
+/// file of `add`, and what the store says when it is opened. After an error or a refusal the folder is as it was, but for its lock.
+pub(crate) fn host_command(rt: &HostRuntime, line: &Line) -> Result<u8, Stop>
+    requires { IsOverHost line.now }
+    ensures status { IfOk result (λ status. (status ≡ 0) ⊎ (status ≡ 3)) }
+    ensures stopped { IfErr result (IsStopOfCommand line.now) }
+{
+    look_at_store(rt)?;
+    let lock = take_lock(rt)?;
+    let bytes = read_file_of(rt, line)?;
+    let before = Before::found(rt)?;
+    let mut host = Host::over(open_store(rt, &lock, &before)?);
+    let status = answer(rt, line, bytes.as_slice(), &mut host);
+    leave(rt, host, &before, status == DONE && changes(line));
+    Ok(status)
+}
+
+fn answer(rt: &HostRuntime, line: &Line, bytes: &[u8], host: &mut Host<FileStore<File>>) -> u8
+    requires { IsOverHost line.now }
+    ensures { (result ≡ 0) ⊎ (result ≡ 3) }
+{
+    let (mut out, mut err) = (io::writer(rt), rt.stderr());
+    command_over(rt.alloc(), line, bytes, host, &mut out, &mut err)
+}
+
+// Whether a line asks for a change.
+fn changes(line: &Line) -> bool {
+    match line {
+        Line::Add { .. } | Line::Remove { .. } => true,
+        _ => false,
+    }
+}
+
+// Opens the store, as it stood under the lock. An empty file is none, and isn't opened.
+fn open_store(
+    rt: &HostRuntime,
+    lock: &Lock,
+    before: &Before,
+) -> Result<Store<FileStore<File>>, Stop>
+    ensures { IfErr result IsStopOfOpening }
+{
+    match before.store {
+        Found::Filled => {}
+        Found::Empty => return Err(Stop::NoStore(StoreFault::NotAStore)),
+        Found::Nothing | Found::Other => return Err(Stop::CannotUseStore),
+    }
+    let conn = open_database(rt, lock, before)?;
+    match Store::open(rt.alloc(), conn) {
+        Ok(store) => Ok(store),
+        Err((fault, conn)) => {
+            before.put_back(rt);
+            mem::forget(conn);
+            Err(Stop::from(fault))
+        }
+    }
+}
