@@ -43,18 +43,21 @@ impl Before {
     /// Puts the folder back as it stood, where nothing was written to a database that was there. Nobody else may have the
     /// database open.
     pub(crate) fn put_back<R: Files>(&self, rt: &R) {
-        if self.log == Found::Nothing {
-            let _gone = fs::remove_file(rt, LOG);
+        put_back(rt, LOG, self.log);
+        put_back(rt, STORE, self.store);
+    }
+}
+
+// Puts a file back that was made or written, unless it held bytes before.
+fn put_back<R: Files>(rt: &R, name: &str, before: Found) {
+    match before {
+        Found::Nothing => {
+            let _gone = fs::remove_file(rt, name);
         }
-        match self.store {
-            Found::Nothing => {
-                let _gone = fs::remove_file(rt, STORE);
-            }
-            Found::Empty => {
-                let _emptied = fs::create(rt, STORE);
-            }
-            Found::Filled | Found::Other => {}
+        Found::Empty => {
+            let _emptied = fs::create(rt, name);
         }
+        Found::Filled | Found::Other => {}
     }
 }
 
@@ -92,21 +95,20 @@ pub(crate) fn close_database(rt: &HostRuntime, conn: Database) {
 }
 
 /// Leaves the database of a host, of which a command may have made a change. Its log is copied into the database and taken
-/// away; where there was no change, a log that stood there before stays as it is.
+/// away; where there was no change, the log is as before.
 pub(crate) fn leave(
     rt: &HostRuntime,
     host: Host<FileStore<File>>,
     before: &Before,
     is_changed: bool,
 ) {
-    if !is_changed && before.log != Found::Nothing {
+    let had_log = before.log == Found::Filled || before.log == Found::Other;
+    if is_changed || !(had_log || is_log_bare(rt)) {
+        close_database(rt, host.into_store().into_connection());
+    } else {
+        put_back(rt, LOG, before.log);
         // The process ends next: its files and memory go with it.
         mem::forget(host);
-    } else if !is_changed && is_log_bare(rt) {
-        let _gone = fs::remove_file(rt, LOG);
-        mem::forget(host);
-    } else {
-        close_database(rt, host.into_store().into_connection());
     }
 }
 
