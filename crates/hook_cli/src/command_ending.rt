@@ -1,6 +1,6 @@
 //! How a command over a repository ends.
 
-ghost use Rattle.std.specs.Prelude.{◌≡◌};
+ghost use Rattle.std.specs.Prelude.{◌≡◌, ◌⊎◌};
 ghost use Rattle.hook_cli.specs.Printing.{status_of};
 
 // The exit status of a command that is done.
@@ -22,7 +22,8 @@ pub enum CommandEnding {
 
 /// The exit status of an ending: 0 or 3.
 pub(crate) fn status_of(ending: CommandEnding) -> u8
-    ensures { result ≡ status_of ending }
+    ensures exits { result ≡ status_of ending }
+    ensures either { (result ≡ 0) ⊎ (result ≡ 3) }
 {
     match ending {
         CommandEnding::Done => DONE,

@@ -2,6 +2,7 @@
 //!
 //! The contracts cite `specs/CommandOver.antt`.
 
+ghost use Rattle.std.specs.Prelude.{◌≡◌, ◌⊎◌};
 ghost use Rattle.hook_cli.specs.CommandOver.{IsCommandOver, IsChanged, IsEnded, IsOverHost};
 ghost use Rattle.hook_cli.specs.Printing.{IsSilent, Output};
 ghost use Rattle.commit_flow.specs.declared.command.Command.TheVariants as command;
@@ -34,7 +35,8 @@ pub fn command_over<S: Alter, O: Write, E: Write>(
     err: &mut E,
 ) -> u8
     requires { IsOverHost line.now }
-    ensures { IsCommandOver S.Store host.old host.new line.now bytes.now (record { held = O.contents out.old; holds = O.contents out.new }) (record { held = E.contents err.old; holds = E.contents err.new }) result }
+    ensures done { IsCommandOver S.Store host.old host.new line.now bytes.now (record { held = O.contents out.old; holds = O.contents out.new }) (record { held = E.contents err.old; holds = E.contents err.new }) result }
+    ensures either { (result ≡ 0) ⊎ (result ≡ 3) }
 {
     status_of(end_of(alloc, line, bytes, host, out, err))
 }
