@@ -4,9 +4,9 @@ use Rattle.arg_partition.specs.declared.place.Place.{Place}
 use Rattle.arg_partition.specs.declared.step.Gain.{Gain}
 use Rattle.arg_partition.specs.declared.step.Gain.TheVariants.{Nothing, Character, BackslashAndCharacter, Word}
 use Rattle.arg_partition.specs.declared.step.Step.{Step}
-use Rattle.arg_partition.specs.Words.{Cut, adding, ending, prefixed, unquoted, words_at}
+use Rattle.arg_partition.specs.Words.{Reading, adding, ending, prefixed, unquoted, words_at}
 
-abbrev pub gained : Gain → ℕ → Cut → Cut
+abbrev pub gained : Gain → ℕ → Reading → Reading
 gained Nothing c rest = rest
 gained Character c rest = adding (encode_utf8 c) rest
 gained BackslashAndCharacter c rest = adding (92 ∷ encode_utf8 c) rest
@@ -22,6 +22,6 @@ IsUnquotedStep c step =
     (rest : List ℕ) → unquoted c (λ place. words_at place rest) ≡ gained step.gain c (words_at step.place rest)
 
 -- the words of a text, of which some are done and one is begun by these bytes, once the rest is read
-abbrev pub resumed : List (List ℕ) → List ℕ → Cut → Cut
+abbrev pub resumed : List (List ℕ) → List ℕ → Reading → Reading
 resumed done word (Ok words) = Ok (done ++ prefixed word words)
 resumed done word (Err fault) = Err fault

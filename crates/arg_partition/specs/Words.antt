@@ -7,8 +7,8 @@ use Rattle.arg_partition.specs.declared.words_fault.WordsFault.{WordsFault}
 use Rattle.arg_partition.specs.declared.words_fault.WordsFault.TheVariants.{OpenQuote, NothingEscaped}
 
 -- the words, in UTF-8, or why there are none
-abbrev pub Cut : Type 0
-Cut = Result (List (List ℕ)) WordsFault
+abbrev pub Reading : Type 0
+Reading = Result (List (List ℕ)) WordsFault
 
 -- space, tab, carriage return and line feed
 abbrev pub is_blank : ℕ → Bool
@@ -19,17 +19,17 @@ prefixed bytes [] = []
 prefixed bytes (word ∷ words) = (bytes ++ word) ∷ words
 
 -- the bytes in front of the first word
-abbrev pub adding : List ℕ → Cut → Cut
+abbrev pub adding : List ℕ → Reading → Reading
 adding bytes (Ok words) = Ok (prefixed bytes words)
 adding bytes (Err fault) = Err fault
 
 -- the end of a word that is begun: the rest adds nothing to it
-abbrev pub ending : Cut → Cut
+abbrev pub ending : Reading → Reading
 ending (Ok words) = Ok ([] ∷ words)
 ending (Err fault) = Err fault
 
 -- a character outside quotes that is no blank; `rest` is the words of what follows, at its place
-abbrev pub unquoted : ℕ → (Place → Cut) → Cut
+abbrev pub unquoted : ℕ → (Place → Reading) → Reading
 unquoted c rest =
     if c == 39 then rest Single
     else (if c == 34 then rest Double
@@ -37,7 +37,7 @@ unquoted c rest =
 
 -- the words of the rest of a text, by the place of its first character. Where a word is begun, the first is what the rest
 -- adds to it
-abbrev pub words_at : Place → List ℕ → Cut
+abbrev pub words_at : Place → List ℕ → Reading
 words_at Between [] = Ok []
 words_at Bare [] = Ok ([] ∷ [])
 words_at Escaped [] = Err NothingEscaped
@@ -56,5 +56,5 @@ words_at DoubleEscaped (c ∷ cs) =
     else adding (92 ∷ encode_utf8 c) (words_at Double cs)
 
 -- the words of a text in UTF-8
-abbrev pub words_of : List ℕ → Cut
+abbrev pub words_of : List ℕ → Reading
 words_of text = words_at Between (chars text)

@@ -2,7 +2,7 @@
 
 ghost use Rattle.std.specs.Prelude.{◌≡◌, ◌⊎◌, ◌++◌, List, ℕ, [], Ok, Err, IfOk, IfErr, MatchResult, string_bytes};
 ghost use Rattle.arg_partition.specs.Steps.{gained, resumed};
-ghost use Rattle.arg_partition.specs.Words.{Cut, words_at, words_of};
+ghost use Rattle.arg_partition.specs.Words.{Reading, words_at, words_of};
 
 use crate::WordsFault;
 use crate::place::Place;
@@ -52,7 +52,7 @@ impl Begun {
 
     // Takes what the character gives.
     fn take(&mut self, alloc: Global, gain: Gain, c: char) -> Result<(), AllocError>
-        ensures { IfOk result (λ _. (rest : Cut) → resumed self.new.words.items (string_bytes self.new.word) rest ≡ resumed self.old.words.items (string_bytes self.old.word) (gained gain c rest)) }
+        ensures { IfOk result (λ _. (rest : Reading) → resumed self.new.words.items (string_bytes self.new.word) rest ≡ resumed self.old.words.items (string_bytes self.old.word) (gained gain c rest)) }
     {
         match gain {
             Gain::Nothing => Ok(()),
