@@ -1,8 +1,9 @@
 -- Parts: when the names from one index to another are one, and that parts adjoin.
-use Rattle.std.proofs.Common.{◌≡◌, ℕ, ◌+◌, ◌-◌, ◌<◌, ◌≤◌, ◌&&◌, Bool, true, false, not, List, [], ◌∷◌, ◌++◌, None, length, take, drop, get_or, nat_le, nat_lt, position, slice_range, inl, inr, sym, ap, ◌∙◌, refl, arith}
+use Rattle.std.proofs.Common.{◌≡◌, ℕ, ◌+◌, ◌-◌, ◌<◌, ◌≤◌, ◌&&◌, Bool, true, false, not, List, [], ◌∷◌, ◌++◌, None, length, take, drop, get_or, nat_le, nat_lt, position, slice_range, All, inl, inr, sym, ap, ◌∙◌, refl, subst, arith}
 use Rattle.std.proofs.lemmas.Bool.{cases_order}
 use Rattle.std.proofs.lemmas.Bool.Decides.{nat_tests}
-use Rattle.std.proofs.lemmas.List.{take_more, get_or-drop, length-drop}
+use Rattle.std.proofs.lemmas.List.{take_more, get_or-drop, get_or_default, length-drop}
+use Rattle.std.proofs.lemmas.List.Elements.{All-push}
 use Rattle.std.proofs.lemmas.List.Sums.{fails_before_first}
 use Rattle.std.specs.List.{position_or_len}
 use Rattle.arg_partition.specs.declared.cut.Cut.{Cut}
@@ -21,6 +22,11 @@ range-more names start end forward within =
     let inside : end - start < length (drop start names) = rw (length-drop start names) (omega arith) in
     let here : start + (end - start) ≡ end = omega arith in
     rw longer (take_more (drop start names) (end - start) [] inside ∙ ap (λ name. take (end - start) (drop start names) ++ name ∷ []) (get_or-drop start names (end - start) [] ∙ ap (λ at. get_or names at []) here))
+
+-- the same by the name that stands behind it
+pub range-push : (names : List (List ℕ)) (start end : ℕ) (name : List ℕ) → start ≤ end → end < length names → name ≡ get_or names end name → slice_range names start (end + 1) ≡ slice_range names start end ++ name ∷ []
+range-push names start end name forward within is =
+    range-more names start end forward within ∙ ap (λ last. slice_range names start end ++ last ∷ []) (sym (is ∙ get_or_default names end name [] within))
 
 -- ---- names that fit
 
@@ -57,17 +63,17 @@ and_false true = refl
 and_false false = refl
 
 -- the next name doesn't fit
-pub too_long : (room : Room) (names : List (List ℕ)) (most start end : ℕ) (name : List ℕ) → start ≤ end → end < length names → name ≡ get_or names end [] → fits_room room (slice_range names start end ++ name ∷ []) ≡ false → can_be_part (fits_room room) most names start (end + 1) ≡ false
+pub too_long : (room : Room) (names : List (List ℕ)) (most start end : ℕ) (name : List ℕ) → start ≤ end → end < length names → name ≡ get_or names end name → fits_room room (slice_range names start end ++ name ∷ []) ≡ false → can_be_part (fits_room room) most names start (end + 1) ≡ false
 too_long room names most start end name forward within is misfit =
-    ap (λ all. nat_le ((end + 1) - start) most && fits_room room all) (range-more names start end forward within ∙ ap (λ last. slice_range names start end ++ last ∷ []) (sym is))
+    ap (λ all. nat_le ((end + 1) - start) most && fits_room room all) (range-push names start end name forward within is)
     ∙ (ap (λ fit. nat_le ((end + 1) - start) most && fit) misfit ∙ and_false (nat_le ((end + 1) - start) most))
 
 -- the first name of a part fits
-pub goes_on : (room : Room) (names : List (List ℕ)) (start end : ℕ) (name : List ℕ) → too_long_at (fits_room room) names ≡ None → start ≤ end → end < length names → name ≡ get_or names end [] → fits_room room (slice_range names start end ++ name ∷ []) ≡ false → start < end
+pub goes_on : (room : Room) (names : List (List ℕ)) (start end : ℕ) (name : List ℕ) → too_long_at (fits_room room) names ≡ None → start ≤ end → end < length names → name ≡ get_or names end name → fits_room room (slice_range names start end ++ name ∷ []) ≡ false → start < end
 goes_on room names start end name none forward within is misfit =
     elim (cases_order start end) [
       | inl same ↦
-          let fit : fits_room room (name ∷ []) ≡ true = rw is (each_fits room names end none within) in
+          let fit : fits_room room (name ∷ []) ≡ true = subst (λ one. fits_room room (one ∷ []) ≡ true) (sym (is ∙ get_or_default names end name [] within)) (each_fits room names end none within) in
           let empty : slice_range names start end ≡ [] = rw same (range-none names end) in
           let unfit : fits_room room (name ∷ []) ≡ false = rw empty at misfit in
           cc
@@ -79,3 +85,7 @@ goes_on room names start end name none forward within is misfit =
 pub Adjoin-push : (start end next : ℕ) (cuts : List Cut) → Adjoin start cuts end → Adjoin start (cuts ++ record { start = end; end = next } ∷ []) next
 Adjoin-push start end next [] adjoin = (sym adjoin, refl)
 Adjoin-push start end next (cut ∷ cuts) adjoin = (adjoin.0, Adjoin-push cut.end end next cuts adjoin.1)
+
+pub parts-push : (room : Room) (names : List (List ℕ)) (most start end : ℕ) (cuts : List Cut) → Adjoin 0 cuts start → All (IsPart (fits_room room) most names) cuts → IsPart (fits_room room) most names (record { start = start; end = end }) → Adjoin 0 (cuts ++ record { start = start; end = end } ∷ []) end × All (IsPart (fits_room room) most names) (cuts ++ record { start = start; end = end } ∷ [])
+parts-push room names most start end cuts adjoin parts part =
+    (Adjoin-push 0 start end cuts adjoin, All-push (IsPart (fits_room room) most names) cuts (record { start = start; end = end }) parts part)

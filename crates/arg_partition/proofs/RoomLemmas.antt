@@ -1,11 +1,12 @@
 -- Rooms: what words leave of them.
-use Rattle.std.proofs.Common.{◌≡◌, ℕ, ◌+◌, ◌<◌, ◌≤◌, Bool, true, false, not, is_some, MatchOption, take, drop, get_or, List, [], ◌∷◌, ◌++◌, Option, Some, None, length, nat_le, sum_by, sym, ap, ◌∙◌, refl, arith, subst}
+use Rattle.std.proofs.Common.{◌≡◌, ℕ, ◌+◌, ◌<◌, ◌≤◌, Bool, true, false, not, is_some, MatchOption, take, drop, get_or, List, [], ◌∷◌, ◌++◌, Option, Some, None, length, nat_le, position, sum_by, sym, ap, ◌∙◌, refl, arith, subst}
 use Rattle.std.proofs.lemmas.List.{take_more, take-append-drop}
 use Rattle.std.proofs.lemmas.Grind.{common_steps}
 use Rattle.std.proofs.lemmas.Bool.Decides.{nat_tests}
 use Rattle.std.proofs.lemmas.List.Sums.{sum_by-append}
+use mathlib.Core.Path.{fun_ext}
 use Rattle.arg_partition.specs.declared.room.Room.{Room}
-use Rattle.arg_partition.specs.Parts.{command_length, fits}
+use Rattle.arg_partition.specs.Parts.{command_length, fits, too_long_at}
 use Rattle.arg_partition.specs.Rooms.{Leaves, Takes, begun_behind, fits_room, taken}
 
 pub Leaves-nil : (room : Room) → Leaves room [] room
@@ -49,3 +50,17 @@ one_more whole room words at word None within is leaves takes =
 one_more whole room words at word (Some rest) within is leaves takes =
     let more = take_more words at word within in
     rw (more, ← is) (takes whole (take at words) leaves).0
+
+-- what fits behind the words is what fits the room that they leave
+pub fits_behind : (limit : ℕ) (words : List (List ℕ)) (room : Room) → Leaves (record { left = limit; begun = false }) words room → fits_room room ≡ fits words limit
+fits_behind limit words room leaves =
+    fun_ext (λ (names : List (List ℕ)). fits_left (record { left = limit; begun = false }) room words names leaves)
+
+-- without names everything fits a room
+pub misfit_in : (room : Room) (names : List (List ℕ)) → position (λ one. not (fits_room room (one ∷ []))) names ≡ too_long_at (fits_room room) names
+misfit_in room [] =
+    elim room.begun as (λ begun. position (λ one. not (fits_room (record { left = room.left; begun = begun }) (one ∷ []))) [] ≡ too_long_at (fits_room (record { left = room.left; begun = begun })) []) [
+      | true ↦ grind (arith, nat_tests)
+      | false ↦ grind (arith, nat_tests)
+    ]
+misfit_in room (name ∷ names) = refl

@@ -12,6 +12,7 @@
 mod command_parts;
 mod cut;
 mod entry_words;
+pub mod laws;
 mod parts_fault;
 mod place;
 mod room;
