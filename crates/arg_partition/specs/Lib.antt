@@ -1,5 +1,6 @@
 pub mod Parts
 pub mod PartsFaults
+pub mod PartsLaws
 pub mod Quoted
 pub mod Rooms
 pub mod Steps

@@ -27,6 +27,10 @@ pub record IsPart (fits : List (List ℕ) → Bool) (most : ℕ) (names : List (
   pub named : 0 < length names → cut.start < cut.end
   pub full : cut.end < length names → can_be_part fits most names cut.start (cut.end + 1) ≡ false
 
+-- the names of a part
+abbrev pub names_of : List (List ℕ) → Cut → List (List ℕ)
+names_of names cut = slice_range names cut.start cut.end
+
 -- the first begins at `start`, each other where the one before it ends, and the last ends at `end`
 abbrev pub Adjoin : ℕ → List Cut → ℕ → Type 0
 Adjoin start [] end = start ≡ end

@@ -1,6 +1,9 @@
 //! Laws of what the contracts cite. Each is a function that gives nothing: what it ensures is a theorem.
 
 ghost use Rattle.std.specs.Prelude.{◌≡◌, ℕ, List, Ok, chars, encode_utf8_all, map};
+ghost use Rattle.std.specs.List.{flat_map};
+ghost use Rattle.arg_partition.specs.declared.cut.Cut.{Cut};
+ghost use Rattle.arg_partition.specs.Parts.{AreParts, fits, names_of};
 ghost use Rattle.arg_partition.specs.Quoted.{all_quoted};
 ghost use Rattle.arg_partition.specs.Words.{words_of};
 
@@ -9,4 +12,16 @@ ghost use Rattle.arg_partition.specs.Words.{words_of};
 #[tactic(auto, using(crate::specs::WordsLaws::words_of_quoted))]
 pub fn quoted_words_are_read_back()
     ensures { (text : List ℕ) (words : List (List ℕ)) → chars text ≡ all_quoted words → words_of text ≡ Ok (map encode_utf8_all words) }
+{}
+
+/// The parts of a command are determined: there is one list of cuts that are its parts.
+#[tactic(auto, using(crate::specs::PartsLaws::parts_unique))]
+pub fn there_is_one_list_of_parts()
+    ensures { (words names : List (List ℕ)) (limit most : ℕ) (cuts others : List Cut) → AreParts (fits words limit) most names cuts → AreParts (fits words limit) most names others → cuts ≡ others }
+{}
+
+/// The names of all parts, one part after another, are all names in their order, each once.
+#[tactic(auto, using(crate::specs::PartsLaws::parts_joined))]
+pub fn the_parts_have_all_names()
+    ensures { (words names : List (List ℕ)) (limit most : ℕ) (cuts : List Cut) → AreParts (fits words limit) most names cuts → flat_map (names_of names) cuts ≡ names }
 {}
