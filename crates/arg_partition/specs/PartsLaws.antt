@@ -78,8 +78,13 @@ same_cut words names limit most cut other part more begins within also =
         ]
     ]
 
+abbrev made : ℕ → ℕ → Cut
+made start end = record { start = start; end = end }
+
 cut_list : (cut other : Cut) (cuts others : List Cut) → cut.start ≡ other.start → cut.end ≡ other.end → cuts ≡ others → (cut ∷ cuts) ≡ (other ∷ others)
-cut_list cut other cuts others begins ends rest = cc
+cut_list cut other cuts others begins ends rest =
+    let same : cut ≡ other = ap (λ start. made start cut.end) begins ∙ ap (made other.start) ends in
+    cc
 
 unique_from : (words names : List (List ℕ)) (limit most start : ℕ) (cuts others : List Cut) → 0 < length names → Adjoin start cuts (length names) → All (IsPart (fits words limit) most names) cuts → Adjoin start others (length names) → All (IsPart (fits words limit) most names) others → cuts ≡ others
 unique_from words names limit most start [] [] some adjoin parts also more = refl
@@ -104,9 +109,9 @@ unique_from words names limit most start (cut ∷ cuts) (other ∷ others) some 
     let rest = unique_from words names limit most cut.end cuts others some adjoin.1 (All-tail P cut cuts parts) (subst (λ at. Adjoin at others (length names)) (sym ends) also.1) (All-tail P other others more) in
     cut_list cut other cuts others begins ends rest
 
-pub parts_unique : (words names : List (List ℕ)) (limit most : ℕ) (cuts others : List Cut) → AreParts (fits words limit) most names cuts → AreParts (fits words limit) most names others → cuts ≡ others
-parts_unique words [] limit most cuts others parts more = parts.alone refl ∙ sym (more.alone refl)
-parts_unique words (name ∷ names) limit most cuts others parts more =
+pub parts-unique : (words names : List (List ℕ)) (limit most : ℕ) (cuts others : List Cut) → AreParts (fits words limit) most names cuts → AreParts (fits words limit) most names others → cuts ≡ others
+parts-unique words [] limit most cuts others parts more = parts.alone refl ∙ sym (more.alone refl)
+parts-unique words (name ∷ names) limit most cuts others parts more =
     unique_from words (name ∷ names) limit most 0 cuts others (omega arith) parts.adjoin parts.parts more.adjoin more.parts
 
 -- ---- the names of the parts are all names
@@ -119,7 +124,7 @@ joined_from fits most names start (cut ∷ cuts) some adjoin parts =
     let forward : cut.start ≤ cut.end = omega arith in
     flat_map-cons (names_of names) cut cuts ∙ (ap (λ more. names_of names cut ++ more) rest ∙ (sym (drop_split names cut.start cut.end forward) ∙ ap (λ at. drop at names) adjoin.0))
 
-pub parts_joined : (words names : List (List ℕ)) (limit most : ℕ) (cuts : List Cut) → AreParts (fits words limit) most names cuts → flat_map (names_of names) cuts ≡ names
-parts_joined words [] limit most cuts parts = rw (parts.alone refl) refl
-parts_joined words (name ∷ names) limit most cuts parts =
+pub parts-joined : (words names : List (List ℕ)) (limit most : ℕ) (cuts : List Cut) → AreParts (fits words limit) most names cuts → flat_map (names_of names) cuts ≡ names
+parts-joined words [] limit most cuts parts = rw (parts.alone refl) refl
+parts-joined words (name ∷ names) limit most cuts parts =
     joined_from (fits words limit) most (name ∷ names) 0 cuts (omega arith) parts.adjoin parts.parts

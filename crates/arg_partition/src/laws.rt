@@ -15,13 +15,11 @@ pub fn quoted_words_are_read_back()
 {}
 
 /// The parts of a command are determined: there is one list of cuts that are its parts.
-#[tactic(auto, using(crate::specs::PartsLaws::parts_unique))]
 pub fn there_is_one_list_of_parts()
     ensures { (words names : List (List ℕ)) (limit most : ℕ) (cuts others : List Cut) → AreParts (fits words limit) most names cuts → AreParts (fits words limit) most names others → cuts ≡ others }
 {}
 
 /// The names of all parts, one part after another, are all names in their order, each once.
-#[tactic(auto, using(crate::specs::PartsLaws::parts_joined))]
 pub fn the_parts_have_all_names()
     ensures { (words names : List (List ℕ)) (limit most : ℕ) (cuts : List Cut) → AreParts (fits words limit) most names cuts → flat_map (names_of names) cuts ≡ names }
 {}
