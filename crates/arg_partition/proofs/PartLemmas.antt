@@ -1,5 +1,5 @@
 -- Parts: when the names from one index to another are one, and that parts adjoin.
-use Rattle.std.proofs.Common.{◌≡◌, ℕ, ◌+◌, ◌-◌, ◌<◌, ◌≤◌, ◌&&◌, Bool, true, false, not, List, [], ◌∷◌, ◌++◌, None, length, take, drop, get_or, nat_le, nat_lt, position, slice_range, All, inl, inr, sym, ap, ◌∙◌, refl, subst, arith}
+use Rattle.std.proofs.Common.{◌≡◌, ℕ, ◌+◌, ◌-◌, ◌<◌, ◌≤◌, ◌&&◌, Bool, true, false, not, List, [], ◌∷◌, ◌++◌, None, length, take, drop, get_or, nat_le, position, slice_range, All, inl, inr, sym, ap, ◌∙◌, refl, subst, arith}
 use Rattle.std.proofs.lemmas.Bool.{cases_order}
 use Rattle.std.proofs.lemmas.Bool.Decides.{nat_tests}
 use Rattle.std.proofs.lemmas.List.{take_more, get_or-drop, get_or_default, length-drop}
@@ -9,7 +9,7 @@ use Rattle.std.specs.List.{position_or_len}
 use Rattle.arg_partition.specs.declared.cut.Cut.{Cut}
 use Rattle.arg_partition.specs.declared.room.Room.{Room}
 use Rattle.arg_partition.specs.Parts.{Adjoin, IsPart, can_be_part, too_long_at}
-use Rattle.arg_partition.specs.Rooms.{Leaves, fits_room, taken}
+use Rattle.arg_partition.specs.Rooms.{Leaves, fits_room}
 
 -- ---- names of a range
 

@@ -1,12 +1,11 @@
 -- Rooms: what words leave of them.
-use Rattle.std.proofs.Common.{◌≡◌, ℕ, ◌+◌, ◌<◌, ◌≤◌, Bool, true, false, not, is_some, MatchOption, take, drop, get_or, List, [], ◌∷◌, ◌++◌, Option, Some, None, length, nat_le, position, sum_by, sym, ap, ◌∙◌, refl, arith, subst}
+use Rattle.std.proofs.Common.{◌≡◌, ℕ, ◌+◌, ◌<◌, Bool, true, false, not, is_some, MatchOption, take, drop, get_or, List, [], ◌∷◌, ◌++◌, Option, Some, None, length, position, sym, ap, refl, arith, subst}
 use Rattle.std.proofs.lemmas.List.{take_more, take-append-drop}
-use Rattle.std.proofs.lemmas.Grind.{common_steps}
 use Rattle.std.proofs.lemmas.Bool.Decides.{nat_tests}
 use Rattle.std.proofs.lemmas.List.Sums.{sum_by-append}
 use mathlib.Core.Path.{fun_ext}
 use Rattle.arg_partition.specs.declared.room.Room.{Room}
-use Rattle.arg_partition.specs.Parts.{command_length, fits, too_long_at}
+use Rattle.arg_partition.specs.Parts.{fits, too_long_at}
 use Rattle.arg_partition.specs.Rooms.{Leaves, Takes, begun_behind, fits_room, taken}
 
 pub Leaves-nil : (room : Room) → Leaves room [] room

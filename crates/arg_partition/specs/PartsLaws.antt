@@ -1,5 +1,5 @@
 -- Laws of parts: there is one list of them, and it has each name once.
-use Rattle.std.specs.Prelude.{◌≡◌, ℕ, ◌+◌, ◌-◌, ◌<◌, ◌≤◌, ◌&&◌, Bool, true, false, nat_le, List, [], ◌∷◌, ◌++◌, length, drop, take, sum_by, slice_range, All, refl}
+use Rattle.std.specs.Prelude.{◌≡◌, ℕ, ◌+◌, ◌-◌, ◌<◌, ◌≤◌, ◌&&◌, Bool, true, false, nat_le, List, [], ◌∷◌, ◌++◌, length, drop, slice_range, All, refl}
 use Rattle.std.specs.List.{flat_map}
 use Rattle.std.proofs.Common.{◌∙◌, inl, inr, ap, sym, subst, arith}
 use Rattle.std.proofs.lemmas.Bool.{cases_order}
@@ -73,9 +73,9 @@ same_cut words names limit most cut other part more begins within also =
     elim (cases_order cut.end other.end) [
       | inl same ↦ same
       | inr order ↦ elim order [
-          | inl sooner ↦ absurd (no_sooner words names limit most cut other part more begins sooner also)
-          | inr later ↦ absurd (no_sooner words names limit most other cut more part (sym begins) later within)
-        ]
+        | inl sooner ↦ absurd (no_sooner words names limit most cut other part more begins sooner also)
+        | inr later ↦ absurd (no_sooner words names limit most other cut more part (sym begins) later within)
+      ]
     ]
 
 abbrev made : ℕ → ℕ → Cut

@@ -26,4 +26,4 @@ abbrev pub Takes : Room → List ℕ → Option Room → Type 0
 Takes room word after =
     (whole : Room) (words : List (List ℕ)) → Leaves whole words room →
     MatchOption after (fits_room whole (words ++ word ∷ []) ≡ false)
-      (λ rest. (Leaves whole (words ++ word ∷ []) rest) × (fits_room whole (words ++ word ∷ []) ≡ true))
+    (λ rest. (Leaves whole (words ++ word ∷ []) rest) × (fits_room whole (words ++ word ∷ []) ≡ true))

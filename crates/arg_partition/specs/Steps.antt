@@ -1,5 +1,5 @@
 -- What one character does, as the code has it. Serves private functions alone.
-use Rattle.std.specs.Prelude.{◌≡◌, ℕ, List, [], ◌∷◌, ◌++◌, Ok, Err, encode_utf8}
+use Rattle.std.specs.Prelude.{◌≡◌, ℕ, List, ◌∷◌, ◌++◌, Ok, Err, encode_utf8}
 use Rattle.arg_partition.specs.declared.place.Place.{Place}
 use Rattle.arg_partition.specs.declared.step.Gain.{Gain}
 use Rattle.arg_partition.specs.declared.step.Gain.TheVariants.{Nothing, Character, BackslashAndCharacter, Word}

@@ -1,6 +1,6 @@
 -- Laws of words: each list of words can be written, and is read back.
-use Rattle.std.specs.Prelude.{◌≡◌, ℕ, ◌==◌, Bool, true, false, if◌then◌else◌, List, [], ◌∷◌, ◌++◌, Ok, Err, chars, encode_utf8, encode_utf8_all, map, refl}
-use Rattle.std.proofs.Common.{◌∙◌, ◌⊎◌, inl, inr, ap, sym}
+use Rattle.std.specs.Prelude.{◌≡◌, ℕ, List, [], ◌∷◌, ◌++◌, Ok, Err, chars, encode_utf8, encode_utf8_all, map, refl}
+use Rattle.std.proofs.Common.{◌∙◌, inl, inr, ap, sym}
 use Rattle.std.proofs.lemmas.List.{append_assoc, append-nil}
 use Rattle.std.proofs.lemmas.Bool.Decides.{eqb_tells}
 use Rattle.arg_partition.specs.declared.place.Place.TheVariants.{Between, Bare, Single}

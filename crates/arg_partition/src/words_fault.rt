@@ -8,10 +8,10 @@ use hook_base::OutOfMemory as Refused;
 use std::alloc::{AllocError, AllocFailed};
 use thiserror::Error;
 
-/// Why a text can't be cut into words. No text has two of the first two faults: which one a text has is told at its end.
+/// Why a text can't be cut into words. A text has at most one of the first two faults.
 #[derive(Clone, Copy, Debug, PartialEq, Eq, Error)]
 pub enum WordsFault {
-    /// The text ends inside quotes, and not behind a backslash that escapes something there.
+    /// The text ends inside quotes, and not as for `NothingEscaped`.
     #[error("a quote is open at the end")]
     OpenQuote,
     /// The text ends behind a backslash that, outside quotes or in double quotes, has nothing after it to escape.

@@ -1,4 +1,3 @@
-use Rattle.std.proofs.Common.{◌≡◌, ◌++◌, ◌∷◌, [], arith}
 use Rattle.arg_partition.proofs.PartLemmas.{parts-push}
 use Rattle.arg_partition.proofs.command_parts.cuts_of.Goals as goal
 

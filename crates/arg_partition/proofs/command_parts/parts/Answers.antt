@@ -1,6 +1,6 @@
-use Rattle.std.proofs.Common.{◌≡◌, ◌∙◌, None, Some, inr, refl, sym, ap}
+use Rattle.std.proofs.Common.{◌∙◌, inr, refl, sym, ap}
 use Rattle.arg_partition.proofs.RoomLemmas.{fits_behind, misfit_in}
-use Rattle.arg_partition.specs.Parts.{fits, too_long_at}
+use Rattle.arg_partition.specs.Parts.{too_long_at}
 use Rattle.arg_partition.proofs.command_parts.parts.Goals as goal
 
 pub returns-in-Some-misfit-clause-refused : goal.returns-in-Some-misfit-clause-refused

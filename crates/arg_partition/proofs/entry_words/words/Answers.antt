@@ -1,4 +1,4 @@
-use Rattle.std.proofs.Common.{◌≡◌, ◌⊎◌, ◌++◌, ◌∙◌, List, ℕ, [], Result, Ok, Err, IfOk, IfErr, MatchResult, inl, inr, string_bytes, sym, ap, map}
+use Rattle.std.proofs.Common.{◌≡◌, ◌⊎◌, ◌++◌, ◌∙◌, List, ℕ, [], Result, Ok, Err, IfOk, IfErr, MatchResult, inl, inr, sym, ap, map}
 use Rattle.std.proofs.lemmas.Iterator.{YieldsList-from_chars}
 use Rattle.std.proofs.lemmas.Iterator.Consumers.{YieldsList-end}
 use Rattle.std.specs.Str.{chars}
@@ -7,7 +7,7 @@ use Rattle.arg_partition.specs.declared.words_fault.WordsFault.{WordsFault}
 use Rattle.arg_partition.specs.declared.words_fault.WordsFault.TheVariants.{OutOfMemory}
 use Rattle.arg_partition.specs.declared.place.Place.TheVariants.{Between}
 use Rattle.arg_partition.specs.Steps.{resumed}
-use Rattle.arg_partition.specs.Words.{Reading, words_at, words_of}
+use Rattle.arg_partition.specs.Words.{Reading, words_at}
 use Rattle.arg_partition.proofs.entry_words.words.Goals as goal
 
 cut : (done : List (List ℕ)) (word : List ℕ) (rest whole : Reading) (result : Result (List (List ℕ)) WordsFault) → resumed done word rest ≡ whole → MatchResult result (λ words. resumed done word rest ≡ Ok words) (λ fault. (fault ≡ OutOfMemory) ⊎ (rest ≡ Err fault)) → IfOk result (λ words. whole ≡ Ok words)

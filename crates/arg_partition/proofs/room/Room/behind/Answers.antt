@@ -1,4 +1,4 @@
-use Rattle.std.proofs.Common.{◌≡◌, ◌<◌, false, length, arith}
+use Rattle.std.proofs.Common.{◌<◌, false, length, arith}
 use Rattle.arg_partition.proofs.RoomLemmas.{one_more}
 use Rattle.arg_partition.proofs.room.Room.behind.Goals as goal
 
