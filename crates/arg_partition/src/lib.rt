@@ -6,7 +6,8 @@
 //!
 //! The contracts cite `words_of` of `specs/Words.antt`, `AreParts`, `fits` and `too_long_at` of `specs/Parts.antt`, and the
 //! numbers of `specs/WordsFaults.antt` and `specs/PartsFaults.antt`; `specs/Steps.antt` and `specs/Rooms.antt` serve private
-//! functions alone.
+//! functions alone. [`laws`] says that words in quotes (`specs/Quoted.antt`) are read back, and that a command has one list
+//! of parts, which have all its names.
 #![tactic(auto)]
 
 mod command_parts;
