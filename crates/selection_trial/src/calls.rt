@@ -1,6 +1,6 @@
 //! The calls by their names. Each library has a function of its own here.
 
-use crate::{greps, paths, tags};
+use crate::{commands, greps, paths, tags};
 use std::alloc::Global;
 use trial_rows::{Row, Stop};
 
@@ -14,6 +14,9 @@ pub(crate) fn answer_to(alloc: Global, row: &Row) -> Result<Vec<u8>, Stop> {
         return answer;
     }
     if let Some(answer) = of_builtin_hooks(alloc, call, arguments) {
+        return answer;
+    }
+    if let Some(answer) = of_arg_partition(alloc, call, arguments) {
         return answer;
     }
     Err(Stop::NoCall)
@@ -49,6 +52,18 @@ fn of_builtin_hooks(
         "fail_answer" => greps::of_fail(alloc, arguments),
         "grep_build" => greps::built(alloc, arguments),
         "grep_answer" => greps::answered(alloc, arguments),
+        _ => return None,
+    })
+}
+
+fn of_arg_partition(
+    alloc: Global,
+    call: &str,
+    arguments: &[Vec<u8>],
+) -> Option<Result<Vec<u8>, Stop>> {
+    Some(match call {
+        "words" => commands::cut(alloc, arguments),
+        "parts" => commands::partitioned(alloc, arguments),
         _ => return None,
     })
 }

@@ -1,9 +1,10 @@
-//! The program `selection_trial`: plays calls on tags, patterns, selections and the hooks that start no child, one a line
-//! of standard input, and answers each by a line. `tests/rows.py` and the scripts that compare with other tools drive it;
-//! how a line is written says the crate `trial_rows`.
+//! The program `selection_trial`: plays calls on tags, patterns, selections, the hooks that start no child, an entry's words
+//! and the parts of a command, one a line of standard input, and answers each by a line. `tests/rows.py` and the scripts that
+//! compare with other tools drive it; how a line is written says the crate `trial_rows`.
 #![tactic(auto)]
 
 mod calls;
+mod commands;
 mod greps;
 mod parts;
 mod paths;

@@ -1,0 +1,8 @@
+-- The numbers of the reasons why a command can't be cut into parts.
+use Rattle.std.specs.Prelude.{ℕ}
+use Rattle.arg_partition.specs.declared.parts_fault.PartsFault.{PartsFault}
+use Rattle.arg_partition.specs.declared.parts_fault.PartsFault.TheVariants.{TooLong, OutOfMemory}
+
+abbrev pub number_of : PartsFault → ℕ
+number_of (TooLong index) = 1
+number_of OutOfMemory = 2

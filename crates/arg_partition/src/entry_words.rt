@@ -1,0 +1,87 @@
+//! The words of an entry.
+
+ghost use Rattle.std.specs.Prelude.{◌≡◌, ◌⊎◌, ◌++◌, List, ℕ, [], Ok, Err, IfOk, IfErr, MatchResult, string_bytes};
+ghost use Rattle.arg_partition.specs.Steps.{gained, resumed};
+ghost use Rattle.arg_partition.specs.Words.{Reading, words_at, words_of};
+
+use crate::WordsFault;
+use crate::place::Place;
+use crate::step::{Gain, step_of};
+use hook_base::{Items, Text};
+use std::alloc::{AllocError, Global};
+use std::mem;
+
+/// The words of an entry, as Python's `shlex.split` cuts them: blanks (space, tab, carriage return, line feed) part them;
+/// what stands in single quotes is taken as it is, and so in double quotes, but for a backslash before a quote or a
+/// backslash, which it escapes; outside quotes a backslash takes the next character as it is. Pieces side by side join, and
+/// `''` alone is a word without characters. There are no comments and no variables.
+///
+/// `NothingEscaped` where the text ends behind a backslash that, outside quotes or in double quotes, has nothing after it to
+/// escape, `OpenQuote` where it ends inside quotes otherwise, and `OutOfMemory` where memory is refused.
+pub fn words(alloc: Global, text: &str) -> Result<Items<Text>, WordsFault>
+    ensures cut { IfOk result (λ words. words_of text.now ≡ Ok words) }
+    ensures refused { IfErr result (λ fault. (fault ≡ WordsFault.OutOfMemory) ⊎ (words_of text.now ≡ Err fault)) }
+{
+    let mut begun = Begun::new(alloc);
+    let mut place = Place::Between;
+    'characters: for c in text.chars() {
+        let step = step_of(place, c);
+        begun.take(alloc, step.gain, c)?;
+        place = step.place;
+    }
+    begun.ended(place)
+}
+
+// The words that are done, and what is begun of the next.
+#[derive(Drop)]
+struct Begun {
+    words: Vec<Text>,
+    word: String,
+}
+
+impl Begun {
+    fn new(alloc: Global) -> Begun
+        ensures words { result.words.items ≡ [] }
+        ensures word { string_bytes result.word ≡ [] }
+    {
+        Begun {
+            words: Vec::new(alloc),
+            word: String::new(alloc),
+        }
+    }
+
+    // Takes what the character gives.
+    fn take(&mut self, alloc: Global, gain: Gain, c: char) -> Result<(), AllocError>
+        ensures { IfOk result (λ _. (rest : Reading) → resumed self.new.words.items (string_bytes self.new.word) rest ≡ resumed self.old.words.items (string_bytes self.old.word) (gained gain c rest)) }
+    {
+        match gain {
+            Gain::Nothing => Ok(()),
+            Gain::Character => self.word.push(c),
+            Gain::BackslashAndCharacter => {
+                self.word.push('\\')?;
+                self.word.push(c)
+            }
+            Gain::Word => {
+                let word = mem::replace(&mut self.word, String::new(alloc));
+                self.words.push(Text::from(word))?;
+                Ok(())
+            }
+        }
+    }
+
+    // The words of a text that ends at this place.
+    fn ended(self, place: Place) -> Result<Items<Text>, WordsFault>
+        ensures { MatchResult result (λ words. resumed self.words.items (string_bytes self.word) (words_at place []) ≡ Ok words) (λ fault. (fault ≡ WordsFault.OutOfMemory) ⊎ (words_at place [] ≡ Err fault)) }
+    {
+        let Begun { mut words, word } = self;
+        match place {
+            Place::Between => Ok(Items::from(words)),
+            Place::Bare => {
+                words.push(Text::from(word))?;
+                Ok(Items::from(words))
+            }
+            Place::Single | Place::Double => Err(WordsFault::OpenQuote),
+            Place::Escaped | Place::DoubleEscaped => Err(WordsFault::NothingEscaped),
+        }
+    }
+}

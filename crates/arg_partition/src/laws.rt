@@ -1,0 +1,25 @@
+//! Laws of what the contracts cite. Each is a function that gives nothing: what it ensures is a theorem.
+
+ghost use Rattle.std.specs.Prelude.{◌≡◌, ℕ, List, Ok, chars, encode_utf8_all, map};
+ghost use Rattle.std.specs.List.{flat_map};
+ghost use Rattle.arg_partition.specs.declared.cut.Cut.{Cut};
+ghost use Rattle.arg_partition.specs.Parts.{AreParts, fits, names_of};
+ghost use Rattle.arg_partition.specs.Quoted.{all_quoted};
+ghost use Rattle.arg_partition.specs.Words.{words_of};
+
+/// Words that are written in single quotes, as Python's `shlex.join` writes those that need quotes, with a blank behind each
+/// are read back as they are, whatever characters they have. So each list of words can be written.
+#[tactic(auto, using(crate::specs::WordsLaws::words_of_quoted))]
+pub fn quoted_words_are_read_back()
+    ensures { (text : List ℕ) (words : List (List ℕ)) → chars text ≡ all_quoted words → words_of text ≡ Ok (map encode_utf8_all words) }
+{}
+
+/// The parts of a command are determined: there is one list of cuts that are its parts.
+pub fn there_is_one_list_of_parts()
+    ensures { (words names : List (List ℕ)) (limit most : ℕ) (cuts others : List Cut) → AreParts (fits words limit) most names cuts → AreParts (fits words limit) most names others → cuts ≡ others }
+{}
+
+/// The names of all parts, one part after another, are all names in their order, each once.
+pub fn the_parts_have_all_names()
+    ensures { (words names : List (List ℕ)) (limit most : ℕ) (cuts : List Cut) → AreParts (fits words limit) most names cuts → flat_map (names_of names) cuts ≡ names }
+{}
