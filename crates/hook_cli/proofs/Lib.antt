@@ -1,4 +1,5 @@
 pub mod AskLemmas
+pub mod CommandLemmas
 pub mod KnownBytesLemmas
 pub mod LineLemmas
 pub mod ReadingLemmas

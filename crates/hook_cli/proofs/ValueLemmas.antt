@@ -1,9 +1,18 @@
--- From what `clap` answers to what its rows hold.
-use Rattle.std.proofs.Common.{◌≡◌, ◌∙◌, ap, codes, inl, sym, subst, ℕ, List, [], Option, None, Some, Bor, option_map}
+-- From what `clap` answers to the values of a command.
+use Rattle.std.proofs.Common.{◌≡◌, ◌≢◌, ◌∙◌, ap, codes, refl, subst, sym, false, true, ◌-◌, ◌^◌, ℕ, List, [], ◌∷◌, Option, None, Some, Ok, Err, Result, Bor, option_map, arith}
+use Rattle.std.proofs.lemmas.Bool.{false_from_ne_true}
+use Rattle.std.proofs.lemmas.Slice.Eq.{bytes_eq-Decides}
 use Rattle.std.specs.Prelude.{unwrap_or}
-use Rattle.clap.specs.Words.{Row, Text}
-use Rattle.hook_cli.specs.CommandLine.{IsLineOf, try_line}
-use Rattle.hook_cli.specs.declared.line.Line.{Line}
+use Rattle.std.specs.Str.{bytes_eq}
+use Rattle.std.specs.Str.Parse.{ParsesUnsigned}
+use Rattle.clap.specs.Words.{HasKind, Text}
+use Rattle.clap.specs.ValueTests.{is_unsigned_in}
+use Rattle.clap.specs.declared.builder.value_parser.ValueParser.TheVariants.{Unsigned}
+use Rattle.clap.specs.declared.error.Error.{Error}
+use Rattle.clap.specs.declared.error.kind.ErrorKind.TheVariants.{InvalidValue}
+use Rattle.clap.proofs.ValueTestLemmas.{Accepts-accepts, accepts-Accepts}
+use Rattle.hook_base.specs.declared.file.Mode.TheVariants.{Executable}
+use Rattle.hook_cli.specs.CommandLine.{mode_in, number_in, value_fault}
 
 pub text_or : (found : Option (Bor (List ℕ))) (empty : Bor (List ℕ)) (text : List ℕ) (rows : Option (List ℕ))
     → empty.now ≡ [] → option_map (λ s. s.now) found ≡ rows → text ≡ (unwrap_or found empty).now → text ≡ unwrap_or rows []
@@ -13,12 +22,45 @@ text_or (Some found) empty text rows nothing known is = is ∙ ap (λ r. unwrap_
 abbrev pub or_none : Option (List (List ℕ)) → List (List ℕ)
 or_none texts = unwrap_or texts []
 
-pub line_from : {B : Type 0} (o : Option B) (name_at : B → Text) (rows_at : B → List Row) (asked : Option (Text × List Row))
-    (rows : List Row) (line : Line) → option_map (λ b. (name_at b, rows_at b)) o ≡ asked → option_map name_at o ≡ Some (codes "try")
-    → option_map (λ (p : Text × List Row). p.1) (option_map (λ b. (name_at b, rows_at b)) o) ≡ Some rows → line ≡ try_line rows → IsLineOf asked line
-line_from None name_at rows_at asked rows line is named found says = cc
-line_from (Some b) name_at rows_at asked rows line is named found says =
-    let name_is : name_at b ≡ codes "try" = cc in
-    let rows_is : rows_at b ≡ rows = cc in
-    let says_so : line ≡ try_line (rows_at b) = says ∙ ap try_line (sym rows_is) in
-    subst (λ (o : Option (Text × List Row)). IsLineOf o line) is (inl (name_is, says_so))
+-- ---- the mode
+
+-- what was found is the value that was given
+given-is : (found given : Option Text) (held : Option (Bor Text)) (value : Option (Bor Text)) → option_map (λ s. s.now) held ≡ found → found ≡ given
+    → held ≡ value → given ≡ option_map (λ s. s.now) value
+given-is found given held value known same is = sym same ∙ sym known ∙ ap (option_map (λ s. s.now)) is
+
+pub mode-none : (found given : Option Text) (held : Option (Bor Text)) → option_map (λ s. s.now) held ≡ found → found ≡ given → held ≡ None
+    → mode_in given ≡ Some None
+mode-none found given held known same is = ap mode_in (given-is found given held None known same is)
+
+pub mode-executable : (found given : Option Text) (held : Option (Bor Text)) (value : Bor Text) → option_map (λ s. s.now) held ≡ found → found ≡ given
+    → held ≡ Some value → value.now ≡ codes "+x" → mode_in given ≡ Some (Some Executable)
+mode-executable found given held value known same is text =
+    ap mode_in (given-is found given held (Some value) known same is ∙ ap (λ (t : Text). Some t) text)
+
+pub mode-refused : (found given : Option Text) (held : Option (Bor Text)) (value : Bor Text) (error : Error) → option_map (λ s. s.now) held ≡ found
+    → found ≡ given → held ≡ Some value → value.now ≢ codes "+x" → HasKind (InvalidValue ∷ []) error → HasKind (value_fault (mode_in given)) error
+mode-refused found given held value error known same is other kind =
+    let differs : bytes_eq value.now (codes "+x") ≡ false = false_from_ne_true _ (λ e. other ((bytes_eq-Decides value.now (codes "+x")).0 e)) in
+    rw (given-is found given held (Some value) known same is, differs) kind
+
+-- ---- the number
+
+pub number-read : (text : Text) {E : Type 0} (parsed : Result ℕ E) (number : ℕ) → ParsesUnsigned 32 10 text parsed → parsed ≡ Ok number
+    → number_in text ≡ Some number
+number-read text {E} parsed number reads is =
+    let ok : ParsesUnsigned {E = E} 32 10 text (Ok number) = subst (ParsesUnsigned {E = E} 32 10 text) is reads in
+    let fits = ok.0.1 in
+    let passes : is_unsigned_in 0 (2 ^ 32 - 1) text ≡ true =
+    Accepts-accepts false (Unsigned 0 (2 ^ 32 - 1)) text (ok.0.0, omega (arith, fits), omega arith, omega (arith, fits)) in
+    rw (passes, ok.1) refl
+
+pub number-refused : (text : Text) {E : Type 0} (parsed : Result ℕ E) (refused : E) (error : Error) → ParsesUnsigned 32 10 text parsed → parsed ≡ Err refused
+    → HasKind (InvalidValue ∷ []) error → HasKind (value_fault (number_in text)) error
+number-refused text {E} parsed refused error reads is kind =
+    let none : ParsesUnsigned {E = E} 32 10 text (Err refused) = subst (ParsesUnsigned {E = E} 32 10 text) is reads in
+    let fails : is_unsigned_in 0 (2 ^ 32 - 1) text ≡ false = false_from_ne_true _ (λ e.
+        let accepted = accepts-Accepts false (Unsigned 0 (2 ^ 32 - 1)) text e in
+        let most = accepted.3 in
+        none (accepted.0, omega (arith, most))) in
+    rw fails kind

@@ -1,31 +1,71 @@
 -- The command line of the program, as `clap` sees it, and what a line of words asks for.
-use Rattle.std.specs.Prelude.{◌≡◌, ◌⊎◌, List, [], Option, Some, None, true, codes, unwrap_or}
-use Rattle.clap.specs.Words.{App, Row, Rule, Text, all_of, first_of, new_app, new_rule, with_rule, with_subcommand}
+use Rattle.std.specs.Prelude.{◌≡◌, Bool, ◌-◌, ◌^◌, ℕ, List, [], ◌∷◌, Option, Some, None, Result, MatchResult, true, codes, fold, option_and_then, option_map, unwrap_or, if◌then◌else◌}
+use Rattle.std.specs.List.{list_any}
+use Rattle.std.specs.Str.{bytes_eq}
+use Rattle.std.specs.Str.Parse.{digits_value, without_leading_plus}
+use Rattle.clap.specs.Words.{App, HasKind, Row, Rule, Text, all_of, fault_of, first_of, new_app, new_rule, subcommand_of, with_rule, with_subcommand}
+use Rattle.clap.specs.Kinds.{Kinds, or_else}
 use Rattle.clap.specs.Simple.{on_top}
 use Rattle.clap.specs.Lexer.{usize_max}
+use Rattle.clap.specs.ValueTests.{is_unsigned_in}
+use Rattle.clap.specs.declared.error.Error.{Error}
+use Rattle.clap.specs.declared.error.kind.ErrorKind.TheVariants.{InvalidValue}
+use Rattle.hook_base.specs.declared.file.Mode.{Mode}
+use Rattle.hook_base.specs.declared.file.Mode.TheVariants.{Executable}
 use Rattle.hook_cli.specs.declared.line.Line.{Line}
-use Rattle.hook_cli.specs.declared.line.Line.TheVariants.{Try, Check}
+use Rattle.hook_cli.specs.declared.line.Line.TheVariants.{Init, Try, Check, Add, Remove, Status, Cat, Log, Show}
+-- ---- the commands and their values, as `clap` takes them
 
--- the configuration of `try`: one word
-abbrev pub config_rule : Rule
-config_rule = record (new_rule (codes "CONFIG")) { required = true }
+-- a value of one word
+abbrev pub word_rule : Text → Rule
+word_rule id = record (new_rule id) { required = true }
 
--- the files of `try`: one word or more
-abbrev pub path_rule : Rule
-path_rule = record (new_rule (codes "PATH")) {
-  required = true;
+-- a value of one word or more
+abbrev pub words_rule : Text → Rule
+words_rule id = record (word_rule id) {
   range = Some (record { start_inclusive = 1; end_inclusive = usize_max });
 }
 
+-- `--chmod=MODE`, which may be left out
+abbrev pub chmod_rule : Rule
+chmod_rule = record (new_rule (codes "chmod")) { long = Some (codes "chmod"); value_names = 1 }
+
+abbrev pub init_app : App
+init_app = new_app (codes "init")
+
 -- `try CONFIG PATH..`
 abbrev pub try_app : App
-try_app = with_rule (with_rule (new_app (codes "try")) config_rule) path_rule
+try_app = with_rule (with_rule (new_app (codes "try")) (word_rule (codes "CONFIG"))) (words_rule (codes "PATH"))
 
--- `check`
 abbrev pub check_app : App
 check_app = new_app (codes "check")
 
--- the program without its name, which wants a subcommand
+-- `add [--chmod=MODE] PATH`
+abbrev pub add_app : App
+add_app = with_rule (with_rule (new_app (codes "add")) chmod_rule) (word_rule (codes "PATH"))
+
+-- `rm PATH`
+abbrev pub remove_app : App
+remove_app = with_rule (new_app (codes "rm")) (word_rule (codes "PATH"))
+
+abbrev pub status_app : App
+status_app = new_app (codes "status")
+
+-- `cat PATH`
+abbrev pub cat_app : App
+cat_app = with_rule (new_app (codes "cat")) (word_rule (codes "PATH"))
+
+abbrev pub log_app : App
+log_app = new_app (codes "log")
+
+-- `show N`
+abbrev pub show_app : App
+show_app = with_rule (new_app (codes "show")) (word_rule (codes "N"))
+
+abbrev pub with_commands : App → List App → App
+with_commands = fold (λ app command. with_subcommand app command.top)
+
+-- the program without its name, which wants a command
 abbrev pub hookhost_base : App
 hookhost_base = on_top (λ s. record s {
   no_binary_name = true;
@@ -33,19 +73,76 @@ hookhost_base = on_top (λ s. record s {
   subcommand_required = true;
 }) (new_app (codes "hookhost"))
 
+abbrev pub all_commands : List App
+all_commands =
+    init_app ∷ try_app ∷ check_app ∷ add_app ∷ remove_app ∷ status_app ∷ cat_app ∷ log_app ∷ show_app ∷ []
+
 abbrev pub hookhost_app : App
-hookhost_app = with_subcommand (with_subcommand hookhost_base try_app.top) check_app.top
+hookhost_app = with_commands hookhost_base all_commands
 
--- the name of one of the subcommands
-abbrev pub IsNamed : Option Text → Type 0
-IsNamed name = (name ≡ Some (codes "try")) ⊎ (name ≡ Some (codes "check"))
+-- the name is one of the commands'
+abbrev pub is_command : Text → Bool
+is_command name = list_any (λ (command : App). bytes_eq name command.top.name) all_commands
 
--- what the values of `try` say
+-- ---- what the values say
+
+-- a value of one word
+abbrev pub word_in : Text → List Row → Text
+word_in id rows = unwrap_or (first_of id rows) []
+
+-- a value of several words
+abbrev pub words_in : Text → List Row → List Text
+words_in id rows = unwrap_or (all_of id rows) []
+
+-- the mode that `--chmod` asks for: `+x` is one, and where nothing is asked for that is an answer too
+abbrev pub mode_in : Option Text → Option (Option Mode)
+mode_in None = Some None
+mode_in (Some text) = if bytes_eq text (codes "+x") then Some (Some Executable) else None
+
+-- the number of 32 bits that decimal digits write, which a `+` may precede
+abbrev pub number_in : Text → Option ℕ
+number_in text =
+    if is_unsigned_in 0 (2 ^ 32 - 1) text then Some (digits_value 10 (without_leading_plus text)) else None
+
+-- ---- what a line of words asks for
+
 abbrev pub try_line : List Row → Line
-try_line rows =
-    Try (unwrap_or (first_of (codes "CONFIG") rows) []) (unwrap_or (all_of (codes "PATH") rows) [])
+try_line rows = Try (word_in (codes "CONFIG") rows) (words_in (codes "PATH") rows)
 
--- the line that a subcommand with its values asks for
-abbrev pub IsLineOf : Option (Text × List Row) → Line → Type 0
-IsLineOf None line = ⊥
-IsLineOf (Some p) line = ((p.0 ≡ codes "try") × (line ≡ try_line p.1)) ⊎ ((p.0 ≡ codes "check") × (line ≡ Check))
+abbrev pub add_line : List Row → Option Line
+add_line rows = option_map (Add (word_in (codes "PATH") rows)) (mode_in (first_of (codes "chmod") rows))
+
+abbrev pub show_line : List Row → Option Line
+show_line rows = option_map Show (number_in (word_in (codes "N") rows))
+
+-- what a command asks for with its values, unless one of them can't be taken
+abbrev pub line_by : Text → List Row → Option Line
+line_by name rows =
+    if bytes_eq name (codes "init") then Some Init
+    else (if bytes_eq name (codes "try") then Some (try_line rows)
+    else (if bytes_eq name (codes "check") then Some Check
+    else (if bytes_eq name (codes "add") then add_line rows
+    else (if bytes_eq name (codes "rm") then Some (Remove (word_in (codes "PATH") rows))
+    else (if bytes_eq name (codes "status") then Some Status
+    else (if bytes_eq name (codes "cat") then Some (Cat (word_in (codes "PATH") rows))
+    else (if bytes_eq name (codes "log") then Some Log
+    else (if bytes_eq name (codes "show") then show_line rows else None))))))))
+
+-- what the words ask for: a command with its values, as `clap` finds them
+abbrev pub line_asked : List Text → Option Line
+line_asked words = option_and_then (λ p. line_by p.0 p.1) (subcommand_of hookhost_app words)
+
+-- ---- what is refused
+
+-- a value that can't be taken
+abbrev pub value_fault : {T : Type 0} → Option T → Kinds
+value_fault None = InvalidValue ∷ []
+value_fault (Some value) = []
+
+-- what `clap` refuses, and then a value
+abbrev pub line_fault : List Text → Kinds
+line_fault words = or_else (fault_of hookhost_app words) (value_fault (line_asked words))
+
+-- the value where there is one, and else its refusal, or want of memory
+abbrev pub IsValueOf : {T : Type 0} → Option T → Result T Error → Type 0
+IsValueOf asked result = MatchResult result (λ value. asked ≡ Some value) (HasKind (value_fault asked))

@@ -88,3 +88,31 @@ the file is read as '4 OutOfMemory', and everything else as
                   leave some out
   12 OutOfMemory  memory was refused
                   free some memory, and run it again";
+
+/// Behind the help of `init`.
+pub(crate) const INIT_HELP: &str = "\
+later";
+
+/// Behind the help of `add`.
+pub(crate) const ADD_HELP: &str = "\
+later";
+
+/// Behind the help of `remove`.
+pub(crate) const REMOVE_HELP: &str = "\
+later";
+
+/// Behind the help of `status`.
+pub(crate) const STATUS_HELP: &str = "\
+later";
+
+/// Behind the help of `cat`.
+pub(crate) const CAT_HELP: &str = "\
+later";
+
+/// Behind the help of `log`.
+pub(crate) const LOG_HELP: &str = "\
+later";
+
+/// Behind the help of `show`.
+pub(crate) const SHOW_HELP: &str = "\
+later";

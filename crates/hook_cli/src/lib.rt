@@ -8,12 +8,14 @@
 
 mod check;
 mod command_line;
+mod commands;
 mod configuration_bytes;
 mod configuration_run;
 mod help;
 mod line;
 mod run_ask;
 mod try_fault;
+mod values;
 
 pub use check::check_text;
 pub use command_line::line_of;

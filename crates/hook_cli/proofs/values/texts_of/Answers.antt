@@ -2,7 +2,7 @@ use Rattle.std.proofs.Common.{◌∙◌, ap}
 use Rattle.clap.specs.Words.{found_of}
 use Rattle.clap.proofs.WalkLemmas.{raw_values-rows}
 use Rattle.hook_cli.proofs.ValueLemmas.{or_none}
-use Rattle.hook_cli.proofs.command_line.texts_of.Goals as goal
+use Rattle.hook_cli.proofs.values.texts_of.Goals as goal
 
 pub returns-in_ok-copied-in-Some : goal.returns-in_ok-copied-in-Some
 returns-in_ok-copied-in-Some c =

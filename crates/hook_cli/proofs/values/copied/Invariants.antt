@@ -1,5 +1,5 @@
 use Rattle.std.proofs.Common.{◌≡◌, map, take}
-use Rattle.hook_cli.proofs.command_line.copied.Given as goal
+use Rattle.hook_cli.proofs.values.copied.Given as goal
 
 -- the copies so far
 abbrev pub invariant-loop-text : goal.invariant-loop-text
