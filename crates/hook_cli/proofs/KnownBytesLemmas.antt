@@ -1,5 +1,6 @@
 -- Reads and writes one after another.
 use Rattle.std.proofs.Common.{◌∙◌, ap, sym, refl, arith, append_assoc, length-append, ℕ, ◌+◌, ◌≤◌, List, [], ◌++◌, length, Option, None, Some}
+use Rattle.std.proofs.lemmas.List.{append-nil}
 use Rattle.std.specs.Io.KnownBytes.{Appends, Consumes, Keeps}
 use Rattle.hook_cli.specs.TryOver.{ReadsWithin}
 
@@ -33,3 +34,19 @@ appends-kept None mid new bytes added kept = tt
 appends-kept (Some old) None new bytes added kept = absurd added
 appends-kept (Some old) (Some mid) None bytes added kept = kept
 appends-kept (Some old) (Some mid) (Some new) bytes added kept = kept ∙ added
+
+pub appends-nothing : (held : Option (List ℕ)) → Appends held held []
+appends-nothing None = tt
+appends-nothing (Some bytes) = sym (append-nil bytes)
+
+pub appends-more : (held mid holds : Option (List ℕ)) (first next : List ℕ) → Appends held mid first → Appends mid holds next
+    → Appends held holds (first ++ next)
+appends-more None mid holds first next one two = tt
+appends-more (Some held) None holds first next one two = absurd one
+appends-more (Some held) (Some mid) None first next one two = two
+appends-more (Some held) (Some mid) (Some holds) first next one two =
+    two ∙ ap (λ bytes. bytes ++ next) one ∙ append_assoc held first next
+
+pub keeps-itself : (held : Option (List ℕ)) → Keeps held held
+keeps-itself None = tt
+keeps-itself (Some bytes) = refl

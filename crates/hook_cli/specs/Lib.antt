@@ -1,5 +1,12 @@
 pub mod CheckText
 pub mod CommandLine
+pub mod CommandOver
+pub mod LogText
+pub mod Printing
 pub mod Reading
+pub mod RefusalText
+pub mod ShowText
+pub mod StatusText
+pub mod StatusWalk
 pub mod TryFaults
 pub mod TryOver

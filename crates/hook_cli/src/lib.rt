@@ -7,19 +7,28 @@
 #![tactic(auto)]
 
 mod check;
+mod command_ending;
 mod command_line;
 mod commands;
 mod configuration_bytes;
 mod configuration_run;
 mod help;
 mod line;
+mod log_text;
+mod look_up;
+mod over_host;
+mod printing;
 mod run_ask;
+mod show_text;
+mod status_text;
 mod try_fault;
 mod values;
 
 pub use check::check_text;
+pub use command_ending::CommandEnding;
 pub use command_line::line_of;
 pub use configuration_bytes::MOST_CONFIGURATION_BYTES;
 pub use configuration_run::try_over;
 pub use line::Line;
+pub use over_host::command_over;
 pub use try_fault::TryFault;

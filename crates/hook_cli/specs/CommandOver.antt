@@ -1,0 +1,152 @@
+-- The commands over a repository: what each makes of it, what it prints, and the exit status.
+use Rattle.std.specs.Prelude.{◌≡◌, ◌⊎◌, ℕ, List, Option, None, Some, IsSome, option_map, Result, Ok, Err, IfErr, OnOk}
+use Rattle.sqlite_trees.specs.declared.store.Store.{Ghosts}
+use Rattle.hook_base.specs.declared.file.FileEntry.{FileEntry}
+use Rattle.hook_base.specs.Paths.{path_fault}
+use Rattle.hook_base.specs.Trees.{entry_of}
+use Rattle.repo_store.specs.AllOrNothing.{IsAllOrNothing}
+use Rattle.repo_store.specs.Contents.{Collides}
+use Rattle.repo_store.specs.Kept.{Kept, staging, unstaging}
+use Rattle.repo_store.specs.Repository.{Repository, commit_at, last_tree}
+use Rattle.commit_flow.specs.declared.command.Command.{Command}
+use Rattle.commit_flow.specs.declared.command.Command.TheVariants as command
+use Rattle.commit_flow.specs.declared.host_refusal.HostRefusal.{HostRefusal}
+use Rattle.commit_flow.specs.declared.host_refusal.HostRefusal.TheVariants.{OutOfMemory, BadPath, NotStaged, Collision}
+use Rattle.commit_flow.specs.declared.reply.Reply.{Reply}
+use Rattle.commit_flow.specs.declared.reply.Reply.TheVariants.{Added, Removed}
+use Rattle.commit_flow.specs.Commands.{reply_of}
+use Rattle.commit_flow.specs.Crashes.{IsOneCommand}
+use Rattle.commit_flow.specs.Hosts.{Hosted}
+use Rattle.commit_flow.specs.Steps.{IsLegal, IsStaged, Step, entry_to_add}
+use Rattle.hook_cli.specs.declared.line.Line.{Line}
+use Rattle.hook_cli.specs.declared.line.Line.TheVariants.{Init, Try, Check, Add, Remove, Status, Cat, Log, Show}
+use Rattle.hook_cli.specs.declared.command_ending.CommandEnding.{CommandEnding}
+use Rattle.hook_cli.specs.declared.command_ending.CommandEnding.TheVariants.{Done}
+use Rattle.hook_cli.specs.Printing.{IsSaid, IsSilent, IsTold, Output, status_of}
+use Rattle.hook_cli.specs.LogText.{log_text}
+use Rattle.hook_cli.specs.RefusalText.{no_commit_text, refusal_text}
+use Rattle.hook_cli.specs.ShowText.{show_text}
+use Rattle.hook_cli.specs.StatusText.{status_text}
+
+-- the line is a command over a repository
+abbrev pub IsOverHost : Line → Type 0
+IsOverHost Init = ⊥
+IsOverHost (Try config paths) = ⊥
+IsOverHost Check = ⊥
+IsOverHost (Add path mode) = Unit {0}
+IsOverHost (Remove path) = Unit {0}
+IsOverHost Status = Unit {0}
+IsOverHost (Cat path) = Unit {0}
+IsOverHost Log = Unit {0}
+IsOverHost (Show number) = Unit {0}
+
+-- ---- the commands that change the repository
+
+-- the reply of the command that is done
+abbrev pub reply_to : Command → Reply
+reply_to (command.Add path bytes mode) = Added
+reply_to (command.Remove path) = Removed
+
+-- what is kept once the command is done
+abbrev pub kept_after : Command → Kept → Kept
+kept_after (command.Add path bytes mode) kept = staging path (entry_to_add kept.repo path bytes mode) kept
+kept_after (command.Remove path) kept = unstaging path kept
+
+-- the command brings contents that have the digest of others that are kept
+abbrev pub BringsCollision : Command → Kept → Type 0
+BringsCollision (command.Add path bytes mode) kept = Collides bytes kept.contents
+BringsCollision (command.Remove path) kept = ⊥
+
+-- done, the command prints nothing; refused, it tells why
+abbrev pub IsReplied : {A : Type 0} → Output → Output → Result A HostRefusal → CommandEnding → Type 0
+IsReplied out err (Ok answer) ending = IsSilent out × IsSilent err × (ending ≡ Done)
+IsReplied out err (Err refusal) ending = IsSilent out × IsTold err (refusal_text refusal) ending
+
+-- One call of the host, whose answer is printed. The repository takes a step of the host's machine, as a whole or not at all,
+-- whatever stops it, and a writer's error undoes none of it.
+pub record IsChanged {S : Type 0} (g : Ghosts S) (old new : Hosted S) (command : Command) (out err : Output) (ending : CommandEnding) : Type 0 where
+  pub answer : Result (Unit {0}) HostRefusal
+  pub step : Step old.store.kept.repo command (reply_of (λ _. reply_to command) answer) 0 new.store.kept.repo
+  pub change : IsAllOrNothing old.store.kept new.store.kept answer (kept_after command old.store.kept)
+  pub one : IsOneCommand g old new command answer
+  pub apart : OnOk answer (¬ BringsCollision command old.store.kept)
+  pub collides : IfErr answer (λ refusal. refusal ≡ Collision → BringsCollision command old.store.kept)
+  pub replied : IsReplied out err answer ending
+
+-- ---- the commands that look something up
+
+-- the text that a look-up prints
+abbrev pub IsAnswer : Repository → Line → List ℕ → Type 0
+IsAnswer repo Status text = text ≡ status_text repo.staged (last_tree repo.history)
+IsAnswer repo (Cat path) text = IsLegal path × (option_map (λ (entry : FileEntry). entry.bytes) (entry_of path repo.staged) ≡ Some text)
+IsAnswer repo Log text = text ≡ log_text repo.history
+IsAnswer repo (Show number) text = option_map show_text (commit_at number repo.history) ≡ Some text
+IsAnswer repo Init text = ⊥
+IsAnswer repo (Try config paths) text = ⊥
+IsAnswer repo Check text = ⊥
+IsAnswer repo (Add path mode) text = ⊥
+IsAnswer repo (Remove path) text = ⊥
+
+-- why a staged file's bytes aren't given, in this order: the path is none, or it isn't staged. Want of memory comes after a
+-- fault of the path.
+abbrev pub IsCatRefusal : Repository → List ℕ → HostRefusal → Type 0
+IsCatRefusal repo path (BadPath fault) = path_fault path ≡ Some fault
+IsCatRefusal repo path NotStaged = IsLegal path × (¬ IsStaged path repo)
+IsCatRefusal repo path OutOfMemory = IsLegal path
+IsCatRefusal repo path refusal = ⊥
+
+-- the text that a refused look-up tells
+abbrev pub IsRefusalText : Repository → Line → List ℕ → Type 0
+IsRefusalText repo Status text = text ≡ refusal_text OutOfMemory
+IsRefusalText repo (Cat path) text = (refusal : HostRefusal) × IsCatRefusal repo path refusal × (text ≡ refusal_text refusal)
+IsRefusalText repo Log text = text ≡ refusal_text OutOfMemory
+IsRefusalText repo (Show number) text =
+    ((commit_at number repo.history ≡ None) × (text ≡ no_commit_text number))
+    ⊎ (IsSome (commit_at number repo.history) × (text ≡ refusal_text OutOfMemory))
+IsRefusalText repo Init text = ⊥
+IsRefusalText repo (Try config paths) text = ⊥
+IsRefusalText repo Check text = ⊥
+IsRefusalText repo (Add path mode) text = ⊥
+IsRefusalText repo (Remove path) text = ⊥
+
+-- the look-up's text is printed, and nothing on standard error
+pub record Answers (repo : Repository) (line : Line) (out err : Output) (ending : CommandEnding) : Type 0 where
+  pub text : List ℕ
+  pub answer : IsAnswer repo line text
+  pub said : IsSaid out text ending
+  pub silent : IsSilent err
+
+-- the look-up is refused, and nothing is printed on standard output
+pub record Refuses (repo : Repository) (line : Line) (out err : Output) (ending : CommandEnding) : Type 0 where
+  pub text : List ℕ
+  pub refusal : IsRefusalText repo line text
+  pub told : IsTold err text ending
+  pub silent : IsSilent out
+
+abbrev pub IsLookUp : Repository → Line → Output → Output → CommandEnding → Type 0
+IsLookUp repo line out err ending = Answers repo line out err ending ⊎ Refuses repo line out err ending
+
+-- a look-up leaves the host as it was
+pub record IsLookedUp {S : Type 0} (old new : Hosted S) (line : Line) (out err : Output) (ending : CommandEnding) : Type 0 where
+  pub same : new ≡ old
+  pub answered : IsLookUp old.store.kept.repo line out err ending
+
+-- ---- all of them
+
+-- the line is done so; the bytes are those of the file that is added
+abbrev pub IsEnded : {S : Type 0} → Ghosts S → Hosted S → Hosted S → Line → List ℕ → Output → Output → CommandEnding → Type 0
+IsEnded g old new (Add path mode) bytes out err ending = IsChanged g old new (command.Add path bytes mode) out err ending
+IsEnded g old new (Remove path) bytes out err ending = IsChanged g old new (command.Remove path) out err ending
+IsEnded g old new Status bytes out err ending = IsLookedUp old new Status out err ending
+IsEnded g old new (Cat path) bytes out err ending = IsLookedUp old new (Cat path) out err ending
+IsEnded g old new Log bytes out err ending = IsLookedUp old new Log out err ending
+IsEnded g old new (Show number) bytes out err ending = IsLookedUp old new (Show number) out err ending
+IsEnded g old new Init bytes out err ending = ⊥
+IsEnded g old new (Try config paths) bytes out err ending = ⊥
+IsEnded g old new Check bytes out err ending = ⊥
+
+-- the line ends in one of these ways, and its exit status is that ending's
+pub record IsCommandOver {S : Type 0} (g : Ghosts S) (old new : Hosted S) (line : Line) (bytes : List ℕ) (out err : Output) (status : ℕ) : Type 0 where
+  pub ending : CommandEnding
+  pub ended : IsEnded g old new line bytes out err ending
+  pub exits : status ≡ status_of ending

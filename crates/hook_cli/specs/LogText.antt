@@ -1,0 +1,23 @@
+-- What `log` says: a line a commit, the newest first.
+use Rattle.std.specs.Prelude.{ℕ, ◌+◌, Bool, not, ◌==◌, List, [], ◌∷◌, ◌++◌, codes, take_while}
+use Rattle.std.specs.Fmt.{decimal}
+use Rattle.report_text.specs.Report.{line}
+use Rattle.repo_store.specs.Repository.{Commit}
+
+abbrev pub is_within_line : ℕ → Bool
+is_within_line byte = not (byte == 10)
+
+-- the bytes before the first line feed, and all where there is none
+abbrev pub first_line_of : List ℕ → List ℕ
+first_line_of message = take_while is_within_line message
+
+abbrev pub log_line : ℕ → List ℕ → List ℕ
+log_line number message = line (decimal number ++ codes " " ++ first_line_of message)
+
+-- the commits are numbered from `number` on, and stand the oldest first
+abbrev pub log_text_from : ℕ → List Commit → List ℕ
+log_text_from number [] = []
+log_text_from number (commit ∷ later) = log_text_from (number + 1) later ++ log_line number commit.message
+
+abbrev pub log_text : List Commit → List ℕ
+log_text history = log_text_from 1 history

@@ -1,0 +1,44 @@
+-- What a command prints, and the exit status that goes with it. Of a writer that doesn't tell its bytes nothing is claimed.
+use Rattle.std.specs.Prelude.{◌≡◌, ◌++◌, ℕ, List, Option}
+use Rattle.std.specs.Io.KnownBytes.{Appends, Keeps}
+use Rattle.hook_cli.specs.declared.command_ending.CommandEnding.{CommandEnding}
+use Rattle.hook_cli.specs.declared.command_ending.CommandEnding.TheVariants.{Done, Refused, CutOff}
+
+-- the bytes that a writer held before a command, and those that it holds after it, where they are known
+pub record Output : Type 0 where
+  pub held : Option (List ℕ)
+  pub holds : Option (List ℕ)
+
+-- nothing was written
+abbrev pub IsSilent : Output → Type 0
+IsSilent output = Keeps output.held output.holds
+
+-- the text was written, and nothing else
+abbrev pub Has : Output → List ℕ → Type 0
+Has output text = Appends output.held output.holds text
+
+-- A part of the text from its beginning on was written, and nothing else: what a writer took before it gave an error. Where
+-- it gave one only when it was flushed, the part is the whole.
+pub record HasBeginning (output : Output) (text : List ℕ) : Type 0 where
+  pub part : List ℕ
+  pub rest : List ℕ
+  pub cut : text ≡ part ++ rest
+  pub written : Has output part
+
+-- the text of a command that is done stands on standard output, as far as the writer took it
+abbrev pub IsSaid : Output → List ℕ → CommandEnding → Type 0
+IsSaid out text Done = Has out text
+IsSaid out text CutOff = HasBeginning out text
+IsSaid out text Refused = ⊥
+
+-- the text of a refusal stands on standard error, as far as the writer took it
+abbrev pub IsTold : Output → List ℕ → CommandEnding → Type 0
+IsTold err text Refused = Has err text
+IsTold err text CutOff = HasBeginning err text
+IsTold err text Done = ⊥
+
+-- the exit status
+abbrev pub status_of : CommandEnding → ℕ
+status_of Done = 0
+status_of Refused = 3
+status_of CutOff = 3

@@ -1,0 +1,19 @@
+-- What standard error says of a refused command over a repository.
+use Rattle.std.specs.Prelude.{ℕ, List, [], ◌++◌, codes, Option, None, Some}
+use Rattle.std.specs.Fmt.{decimal}
+use Rattle.report_text.specs.Report.{line}
+use Rattle.commit_flow.specs.declared.host_refusal.HostRefusal.{HostRefusal}
+use Rattle.commit_flow.specs.Refusals.{inner_number_of, name_of, number_of}
+
+-- the number among the faults of its kind, behind a blank, where the refusal hands one on
+abbrev pub inner_text : Option ℕ → List ℕ
+inner_text None = []
+inner_text (Some number) = codes " " ++ decimal number
+
+abbrev pub refusal_text : HostRefusal → List ℕ
+refusal_text refusal =
+    line (codes "hookhost: refused: " ++ decimal (number_of refusal) ++ codes " " ++ name_of refusal ++ inner_text (inner_number_of refusal))
+
+-- no commit has the number
+abbrev pub no_commit_text : ℕ → List ℕ
+no_commit_text number = line (codes "hookhost: no commit " ++ decimal number)

@@ -1,0 +1,95 @@
+//! The commands over a repository: each makes its call of the host, prints, and has an exit status.
+//!
+//! The contracts cite `specs/CommandOver.antt`.
+
+ghost use Rattle.hook_cli.specs.CommandOver.{IsCommandOver, IsChanged, IsEnded, IsOverHost};
+ghost use Rattle.hook_cli.specs.Printing.{IsSilent, Output};
+ghost use Rattle.commit_flow.specs.declared.command.Command.TheVariants as command;
+
+use crate::command_ending::status_of;
+use crate::look_up::{cat, log, show, status};
+use crate::printing::tell;
+use crate::{CommandEnding, Line};
+use commit_flow::Host;
+use hook_base::Mode;
+use sqlite::Alter;
+use std::alloc::Global;
+use std::io::Write;
+
+/// Makes the call of a line that is a command over a repository, prints what it answers, and answers the exit status. The
+/// bytes are those of the file that `add` stages; another command doesn't look at them.
+///
+/// Done, it is 0: what the command looks up stands on `out` and nothing else; `add` and `rm` print nothing. Refused, it is 3:
+/// `hookhost: refused: NUMBER NAME` stands on `err`, with the inner number where the refusal has one, or for `show` of a
+/// number that no commit has `hookhost: no commit N`; nothing is on `out`. Want of memory is refused as `OutOfMemory`. A
+/// writer's error gives 3 too: what it took before is out, and what the command changed stays.
+///
+/// `add` and `rm` change the repository as the host's calls do, and a refusal leaves it as it was; the others change nothing.
+pub fn command_over<S: Alter, O: Write, E: Write>(
+    alloc: Global,
+    line: &Line,
+    bytes: &[u8],
+    host: &mut Host<S>,
+    out: &mut O,
+    err: &mut E,
+) -> u8
+    requires { IsOverHost line.now }
+    ensures { IsCommandOver S.Store host.old host.new line.now bytes.now (record { held = O.contents out.old; holds = O.contents out.new }) (record { held = E.contents err.old; holds = E.contents err.new }) result }
+{
+    status_of(end_of(alloc, line, bytes, host, out, err))
+}
+
+fn end_of<S: Alter, O: Write, E: Write>(
+    alloc: Global,
+    line: &Line,
+    bytes: &[u8],
+    host: &mut Host<S>,
+    out: &mut O,
+    err: &mut E,
+) -> CommandEnding
+    requires { IsOverHost line.now }
+    ensures { IsEnded S.Store host.old host.new line.now bytes.now (record { held = O.contents out.old; holds = O.contents out.new }) (record { held = E.contents err.old; holds = E.contents err.new }) result }
+{
+    match line {
+        Line::Add { path, mode } => add(alloc, path.as_str(), bytes, *mode, host, err),
+        Line::Remove { path } => remove(alloc, path.as_str(), host, err),
+        Line::Status => status(alloc, host.store(), out, err),
+        Line::Cat { path } => cat(alloc, path.as_str(), host.store(), out, err),
+        Line::Log => log(alloc, host.store(), out, err),
+        Line::Show { number } => show(alloc, *number, host.store(), out, err),
+        // The caller has them done elsewhere.
+        Line::Init | Line::Try { .. } | Line::Check => unreachable!(),
+    }
+}
+
+// `add`: stages the bytes at a path. It prints nothing on standard output.
+fn add<S: Alter, E: Write>(
+    alloc: Global,
+    path: &str,
+    bytes: &[u8],
+    mode: Option<Mode>,
+    host: &mut Host<S>,
+    err: &mut E,
+) -> CommandEnding
+    ensures { (out : Output) → IsSilent out → IsChanged S.Store host.old host.new (command.Add path.now bytes.now mode) out (record { held = E.contents err.old; holds = E.contents err.new }) result }
+{
+    match host.add(alloc, path, bytes, mode) {
+        Ok(()) => CommandEnding::Done,
+        Err(refusal) => tell(err, &refusal),
+    }
+}
+
+// `rm`: takes a path out of the staged files. It prints nothing on standard output.
+fn remove<S: Alter, E: Write>(
+    alloc: Global,
+    path: &str,
+    host: &mut Host<S>,
+    err: &mut E,
+) -> CommandEnding
+    ensures { (out : Output) → IsSilent out → IsChanged S.Store host.old host.new (command.Remove path.now) out (record { held = E.contents err.old; holds = E.contents err.new }) result }
+{
+    match host.remove(alloc, path) {
+        Ok(()) => CommandEnding::Done,
+        Err(refusal) => tell(err, &refusal),
+    }
+}
