@@ -7,8 +7,9 @@ Usage: tests/reference.py [FOLDER]   (default: the repository that this file sta
 An enum whose `number` tells its variants apart is a kind of refusal. Its variants' numbers and names (those of `name`, and
 where there is none the variants' own) have to be the rows of one table of the reference whose first column is `number`, and
 each such table has to be of one enum. HELP says which enum's table the help of a command prints: a line of number, name and
-when, and below it one of what to do, in the words of the reference without its backticks. The help of the program prints the
-table of the exit statuses. A limit is a definition `NAME = NUMBER` in a crate's specs/; LIMITS says where the
+when, and below it one of what to do, in the words of the reference without its backticks. The help of each command on a repository
+prints the rows that name the command in the tables whose first column is `printed`. The help of the program prints the table
+of the exit statuses. No line of help is wider than 84 columns. A limit is a definition `NAME = NUMBER` in a crate's specs/; LIMITS says where the
 reference's table "Limits" names it, and every number of that table has to be a limit.
 """
 import os
@@ -33,8 +34,22 @@ LIMITS = [
 ]
 # The constants of hook_cli with what the help of a command says, and the enum whose refusals the command prints.
 HELP = {"TRY_HELP": "TryFault", "CHECK_HELP": "ConfigKind"}
-# The refusals of which the reference says what to do, though no command prints them yet.
-UNPRINTED = ["StoreFault", "HostRefusal"]
+# The refusals of which the reference says what to do for a library's caller; the help says it in the words of the commands.
+LIBRARIES = ["StoreFault", "HostRefusal"]
+# The constants of hook_cli with the help of the commands on a repository, and the enums of what these refuse: those of the
+# store when it is opened, and then their own.
+REPOSITORY_HELP = {
+    "init": "INIT_HELP",
+    "add": "ADD_HELP",
+    "rm": "REMOVE_HELP",
+    "status": "STATUS_HELP",
+    "cat": "CAT_HELP",
+    "log": "LOG_HELP",
+    "show": "SHOW_HELP",
+}
+REPOSITORY_REFUSALS = ["StoreFault", "HostRefusal"]
+# The columns of a line of help, at most.
+WIDEST = 84
 # The tables of tags by the head of their first column, and the constants of the code.
 TAG_TABLES = {"name": "NAMES", "extension": "EXTENSIONS", "interpreter": "INTERPRETERS"}
 
@@ -112,13 +127,49 @@ def wrong_help(reference):
         printed = [list(row) for row in re.findall(r"^ *(\d+) (\w+) +(.*)\n {18}(.*)$", help_of(constant), re.MULTILINE)]
         if {int(row[0]): row[1] for row in printed} != kinds.get(enum) or printed not in told:
             yield f"{constant} doesn't print the table of {enum}: {[row for row in printed if all(row not in rows for rows in told)]!r}"
-    known = [kinds[enum] for enum in [*HELP.values(), *UNPRINTED]]
+    known = [kinds[enum] for enum in [*HELP.values(), *LIBRARIES]]
     for rows in told:
         if {int(row[0]): row[1] for row in rows} not in known:
             yield f"the table with {rows[0][1]} says what to do, and no help prints it"
     printed = [list(row) for row in re.findall(r"^   (\d)  (.*)$", help_of("PROGRAM_HELP"), re.MULTILINE)]
     if [printed] != rows_told(reference, [["exit status", "when"]]):
         yield f"PROGRAM_HELP doesn't print the table of the exit statuses: {printed!r}"
+
+
+def repository_help_of(constant):
+    """The text of a constant of the help of the commands on a repository, with what they share."""
+    source = read("crates", "hook_cli", "src", "repository_help.rt")
+    texts = lambda code: [re.sub(r"\\\n\s*", "", it) for it in re.findall(r'"([^"]*)"', code)]
+    told = texts(re.search(rf"const {constant}: &str = (.*?);\n(?:\n|$)", source, re.DOTALL)[1])
+    shared = texts(re.search(r"\$does,\n(.*?)\$refuses\n", source, re.DOTALL)[1])
+    return told[0] if len(told) == 1 else "".join([told[0], *shared, *told[1:]])
+
+
+def wrong_repository_help(reference):
+    """How the help of the commands on a repository differs from the reference's tables of what they print."""
+    kinds = refusals_of_code()
+    told = rows_told(reference, [["printed", "commands", "when", "what to do"]])
+    for enum, rows in zip(REPOSITORY_REFUSALS, told):
+        for printed, *_ in rows:
+            number, name = printed.split()[:2]
+            if kinds[enum].get(int(number)) != name:
+                yield f"{enum} has no refusal {printed}"
+    if len(told) != len(REPOSITORY_REFUSALS):
+        yield "the tables of what commands print aren't one for each enum"
+    for command, constant in REPOSITORY_HELP.items():
+        printed = [list(row) for row in re.findall(r"^ *(\d+ \w+(?: N)?) +(.*)\n {18}(.*)$", repository_help_of(constant), re.MULTILINE)]
+        wanted = [[row[0], *row[2:]] for rows in told for row in rows if command in row[1].split(", ")]
+        if printed != wanted:
+            yield f"{constant} doesn't print the rows of {command}: {[row for row in printed + wanted if (row in printed) != (row in wanted)]!r}"
+
+
+def wrong_widths():
+    """The lines of the help that are too wide."""
+    texts = {name: help_of(name) for name in ["PROGRAM_HELP", *HELP]} | {name: repository_help_of(name) for name in REPOSITORY_HELP.values()}
+    for name, text in texts.items():
+        for line in text.splitlines():
+            if len(line) > WIDEST:
+                yield f"{name} has a line of {len(line)} columns: {line!r}"
 
 
 def value_of(crate, name):
@@ -171,7 +222,7 @@ def wrong_tags(reference):
 
 def main():
     reference = read("docs", "REFERENCE.md")
-    wrong = [*wrong_refusals(reference), *wrong_help(reference), *wrong_limits(reference), *wrong_tags(reference)]
+    wrong = [*wrong_refusals(reference), *wrong_help(reference), *wrong_repository_help(reference), *wrong_widths(), *wrong_limits(reference), *wrong_tags(reference)]
     for each in wrong:
         print(f"FAILED docs/REFERENCE.md: {each}")
     kinds = refusals_of_code()

@@ -189,7 +189,7 @@ LINES = [
         [],
         "refused MissingSubcommand\n"
         "error: 'hookhost' requires a subcommand but one was not provided\n"
-        "  [subcommands: try, check]\n\n"
+        "  [subcommands: init, try, check, add, rm, status, cat, log, show]\n\n"
         f"Usage: hookhost <COMMAND>\n\n{MORE}",
     ),
     (
@@ -230,23 +230,163 @@ LINES = [
     (
         ["--help"],
         "refused DisplayHelp\n"
-        "Runs the hooks of a pre-commit configuration\n\n"
+        "Runs the hooks of a pre-commit configuration, and keeps a small repository\n\n"
         "Usage: hookhost <COMMAND>\n\n"
         "Commands:\n"
-        "  try    Runs the hooks of a configuration on files, and prints the report\n"
-        "  check  Reads .pre-commit-config.yaml, and prints how many hooks it has and which keys are ignored\n\n"
+        "  init    Makes a new repository in the current folder\n"
+        "  try     Runs the hooks of a configuration on files, and prints the report\n"
+        "  check   Prints how many hooks .pre-commit-config.yaml has, and its ignored keys\n"
+        "  add     Stages a file of the current folder\n"
+        "  rm      Takes a path out of the staged files\n"
+        "  status  Prints which staged files differ from those of the last commit\n"
+        "  cat     Prints the bytes of a staged file\n"
+        "  log     Prints the commits, the newest first\n"
+        "  show    Prints a commit's message and its paths\n\n"
         "Options:\n"
         "  -h, --help  Print help\n\n"
         "Without words, the configuration is read from standard input, and its hooks are\n"
         "run on no files. What that refuses, hookhost try --help explains.\n\n"
-        "Example:\n"
-        "  hookhost try .pre-commit-config.yaml README.md src/main.c\n\n"
+        "A repository lies in .hookhost of the current folder: init makes it, and all\n"
+        "commands but try and check work on it.\n\n"
+        "Examples:\n"
+        "  hookhost try .pre-commit-config.yaml README.md src/main.c\n"
+        "  hookhost init\n"
+        "  hookhost add README.md\n"
+        "  hookhost status\n\n"
         "Exit status:\n"
-        "   0  every hook passed or was skipped; check took the configuration\n"
+        "   0  every hook passed or was skipped, or the command did what it says\n"
         "   1  a hook failed\n"
         "   2  the words are wrong, or ask for help\n"
         "   3  something was refused: standard error says what\n\n"
         "hookhost COMMAND --help explains what that command refuses.\n",
+    ),
+]
+
+# The usage line of each command on a repository.
+USAGES = {
+    "init": "init",
+    "add": "add [--chmod=+x] <PATH>",
+    "rm": "rm <PATH>",
+    "status": "status",
+    "cat": "cat <PATH>",
+    "log": "log",
+    "show": "show <N>",
+}
+
+
+def refused(command, kind, text):
+    """The answer to words of a command that are refused, with the command's usage behind the text."""
+    return f"refused {kind}\nerror: {text}\n\nUsage: hookhost {USAGES[command]}\n\n{MORE}"
+
+
+def no_command(word, tip=""):
+    return f"refused InvalidSubcommand\nerror: unrecognized subcommand '{word}'\n\n{tip}Usage: hookhost <COMMAND>\n\n{MORE}"
+
+
+def missing(value):
+    return f"the following required arguments were not provided:\n  <{value}>"
+
+
+def no_flag(word):
+    return f"unexpected argument '{word}' found\n\n  tip: to pass '{word}' as a value, use '-- {word}'"
+
+
+def no_mode(value):
+    return f"invalid value '{value}' for '--chmod <MODE>': only +x is allowed"
+
+
+def no_number(value):
+    return f"invalid value '{value}' for '<N>': it has to be a number up to 4294967295"
+
+
+# Words of the commands on a repository, and what they ask for.
+REPOSITORY_LINES = [
+    (["init"], "init\n"),
+    (["add", "a b"], "add\na b\n"),
+    (["add", ""], "add\n\n"),
+    (["add", "--chmod=+x", "a"], "add executable\na\n"),
+    (["add", "--chmod", "+x", "a"], "add executable\na\n"),
+    (["add", "a", "--chmod=+x"], "add executable\na\n"),
+    (["add", "--", "-x"], "add\n-x\n"),
+    (["add", "--", "--chmod=+x"], "add\n--chmod=+x\n"),
+    (["rm", "a"], "remove\na\n"),
+    (["status"], "status\n"),
+    (["cat", "a"], "cat\na\n"),
+    (["log"], "log\n"),
+    (["show", "0"], "show\n0\n"),
+    (["show", "007"], "show\n7\n"),
+    (["show", "+1"], "show\n1\n"),
+    (["show", "4294967295"], "show\n4294967295\n"),
+    # A value is missing, or there is one too many.
+    *(([command], refused(command, "MissingRequiredArgument", missing("PATH"))) for command in ["add", "rm", "cat"]),
+    (["show"], refused("show", "MissingRequiredArgument", missing("N"))),
+    (["add", "--chmod=+x"], refused("add", "MissingRequiredArgument", missing("PATH"))),
+    *(
+        ([command, "a", "b"], refused(command, "UnknownArgument", "unexpected argument 'b' found"))
+        for command in ["add", "rm", "cat", "show"]
+    ),
+    *(
+        ([command, "b"], refused(command, "UnknownArgument", "unexpected argument 'b' found"))
+        for command in ["init", "status", "log"]
+    ),
+    # `--chmod` takes `+x` alone, and once.
+    *((["add", f"--chmod={mode}", "a"], refused("add", "InvalidValue", no_mode(mode))) for mode in ["-x", "+X", "x", "755", ""]),
+    (["add", "--chmod", "a"], refused("add", "MissingRequiredArgument", missing("PATH"))),
+    (["add", "--chmod", "-x", "a"], refused("add", "UnknownArgument", no_flag("-x"))),
+    (
+        ["add", "--chmod=+x", "--chmod=+x", "a"],
+        refused("add", "ArgumentConflict", "the argument '--chmod <MODE>' cannot be used multiple times"),
+    ),
+    # A path that looks like a flag stands behind `--`.
+    (["add", "-x"], refused("add", "UnknownArgument", no_flag("-x"))),
+    (["rm", "--chmod=+x", "a"], refused("rm", "UnknownArgument", no_flag("--chmod"))),
+    # The number has 32 bits.
+    *((["show", word], refused("show", "InvalidValue", no_number(word))) for word in ["x", "4294967296", "1.0", " 1", "", "++1"]),
+    (["show", "-1"], refused("show", "UnknownArgument", no_flag("-1"))),
+    (["show", "--", "-1"], refused("show", "InvalidValue", no_number("-1"))),
+    # No word is short for another.
+    (["help"], no_command("help")),
+    (["stat"], no_command("stat", "  tip: a similar subcommand exists: 'status'\n\n")),
+    (["remove"], no_command("remove", "  tip: a similar subcommand exists: 'rm'\n\n")),
+    (["ADD", "a"], no_command("ADD")),
+    (
+        ["add", "--ch=+x", "a"],
+        refused("add", "UnknownArgument", "unexpected argument '--ch' found\n\n  tip: a similar argument exists: '--chmod'"),
+    ),
+    # The help of a command.
+    (
+        ["status", "--help"],
+        "refused DisplayHelp\n"
+        "Prints which staged files differ from those of the last commit\n\n"
+        "Usage: hookhost status\n\n"
+        "Options:\n"
+        "  -h, --help  Print help\n\n"
+        "A line is A PATH for a file that was added, M PATH for one whose bytes or mode\n"
+        "differ, and D PATH for one that was taken out, in the order of the paths. Before the\n"
+        "first commit every staged file is an added one. The folder's files aren't looked at.\n\n"
+        "Example:\n"
+        "  hookhost status\n\n"
+        "Exit status:\n"
+        "   0  the command did what it says\n"
+        "   2  the words are wrong, or ask for help\n"
+        "   3  something was refused: standard error says what\n\n"
+        "'hookhost: cannot use .hookhost/store.db' says that no store is here, or that it\n"
+        "can't be opened: hookhost init makes one. 'hookhost: cannot use .hookhost/lock' says\n"
+        "that another hookhost works here: wait for it. What opening the store refuses is\n"
+        "told as 'hookhost: refused: NUMBER NAME':\n"
+        "   1 NotAStore    the file is no store of this version\n"
+        "                  move it away, and make a store by hookhost init\n"
+        "   2 Damaged      the store holds what no store holds\n"
+        "                  take it from a backup: nothing here mends it\n"
+        "   3 Sql          the database refused\n"
+        "                  see that the disk can be read and has room\n"
+        "   4 OutOfMemory  memory was refused\n"
+        "                  free some memory, and run it again\n\n"
+        "What the command itself refuses is told in the same way:\n"
+        "   1 OutOfMemory  memory was refused\n"
+        "                  free some memory, and run it again\n"
+        "   2 Store N      the store refused, for the cause N of those above\n"
+        "                  do what is said there\n",
     ),
 ]
 
@@ -329,7 +469,7 @@ ROWS = [
     *WRITES,
     *(("try_fault", *case) for case in FAULTS),
     *(("check_text", *case) for case in CHECKS),
-    *(("line_of", *words, said) for words, said in LINES),
+    *(("line_of", *words, said) for words, said in LINES + REPOSITORY_LINES),
     *(("hook_text", *hook, said) for hook, said in HOOK_TEXTS),
     *(("columns", *names, said) for names, said in COLUMNS),
 ]

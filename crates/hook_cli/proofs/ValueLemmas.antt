@@ -60,7 +60,7 @@ pub number-refused : (text : Text) {E : Type 0} (parsed : Result ℕ E) (refused
 number-refused text {E} parsed refused error reads is kind =
     let none : ParsesUnsigned {E = E} 32 10 text (Err refused) = subst (ParsesUnsigned {E = E} 32 10 text) is reads in
     let fails : is_unsigned_in 0 (2 ^ 32 - 1) text ≡ false = false_from_ne_true _ (λ e.
-        let accepted = accepts-Accepts false (Unsigned 0 (2 ^ 32 - 1)) text e in
-        let most = accepted.3 in
-        none (accepted.0, omega (arith, most))) in
+    let accepted = accepts-Accepts false (Unsigned 0 (2 ^ 32 - 1)) text e in
+    let most = accepted.3 in
+    none (accepted.0, omega (arith, most))) in
     rw fails kind

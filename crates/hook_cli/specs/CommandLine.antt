@@ -14,6 +14,7 @@ use Rattle.hook_base.specs.declared.file.Mode.{Mode}
 use Rattle.hook_base.specs.declared.file.Mode.TheVariants.{Executable}
 use Rattle.hook_cli.specs.declared.line.Line.{Line}
 use Rattle.hook_cli.specs.declared.line.Line.TheVariants.{Init, Try, Check, Add, Remove, Status, Cat, Log, Show}
+
 -- ---- the commands and their values, as `clap` takes them
 
 -- a value of one word

@@ -7,9 +7,9 @@ ghost use Rattle.clap.specs.Words.{app_of, rule_of};
 ghost use Rattle.clap.specs.declared.builder.Command.TheViews.{out-Command as fields_of};
 ghost use Rattle.hook_cli.specs.CommandLine.{add_app, cat_app, check_app, chmod_rule, hookhost_app, hookhost_base, init_app, log_app, remove_app, show_app, status_app, try_app, with_commands, word_rule, words_rule};
 
-use crate::help::{
-    ADD_HELP, CAT_HELP, CHECK_HELP, INIT_HELP, LOG_HELP, PROGRAM_HELP, REMOVE_HELP, SHOW_HELP,
-    STATUS_HELP, TRY_HELP,
+use crate::help::{CHECK_HELP, PROGRAM_HELP, TRY_HELP};
+use crate::repository_help::{
+    ADD_HELP, CAT_HELP, INIT_HELP, LOG_HELP, REMOVE_HELP, SHOW_HELP, STATUS_HELP,
 };
 use clap::{Arg, Command};
 use std::alloc::{AllocError, Global};
@@ -34,10 +34,7 @@ fn program<'a>(alloc: Global) -> Command<'a>
         .subcommand_required(true)
 }
 
-fn with_configurations<'a>(
-    alloc: Global,
-    program: Command<'a>,
-) -> Result<Command<'a>, AllocError>
+fn with_configurations<'a>(alloc: Global, program: Command<'a>) -> Result<Command<'a>, AllocError>
     ensures { IfOk result (λ command. app_of command ≡ with_commands (app_of program.entry) (init_app ∷ try_app ∷ check_app ∷ [])) }
 {
     program
@@ -82,7 +79,11 @@ fn try_command<'a>(alloc: Global) -> Result<Command<'a>, AllocError>
         .about("Runs the hooks of a configuration on files, and prints the report")
         .override_usage("hookhost try <CONFIG> <PATH>...")
         .after_help(TRY_HELP)
-        .arg(word(alloc, "CONFIG", "The configuration, as a .pre-commit-config.yaml"))?
+        .arg(word(
+            alloc,
+            "CONFIG",
+            "The configuration, as a .pre-commit-config.yaml",
+        ))?
         .arg(words(alloc, "PATH", "The files to run the hooks on"))
 }
 
@@ -91,9 +92,7 @@ fn check_command<'a>(alloc: Global) -> Command<'a>
     ensures local { (fields_of result).has_globals ≡ false }
 {
     Command::new(alloc, "check")
-        .about(
-            "Reads .pre-commit-config.yaml, and prints how many hooks it has and which keys are ignored",
-        )
+        .about("Prints how many hooks .pre-commit-config.yaml has, and its ignored keys")
         .override_usage("hookhost check")
         .after_help(CHECK_HELP)
 }
@@ -170,9 +169,7 @@ fn word<'a>(alloc: Global, id: &'a str, help: &'a str) -> Arg<'a>
     ensures rule { rule_of result ≡ word_rule id.entry.now }
     ensures local { result.global ≡ false }
 {
-    Arg::new(alloc, id)
-        .required(true)
-        .help(help)
+    Arg::new(alloc, id).required(true).help(help)
 }
 
 // A value of one word or more.
@@ -180,10 +177,7 @@ fn words<'a>(alloc: Global, id: &'a str, help: &'a str) -> Arg<'a>
     ensures rule { rule_of result ≡ words_rule id.entry.now }
     ensures local { result.global ≡ false }
 {
-    Arg::new(alloc, id)
-        .required(true)
-        .num_args(1..)
-        .help(help)
+    Arg::new(alloc, id).required(true).num_args(1..).help(help)
 }
 
 fn chmod<'a>(alloc: Global) -> Arg<'a>

@@ -7,11 +7,17 @@ pub(crate) const PROGRAM_HELP: &str = "\
 Without words, the configuration is read from standard input, and its hooks are
 run on no files. What that refuses, hookhost try --help explains.
 
-Example:
+A repository lies in .hookhost of the current folder: init makes it, and all
+commands but try and check work on it.
+
+Examples:
   hookhost try .pre-commit-config.yaml README.md src/main.c
+  hookhost init
+  hookhost add README.md
+  hookhost status
 
 Exit status:
-   0  every hook passed or was skipped; check took the configuration
+   0  every hook passed or was skipped, or the command did what it says
    1  a hook failed
    2  the words are wrong, or ask for help
    3  something was refused: standard error says what
@@ -88,31 +94,3 @@ the file is read as '4 OutOfMemory', and everything else as
                   leave some out
   12 OutOfMemory  memory was refused
                   free some memory, and run it again";
-
-/// Behind the help of `init`.
-pub(crate) const INIT_HELP: &str = "\
-later";
-
-/// Behind the help of `add`.
-pub(crate) const ADD_HELP: &str = "\
-later";
-
-/// Behind the help of `remove`.
-pub(crate) const REMOVE_HELP: &str = "\
-later";
-
-/// Behind the help of `status`.
-pub(crate) const STATUS_HELP: &str = "\
-later";
-
-/// Behind the help of `cat`.
-pub(crate) const CAT_HELP: &str = "\
-later";
-
-/// Behind the help of `log`.
-pub(crate) const LOG_HELP: &str = "\
-later";
-
-/// Behind the help of `show`.
-pub(crate) const SHOW_HELP: &str = "\
-later";

@@ -18,6 +18,7 @@ mod log_text;
 mod look_up;
 mod over_host;
 mod printing;
+mod repository_help;
 mod run_ask;
 mod show_text;
 mod status_text;

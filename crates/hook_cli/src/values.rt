@@ -95,7 +95,10 @@ fn number_error(alloc: Global, text: &str) -> Error
 }
 
 fn number_message(alloc: Global, text: &str) -> Result<String, AllocError> {
-    format!(in alloc; "invalid value '{text}' for '<N>': it has to be a number up to {}", u32::MAX)
+    format!(in alloc;
+        "invalid value '{text}' for '<N>': it has to be a number up to {}",
+        u32::MAX
+    )
 }
 
 // The error of a value that the command doesn't take, with its usage.

@@ -1,6 +1,6 @@
 //! What a line of words asks for.
 
-use hook_base::Text;
+use hook_base::{Mode, Text};
 use hook_cli::{Line, line_of};
 use std::alloc::{AllocError, Global};
 use trial_rows::{Stop, texts_of};
@@ -21,14 +21,38 @@ fn refused(alloc: Global, error: &clap::Error) -> Result<Vec<u8>, Stop> {
 
 fn told(alloc: Global, line: &Line) -> Result<String, AllocError> {
     match line {
+        Line::Init => String::from_str(alloc, "init\n"),
+        Line::Try { config, paths } => of_try(alloc, config, paths.as_slice()),
         Line::Check => String::from_str(alloc, "check\n"),
-        Line::Try { config, paths } => {
-            let mut text = String::from_str(alloc, "try\n")?;
-            push_line(&mut text, config)?;
-            push_lines(&mut text, paths.as_slice())?;
-            Ok(text)
-        }
+        Line::Add { path, mode } => of_path(alloc, word_of_add(*mode), path),
+        Line::Remove { path } => of_path(alloc, "remove", path),
+        Line::Status => String::from_str(alloc, "status\n"),
+        Line::Cat { path } => of_path(alloc, "cat", path),
+        Line::Log => String::from_str(alloc, "log\n"),
+        Line::Show { number } => format!(in alloc; "show\n{number}\n"),
     }
+}
+
+fn word_of_add(mode: Option<Mode>) -> &'static str {
+    match mode {
+        None => "add",
+        Some(Mode::Plain) => "add plain",
+        Some(Mode::Executable) => "add executable",
+    }
+}
+
+fn of_path(alloc: Global, word: &str, path: &Text) -> Result<String, AllocError> {
+    let mut text = String::from_str(alloc, word)?;
+    text.push_str("\n")?;
+    push_line(&mut text, path)?;
+    Ok(text)
+}
+
+fn of_try(alloc: Global, config: &Text, paths: &[Text]) -> Result<String, AllocError> {
+    let mut text = String::from_str(alloc, "try\n")?;
+    push_line(&mut text, config)?;
+    push_lines(&mut text, paths)?;
+    Ok(text)
 }
 
 fn push_lines(text: &mut String, words: &[Text]) -> Result<(), AllocError> {

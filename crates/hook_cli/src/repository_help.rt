@@ -1,0 +1,151 @@
+//! What the help says of the commands on a repository: examples, exit statuses, and each refusal with what to do next.
+//!
+//! `docs/REFERENCE.md` holds the same refusals, and `tests/reference.py` compares the two.
+
+// The help of a command that opens the store: what it does, with an example, and what it alone refuses.
+macro_rules! opening_help {
+    ($does:literal, $refuses:literal) => {
+        concat!(
+            $does,
+            "
+
+Exit status:
+   0  the command did what it says
+   2  the words are wrong, or ask for help
+   3  something was refused: standard error says what
+
+'hookhost: cannot use .hookhost/store.db' says that no store is here, or that it
+can't be opened: hookhost init makes one. 'hookhost: cannot use .hookhost/lock' says
+that another hookhost works here: wait for it. What opening the store refuses is
+told as 'hookhost: refused: NUMBER NAME':
+   1 NotAStore    the file is no store of this version
+                  move it away, and make a store by hookhost init
+   2 Damaged      the store holds what no store holds
+                  take it from a backup: nothing here mends it
+   3 Sql          the database refused
+                  see that the disk can be read and has room
+   4 OutOfMemory  memory was refused
+                  free some memory, and run it again
+
+What the command itself refuses is told in the same way:
+   1 OutOfMemory  memory was refused
+                  free some memory, and run it again
+   2 Store N      the store refused, for the cause N of those above
+                  do what is said there",
+            $refuses
+        )
+    };
+}
+
+/// Behind the help of `init`.
+pub(crate) const INIT_HELP: &str = "\
+The store is made as .hookhost/store.db, with nothing staged and no commit. Nothing
+else in the folder is touched.
+
+Example:
+  hookhost init
+
+Exit status:
+   0  the command did what it says
+   2  the words are wrong, or ask for help
+   3  something was refused: standard error says what
+
+'hookhost: cannot use .hookhost/store.db' says that .hookhost or the file can't be
+made: see whose folder it is. 'hookhost: cannot use .hookhost/lock' says that
+another hookhost works here: wait for it. Everything else is told as
+'hookhost: refused: NUMBER NAME':
+   3 Sql          a store is here already, or the database refused
+                  go on with that store, or see that the disk has room
+   4 OutOfMemory  memory was refused
+                  free some memory, and run it again";
+
+/// Behind the help of `add`.
+pub(crate) const ADD_HELP: &str = opening_help!(
+    "\
+The file's bytes are staged as they are now. A file that is staged already keeps
+its mode, and a new one isn't executable, unless --chmod=+x is given.
+
+Examples:
+  hookhost add README.md
+  hookhost add --chmod=+x tools/build.sh",
+    "
+   3 BadPath N    PATH isn't allowed; docs/REFERENCE.md has the number N
+                  name a path inside the folder, and none below .git
+   5 TooLarge     the file has more than 16 MiB
+                  make it smaller
+   6 TooMany      more than 100,000 files would be staged, or 8 MiB of paths
+                  take files out, by hookhost rm
+  13 Collision    other contents are kept under the same digest
+                  this store can't keep these contents
+  15 Clash        a staged path is a folder of PATH, or lies in it
+                  take the other path out first, by hookhost rm
+
+'hookhost: cannot use PATH' says that the file is missing, is a folder or can't be
+read: name a file that can."
+);
+
+/// Behind the help of `rm`.
+pub(crate) const REMOVE_HELP: &str = opening_help!(
+    "\
+The path leaves the staged files. The file in the folder stays, and so do the
+commits.
+
+Example:
+  hookhost rm README.md",
+    "
+   3 BadPath N    PATH isn't allowed; docs/REFERENCE.md has the number N
+                  name a path inside the folder, and none below .git
+   4 NotStaged    nothing is staged at PATH
+                  stage it first, by hookhost add"
+);
+
+/// Behind the help of `status`.
+pub(crate) const STATUS_HELP: &str = opening_help!(
+    "\
+A line is A PATH for a file that was added, M PATH for one whose bytes or mode
+differ, and D PATH for one that was taken out, in the order of the paths. Before the
+first commit every staged file is an added one. The folder's files aren't looked at.
+
+Example:
+  hookhost status",
+    ""
+);
+
+/// Behind the help of `cat`.
+pub(crate) const CAT_HELP: &str = opening_help!(
+    "\
+Nothing is added to the bytes. They are those that were staged, and the file in the
+folder may have others by now.
+
+Example:
+  hookhost cat README.md",
+    "
+   3 BadPath N    PATH isn't allowed; docs/REFERENCE.md has the number N
+                  name a path inside the folder, and none below .git
+   4 NotStaged    nothing is staged at PATH
+                  stage it first, by hookhost add"
+);
+
+/// Behind the help of `log`.
+pub(crate) const LOG_HELP: &str = opening_help!(
+    "\
+A line is a commit's number and the first line of its message.
+
+Example:
+  hookhost log",
+    ""
+);
+
+/// Behind the help of `show`.
+pub(crate) const SHOW_HELP: &str = opening_help!(
+    "\
+The message is followed by an empty line and the paths of the commit's files, one a
+line. The number N is one that hookhost log prints.
+
+Example:
+  hookhost show 1",
+    "
+
+'hookhost: no commit N' says that no commit has that number: hookhost log lists
+them."
+);
