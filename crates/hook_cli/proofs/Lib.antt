@@ -2,7 +2,10 @@ pub mod AskLemmas
 pub mod CommandLemmas
 pub mod KnownBytesLemmas
 pub mod LineLemmas
+pub mod OverHostLemmas
 pub mod PrintingLemmas
 pub mod ReadingLemmas
 pub mod RunLemmas
+pub mod StatusLemmas
+pub mod TextLemmas
 pub mod ValueLemmas

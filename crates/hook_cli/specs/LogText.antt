@@ -1,15 +1,16 @@
 -- What `log` says: a line a commit, the newest first.
-use Rattle.std.specs.Prelude.{ℕ, ◌+◌, Bool, not, ◌==◌, List, [], ◌∷◌, ◌++◌, codes, take_while}
+use Rattle.std.specs.Prelude.{ℕ, ◌+◌, Bool, ◌==◌, List, [], ◌∷◌, ◌++◌, codes}
+use Rattle.std.specs.List.{before_first}
 use Rattle.std.specs.Fmt.{decimal}
 use Rattle.report_text.specs.Report.{line}
 use Rattle.repo_store.specs.Repository.{Commit}
 
-abbrev pub is_within_line : ℕ → Bool
-is_within_line byte = not (byte == 10)
+abbrev pub is_line_feed : ℕ → Bool
+is_line_feed byte = byte == 10
 
 -- the bytes before the first line feed, and all where there is none
 abbrev pub first_line_of : List ℕ → List ℕ
-first_line_of message = take_while is_within_line message
+first_line_of message = before_first is_line_feed message
 
 abbrev pub log_line : ℕ → List ℕ → List ℕ
 log_line number message = line (decimal number ++ codes " " ++ first_line_of message)

@@ -84,11 +84,11 @@ fn push_change_line<S: Alter>(
 ) -> Result<(), OutOfMemory>
     ensures { OnOk result (text.new.items ≡ text.old.items ++ change_line_at store.now.kept.repo.staged (last_tree store.now.kept.repo.history) path.now) }
 {
-    if store.differs_from_head_at(path) {
-        push(text, mark_of(store.is_staged(path), store.is_in_head(path)))?;
-        push_line(text, path.as_str().as_bytes())?;
+    if !store.differs_from_head_at(path) {
+        return Ok(());
     }
-    Ok(())
+    push(text, mark_of(store.is_staged(path), store.is_in_head(path)))?;
+    push_line(text, path.as_str().as_bytes())
 }
 
 // What a path's line begins with.

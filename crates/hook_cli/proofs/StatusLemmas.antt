@@ -1,0 +1,135 @@
+-- The paths of two trees in their order, and the lines of paths.
+use Rattle.std.proofs.Common.{◌≡◌, ◌≢◌, ◌∙◌, ap, sym, refl, subst, append_assoc, ℕ, ◌+◌, Bool, true, false, List, [], ◌∷◌, ◌++◌, drop, map, slice_get, Option, None, Some, is_some, option_map}
+use Rattle.std.specs.Prelude.{if◌then◌else◌, ◌&&◌}
+use Rattle.std.specs.List.{flat_map}
+use Rattle.std.specs.Str.{bytes_eq}
+use Rattle.std.specs.Cmp.Lexicographic.{bytes_decides}
+use Rattle.std.specs.declared.cmp.Ordering.{Ordering}
+use Rattle.std.specs.declared.cmp.Ordering.TheVariants.{Less, Equal, Greater}
+use Rattle.hook_base.specs.declared.file.File.{File}
+use Rattle.hook_base.specs.declared.file.FileEntry.{FileEntry}
+use Rattle.hook_base.specs.declared.file.Mode.{Mode}
+use Rattle.hook_base.specs.declared.file.Mode.TheVariants.{Plain, Executable}
+use Rattle.hook_base.specs.Rising.{path_cmp}
+use Rattle.hook_base.specs.Trees.{path_of}
+use Rattle.report_text.specs.Report.{line}
+use Rattle.hook_cli.specs.StatusText.{change_line, in_order, is_same_entry, is_same_mode, paths_from, paths_of_both}
+use Rattle.hook_cli.specs.StatusWalk.{mark_of}
+use Rattle.hook_cli.proofs.TextLemmas.{drop-none, drop-some, false_from_not}
+
+-- ---- where the walk goes on
+
+pub both-over : (files others : List File) (i j : ℕ) → slice_get files i ≡ None → slice_get others j ≡ None
+    → paths_of_both (drop i files) (drop j others) ≡ []
+both-over files others i j none gone =
+    ap (λ left. paths_of_both left (drop j others)) (drop-none files i none) ∙ ap (λ left. map path_of left) (drop-none others j gone)
+
+pub both-first : (files others : List File) (i j : ℕ) (file : File) → slice_get files i ≡ Some file → slice_get others j ≡ None
+    → paths_of_both (drop i files) (drop j others) ≡ file.path ∷ paths_of_both (drop (i + 1) files) (drop j others)
+both-first files others i j file found gone =
+    let left = drop-none others j gone in
+    ap (λ rest. paths_of_both (drop i files) rest) left ∙ ap (λ rest. paths_of_both rest []) (drop-some files i file found)
+    ∙ ap (λ rest. file.path ∷ paths_of_both (drop (i + 1) files) rest) (sym left)
+
+pub both-second : (files others : List File) (i j : ℕ) (other : File) → slice_get files i ≡ None → slice_get others j ≡ Some other
+    → paths_of_both (drop i files) (drop j others) ≡ other.path ∷ paths_of_both (drop i files) (drop (j + 1) others)
+both-second files others i j other none found =
+    let left = drop-none files i none in
+    ap (λ rest. paths_of_both rest (drop j others)) left ∙ ap (λ rest. map path_of rest) (drop-some others j other found)
+    ∙ ap (λ rest. other.path ∷ paths_of_both rest (drop (j + 1) others)) (sym left)
+
+abbrev goes_on : List File → List File → File → File → Ordering → List (List ℕ)
+goes_on rest others_rest file other order =
+    in_order order file.path other.path (paths_of_both rest (other ∷ others_rest)) (paths_of_both rest others_rest) (paths_of_both (file ∷ rest) others_rest)
+
+both-there : (files others : List File) (i j : ℕ) (file other : File) (order : Ordering) → slice_get files i ≡ Some file → slice_get others j ≡ Some other
+    → path_cmp file.path other.path ≡ order
+    → paths_of_both (drop i files) (drop j others) ≡ goes_on (drop (i + 1) files) (drop (j + 1) others) file other order
+both-there files others i j file other order found there is =
+    ap (λ rest. paths_of_both rest (drop j others)) (drop-some files i file found)
+    ∙ ap (λ rest. paths_of_both (file ∷ drop (i + 1) files) rest) (drop-some others j other there)
+    ∙ ap (λ o. goes_on (drop (i + 1) files) (drop (j + 1) others) file other o) is
+
+pub both-less : (files others : List File) (i j : ℕ) (file other : File) → slice_get files i ≡ Some file → slice_get others j ≡ Some other
+    → path_cmp file.path other.path ≡ Less
+    → paths_of_both (drop i files) (drop j others) ≡ file.path ∷ paths_of_both (drop (i + 1) files) (drop j others)
+both-less files others i j file other found there is =
+    both-there files others i j file other Less found there is
+    ∙ ap (λ rest. file.path ∷ paths_of_both (drop (i + 1) files) rest) (sym (drop-some others j other there))
+
+pub both-equal : (files others : List File) (i j : ℕ) (file other : File) → slice_get files i ≡ Some file → slice_get others j ≡ Some other
+    → path_cmp file.path other.path ≡ Equal
+    → paths_of_both (drop i files) (drop j others) ≡ file.path ∷ paths_of_both (drop (i + 1) files) (drop (j + 1) others)
+both-equal files others i j file other found there is = both-there files others i j file other Equal found there is
+
+pub both-greater : (files others : List File) (i j : ℕ) (file other : File) → slice_get files i ≡ Some file → slice_get others j ≡ Some other
+    → path_cmp file.path other.path ≡ Greater
+    → paths_of_both (drop i files) (drop j others) ≡ other.path ∷ paths_of_both (drop i files) (drop (j + 1) others)
+both-greater files others i j file other found there is =
+    both-there files others i j file other Greater found there is
+    ∙ ap (λ rest. other.path ∷ paths_of_both rest (drop (j + 1) others)) (sym (drop-some files i file found))
+
+-- ---- the lines
+
+same-mode : (mode other : Mode) → is_same_mode mode other ≡ true → mode ≡ other
+same-mode Plain Plain same = refl
+same-mode Plain Executable same = cc
+same-mode Executable Plain same = cc
+same-mode Executable Executable same = refl
+
+mode-itself : (mode : Mode) → is_same_mode mode mode ≡ true
+mode-itself Plain = refl
+mode-itself Executable = refl
+
+both-true : (a b : Bool) → (a && b) ≡ true → (a ≡ true) × (b ≡ true)
+both-true true true is = (refl, refl)
+both-true true false is = cc
+both-true false b is = cc
+
+entry_of_parts : (entry other : FileEntry) → entry.mode ≡ other.mode → entry.bytes ≡ other.bytes → entry ≡ other
+entry_of_parts entry other modes bytes = cc
+
+same-entry : (entry other : FileEntry) → is_same_entry entry other ≡ true → entry ≡ other
+same-entry entry other same =
+    let parts = both-true (is_same_mode entry.mode other.mode) (bytes_eq entry.bytes other.bytes) same in
+    entry_of_parts entry other (same-mode entry.mode other.mode parts.0) ((bytes_decides entry.bytes other.bytes).0 parts.1)
+
+entry-itself : (entry : FileEntry) → is_same_entry entry entry ≡ true
+entry-itself entry = rw (mode-itself entry.mode) ((bytes_decides entry.bytes entry.bytes).1 refl)
+
+pub line-differs : (path : List ℕ) (staged last : Option FileEntry) → (staged ≡ last → ⊥)
+    → change_line path staged last ≡ line (mark_of (is_some staged) (is_some last) ++ path)
+line-differs path None None differs = absurd (differs refl)
+line-differs path (Some entry) None differs = refl
+line-differs path None (Some entry) differs = refl
+line-differs path (Some entry) (Some other) differs =
+    let apart : is_same_entry entry other ≡ false =
+    false_from_not (is_same_entry entry other) (λ same. differs (ap Some (same-entry entry other same))) in
+    ap (λ b. if b then [] else line (mark_of true true ++ path)) apart
+
+same-of : (entry other : FileEntry) → ((Some entry ≡ Some other → ⊥) → ⊥) → is_same_entry entry other ≡ true
+same-of entry other not_apart =
+    elim (is_same_entry entry other) as (λ b. is_same_entry entry other ≡ b → b ≡ true) [
+      | true ↦ λ is. refl
+      | false ↦ λ is. absurd (not_apart (λ e. let same : entry ≡ other = cc in
+          let itself = subst (λ (y : FileEntry). is_same_entry entry y ≡ true) same (entry-itself entry) in cc))
+    ] refl
+
+pub line-same : (path : List ℕ) (staged last : Option FileEntry) → ((staged ≡ last → ⊥) → ⊥) → change_line path staged last ≡ []
+line-same path None None same = refl
+line-same path (Some entry) None same = absurd (same (λ e. cc))
+line-same path None (Some entry) same = absurd (same (λ e. cc))
+line-same path (Some entry) (Some other) same =
+    ap (λ b. if b then [] else line (mark_of true true ++ path)) (same-of entry other same)
+
+pub line-said : (text after : List ℕ) (path mark bytes : List ℕ) (whole : List ℕ) → whole ≡ line (mark ++ path) → bytes ≡ path → after ≡ (text ++ mark) ++ line bytes
+    → after ≡ text ++ whole
+line-said text after path mark bytes whole is same made =
+    made ∙ ap (λ b. (text ++ mark) ++ line b) same ∙ append_assoc text mark (line path)
+    ∙ ap (λ l. text ++ l) (sym (append_assoc mark path (10 ∷ [])) ∙ sym is)
+
+pub paths-said : (text_of : List ℕ → List ℕ) (whole before after path : List ℕ) (paths rest : List (List ℕ)) → paths ≡ path ∷ rest
+    → whole ≡ before ++ flat_map text_of paths → after ≡ before ++ text_of path → whole ≡ after ++ flat_map text_of rest
+paths-said text_of whole before after path paths rest is so_far made =
+    so_far ∙ ap (λ left. before ++ flat_map text_of left) is ∙ sym (append_assoc before (text_of path) (flat_map text_of rest))
+    ∙ ap (λ text. text ++ flat_map text_of rest) (sym made)
