@@ -11,9 +11,9 @@ use Rattle.hook_base.specs.declared.file.FileEntry.{FileEntry}
 use Rattle.hook_base.specs.declared.file.Mode.{Mode}
 use Rattle.hook_base.specs.declared.file.Mode.TheVariants.{Plain, Executable}
 use Rattle.hook_base.specs.Rising.{path_cmp}
-use Rattle.hook_base.specs.Trees.{path_of}
+use Rattle.hook_base.specs.Trees.{entry_of, path_of}
 use Rattle.report_text.specs.Report.{line}
-use Rattle.hook_cli.specs.StatusText.{change_line, in_order, is_same_entry, is_same_mode, paths_from, paths_of_both}
+use Rattle.hook_cli.specs.StatusText.{change_line, change_line_at, in_order, is_same_entry, is_same_mode, paths_from, paths_of_both, status_text}
 use Rattle.hook_cli.specs.StatusWalk.{mark_of}
 use Rattle.hook_cli.proofs.TextLemmas.{drop-none, drop-some, false_from_not}
 
@@ -86,8 +86,14 @@ both-true true true is = (refl, refl)
 both-true true false is = cc
 both-true false b is = cc
 
+abbrev entry_with : Mode → List ℕ → FileEntry
+entry_with mode bytes = record { mode = mode; bytes = bytes }
+
+same_parts : (mode other : Mode) (bytes more : List ℕ) → mode ≡ other → bytes ≡ more → entry_with mode bytes ≡ entry_with other more
+same_parts mode other bytes more modes contents = cc
+
 entry_of_parts : (entry other : FileEntry) → entry.mode ≡ other.mode → entry.bytes ≡ other.bytes → entry ≡ other
-entry_of_parts entry other modes bytes = cc
+entry_of_parts entry other modes bytes = same_parts entry.mode other.mode entry.bytes other.bytes modes bytes
 
 same-entry : (entry other : FileEntry) → is_same_entry entry other ≡ true → entry ≡ other
 same-entry entry other same =
@@ -122,14 +128,25 @@ line-same path None (Some entry) same = absurd (same (λ e. cc))
 line-same path (Some entry) (Some other) same =
     ap (λ b. if b then [] else line (mark_of true true ++ path)) (same-of entry other same)
 
-pub line-said : (text after : List ℕ) (path mark bytes : List ℕ) (whole : List ℕ) → whole ≡ line (mark ++ path) → bytes ≡ path → after ≡ (text ++ mark) ++ line bytes
-    → after ≡ text ++ whole
-line-said text after path mark bytes whole is same made =
-    made ∙ ap (λ b. (text ++ mark) ++ line b) same ∙ append_assoc text mark (line path)
-    ∙ ap (λ l. text ++ l) (sym (append_assoc mark path (10 ∷ [])) ∙ sym is)
+abbrev said_line : List ℕ → List ℕ → List ℕ → List ℕ
+said_line text mark path = (text ++ mark) ++ line path
 
-pub paths-said : (text_of : List ℕ → List ℕ) (whole before after path : List ℕ) (paths rest : List (List ℕ)) → paths ≡ path ∷ rest
-    → whole ≡ before ++ flat_map text_of paths → after ≡ before ++ text_of path → whole ≡ after ++ flat_map text_of rest
-paths-said text_of whole before after path paths rest is so_far made =
-    so_far ∙ ap (λ left. before ++ flat_map text_of left) is ∙ sym (append_assoc before (text_of path) (flat_map text_of rest))
-    ∙ ap (λ text. text ++ flat_map text_of rest) (sym made)
+pub change-said : (path text mid after mark bytes : List ℕ) (staged last : Option FileEntry) (is_staged is_last : Bool) → (staged ≡ last → ⊥)
+    → mark ≡ mark_of is_staged is_last → is_staged ≡ is_some staged → is_last ≡ is_some last → bytes ≡ path
+    → mid ≡ text ++ mark → after ≡ mid ++ line bytes → after ≡ text ++ change_line path staged last
+change-said path text mid after mark bytes staged last is_staged is_last differs marked first second same begun made =
+    made ∙ ap (λ start. start ++ line bytes) begun ∙ ap (λ b. said_line text mark b) same ∙ ap (λ m. said_line text m path) marked
+    ∙ ap (λ b. said_line text (mark_of b is_last) path) first ∙ ap (λ b. said_line text (mark_of (is_some staged) b) path) second
+    ∙ append_assoc text (mark_of (is_some staged) (is_some last)) (line path)
+    ∙ ap (λ l. text ++ l) (sym (append_assoc (mark_of (is_some staged) (is_some last)) path (10 ∷ [])) ∙ sym (line-differs path staged last differs))
+
+nothing-said : (text_of : List ℕ → List ℕ) → ((path : List ℕ) → text_of path ≡ []) → (paths : List (List ℕ)) → flat_map text_of paths ≡ []
+nothing-said text_of nothing [] = refl
+nothing-said text_of nothing (path ∷ paths) =
+    ap (λ text. text ++ flat_map text_of paths) (nothing path) ∙ nothing-said text_of nothing paths
+
+-- where both trees are the same, no path differs
+pub status-equal : (files : List File) → status_text files files ≡ []
+status-equal files =
+    nothing-said (change_line_at files files) (λ path. line-same path (entry_of path files) (entry_of path files) (λ differs. differs refl))
+    (paths_of_both files files)

@@ -1,6 +1,7 @@
 -- Texts that are made item by item.
-use Rattle.std.proofs.Common.{◌≡◌, ◌∙◌, ap, sym, refl, arith, add-one, append_assoc, ℕ, zero, suc, ◌+◌, ◌-◌, ◌<◌, ◌≤◌, Bool, true, false, cond, List, [], ◌∷◌, ◌++◌, length, take, drop, get_or, slice_get, Option, None, Some, option_map}
-use Rattle.std.specs.Prelude.{◌==◌, if◌then◌else◌}
+use Rattle.std.proofs.lemmas.Bool.{ne_eqb}
+use Rattle.std.proofs.Common.{◌≡◌, ◌∙◌, ap, sym, refl, arith, add-one, append_assoc, ℕ, zero, suc, ◌+◌, ◌-◌, ◌<◌, ◌≤◌, Bool, true, false, cond, List, [], ◌∷◌, ◌++◌, length, take, drop, get_or, slice_get, Option, None, Some, option_map, Result, Ok, Err}
+use Rattle.std.specs.Prelude.{◌==◌, if◌then◌else◌, OnOk}
 use Rattle.std.specs.List.{flat_map}
 use Rattle.std.proofs.lemmas.List.{append-nil, drop_all, take_all}
 use Rattle.std.proofs.lemmas.List.Sums.{position_or_len_is}
@@ -123,11 +124,21 @@ ended-by (first ∷ next ∷ more) byte found =
 pub ended-line : (message : List ℕ) (byte : ℕ) → slice_get message (length message - 1) ≡ Some byte → byte ≡ 10 → ended message ≡ message
 ended-line message byte found is = ended-by message byte found ∙ ap (λ b. if b == 10 then message else message ++ 10 ∷ []) is
 
-pub ended-other : (message : List ℕ) (byte : ℕ) → slice_get message (length message - 1) ≡ Some byte → (byte == 10) ≡ false
+pub ended-other : (message : List ℕ) (byte : ℕ) → slice_get message (length message - 1) ≡ Some byte → (byte ≡ 10 → ⊥)
     → ended message ≡ message ++ 10 ∷ []
-ended-other message byte found other = ended-by message byte found ∙ ap (λ b. if b then message else message ++ 10 ∷ []) other
+ended-other message byte found other = ended-by message byte found ∙ ap (λ b. if b then message else message ++ 10 ∷ []) (ne_eqb byte 10 other)
 
 pub ended-empty : (message : List ℕ) → slice_get message (length message - 1) ≡ None → ended message ≡ message
 ended-empty [] none = refl
 ended-empty (first ∷ more) none =
     let there = slice_get-get_or (first ∷ more) (length (first ∷ more) - 1) 0 (omega arith) in cc
+
+-- ---- results
+
+pub on-ok : {A E P Q : Type 0} (result : Result A E) → (P → Q) → OnOk result P → OnOk result Q
+on-ok (Ok answer) change holds = change holds
+on-ok (Err error) change holds = tt
+
+pub none-mapped : {A B : Type 0} (f : A → B) (found : Option A) → None ≡ option_map f found → found ≡ None
+none-mapped f None none = refl
+none-mapped f (Some x) none = cc

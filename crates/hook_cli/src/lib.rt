@@ -13,6 +13,7 @@ mod commands;
 mod configuration_bytes;
 mod configuration_run;
 mod help;
+pub mod laws;
 mod line;
 mod log_text;
 mod look_up;

@@ -37,10 +37,13 @@ pub(crate) fn show_text<S: Alter>(
 fn push_message(text: &mut Vec<u8>, message: &[u8]) -> Result<(), OutOfMemory>
     ensures { OnOk result (text.new.items ≡ text.old.items ++ ended message.now) }
 {
-    match message.last() {
-        None | Some(b'\n') => push(text, message),
-        Some(_) => push_line(text, message),
+    let Some(last) = message.last() else {
+        return push(text, message);
+    };
+    if *last == b'\n' {
+        return push(text, message);
     }
+    push_line(text, message)
 }
 
 fn push_paths<S: Alter>(
