@@ -58,17 +58,19 @@ impl HabitWriter {
         bytes
     }
 
-    // How many bytes of so many it takes at this call.
-    fn count_of(&self, length: usize) -> io::Result<usize> {
+    // The most bytes that it takes at this call.
+    fn most_bytes(&self) -> io::Result<usize> {
         match self.habit {
-            Habit::All | Habit::FailsAtFlush | Habit::HandsOutFlushed => Ok(length),
-            Habit::OneByte => Ok(length.min(1)),
-            Habit::Interrupted if self.calls % 2 == 1 => Err(io::Error::from(ErrorKind::Interrupted)),
-            Habit::Interrupted => Ok(length.min(2)),
+            Habit::All | Habit::FailsAtFlush | Habit::HandsOutFlushed => Ok(usize::MAX),
+            Habit::OneByte => Ok(1),
+            Habit::Interrupted if self.calls % 2 == 1 => {
+                Err(io::Error::from(ErrorKind::Interrupted))
+            }
+            Habit::Interrupted => Ok(2),
             Habit::Nothing => Ok(0),
             Habit::FailsAfter(most) => match most.saturating_sub(self.taken.len()) {
                 0 => Err(io::Error::from(ErrorKind::Other)),
-                room => Ok(length.min(room)),
+                room => Ok(room),
             },
         }
     }
@@ -89,10 +91,8 @@ fn habit_of(word: &[u8]) -> Result<Habit, Stop> {
 impl Write for HabitWriter {
     fn write(&mut self, buf: &[u8]) -> io::Result<usize> {
         self.calls = self.calls.saturating_add(1);
-        let count = self.count_of(buf.len())?;
-        for byte in buf.iter().take(count) {
-            self.taken.push(*byte)?;
-        }
+        let count = self.most_bytes()?.min(buf.len());
+        self.taken.extend_from_slice(&buf[..count])?;
         Ok(count)
     }
 
