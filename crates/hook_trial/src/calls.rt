@@ -1,7 +1,7 @@
 //! The calls by their names. Each library has a function of its own here.
 
 use crate::{
-    checks, command_lines, config_kinds, config_texts, configurations, plans, report_texts, runs,
+    checks, command_lines, config_kinds, config_texts, configurations, host_commands, plans, report_texts, runs,
     stages, try_faults,
 };
 use std::alloc::Global;
@@ -53,6 +53,7 @@ fn of_hook_cli(alloc: Global, call: &str, arguments: &[Vec<u8>]) -> Option<Resul
         "check_text" => checks::of_text(alloc, arguments),
         "most_configuration_bytes" => checks::most_bytes(alloc, arguments),
         "line_of" => command_lines::asked(alloc, arguments),
+        "command_over" => host_commands::played(alloc, arguments),
         "hook_text" => report_texts::of_hook(alloc, arguments),
         "columns" => report_texts::for_names(alloc, arguments),
         "run" => plans::played(alloc, arguments),

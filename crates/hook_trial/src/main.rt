@@ -11,6 +11,8 @@ mod command_lines;
 mod config_kinds;
 mod config_texts;
 mod configurations;
+mod host_commands;
+mod host_writers;
 mod plans;
 mod readers;
 mod report_texts;

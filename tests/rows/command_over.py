@@ -1,0 +1,402 @@
+"""Commands over a repository in memory: what each prints, on which writer, with which exit status, and what it leaves. The
+call is
+
+command_over STEP..
+
+with the steps that `crates/hook_trial/src/host_commands.rt` names. No contract says that memory is enough for these rows, and
+none speaks of writers that are interrupted; the other rows are those of users, beside the definitions that the contracts
+cite."""
+
+PROGRAM = "hook_trial"
+
+# The most bytes of a file.
+MOST = 16 * 1024 * 1024
+
+STORE = ("store",)
+
+
+def as_bytes(text):
+    return text.encode() if isinstance(text, str) else text
+
+
+def stage(path, contents="", mode="plain"):
+    return ("stage", mode, path, contents)
+
+
+def line(*command, out="all", err="all"):
+    return ("line", out, err, *command)
+
+
+def add(path, contents="", mode="none", out="all", err="all"):
+    return line("add", mode, path, contents, out=out, err=err)
+
+
+def ended(status, out="", err="", flushes=("", "")):
+    """What a line is answered by: its status, how many bytes stand on the writers, and these."""
+    out, err = as_bytes(out), as_bytes(err)
+    head = f"status {status}, out {flushes[0]}{len(out)}, err {flushes[1]}{len(err)}\n"
+    return head.encode() + out + err
+
+
+def done(out=""):
+    return ended(0, out=out)
+
+
+def refused(said):
+    return ended(3, err=f"hookhost: refused: {said}\n")
+
+
+def kept(staged=(), head=(), fixes=0, commits=0):
+    """What a store is answered by. A file is its path, its contents and, where it isn't plain, its mode."""
+    told = b""
+    for name, files in (("staged", staged), ("head", head)):
+        for path, contents, *mode in files:
+            contents = as_bytes(contents)
+            told += f"{name} {mode[0] if mode else 'plain'} {path} {len(contents)}\n".encode() + contents
+    return told + f"fixes {fixes}, commits {commits}\n".encode()
+
+
+# A store without files and commits.
+EMPTY = [
+    (*line("rm", "a"), *STORE, refused("4 NotStaged") + kept()),
+    (*line("status"), *STORE, done() + kept()),
+    (*line("log"), *STORE, done() + kept()),
+    (*line("show", "0"), *STORE, ended(3, err="hookhost: no commit 0\n") + kept()),
+    (*line("show", "1"), *STORE, ended(3, err="hookhost: no commit 1\n") + kept()),
+    (*line("cat", "a"), *STORE, refused("4 NotStaged") + kept()),
+    (*line("cat", "a//b"), *STORE, refused("3 BadPath 4") + kept()),
+    (*add("a", "x"), *STORE, done() + kept([("a", "x")])),
+]
+
+# The mode that is staged where a file of a mode, or none, is staged at the path, and one is asked for, or none.
+MODES = [
+    (None, "none", "plain"),
+    (None, "plain", "plain"),
+    (None, "executable", "executable"),
+    ("plain", "none", "plain"),
+    ("plain", "plain", "plain"),
+    ("plain", "executable", "executable"),
+    ("executable", "none", "executable"),
+    ("executable", "plain", "plain"),
+    ("executable", "executable", "executable"),
+]
+
+ADDED = [
+    *(
+        (*(stage("a", "old", before) if before else ()), *add("a", "new", mode=asked), *STORE, done() + kept([("a", "new", after)]))
+        for before, asked, after in MODES
+    ),
+    # A file without bytes, and bytes that are no text.
+    (*add("a"), *STORE, done() + kept([("a", "")])),
+    (*add("a", b"\xff\x00\n"), *line("cat", "a"), *STORE, done() + done(b"\xff\x00\n") + kept([("a", b"\xff\x00\n")])),
+    # The mode of a file that was taken out is forgotten, that of a committed one too.
+    (
+        *stage("a", "x", "executable"), "commit", "m", *line("rm", "a"), *add("a", "x"), *STORE,
+        done() + done() + kept([("a", "x")], [("a", "x", "executable")], commits=1),
+    ),
+    # The files stand in the order of their paths, whatever the order in which they are added.
+    (*add("c", "3"), *add("a", "1"), *add("b", "2"), *STORE, done() * 3 + kept([("a", "1"), ("b", "2"), ("c", "3")])),
+]
+
+REMOVED = [
+    (*stage("a", "x"), *stage("b", "y"), *line("rm", "a"), *STORE, done() + kept([("b", "y")])),
+    (*stage("a", "x"), *line("rm", "a"), *line("rm", "a"), *STORE, done() + refused("4 NotStaged") + kept()),
+    # A folder isn't staged, and a path below a file isn't either.
+    (*stage("a/b", "x"), *line("rm", "a"), *STORE, refused("4 NotStaged") + kept([("a/b", "x")])),
+    (*stage("a", "x"), *line("rm", "a/b"), *STORE, refused("4 NotStaged") + kept([("a", "x")])),
+    # What is committed stays committed.
+    (
+        *stage("a", "x"), "commit", "m", *line("rm", "a"), *line("rm", "a"), *STORE,
+        done() + refused("4 NotStaged") + kept([], [("a", "x")], commits=1),
+    ),
+]
+
+# Texts that are no paths, and the number of what is wrong with them.
+NO_PATHS = [
+    ("", 1),
+    ("/a", 2),
+    ("a/../b", 3),
+    ("./a", 3),
+    ("..", 3),
+    ("a//b", 4),
+    ("a/", 4),
+    ("a" * 4097, 5),
+    ("a\x01", 6),
+    ("a\nb", 6),
+    ("a\x7f", 6),
+    (".git", 7),
+    (".git/x", 7),
+    # What is looked for first is told.
+    ("/" + "a" * 4096 + "\x01", 5),
+    ("/a\x01", 6),
+    ("/../b", 2),
+    ("../a//b", 4),
+    (".git/..", 3),
+]
+
+# Commands that name a path.
+NAMING = [("add", "none"), ("rm",), ("cat",)]
+
+
+def naming(command, path):
+    return line(*command, path, *(("x",) if command[0] == "add" else ()))
+
+
+BAD_PATHS = [
+    (*stage("a", "x"), "fixes", "a", *naming(command, path), *STORE, refused(f"3 BadPath {number}") + kept([("a", "x")], fixes=1))
+    for command in NAMING
+    for path, number in NO_PATHS
+]
+
+# Paths that look like those.
+GOOD_PATHS = [
+    (*add(path, "x"), *line("cat", path), *line("rm", path), *STORE, done() + done("x") + done() + kept())
+    for path in ["a" * 4096, ".gitignore", "a/.git", ".gitx/a", "...", "a b", "é", " "]
+]
+
+# A staged path, and another that can't stand beside it.
+CLASHING = [
+    ("a.txt", "a.txt/b"),
+    ("a.txt", "a.txt/b/c"),
+    ("a/b/c", "a"),
+    ("a/b/c", "a/b"),
+    ("a/b/c", "a/b/c/d"),
+]
+
+# Pairs that can.
+APART = [
+    ("a.txt", "a/b"),
+    ("a/b", "a.txt"),
+    ("a/b/c", "a/bc"),
+    ("a/bc", "a/b"),
+    ("a", "ab/c"),
+    ("b/a", "a"),
+]
+
+CLASHES = [
+    *(
+        (*stage(staged, "x"), "fixes", staged, *add(path, "y"), *STORE, refused("15 Clash") + kept([(staged, "x")], fixes=1))
+        for staged, path in CLASHING
+    ),
+    *(
+        (*stage(staged, "x"), *add(path, "x"), *STORE, done() + kept([(one, "x") for one in sorted([staged, path])]))
+        for staged, path in APART
+    ),
+    # A file that is committed and no longer staged is in nobody's way.
+    (
+        *stage("a", "x"), "commit", "m", *line("rm", "a"), *add("a/b", "y"), *STORE,
+        done() + done() + kept([("a/b", "y")], [("a", "x")], commits=1),
+    ),
+]
+
+TOO_LARGE = [
+    (*stage("a", "x"), "fixes", "a", *line("add_zeros", "none", "a", str(MOST + 1)), *STORE, refused("5 TooLarge") + kept([("a", "x")], fixes=1)),
+    (*line("add_zeros", "none", "a", str(MOST)), *line("status"), done() + done("A a\n")),
+    # The path is looked at first, and a clash last.
+    (*line("add_zeros", "none", "/a", str(MOST + 1)), *STORE, refused("3 BadPath 2") + kept()),
+    (*stage("a", "x"), *line("add_zeros", "none", "a/b", str(MOST + 1)), *STORE, refused("5 TooLarge") + kept([("a", "x")])),
+]
+
+# What becomes of the fixes, of which two are kept: `a` and `b` are staged.
+WITH_FIXES = (*stage("a", "x"), *stage("b", "y"), "fixes", "a\nb")
+A_AND_B = [("a", "x"), ("b", "y")]
+FIXES = [
+    (*WITH_FIXES, *STORE, kept(A_AND_B, fixes=2)),
+    (*WITH_FIXES, *add("a", "z"), *STORE, done() + kept([("a", "z"), ("b", "y")])),
+    (*WITH_FIXES, *add("a", "x"), *STORE, done() + kept(A_AND_B)),
+    (*WITH_FIXES, *line("rm", "a"), *STORE, done() + kept([("b", "y")])),
+    (*WITH_FIXES, *line("rm", "c"), *STORE, refused("4 NotStaged") + kept(A_AND_B, fixes=2)),
+    (*WITH_FIXES, *line("status"), *STORE, done("A a\nA b\n") + kept(A_AND_B, fixes=2)),
+    (*WITH_FIXES, *line("cat", "a"), *STORE, done("x") + kept(A_AND_B, fixes=2)),
+    (*WITH_FIXES, *line("cat", "c"), *STORE, refused("4 NotStaged") + kept(A_AND_B, fixes=2)),
+    (*WITH_FIXES, *line("log"), *STORE, done() + kept(A_AND_B, fixes=2)),
+    (*WITH_FIXES, *line("show", "1"), *STORE, ended(3, err="hookhost: no commit 1\n") + kept(A_AND_B, fixes=2)),
+]
+
+STATUS = [
+    # Before the first commit each staged file is new.
+    (*stage("b", "y", "executable"), *stage("a", ""), *line("status"), done("A a\nA b\n")),
+    # After a commit nothing differs, nor where the same file is staged again or another came and went.
+    (*stage("a", "x"), *stage("b", "y"), "commit", "m", *line("status"), done()),
+    (*stage("a", "x"), "commit", "m", *add("a", "x"), *line("status"), done() + done()),
+    (*stage("a", "x"), "commit", "m", *line("rm", "a"), *line("status"), *add("a", "x"), *line("status"), done() + done("D a\n") + done() + done()),
+    (*stage("a", "x"), "commit", "m", *add("b", "y"), *line("rm", "b"), *line("status"), done() * 3),
+    # Other bytes, as many of them or not, another mode alone, and both.
+    (*stage("a", "x"), "commit", "m", *stage("a", "y"), *line("status"), done("M a\n")),
+    (*stage("a", "x"), "commit", "m", *stage("a", ""), *line("status"), done("M a\n")),
+    (*stage("a", "x"), "commit", "m", *stage("a", "x", "executable"), *line("status"), done("M a\n")),
+    (*stage("a", "x", "executable"), "commit", "m", *stage("a", "x"), *line("status"), done("M a\n")),
+    (*stage("a", "x"), "commit", "m", *stage("a", "y", "executable"), *line("status"), done("M a\n")),
+    # A file that bears another name is gone and new.
+    (*stage("b", "x"), "commit", "m", "unstage", "b", *stage("a", "x"), *line("status"), done("A a\nD b\n")),
+    # All kinds in turn, and paths that didn't change among them.
+    (
+        *stage("b", "1"), *stage("c", "1"), *stage("d", "1"), *stage("f", "1"), *stage("g", "1"), "commit", "m",
+        *stage("a", "1"), "unstage", "b", *stage("c", "2"), *stage("e", "1"), "unstage", "f", *stage("g", "1", "executable"), *stage("h", "1"),
+        *line("status"),
+        done("A a\nD b\nM c\nA e\nD f\nM g\nA h\n"),
+    ),
+    # All of the last commit stand before all that is staged, and behind it.
+    (*stage("a", "1"), *stage("b", "1"), "commit", "m", "unstage", "a", "unstage", "b", *stage("c", "1"), *stage("d", "1"), *line("status"), done("D a\nD b\nA c\nA d\n")),
+    (*stage("c", "1"), *stage("d", "1"), "commit", "m", "unstage", "c", "unstage", "d", *stage("a", "1"), *stage("b", "1"), *line("status"), done("A a\nA b\nD c\nD d\n")),
+    # All is gone.
+    (*stage("a", "1"), *stage("b", "1"), "commit", "m", "unstage", "a", "unstage", "b", *line("status"), done("D a\nD b\n")),
+    # The order is that of bytes: a blank, `-` and `.` stand before `/`, and `0` and letters behind it.
+    (
+        *stage("a/b"), *stage("a0"), *stage("a.txt"), *stage("a-b"), *stage("a b"), *stage("B"), *stage("é"), *stage("z"), *line("status"),
+        done("A B\nA a b\nA a-b\nA a.txt\nA a/b\nA a0\nA z\nA é\n"),
+    ),
+    (*stage("a.txt", "1"), "commit", "m", *stage("a/b", "1"), *line("status"), done("A a/b\n")),
+    (*stage("a/b", "1"), "commit", "m", *stage("a.txt", "1"), *line("status"), done("A a.txt\n")),
+    (*stage("a.txt", "1"), *stage("a/b", "1"), "commit", "m", "unstage", "a.txt", *line("status"), done("D a.txt\n")),
+    (*stage("a", "1"), "commit", "m", "unstage", "a", *stage("a/b", "1"), *line("status"), done("D a\nA a/b\n")),
+    (*stage("a/b", "1"), "commit", "m", "unstage", "a/b", *stage("a", "1"), *line("status"), done("A a\nD a/b\n")),
+    # The last commit counts, not an earlier one.
+    (*stage("a", "1"), "commit", "m", *stage("a", "2"), "commit", "n", *stage("a", "1"), *line("status"), done("M a\n")),
+]
+
+CAT = [
+    (*stage("a", "one\ntwo\n"), *line("cat", "a"), done("one\ntwo\n")),
+    (*stage("a", "one"), *line("cat", "a"), done("one")),
+    (*stage("a", ""), *line("cat", "a"), done()),
+    (*stage("a", "\n"), *line("cat", "a"), done("\n")),
+    (*stage("a", b"\r\n\x00\xff"), *line("cat", "a"), done(b"\r\n\x00\xff")),
+    (*stage("a", "1"), *stage("a.txt", "2"), *stage("b/a", "3"), *line("cat", "a.txt"), *line("cat", "b/a"), *line("cat", "a"), done("2") + done("3") + done("1")),
+    # The staged file is shown, not the committed one.
+    (*stage("a", "old"), "commit", "m", *stage("a", "new"), *line("cat", "a"), done("new")),
+    (*stage("a", "old"), "commit", "m", "unstage", "a", *line("cat", "a"), refused("4 NotStaged")),
+    (*stage("a/b", "x"), *line("cat", "a"), refused("4 NotStaged")),
+]
+
+# Messages, and what `log` says of a first commit with each.
+FIRST_LINES = [
+    ("one\n", "1 one\n"),
+    ("one", "1 one\n"),
+    ("one\n\nbody\n", "1 one\n"),
+    ("one\ntwo", "1 one\n"),
+    ("", "1 \n"),
+    ("\n", "1 \n"),
+    ("\none\n", "1 \n"),
+    (" one \r\ntwo\n", "1  one \r\n"),
+    (b"\xff\x00\n", b"1 \xff\x00\n"),
+]
+
+LOG = [
+    *(("commit", message, *line("log"), done(said)) for message, said in FIRST_LINES),
+    # The newest is first.
+    (*stage("a", "x"), "commit", "one\n", "commit", "two\nmore\n", "unstage", "a", "commit", "", *line("log"), done("3 \n2 two\n1 one\n")),
+    # Numbers are written in full, in the order of numbers.
+    (
+        *(word for number in range(1, 12) for word in ("commit", f"m{number}\n")), *line("log"),
+        done("11 m11\n10 m10\n9 m9\n8 m8\n7 m7\n6 m6\n5 m5\n4 m4\n3 m3\n2 m2\n1 m1\n"),
+    ),
+]
+
+SHOW = [
+    (*stage("b", "y"), *stage("a", "x"), "commit", "one\n\nbody\n", *line("show", "1"), done("one\n\nbody\n\na\nb\n")),
+    # A line feed is added where the message is not empty and lacks one at its end.
+    (*stage("a", "x"), "commit", "one", *line("show", "1"), done("one\n\na\n")),
+    (*stage("a", "x"), "commit", "one\ntwo", *line("show", "1"), done("one\ntwo\n\na\n")),
+    (*stage("a", "x"), "commit", "one\n\n", *line("show", "1"), done("one\n\n\na\n")),
+    (*stage("a", "x"), "commit", "\n", *line("show", "1"), done("\n\na\n")),
+    (*stage("a", "x"), "commit", "", *line("show", "1"), done("\na\n")),
+    (*stage("a", "x"), "commit", b"\xff\x00", *line("show", "1"), done(b"\xff\x00\n\na\n")),
+    # A commit without files.
+    ("commit", "one\n", *line("show", "1"), done("one\n\n")),
+    ("commit", "one", *line("show", "1"), done("one\n\n")),
+    ("commit", "", *line("show", "1"), done("\n")),
+    # Each commit has its own message and files, and what is staged later is in none.
+    (
+        *stage("a", "x"), "commit", "one\n", *stage("b", "y"), "commit", "two\n", "unstage", "a", "commit", "three\n", *stage("c", "z"),
+        *line("show", "1"), *line("show", "2"), *line("show", "3"),
+        done("one\n\na\n") + done("two\n\na\nb\n") + done("three\n\nb\n"),
+    ),
+    # Paths stand in the order of their bytes.
+    (*stage("a/b"), *stage("a.txt"), *stage("a0"), *stage("B"), "commit", "m\n", *line("show", "1"), done("m\n\nB\na.txt\na/b\na0\n")),
+    # Numbers that no commit has.
+    *(
+        ("commit", "one\n", "commit", "two\n", *line("show", number), *STORE, ended(3, err=f"hookhost: no commit {number}\n") + kept(commits=2))
+        for number in ["0", "3", "10", "4294967295"]
+    ),
+]
+
+# A store with something to say, and the commands that print on `out`, with what each says.
+SET_UP = (*stage("a", "one\n"), *stage("b", "y"), "commit", "first\nmore", *stage("a", "two\n"), *stage("c", "z"), "unstage", "b", "fixes", "a")
+STANDS = kept([("a", "two\n"), ("c", "z")], [("a", "one\n"), ("b", "y")], fixes=1, commits=1)
+SAYING = [
+    (("status",), "M a\nD b\nA c\n"),
+    (("cat", "a"), "two\n"),
+    (("log",), "1 first\n"),
+    (("show", "1"), "first\nmore\n\na\nb\n"),
+]
+
+# The commands that are refused there, with what each says on `err`.
+REFUSED = [
+    (("add", "none", "a/b", "x"), "hookhost: refused: 15 Clash\n"),
+    (("add", "none", "/a", "x"), "hookhost: refused: 3 BadPath 2\n"),
+    (("rm", "b"), "hookhost: refused: 4 NotStaged\n"),
+    (("rm", ""), "hookhost: refused: 3 BadPath 1\n"),
+    (("cat", "b"), "hookhost: refused: 4 NotStaged\n"),
+    (("cat", "a//b"), "hookhost: refused: 3 BadPath 4\n"),
+    (("show", "0"), "hookhost: no commit 0\n"),
+    (("show", "2"), "hookhost: no commit 2\n"),
+]
+
+# The commands that change the store and print nothing, with what they leave.
+SILENT = [
+    (("add", "none", "d", "x"), kept([("a", "two\n"), ("c", "z"), ("d", "x")], [("a", "one\n"), ("b", "y")], commits=1)),
+    (("rm", "c"), kept([("a", "two\n")], [("a", "one\n"), ("b", "y")], commits=1)),
+]
+
+# Habits of writers that take all in the end, those that take nothing, and all.
+PATIENT = ["one", "interrupted"]
+BROKEN = ["nothing", "0", "unflushed"]
+HABITS = ["all", *PATIENT, *BROKEN]
+
+WRITERS = [
+    # A writer that takes little or is interrupted gets the same bytes.
+    *((*SET_UP, *line(*command, out=habit), *STORE, done(said) + STANDS) for command, said in SAYING for habit in PATIENT),
+    *((*SET_UP, *line(*command, err=habit), *STORE, ended(3, err=said) + STANDS) for command, said in REFUSED for habit in PATIENT),
+    # A writer that fails has what it took, the beginning of the text, and nothing is said of it on the other.
+    *(
+        (*SET_UP, *line(*command, out=str(count)), *STORE, ended(3, out=said[:count]) + STANDS)
+        for command, said in SAYING
+        for count in [0, 1, len(said) - 1]
+    ),
+    *(
+        (*SET_UP, *line(*command, err=str(count)), *STORE, ended(3, err=said[:count]) + STANDS)
+        for command, said in REFUSED
+        for count in [0, 1, 10, 18, 20, len(said) - 1]
+    ),
+    *((*SET_UP, *line(*command, out="nothing"), *STORE, ended(3) + STANDS) for command, _ in SAYING),
+    *((*SET_UP, *line(*command, err="nothing"), *STORE, ended(3) + STANDS) for command, _ in REFUSED),
+    # One that takes the whole text and no more is no hindrance.
+    *((*SET_UP, *line(*command, out=str(len(said))), *STORE, done(said) + STANDS) for command, said in SAYING),
+    *((*SET_UP, *line(*command, err=str(len(said))), *STORE, ended(3, err=said) + STANDS) for command, said in REFUSED),
+    # One that can't be flushed has the whole text, and the command isn't done.
+    *((*SET_UP, *line(*command, out="unflushed"), *STORE, ended(3, out=said) + STANDS) for command, said in SAYING),
+    *((*SET_UP, *line(*command, err="unflushed"), *STORE, ended(3, err=said) + STANDS) for command, said in REFUSED),
+    # What is said is flushed, once.
+    *(
+        (*SET_UP, *line(*command, out="flushed"), *STORE, ended(0, out=said, flushes=("flushed 1 times ", "")) + STANDS)
+        for command, said in SAYING
+    ),
+    *(
+        (*SET_UP, *line(*command, err="flushed"), *STORE, ended(3, err=said, flushes=("", "flushed 1 times ")) + STANDS)
+        for command, said in REFUSED
+    ),
+    # An empty text takes no call but the flush.
+    *((*line(*command, out="nothing"), done()) for command in [("status",), ("log",)]),
+    *((*line(*command, out="unflushed"), ended(3)) for command in [("status",), ("log",)]),
+    (*stage("a"), *line("cat", "a", out="nothing"), done()),
+    (*stage("a"), *line("cat", "a", out="unflushed"), ended(3)),
+    # The writer that a command has nothing to say on may be as it likes.
+    *((*SET_UP, *line(*command, err=habit), *STORE, done(said) + STANDS) for command, said in SAYING for habit in HABITS),
+    *((*SET_UP, *line(*command, out=habit), *STORE, ended(3, err=said) + STANDS) for command, said in REFUSED for habit in HABITS),
+    *((*SET_UP, *line(*command, out=habit, err=habit), *STORE, done() + left) for command, left in SILENT for habit in HABITS),
+    # A long file, piece by piece.
+    *((*stage("a", "0123456789\n" * 3000), *line("cat", "a", out=habit), done("0123456789\n" * 3000)) for habit in PATIENT),
+    (*stage("a", "0123456789\n" * 3000), *line("cat", "a", out="9000"), ended(3, out=("0123456789\n" * 3000)[:9000])),
+]
+
+ROWS = [("command_over", *row) for row in [*EMPTY, *ADDED, *REMOVED, *BAD_PATHS, *GOOD_PATHS, *CLASHES, *TOO_LARGE, *FIXES, *STATUS, *CAT, *LOG, *SHOW, *WRITERS]]
