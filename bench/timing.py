@@ -11,10 +11,10 @@ def program():
     return os.path.abspath(sys.argv[1] if len(sys.argv) > 1 else os.path.join(HERE, "..", "crates/hookhost/out/hookhost"))
 
 
-def once(words):
-    """The wall time of the command in milliseconds, its output going to /dev/null."""
+def once(words, given="/dev/null"):
+    """The wall time of the command in milliseconds, its input being that file, its output going to /dev/null."""
     null_out = [(os.POSIX_SPAWN_OPEN, fd, "/dev/null", os.O_WRONLY, 0) for fd in (1, 2)]
-    null_in = [(os.POSIX_SPAWN_OPEN, 0, "/dev/null", os.O_RDONLY, 0)]
+    null_in = [(os.POSIX_SPAWN_OPEN, 0, given, os.O_RDONLY, 0)]
     start = time.perf_counter()
     child = os.posix_spawnp(words[0], words, os.environ, file_actions=null_in + null_out)
     _, status = os.waitpid(child, 0)

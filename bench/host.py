@@ -1,0 +1,153 @@
+#!/usr/bin/env python3
+"""Times the commands on a repository beside git doing the same in a repository of its own, in one run, and prints ratios.
+
+Usage: bench/host.py [PROGRAM [STORE_TRIAL]]   (default: the built programs)
+
+The repositories are empty, or hold staged files of 400 bytes after some commits, each of which changes one file. Those of
+hookhost are made by store_trial. Each command is timed beside git's, and beside what opening the store takes, by
+store_trial, which opens it and does nothing else (its input is one line). Each time is wall time in milliseconds, the least of several runs in
+which the programs take turns. The peak memory is of the whole process.
+"""
+import os
+import shutil
+import subprocess
+import sys
+import tempfile
+from collections import namedtuple
+
+sys.path.insert(0, os.path.dirname(os.path.abspath(__file__)))
+from timing import HERE, once, program, show
+
+PROGRAM = program()
+STORE_TRIAL = os.path.abspath(sys.argv[2] if len(sys.argv) > 2 else os.path.join(HERE, "..", "crates/store_trial/out/store_trial"))
+GIT = shutil.which("git") or sys.exit("bench/host.py: there is no git to compare with")
+STORE = ".hookhost/store.db"
+SIZE, RUNS = 400, 15
+# The files and the commits of each repository.
+HISTORIES = [(0, 0), (1000, 1), (1000, 100), (10000, 1), (10000, 10)]
+# What is timed: our words and git's. The file NEW gets other bytes before each round, and is staged only between its add and its rm.
+NEW, OLD = "new.txt", "many/000000"
+Pair = namedtuple("Pair", "ours git")
+CHANGES = {"add": Pair(["add", NEW], ["add", NEW]), "rm": Pair(["rm", NEW], ["rm", "--cached", "--quiet", NEW])}
+LOOK_UPS = {"status": Pair(["status"], ["status", "--short", "--untracked-files=no"])}
+OF_HISTORY = {
+    "cat": Pair(["cat", OLD], ["cat-file", "blob", ":" + OLD]),
+    "log": Pair(["log"], ["log", "--oneline"]),
+    "show": Pair(["show", "1"], ["show", "--name-only", "--format=%B", "first"]),
+}
+
+
+def git(*words):
+    subprocess.run([GIT, "-c", "user.name=bench", "-c", "user.email=bench@localhost", "-c", "gc.auto=0", *words], check=True, stdout=subprocess.DEVNULL)
+
+
+def write(path, text):
+    if os.path.dirname(path):
+        os.makedirs(os.path.dirname(path), exist_ok=True)
+    with open(path, "w", encoding="utf-8") as file:
+        file.write(text)
+
+
+def contents_of(seed, at):
+    return f"{seed} {at} ".ljust(SIZE, ".")
+
+
+def play(lines):
+    """Plays lines on the folder's store, each of which has to be answered by ok."""
+    text = "".join(line + "\n" for line in ["open", *lines, "close"])
+    answers = subprocess.run([STORE_TRIAL, STORE], input=text, stdout=subprocess.PIPE, text=True).stdout.splitlines()
+    if len(answers) != len(lines) + 2 or not all(answer.startswith("ok") for answer in answers):
+        sys.exit(f"bench/host.py: store_trial answers {answers[-1:]!r}")
+
+
+def make_ours(files, commits):
+    subprocess.run([PROGRAM, "init"], check=True)
+    changes = (line for at in range(commits) for line in (f"stage plain {OLD} {contents_of(at, 0)}", f"commit m{at}"))
+    play([*([f"stage-many {files} {SIZE} 0"] if files else []), *changes])
+
+
+def make_git(files, commits):
+    git("init", "--quiet", ".")
+    for at in range(files):
+        write(f"many/{at:06}", contents_of(0, at))
+    git("add", "--all")
+    for at in range(commits):
+        write(OLD, contents_of(at, 0))
+        git("commit", "--quiet", "--all", "--allow-empty", "--message", f"m{at}")
+        if at == 0:
+            git("tag", "first")
+
+
+def in_folder(folder, words, given="/dev/null"):
+    os.chdir(folder)
+    return once(words, given)
+
+
+def time_commands(ours, other, opening, has_history):
+    """The least milliseconds of each command, of git's, and of opening the store."""
+    pairs = {**CHANGES, **LOOK_UPS, **(OF_HISTORY if has_history else {})}
+    times = {what: ([], []) for what in pairs}
+    opened = []
+    for number in range(RUNS):
+        for folder in (ours, other):
+            write(os.path.join(folder, NEW), contents_of(1000 + number, number))
+        for what, pair in pairs.items():
+            times[what][0].append(in_folder(ours, [PROGRAM, *pair.ours]))
+            times[what][1].append(in_folder(other, [GIT, *pair.git]))
+        opened.append(in_folder(ours, [STORE_TRIAL, STORE], opening))
+    return {what: (min(mine), min(theirs)) for what, (mine, theirs) in times.items()}, min(opened)
+
+
+def peak(helper, words, given="/dev/null"):
+    """The peak memory of the command in MB."""
+    with open(given, "rb") as stdin:
+        done = subprocess.run([helper, *words], stdin=stdin, stdout=subprocess.DEVNULL, stderr=subprocess.PIPE, text=True)
+    return int(done.stderr.split()[-1]) * 1024 / 1e6
+
+
+def tell_peaks(helper, folder, opening, has_history):
+    os.chdir(folder)
+    alone = peak(helper, [STORE_TRIAL, STORE], opening)
+    words = [pair.ours for pair in {**CHANGES, **LOOK_UPS, **(OF_HISTORY if has_history else {})}.values()]
+    peaks = [(each[0], peak(helper, [PROGRAM, *each])) for each in words]
+    print(f"{'':44} peak memory of opening alone {alone:.1f} MB; " + ", ".join(f"{what} {most:.1f} MB, {most / alone:.2f} times" for what, most in peaks))
+
+
+def time_init(folder):
+    times = ([], [])
+    for number in range(RUNS):
+        for which, words in enumerate(([PROGRAM, "init"], [GIT, "init", "--quiet", "."])):
+            work = os.path.join(folder, f"{number}.{which}")
+            os.mkdir(work)
+            times[which].append(in_folder(work, words))
+    show("init", min(times[0]), min(times[1]), "git")
+
+
+def time_history(folder, helper, files, commits):
+    ours, other = os.path.join(folder, "ours"), os.path.join(folder, "git")
+    for work, make in ((ours, make_ours), (other, make_git)):
+        os.mkdir(work)
+        os.chdir(work)
+        make(files, commits)
+    opening = os.path.join(folder, "opening")
+    write(opening, "open\n")
+    times, opened = time_commands(ours, other, opening, commits > 0)
+    for what, (mine, theirs) in times.items():
+        show(f"{what}: {files} files, {commits} commits", mine, theirs, "git")
+        print(f"{'':44} beside opening the store, {opened:.2f} ms: ratio {mine / opened:.2f}")
+    tell_peaks(helper, ours, opening, commits > 0)
+
+
+def main():
+    with tempfile.TemporaryDirectory() as folder:
+        helper = os.path.join(folder, "peak")
+        subprocess.run(["cc", "-O1", "-o", helper, os.path.join(HERE, "peak.c")], check=True)
+        time_init(folder)
+        for number, (files, commits) in enumerate(HISTORIES):
+            work = os.path.join(folder, f"history{number}")
+            os.mkdir(work)
+            time_history(work, helper, files, commits)
+        os.chdir("/")
+
+
+main()
