@@ -152,7 +152,14 @@ fn line_played(
     let line = line_of(alloc, command, words)?;
     let bytes = bytes_of(alloc, command, words)?;
     let mut host = Host::over(store);
-    let status = command_over(alloc, &line, bytes.as_slice(), &mut host, &mut out, &mut err);
+    let status = command_over(
+        alloc,
+        &line,
+        bytes.as_slice(),
+        &mut host,
+        &mut out,
+        &mut err,
+    );
     tell_end(alloc, status, out, err, told)?;
     Ok(host.into_store())
 }
@@ -264,15 +271,17 @@ fn tell_store(alloc: Global, store: &Kept, told: &mut Vec<u8>) -> Result<(), Sto
 }
 
 // A line with the mode, the path and the length of a file, and after it the contents.
-fn tell_file(alloc: Global, list: &str, file: &FileRef<'_>, told: &mut Vec<u8>) -> Result<(), Stop> {
+fn tell_file(
+    alloc: Global,
+    list: &str,
+    file: &FileRef<'_>,
+    told: &mut Vec<u8>,
+) -> Result<(), Stop> {
     let mode = match file.mode {
         Mode::Plain => "plain",
         Mode::Executable => "executable",
     };
     let (path, length) = (file.path.as_str(), file.bytes.len());
-    tell(
-        told,
-        format!(in alloc; "{list} {mode} {path} {length}\n")?,
-    )?;
+    tell(told, format!(in alloc; "{list} {mode} {path} {length}\n")?)?;
     Ok(told.extend_from_slice(file.bytes)?)
 }
