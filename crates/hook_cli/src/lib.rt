@@ -1,9 +1,13 @@
 //! The command line of `hookhost` as a library: the run of a configuration over a tree with its report written out
-//! (`try_over`), what `check` prints of a configuration (`check_text`), and what a line of words asks for (`line_of`).
+//! (`try_over`), what `check` prints of a configuration (`check_text`), what a line of words asks for (`line_of`), and the
+//! commands over a repository (`command_over`).
 //!
 //! Their contracts cite `specs/TryOver.antt`, which stands on the definitions of `hook_run` (what a run is) and of
 //! `report_text` (its report), `specs/CheckText.antt`, `specs/CommandLine.antt` and `specs/TryFaults.antt` (the refusals of
-//! a run).
+//! a run). Those of `command_over` cite `specs/CommandOver.antt` (what each command changes, prints and exits with), and with
+//! it `specs/Printing.antt` (how much of a text a writer took), `specs/StatusText.antt`, `specs/LogText.antt`,
+//! `specs/ShowText.antt` and `specs/RefusalText.antt` (the texts). `specs/Reading.antt` and `specs/StatusWalk.antt` serve
+//! private functions only. [`laws`] says which paths `status` looks at.
 #![tactic(auto)]
 
 mod check;
