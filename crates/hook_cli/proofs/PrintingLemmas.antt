@@ -91,8 +91,8 @@ piece-begun held mid holds pieces place d piece within is taken begun = record {
   rest = begun.rest ++ text_of (drop (place + 1) pieces);
   cut = text_of-parts pieces (place + 1)
       ∙ ap (λ text. text ++ text_of (drop (place + 1) pieces))
-          (text_of-take pieces place d within ∙ ap (λ last. text_of (take place pieces) ++ last) (sym is ∙ begun.cut)
-          ∙ sym (append_assoc (text_of (take place pieces)) begun.part begun.rest))
+      (text_of-take pieces place d within ∙ ap (λ last. text_of (take place pieces) ++ last) (sym is ∙ begun.cut)
+      ∙ sym (append_assoc (text_of (take place pieces)) begun.part begun.rest))
       ∙ append_assoc (text_of (take place pieces) ++ begun.part) begun.rest (text_of (drop (place + 1) pieces));
   written = appends-more held mid holds (text_of (take place pieces)) begun.part taken begun.written;
 }
