@@ -1,5 +1,5 @@
 -- How the commands over a repository end.
-use Rattle.std.proofs.Common.{◌≡◌, ◌∙◌, ap, sym, subst, refl, inl, inr, ℕ, List, Option, None, Some, option_map, Result, Ok, Err}
+use Rattle.std.proofs.Common.{◌≡◌, subst, refl, inl, inr, ℕ, List, Option, Result, Ok, Err}
 use Rattle.std.specs.Prelude.{IfErr, OnOk}
 use Rattle.sqlite_trees.specs.declared.store.Store.{Ghosts}
 use Rattle.repo_store.specs.AllOrNothing.{IsAllOrNothing}

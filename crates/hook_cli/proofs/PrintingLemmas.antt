@@ -1,5 +1,5 @@
 -- Texts that a writer takes piece by piece, and the texts of refusals in pieces.
-use Rattle.std.proofs.Common.{◌≡◌, ◌∙◌, ap, sym, subst, refl, arith, add-one, append_assoc, ℕ, ◌+◌, ◌-◌, ◌<◌, ◌≤◌, List, [], ◌∷◌, ◌++◌, length, take, drop, length-drop, get_or, map, Option, None, Some, Bor, Result, Ok, Err}
+use Rattle.std.proofs.Common.{◌≡◌, ◌∙◌, ap, sym, subst, refl, arith, append_assoc, ℕ, ◌+◌, ◌-◌, ◌<◌, ◌≤◌, List, [], ◌∷◌, ◌++◌, length, take, drop, length-drop, get_or, map, Option, None, Some, Bor, Result, Ok, Err}
 use Rattle.std.specs.Prelude.{OnErr, codes}
 use Rattle.std.specs.List.{concat}
 use Rattle.std.specs.Fmt.{decimal}
@@ -91,8 +91,8 @@ piece-begun held mid holds pieces place d piece within is taken begun = record {
   rest = begun.rest ++ text_of (drop (place + 1) pieces);
   cut = text_of-parts pieces (place + 1)
       ∙ ap (λ text. text ++ text_of (drop (place + 1) pieces))
-          (text_of-take pieces place d within ∙ ap (λ last. text_of (take place pieces) ++ last) (sym is ∙ begun.cut)
-          ∙ sym (append_assoc (text_of (take place pieces)) begun.part begun.rest))
+      (text_of-take pieces place d within ∙ ap (λ last. text_of (take place pieces) ++ last) (sym is ∙ begun.cut)
+      ∙ sym (append_assoc (text_of (take place pieces)) begun.part begun.rest))
       ∙ append_assoc (text_of (take place pieces) ++ begun.part) begun.rest (text_of (drop (place + 1) pieces));
   written = appends-more held mid holds (text_of (take place pieces)) begun.part taken begun.written;
 }

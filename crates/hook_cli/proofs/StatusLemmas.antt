@@ -1,9 +1,10 @@
 -- The paths of two trees in their order, and the lines of paths.
-use Rattle.std.proofs.Common.{◌≡◌, ◌≢◌, ◌∙◌, ap, sym, refl, subst, append_assoc, ℕ, ◌+◌, Bool, true, false, List, [], ◌∷◌, ◌++◌, drop, map, slice_get, Option, None, Some, is_some, option_map}
-use Rattle.std.specs.Prelude.{if◌then◌else◌, ◌&&◌}
-use Rattle.std.specs.List.{flat_map}
+use Rattle.std.proofs.Common.{◌≡◌, ◌∙◌, ap, sym, refl, subst, append_assoc, ℕ, ◌+◌, Bool, true, false, List, [], ◌∷◌, ◌++◌, drop, map, slice_get, Option, None, Some, is_some}
+use Rattle.std.specs.Prelude.{if◌then◌else◌, ◌&&◌, ◌||◌}
+use Rattle.std.specs.List.{flat_map, list_any}
 use Rattle.std.specs.Str.{bytes_eq}
-use Rattle.std.specs.Cmp.Lexicographic.{bytes_decides}
+use Rattle.std.specs.Cmp.Lexicographic.{bytes_decides, texts_ties}
+use Rattle.std.specs.Ordering.{is_eq}
 use Rattle.std.specs.declared.cmp.Ordering.{Ordering}
 use Rattle.std.specs.declared.cmp.Ordering.TheVariants.{Less, Equal, Greater}
 use Rattle.hook_base.specs.declared.file.File.{File}
@@ -150,3 +151,69 @@ pub status-equal : (files : List File) → status_text files files ≡ []
 status-equal files =
     nothing-said (change_line_at files files) (λ path. line-same path (entry_of path files) (entry_of path files) (λ differs. differs refl))
     (paths_of_both files files)
+
+-- ---- the paths of both trees are those of either
+
+abbrev pub has_path : List ℕ → List File → Bool
+has_path path files = is_some (entry_of path files)
+
+abbrev any_path : List ℕ → List (List ℕ) → Bool
+any_path path paths = list_any (bytes_eq path) paths
+
+tied : (path other : List ℕ) → path_cmp path other ≡ Equal → path ≡ other
+tied path other is = (bytes_decides path other).0 (texts_ties path other ∙ ap is_eq is)
+
+has-cons : (path : List ℕ) (file : File) (files : List File) → has_path path (file ∷ files) ≡ (bytes_eq path file.path || has_path path files)
+has-cons path file files =
+    elim (bytes_eq path file.path) as (λ b. is_some (if b then Some file.entry else entry_of path files) ≡ (b || has_path path files)) [
+      | true ↦ refl
+      | false ↦ refl
+    ]
+
+or-first : (a b c : Bool) → (a || (b || c)) ≡ ((a || b) || c)
+or-first true b c = refl
+or-first false b c = refl
+
+or-both : (a b c : Bool) → (a || (b || c)) ≡ ((a || b) || (a || c))
+or-both true b c = refl
+or-both false b c = refl
+
+or-last : (a b c : Bool) → (b || (a || c)) ≡ (a || (b || c))
+or-last true true c = refl
+or-last true false c = refl
+or-last false b c = refl
+
+or-none : (a : Bool) → a ≡ (a || false)
+or-none true = refl
+or-none false = refl
+
+any-map : (path : List ℕ) (files : List File) → any_path path (map path_of files) ≡ has_path path files
+any-map path [] = refl
+any-map path (file ∷ files) = ap (λ b. bytes_eq path file.path || b) (any-map path files) ∙ sym (has-cons path file files)
+
+any-from : (path : List ℕ) (file : File) (files : List File)
+    → ((others : List File) → any_path path (paths_of_both files others) ≡ (has_path path files || has_path path others))
+    → (others : List File) → any_path path (paths_from file.path (paths_of_both files) others) ≡ (has_path path (file ∷ files) || has_path path others)
+any-from path file files later [] =
+    ap (λ b. bytes_eq path file.path || b) (later []) ∙ or-first (bytes_eq path file.path) (has_path path files) false
+    ∙ ap (λ b. b || false) (sym (has-cons path file files))
+any-from path file files later (other ∷ others) =
+    elim (path_cmp file.path other.path)
+    as (λ o. path_cmp file.path other.path ≡ o → any_path path (goes_on files others file other o) ≡ (has_path path (file ∷ files) || has_path path (other ∷ others))) [
+      | Less ↦ λ is. ap (λ b. bytes_eq path file.path || b) (later (other ∷ others))
+          ∙ or-first (bytes_eq path file.path) (has_path path files) (has_path path (other ∷ others))
+          ∙ ap (λ b. b || has_path path (other ∷ others)) (sym (has-cons path file files))
+      | Equal ↦ λ is. ap (λ b. bytes_eq path file.path || b) (later others)
+          ∙ or-both (bytes_eq path file.path) (has_path path files) (has_path path others)
+          ∙ ap (λ b. b || (bytes_eq path file.path || has_path path others)) (sym (has-cons path file files))
+          ∙ ap (λ p. has_path path (file ∷ files) || (bytes_eq path p || has_path path others)) (tied file.path other.path is)
+          ∙ ap (λ b. has_path path (file ∷ files) || b) (sym (has-cons path other others))
+      | Greater ↦ λ is. ap (λ b. bytes_eq path other.path || b) (any-from path file files later others)
+          ∙ or-last (has_path path (file ∷ files)) (bytes_eq path other.path) (has_path path others)
+          ∙ ap (λ b. has_path path (file ∷ files) || b) (sym (has-cons path other others))
+    ] refl
+
+pub paths-of-either : (path : List ℕ) (files others : List File)
+    → list_any (bytes_eq path) (paths_of_both files others) ≡ (is_some (entry_of path files) || is_some (entry_of path others))
+paths-of-either path [] others = any-map path others
+paths-of-either path (file ∷ files) others = any-from path file files (paths-of-either path files) others

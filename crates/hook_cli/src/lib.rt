@@ -4,9 +4,10 @@
 //!
 //! Their contracts cite `specs/CommandLine.antt`, `specs/TryOver.antt`, which stands on the definitions of `hook_run` (what a
 //! run is) and of `report_text` (its report), `specs/TryFaults.antt` (the refusals of a run), `specs/CheckText.antt`, and
-//! `specs/CommandOver.antt`, which stands on those of `commit_flow` (what a command makes of a repository) and on
-//! `specs/Printing.antt`, `specs/StatusText.antt`, `specs/LogText.antt`, `specs/ShowText.antt` and `specs/RefusalText.antt` (what
-//! is printed). [`laws`] says what follows from these definitions alone.
+//! `specs/CommandOver.antt` (what each command changes, prints and exits with), which stands on the definitions of
+//! `commit_flow` and on `specs/Printing.antt` (how much of a text a writer took), `specs/StatusText.antt`,
+//! `specs/LogText.antt`, `specs/ShowText.antt` and `specs/RefusalText.antt` (the texts). `specs/Reading.antt` and
+//! `specs/StatusWalk.antt` serve private functions only. [`laws`] says which paths `status` looks at.
 #![tactic(auto)]
 
 mod check;

@@ -35,7 +35,10 @@ pub(crate) fn tell<E: Write>(err: &mut E, refusal: &HostRefusal) -> CommandEndin
     let number = digits.format(refusal.number());
     match refusal.inner_number() {
         Some(inner) => tell_refusal_of(err, number, refusal.name(), inner),
-        None => tell_pieces(err, &["hookhost: refused: ", number, " ", refusal.name(), "\n"]),
+        None => tell_pieces(
+            err,
+            &["hookhost: refused: ", number, " ", refusal.name(), "\n"],
+        ),
     }
 }
 
@@ -45,7 +48,10 @@ fn tell_refusal_of<E: Write>(err: &mut E, number: &str, name: &str, inner: u8) -
 {
     let mut digits = Buffer::new();
     let inner = digits.format(inner);
-    tell_pieces(err, &["hookhost: refused: ", number, " ", name, " ", inner, "\n"])
+    tell_pieces(
+        err,
+        &["hookhost: refused: ", number, " ", name, " ", inner, "\n"],
+    )
 }
 
 /// Tells that no commit has the number. It takes no memory.

@@ -23,10 +23,7 @@ enum Next<'a> {
 }
 
 /// How the staged files differ from those of the last commit, a line a path.
-pub(crate) fn status_text<S: Alter>(
-    alloc: Global,
-    store: &Store<S>,
-) -> Result<Vec<u8>, OutOfMemory>
+pub(crate) fn status_text<S: Alter>(alloc: Global, store: &Store<S>) -> Result<Vec<u8>, OutOfMemory>
     ensures { IfOk result (λ text. text.items ≡ status_text store.now.kept.repo.staged (last_tree store.now.kept.repo.history)) }
 {
     let mut text = Vec::new(alloc);

@@ -17,4 +17,4 @@ pub returns : goal.returns
 returns g c =
     c.commits.invariant.written
     ∙ ap (λ text. c.args.text.now.items ++ text)
-        (log-end c.args.store.now.kept.repo.history c.commits.number c.commits.invariant.within c.in_default.ensures)
+    (log-end c.args.store.now.kept.repo.history c.commits.number c.commits.invariant.within c.in_default.ensures)

@@ -11,5 +11,5 @@ invariant-paths g l = record {
   written : l.initial.text.items ++ status_text l.store.kept.repo.staged (last_tree l.store.kept.repo.history)
       ≡ l.text.items
       ++ flat_map (change_line_at l.store.kept.repo.staged (last_tree l.store.kept.repo.history))
-          (paths_of_both (drop l.staged l.store.kept.repo.staged) (drop l.last (last_tree l.store.kept.repo.history)));
+      (paths_of_both (drop l.staged l.store.kept.repo.staged) (drop l.last (last_tree l.store.kept.repo.history)));
 }
