@@ -1,12 +1,10 @@
--- A path taken out of the staged files, in memory and in the table.
+-- A path taken out of the staged files in the table.
 use Rattle.std.proofs.Common.{◌≡◌, ℕ, List, [], ◌∷◌, map, filter, true, false, not, cond, eqb, ◌&&◌, refl, ap, ap₂, ◌∙◌, arith}
 use Rattle.std.proofs.lemmas.Bool.Decides.{nat_tests}
 use Rattle.std.specs.Str.{bytes_eq}
 use Rattle.hook_base.specs.declared.file.File.{File}
 use Rattle.hook_base.specs.Trees.{remove_file}
 use Rattle.store_tables.specs.declared.rows.StagedRow.{StagedRow}
-use Rattle.repo_store.specs.declared.shared.SharedFile.{SharedFile}
-use Rattle.repo_store.specs.Lists.{file_of}
 use Rattle.repo_store.specs.Rows.{staged_row}
 
 numbers : (x y : ℕ) → eqb x y ≡ eqb y x
@@ -17,14 +15,6 @@ turned [] [] = refl
 turned [] (y ∷ b) = refl
 turned (x ∷ a) [] = refl
 turned (x ∷ a) (y ∷ b) = ap₂ ◌&&◌ (numbers x y) (turned a b)
-
-pub others_held : (path : List ℕ) (files : List SharedFile) → map file_of (filter (λ (file : SharedFile). not (bytes_eq file.path path)) files) ≡ remove_file path (map file_of files)
-others_held path [] = refl
-others_held path (file ∷ files) =
-    (λ i. map file_of (cond (not (turned file.path path i)) (file ∷ filter (λ (f : SharedFile). not (bytes_eq f.path path)) files) (filter (λ (f : SharedFile). not (bytes_eq f.path path)) files)))
-    ∙ elim (bytes_eq path file.path) as (λ b. map file_of (cond (not b) (file ∷ filter (λ (f : SharedFile). not (bytes_eq f.path path)) files) (filter (λ (f : SharedFile). not (bytes_eq f.path path)) files))
-    ≡ cond b (remove_file path (map file_of files)) (file_of file ∷ remove_file path (map file_of files)))
-    [ true ↦ others_held path files | false ↦ ap (λ l. file_of file ∷ l) (others_held path files) ]
 
 pub others_staged : (path : List ℕ) (files : List File) → filter (λ (row : StagedRow). not (bytes_eq row.path path)) (map staged_row files) ≡ map staged_row (remove_file path files)
 others_staged path [] = refl

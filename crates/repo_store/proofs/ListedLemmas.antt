@@ -1,5 +1,6 @@
 -- From the rows that were read to the lists, or to the refusal.
 use Rattle.std.proofs.Common.{◌≡◌, List, [], ◌∷◌, Result, Ok, Err, IfOk, IfErr, OnOk, MatchResult, IsTrue, false, true, refl, sym, ap, subst, ◌∙◌, inl, inr, arith}
+use Rattle.std.proofs.lemmas.List.Sorted.{IsPermutation-refl}
 use Rattle.sqlite_trees.specs.declared.store.Store.{Ghosts}
 use Rattle.sqlite_trees.specs.Tree.{Trees}
 use Rattle.sqlite.specs.declared.error.Error.{Error}
@@ -23,7 +24,7 @@ use Rattle.repo_store.specs.FromRows.{AreShown, IsSame, rows_in}
 use Rattle.repo_store.specs.Opening.{AreListed, AreListedAlone, AreRead, IsFoundIn}
 use Rattle.repo_store.specs.Rows.{tables_of, version_row}
 use Rattle.repo_store.specs.Unfit.{IsDamaged, IsUnfit}
-use Rattle.repo_store.specs.RowRules.{AreStoreRows}
+use Rattle.repo_store.specs.RowRules.{AreStoreRows, AreVersionRows}
 use Rattle.repo_store.proofs.ReadingLemmas.{unchanged_kept}
 use Rattle.repo_store.specs.Shown.{Stands, Leaves}
 use Rattle.repo_store.proofs.CallLemmas.{clean_if_open, holds_as, leaves_commit}
@@ -54,7 +55,7 @@ abbrev pub MetaShown : {X : Type 0} → (X → List MetaRow) → X → Trees →
 MetaShown listed rows trees = Stored meta_cells (1 ∷ 2 ∷ []) (listed rows) (trees 0)
 
 module _ {S X : Type 0} (g : Ghosts S) (a b : Held S) (meta : X) (listed : X → List MetaRow) (one : IsRead g a b (Ok meta) (MetaShown listed)) where
-  pub unversioned : (listed meta ≡ version_row ∷ [] → ⊥) → AreListed g a b (Err NotAStore)
+  pub unversioned : ¬ AreVersionRows (listed meta) → AreListed g a b (Err NotAStore)
   unversioned other = record {
     found = λ clean ours live. inr (record { schema = ours; rows = listed meta; stored = (one.rows no_more clean ours).1; other = other });
     was_open = λ clean ours. tt;
@@ -113,7 +114,7 @@ module _ {S X : Type 0} (g : Ghosts S) (a b : Held S) (meta : X) (listed : X →
           → MatchResult r (IsFoundIn (state g a).now) (IsUnfit (state g a).now)
       decide (Ok lists) hold same broken = holds_same (state g a).now (rows_in rows) (tables_of lists.kept.repo lists.kept.contents) same hold
       decide (Err fault) hold same broken =
-          damage_unfit (state g a).now (¬ AreStoreRows (rows_in rows)) fault (λ breaks. record { tables = rows_in rows; holds = hold; versioned = refl; broken = breaks }) broken
+          damage_unfit (state g a).now (¬ AreStoreRows (rows_in rows)) fault (λ breaks. record { tables = rows_in rows; holds = hold; versioned = IsPermutation-refl (version_row ∷ []); broken = breaks }) broken
 
 -- and those rows obey the rules
 pub listed_obey : (rows : StoreRows) (r : Result Mirror StoreFault) → IfOk r (λ lists. IsSame (rows_in rows) (tables_of lists.kept.repo lists.kept.contents)) → OnOk r (AreStoreRows (rows_in rows)) → IfOk r (λ lists. AreStoreRows (tables_of lists.kept.repo lists.kept.contents))

@@ -1,7 +1,7 @@
 -- The place of a path among held files, and what a file put there makes of them.
 use Rattle.hook_base.specs.declared.change.Change.{Change}
 use Rattle.std.proofs.Common.{◌≡◌, ℕ, zero, suc, ◌+◌, ◌<◌, ◌≤◌, List, [], ◌∷◌, ◌++◌, map, length, take, drop, get_or, set, true, false, IsTrue, Result, Ok, Err, MatchResult, OnErr, is_ok, if◌then◌else◌, sym, ap, ap₂, ◌∙◌, arith, is_some, refl, Option, None, Some, option_map, slice_get}
-use Rattle.std.specs.List.{insert, drop-map, HoldsAt}
+use Rattle.std.specs.List.{insert, remove, drop-map, HoldsAt}
 use Rattle.std.specs.List.Sorted.{IsNonDecreasingBy, IsBinarySearchResult}
 use Rattle.std.specs.Str.{bytes_eq}
 use Rattle.std.specs.Ordering.{is_lt, ordering_index}
@@ -11,7 +11,7 @@ use Rattle.std.specs.Cmp.Lexicographic.{nat_list_cmp_total}
 use Rattle.std.proofs.lemmas.Bool.{leb-true, le-leb}
 use Rattle.std.proofs.lemmas.List.{map-append, map-set, length-map, take-map, length-set}
 use Rattle.std.proofs.lemmas.List.Edits.{length-insert}
-use Rattle.std.proofs.lemmas.List.Sums.{sum_by-insert, sum_by-cons}
+use Rattle.std.proofs.lemmas.List.Sums.{sum_by-insert, sum_by-cons, sum_by-remove}
 use Rattle.std.proofs.lemmas.List.Sorted.{searchable_from_sorted}
 use lib.ListN.{get_or-map}
 use lib.Dec.{leb}
@@ -21,7 +21,7 @@ use Rattle.hook_base.specs.Rising.{IsBelowAll, IsRisingBy, path_cmp}
 use Rattle.hook_base.specs.RisingLemmas.{above_differs, below_from_greater, bytes_same, greater_from_below, path_tied, path_itself, rising_pair}
 use Rattle.hook_base.specs.Places.{IsAt, IsGap}
 use Rattle.hook_base.specs.Trees.{IsRising, path_of, put_row, remove_file, entry_of, rewrite_file, with_bytes, apply_at, apply_changes}
-use Rattle.hook_base.specs.TreeLemmas.{put_row-at, put_row-gap, gap_within, entry_of-at, entry_of-gap}
+use Rattle.hook_base.specs.TreeLemmas.{put_row-at, put_row-gap, gap_within, at_within, entry_of-at, entry_of-gap, remove_file-at}
 use Rattle.hook_base.proofs.PlaceLemmas.{found}
 use Rattle.repo_store.specs.declared.shared.SharedFile.{SharedFile}
 use Rattle.repo_store.specs.Limits.{Fits, path_bytes, most_files, most_tree_path_bytes}
@@ -75,7 +75,7 @@ module _ (path : List ℕ) where
 abbrev path_length : File → ℕ
 path_length file = length file.path
 
-bytes_at : (new : File) (rows : List File) (k : ℕ) → IsAt new.path rows k → path_bytes (put_row new rows) ≡ path_bytes rows
+pub bytes_at : (new : File) (rows : List File) (k : ℕ) → IsAt new.path rows k → path_bytes (put_row new rows) ≡ path_bytes rows
 bytes_at new [] k at = absurd at
 bytes_at new (row ∷ rows) zero at = rw (path_itself new.path row.path at) (sum_by-cons path_length new rows ∙ ap (λ (p : List ℕ). length p + path_bytes rows) at ∙ sym (sum_by-cons path_length row rows))
 bytes_at new (row ∷ rows) (suc k) at =
@@ -93,7 +93,7 @@ module _ (new : File) (rows : List File) (k : ℕ) (gap : IsGap new.path rows k)
   one_more : length (put_row new rows) ≡ length rows + 1
   one_more = ap length (put_row-gap new rows k gap) ∙ length-insert rows k new (let within = gap_within new.path rows k gap in omega arith)
 
-  more_bytes : path_bytes (put_row new rows) ≡ path_bytes rows + length new.path
+  pub more_bytes : path_bytes (put_row new rows) ≡ path_bytes rows + length new.path
   more_bytes = ap path_bytes (put_row-gap new rows k gap) ∙ sum_by-insert (λ (file : File). length file.path) rows k new
 
   pub fits_gap : (bytes : ℕ) → bytes ≡ path_bytes rows + length new.path → length rows < most_files → (IsTrue (leb bytes most_tree_path_bytes) → Fits (put_row new rows)) × (Fits (put_row new rows) → IsTrue (leb bytes most_tree_path_bytes))
@@ -104,6 +104,18 @@ module _ (new : File) (rows : List File) (k : ℕ) (gap : IsGap new.path rows k)
 
   pub full_gap : most_files ≤ length rows → Fits (put_row new rows) → ⊥
   full_gap full fits = let files_fit = fits.files_fit in omega (arith, one_more)
+
+at_path : (path : List ℕ) (rows : List File) (k : ℕ) (d : File) → IsAt path rows k → path ≡ (get_or rows k d).path
+at_path path [] k d at = absurd at
+at_path path (row ∷ rows) zero d at = at
+at_path path (row ∷ rows) (suc k) d at = at_path path rows k d at.1
+
+pub less_bytes : (path : List ℕ) (rows : List File) (k : ℕ) (d : File) → IsRising rows → IsAt path rows k → path_bytes rows ≡ path_bytes (remove_file path rows) + length path
+less_bytes path rows k d rising at =
+    let total = sum_by-remove path_length rows k d (at_within path rows k at) in
+    let rest = ap path_bytes (remove_file-at path rows k rising at) in
+    let one = ap length (at_path path rows k d at) in
+    omega arith
 
 -- the files of the other paths fit where all do
 pub fits_removed : (path : List ℕ) (rows : List File) → Fits rows → Fits (remove_file path rows)
@@ -131,6 +143,11 @@ pub held_insert : (files : List SharedFile) (k : ℕ) (new : SharedFile) → IsG
 held_insert files k new gap =
     map-append file_of (take k files) (new ∷ drop k files) ∙ ap₂ (λ (a b : List File). a ++ (file_of new ∷ b)) (sym (take-map file_of k files)) (sym (drop-map file_of k files))
     ∙ sym (put_row-gap (file_of new) (map file_of files) k gap)
+
+pub held_remove : (files : List SharedFile) (k : ℕ) (path : List ℕ) → IsRising (map file_of files) → IsAt path (map file_of files) k → map file_of (remove files k) ≡ remove_file path (map file_of files)
+held_remove files k path rising at =
+    map-append file_of (take k files) (drop (suc k) files) ∙ ap₂ (λ (a b : List File). a ++ b) (sym (take-map file_of k files)) (sym (drop-map file_of (suc k) files))
+    ∙ sym (remove_file-at path (map file_of files) k rising at)
 
 -- what fails for want of room alone does not fail where there is room
 pub made_room : {T E X : Type 0} (r : Result T E) (n most : ℕ) (x a b : X) → OnErr r (most ≤ n) → n < most → x ≡ (if is_ok r then a else b) → x ≡ a

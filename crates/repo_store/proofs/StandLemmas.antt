@@ -1,5 +1,7 @@
 -- What a call leaves of a store, from what it makes of the tables.
-use Rattle.std.proofs.Common.{◌≡◌, false, [], Result, Ok, Err, IsTrue, sym, subst}
+use Rattle.std.proofs.Common.{◌≡◌, false, [], length, inl, inr, Result, Ok, Err, IsTrue, sym, subst}
+use Rattle.std.proofs.lemmas.Bool.{both_ways}
+use Rattle.std.proofs.lemmas.List.Sorted.{length_permutation}
 use Rattle.sqlite_trees.specs.declared.store.Store.{Ghosts}
 use Rattle.sqlite_trees.specs.Tree.{Trees}
 use Rattle.sqlite.specs.declared.error.Error.{Error}
@@ -18,11 +20,22 @@ use Rattle.repo_store.specs.Shown.{Stands, Leaves, IsOneTransaction}
 use Rattle.repo_store.specs.RowRules.{AreStoreRows}
 use Rattle.repo_store.proofs.CallLemmas.{clean_if_open, leaves_commit}
 use Rattle.repo_store.proofs.CompleteLemmas.{complete_empty}
+use Rattle.repo_store.proofs.RowRuleLemmas.{same_meta}
 use Rattle.repo_store.proofs.RuleLemmas.{obeys_empty}
 use Rattle.repo_store.proofs.SameLemmas.{IsSame, holds_same}
 
 abbrev pub tables_in : Kept → Tables
 tables_in kept = tables_of kept.repo kept.contents
+
+-- the same tables without what the store says of itself
+abbrev unnamed : Tables → Tables
+unnamed t = record t { meta = [] }
+
+abbrev pub unnamed_in : Kept → Tables
+unnamed_in kept = unnamed (tables_in kept)
+
+same_count : (t u : Tables) (trees : Trees) → Holds (with_schema trees) t → Holds (with_schema trees) u → length t.meta ≡ length u.meta
+same_count t u trees a b = sym (length_permutation t.meta u.meta (same_meta t.meta u.meta (trees 0) a.meta b.meta))
 
 -- a call from what is kept to these tables
 abbrev pub Calls : {S A : Type 0} → Ghosts S → Held S → Held S → Kept → Tables → Result A Error → Type 0
@@ -65,15 +78,33 @@ module _ {S A : Type 0} (g : Ghosts S) (old new : Held S) (kept after : Kept) (t
   pub done_stands : (now : Kept) → now ≡ after → (x : A) → Calls {A = A} g old new kept t (Ok x) → Stands g new now
   done_stands now same x call = subst (Stands g new) (sym same) (stands_on x call)
 
-  pub refused_transaction : {B E : Type 0} (now : Kept) → now ≡ kept → (e : Error) → Calls {A = A} g old new kept t (Err e) → (fault : E) → IsOneTransaction {A = B} g (record { conn = old; kept = kept }) (record { conn = new; kept = now }) (Err fault) after
-  refused_transaction now same e call fault = record { stands = refused_stands now same e call; crash = crash_leaves (Err e) call; durable = tt }
+  -- A connection that is shut holds other tables as well as these, so that nothing it leaves can be both.
+  shut_leaves : (r : Result A Error) → Calls {A = A} g old new kept t r → (Before : Database → Type 0) (u : Tables) → IsCall g old new r Before (λ db. Holds db u) → (length t.meta ≡ length u.meta → ⊥) → (state g old).is_open ≡ false
+      → Survives (state g old) (state g new) (λ _. ⊥)
+  shut_leaves r call Before u other apart shut =
+      let here = call.survives (λ h. absurd (both_ways _ shut h)) in
+      let there = other.survives (λ h. absurd (both_ways _ shut h)) in
+      record {
+        clean = here.clean;
+        shield = here.shield;
+        counts = here.counts;
+        limit = here.limit;
+        closes = here.closes;
+        crash = λ clean trees left. elim (here.crash clean trees left) [ inl before ↦ inl before | inr holds ↦ elim (there.crash clean trees left) [ inl before ↦ inl before | inr also ↦ absurd (apart (same_count t u trees holds also)) ] ];
+      }
+
+  pub refused_transaction : {B E : Type 0} (now : Kept) → now ≡ kept → (e : Error) → Calls {A = A} g old new kept t (Err e) → (fault : E) → (Before : Database → Type 0) (u : Tables) → IsCall {A = A} g old new (Err e) Before (λ db. Holds db u) → (length t.meta ≡ length u.meta → ⊥)
+      → IsOneTransaction {A = B} g (record { conn = old; kept = kept }) (record { conn = new; kept = now }) (Err fault) after
+  refused_transaction now same e call fault Before u other apart = record { stands = refused_stands now same e call; crash = crash_leaves (Err e) call; durable = tt; shut = shut_leaves (Err e) call Before u other apart; opened = λ clean. tt }
 
   pub done_transaction : {B E : Type 0} → ((trees : Trees) → IsTrue (state g new).is_open → (state g new).may_leave trees → trees ≡ (state g new).committed.trees) → (now : Kept) → now ≡ after → (x : A) → Calls {A = A} g old new kept t (Ok x) → (y : B)
-      → IsOneTransaction {E = E} g (record { conn = old; kept = kept }) (record { conn = new; kept = now }) (Ok y) after
-  done_transaction settled now same x call y = record {
+      → (Before : Database → Type 0) (u : Tables) → IsCall {A = A} g old new (Ok x) Before (λ db. Holds db u) → (length t.meta ≡ length u.meta → ⊥) → IsOneTransaction {E = E} g (record { conn = old; kept = kept }) (record { conn = new; kept = now }) (Ok y) after
+  done_transaction settled now same x call y Before u other apart = record {
     stands = done_stands now same x call;
     crash = crash_leaves (Ok x) call;
     durable = λ clean trees left. let it = call.done clean stands.now in record { holds = leaves_commit (state g new).committed trees (tables_in after) ((stands_on x call).committed it.is_open) (settled trees it.is_open left); complete = complete; obeys = obeys };
+    shut = shut_leaves (Ok x) call Before u other apart;
+    opened = λ clean. (call.done clean stands.now).is_open;
   }
 
 -- an empty store in a database that had no tables

@@ -4,6 +4,7 @@ use Rattle.std.specs.List.{AllByRecursion, list_any}
 use Rattle.std.specs.Str.{IsUtf8, bytes_eq}
 use Rattle.sha2.specs.Sha256.{sha256}
 use Rattle.hook_base.specs.Paths.{path_fault}
+use Rattle.store_tables.specs.declared.rows.MetaRow.{MetaRow}
 use Rattle.store_tables.specs.declared.rows.BlobRow.{BlobRow}
 use Rattle.store_tables.specs.declared.rows.StagedRow.{StagedRow}
 use Rattle.store_tables.specs.declared.rows.FixRow.{FixRow}
@@ -116,6 +117,9 @@ pub record AreStoreRows (t : Tables) : Type 0 where
   -- no answer is remembered yet
   pub answers : t.answers ≡ []
 
--- The store is of version 1, and says nothing else of itself.
+-- The rows of `meta`, in whatever order, say that the store is of version 1, and nothing else of it.
+abbrev pub AreVersionRows : List MetaRow → Type 0
+AreVersionRows rows = IsPermutation rows (version_row ∷ [])
+
 abbrev pub IsVersioned : Tables → Type 0
-IsVersioned t = t.meta ≡ version_row ∷ []
+IsVersioned t = AreVersionRows t.meta

@@ -40,8 +40,12 @@ abbrev pub LeavesOnly : {S : Type 0} (g : Ghosts S) (conn : Held S) (kept : Kept
 LeavesOnly g conn kept = HasCleanDisk (state g conn) → (trees : Trees) → (state g conn).may_leave trees → Leaves kept trees
 
 -- A call that makes of a store what is kept after it is one transaction: what the store shows then, at a refusal too, is
--- what its tables hold. A crash leaves what it could leave before, or all of it; once the call has answered `Ok`, all of it.
+-- what its tables hold. A crash leaves what it could leave before, or all of it; once the call has answered `Ok`, all of it. Where
+-- the connection was shut, a crash leaves only what it could leave before; on a clean disk it is open once the call has
+-- answered `Ok`.
 pub record IsOneTransaction {S A E : Type 0} (g : Ghosts S) (old new : Shown S) (result : Result A E) (after : Kept) : Type 0 where
   pub stands : Stands g new.conn new.kept
   pub crash : Survives (state g old.conn) (state g new.conn) (Leaves after)
   pub durable : OnOk result (LeavesOnly g new.conn after)
+  pub shut : (state g old.conn).is_open ≡ false → Survives (state g old.conn) (state g new.conn) (λ _. ⊥)
+  pub opened : HasCleanDisk (state g new.conn) → OnOk result (IsTrue (state g new.conn).is_open)

@@ -6,15 +6,14 @@ use Rattle.store_tables.specs.Schema.{store_schema}
 use Rattle.store_tables.specs.Tables.{Tables, Holds, Stored, meta_cells}
 use Rattle.repo_store.specs.declared.fault.StoreFault.{StoreFault}
 use Rattle.repo_store.specs.declared.fault.StoreFault.TheVariants.{NotAStore, Damaged, Sql, OutOfMemory, Collision, TooLarge, TooMany}
-use Rattle.repo_store.specs.Rows.{version_row}
-use Rattle.repo_store.specs.RowRules.{IsVersioned, AreStoreRows}
+use Rattle.repo_store.specs.RowRules.{AreVersionRows, IsVersioned, AreStoreRows}
 
 -- The database has the tables of a store, but `meta` holds other rows than the one of version 1.
 pub record IsOfNoVersion (db : Database) : Type 0 where
   pub schema : db.schema ≡ store_schema
   pub rows : List MetaRow
   pub stored : Stored meta_cells (1 ∷ 2 ∷ []) rows (db.trees 0)
-  pub other : rows ≢ version_row ∷ []
+  pub other : ¬ AreVersionRows rows
 
 -- The database holds the tables of a store of version 1, and their rows break a rule.
 pub record IsDamaged (db : Database) : Type 0 where

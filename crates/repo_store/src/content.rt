@@ -9,11 +9,17 @@ use std::alloc::{AllocError, Global};
 use std::marker::Model;
 use std::rc::Rc;
 
-/// Contents that each file which has them shares, with the SHA-256 of them. Contracts see the bytes.
+// Bytes, and the SHA-256 of them.
+#[derive(Debug, Drop)]
+struct Hashed {
+    digest: [u8; 32],
+    bytes: Bytes,
+}
+
+/// Contents with the SHA-256 of them, both of which each file that has the contents shares. Contracts see the bytes.
 #[derive(Debug, Drop)]
 pub(crate) struct Content {
-    digest: [u8; 32],
-    bytes: Rc<Bytes>,
+    hashed: Rc<Hashed>,
 }
 
 impl Model for Content {
@@ -22,9 +28,9 @@ impl Model for Content {
 
     ghost Value = { List ℕ };
 
-    ghost view = { λ content. content.bytes.value };
+    ghost view = { λ content. content.hashed.value.bytes };
 
-    ghost invariant = { λ content. content.digest ≡ sha256 content.bytes.value };
+    ghost invariant = { λ content. content.hashed.value.digest ≡ sha256 content.hashed.value.bytes };
 }
 
 impl Content {
@@ -33,8 +39,8 @@ impl Content {
         requires { digest ≡ sha256 bytes }
         ensures { IfOk result (λ content. content ≡ bytes) }
     {
-        let bytes = Rc::new(alloc, bytes)?;
-        Ok(Content { digest, bytes })
+        let hashed = Rc::new(alloc, Hashed { digest, bytes })?;
+        Ok(Content { hashed })
     }
 
     /// A copy of the bytes, whose digest is known.
@@ -53,14 +59,14 @@ impl Content {
     pub(crate) fn digest(&self) -> &[u8; 32]
         ensures { result.now ≡ sha256 self.now }
     {
-        &self.digest
+        &self.hashed.as_ref().digest
     }
 
     /// The bytes.
     pub(crate) fn as_slice(&self) -> &[u8]
         ensures { result.now ≡ self.now }
     {
-        self.bytes.as_ref().as_slice()
+        self.hashed.as_ref().bytes.as_slice()
     }
 }
 
@@ -70,9 +76,7 @@ impl Clone for Content {
     ghost is_clone = { λ source made. made ≡ source };
 
     fn clone(&self) -> Result<Self, AllocError> {
-        Ok(Content {
-            digest: self.digest,
-            bytes: self.bytes.clone()?,
-        })
+        let hashed = self.hashed.clone()?;
+        Ok(Content { hashed })
     }
 }

@@ -1,12 +1,12 @@
 //! A tree as a list of files that share their contents: looking up, putting, taking out.
 
-ghost use Rattle.std.specs.Prelude.{◌≡◌, ◌↔◌, ◌<◌, ◌^◌, map, filter, not, is_some, IfOk, OnOk, MatchResult, IsTrue, vec_len, vec_capacity};
-ghost use Rattle.std.specs.Str.{IsUtf8, bytes_eq};
+ghost use Rattle.std.specs.Prelude.{◌≡◌, ◌↔◌, ◌+◌, ◌<◌, ◌^◌, map, is_some, IfOk, OnOk, MatchResult, IsTrue, vec_len, vec_capacity};
+ghost use Rattle.std.specs.Str.{IsUtf8};
 ghost use Rattle.hook_base.specs.Paths.{IsRepoPath};
 ghost use Rattle.hook_base.specs.Places.{IsAt, IsGap};
 ghost use Rattle.hook_base.specs.declared.file.FileEntry.{FileEntry};
-ghost use Rattle.hook_base.specs.Trees.{IsRising, entry_of, put_file, put_row};
-ghost use Rattle.repo_store.specs.Limits.{Fits, path_bytes};
+ghost use Rattle.hook_base.specs.Trees.{IsRising, entry_of, put_file, put_row, remove_file};
+ghost use Rattle.repo_store.specs.Limits.{Fits, path_bytes as path_bytes_of};
 ghost use Rattle.repo_store.specs.Lists.{file_of};
 
 use crate::limits::{MOST_FILES, MOST_TREE_PATH_BYTES};
@@ -29,10 +29,10 @@ pub(crate) fn has_path(files: &[SharedFile], path: &RepoPath) -> bool
     place_of(files, path).is_ok()
 }
 
-// The bytes of the paths together.
-fn count_path_bytes(files: &[SharedFile]) -> usize
-    requires { path_bytes (map file_of files.now) < 2 ^ 64 }
-    ensures { result ≡ path_bytes (map file_of files.now) }
+/// The bytes of the paths together.
+pub(crate) fn count_path_bytes(files: &[SharedFile]) -> usize
+    requires { path_bytes_of (map file_of files.now) < 2 ^ 64 }
+    ensures { result ≡ path_bytes_of (map file_of files.now) }
 {
     files.iter().map(|file| file.path.as_str().len()).sum()
 }
@@ -55,8 +55,9 @@ pub(crate) fn fit(files: &[SharedFile]) -> bool
     true
 }
 
-/// Whether the files still fit when a file stands at the path too.
-pub(crate) fn may_put(files: &[SharedFile], path: &RepoPath) -> bool
+/// Whether the files, whose paths have so many bytes, still fit when a file stands at the path too.
+pub(crate) fn may_put(files: &[SharedFile], path_bytes: usize, path: &RepoPath) -> bool
+    requires counted { path_bytes ≡ path_bytes_of (map file_of files.now) }
     requires rising { IsRising (map file_of files.now) }
     requires fits { Fits (map file_of files.now) }
     ensures fits { (entry : FileEntry) → IsTrue result ↔ Fits (put_file path.now entry (map file_of files.now)) }
@@ -67,31 +68,46 @@ pub(crate) fn may_put(files: &[SharedFile], path: &RepoPath) -> bool
     match place_of(files, path) {
         Ok(_) => true,
         Err(_) => {
-            let bytes = count_path_bytes(files) + text.len();
+            let bytes = path_bytes + text.len();
             files.len() < MOST_FILES && bytes <= MOST_TREE_PATH_BYTES
         }
     }
 }
 
-/// Puts a file, for which there is room, in place of the one at its path, or adds it.
-pub(crate) fn put_file(files: &mut Vec<SharedFile>, file: SharedFile)
+/// Puts a file, for which there is room, in place of the one at its path, or adds it. Answers the bytes that the paths have
+/// more then.
+pub(crate) fn put_file(files: &mut Vec<SharedFile>, file: SharedFile) -> usize
     requires rising { IsRising (map file_of files.old.items) }
     requires room { vec_len files.old < vec_capacity files.old }
-    ensures { map file_of files.new.items ≡ put_row (file_of file) (map file_of files.old.items) }
+    ensures files { map file_of files.new.items ≡ put_row (file_of file) (map file_of files.old.items) }
+    ensures bytes { path_bytes_of (map file_of files.new.items) ≡ path_bytes_of (map file_of files.old.items) + result }
 {
     match place_of(files.as_slice(), &file.path) {
-        Ok(index) => files[index] = file,
+        Ok(index) => {
+            files[index] = file;
+            0
+        }
         Err(index) => {
+            let bytes = file.path.as_str().len();
             let _done = files.insert(index, file);
+            bytes
         }
     }
 }
 
-/// Takes the file of a path out.
-pub(crate) fn keep_others(files: &mut Vec<SharedFile>, path: &RepoPath)
-    ensures { files.new.items ≡ filter (λ file. not (bytes_eq file.path path.now)) files.old.items }
+/// Takes the file of a path out, if there is one. Answers the bytes that the paths have less then.
+pub(crate) fn take_out(files: &mut Vec<SharedFile>, path: &RepoPath) -> usize
+    requires { IsRising (map file_of files.old.items) }
+    ensures files { map file_of files.new.items ≡ remove_file path.now (map file_of files.old.items) }
+    ensures bytes { path_bytes_of (map file_of files.old.items) ≡ path_bytes_of (map file_of files.new.items) + result }
 {
-    files.retain(|file| file.path != *path);
+    match place_of(files.as_slice(), path) {
+        Ok(index) => {
+            files.remove(index);
+            path.as_str().len()
+        }
+        Err(_) => 0,
+    }
 }
 
 /// A commit of these files.

@@ -22,7 +22,7 @@ use crate::clashes::clashes;
 use crate::content::Content;
 use crate::contents::Contents;
 use crate::differences::{are_same_rows, differ_at};
-use crate::files::{commit_with, has_path, keep_others, may_put, put_file};
+use crate::files::{commit_with, count_path_bytes, has_path, may_put, put_file, take_out};
 use crate::fixed_files::with_fixes;
 use crate::limits::{MOST_COMMITS, MOST_CONTENT_BYTES};
 use crate::look_ups::{file_at, shown_at};
@@ -39,19 +39,20 @@ pub(crate) struct Lists {
     contents: Contents,
     history: Vec<SharedCommit>,
     staged: Vec<SharedFile>,
+    // The bytes of the staged paths together.
+    staged_bytes: usize,
     fixes: Vec<SharedFix>,
 }
 
 impl Model for Lists {
     ghost use Rattle.std.specs.Prelude.{◌&&◌, nat_lt, vec_len, vec_capacity};
     ghost use Rattle.repo_store.specs.Kept.{Mirror, mirror_code};
-    ghost use Rattle.repo_store.specs.Sound.{IsSound};
 
     ghost Value = { Mirror };
 
     ghost coded = { mirror_code };
 
-    ghost use Rattle.repo_store.specs.Lists.{repository_of};
+    ghost use Rattle.repo_store.specs.Lists.{AreKept, repository_of};
 
     ghost view = { λ lists. record {
       kept = record {
@@ -61,7 +62,7 @@ impl Model for Lists {
       has_room = nat_lt (vec_len lists.history) (vec_capacity lists.history) && nat_lt (vec_len lists.staged) (vec_capacity lists.staged);
     } };
 
-    ghost invariant = { λ lists. IsSound (repository_of lists.history.items lists.staged.items lists.fixes.items) };
+    ghost invariant = { λ lists. AreKept lists.history.items lists.staged.items lists.fixes.items lists.staged_bytes };
 }
 
 impl Lists {
@@ -72,6 +73,7 @@ impl Lists {
             contents: Contents::new(alloc),
             history: Vec::new(alloc),
             staged: Vec::new(alloc),
+            staged_bytes: 0,
             fixes: Vec::new(alloc),
         }
     }
@@ -86,10 +88,12 @@ impl Lists {
         requires { IsSound (repository_of history.items staged.items fixes.items) }
         ensures { result.kept ≡ record { repo = repository_of history.items staged.items fixes.items; contents = contents } }
     {
+        let staged_bytes = count_path_bytes(staged.as_slice());
         Lists {
             contents,
             history,
             staged,
+            staged_bytes,
             fixes,
         }
     }
@@ -157,7 +161,7 @@ impl Lists {
         ensures utf8 { IsUtf8 path.now }
     {
         // The size of the contents goes before the number of the files.
-        let fits = may_put(self.staged.as_slice(), path);
+        let fits = may_put(self.staged.as_slice(), self.staged_bytes, path);
         if bytes.len() > MOST_CONTENT_BYTES {
             return Err(StoreFault::TooLarge);
         }
@@ -180,7 +184,8 @@ impl Lists {
         requires fits { Fits (put_file file.path (record { mode = file.mode; bytes = file.content }) self.old.kept.repo.staged) }
         ensures { self.new.kept ≡ record self.old.kept { repo = with_staged file.path (record { mode = file.mode; bytes = file.content }) self.old.kept.repo } }
     {
-        put_file(&mut self.staged, file);
+        let added = put_file(&mut self.staged, file);
+        self.staged_bytes += added;
         self.fixes.clear();
     }
 
@@ -489,6 +494,8 @@ impl Lists {
         ensures { self.new.kept ≡ accepting self.old.kept }
     {
         self.staged = files;
+        let staged_bytes = count_path_bytes(self.staged.as_slice());
+        self.staged_bytes = staged_bytes;
         self.fixes.clear();
     }
 
@@ -496,7 +503,8 @@ impl Lists {
     pub(crate) fn unstage(&mut self, path: &RepoPath)
         ensures { self.new.kept ≡ unstaging path.now self.old.kept }
     {
-        keep_others(&mut self.staged, path);
+        let freed = take_out(&mut self.staged, path);
+        self.staged_bytes -= freed;
         self.fixes.clear();
     }
 }

@@ -11,8 +11,8 @@ returns-in-Ok-clause-fits c entry = (λ _. fits_at (record { path = c.args.path.
 
 pub returns-then-files-lt-MOST_FILES-clause-fits : goal.returns-then-files-lt-MOST_FILES-clause-fits
 returns-then-files-lt-MOST_FILES-clause-fits c entry =
-    fits_gap (record { path = c.args.path.now; entry = entry }) (map file_of c.args.files.now) c.in-Err.field-0 c.in-Err.ensures (c.count_path_bytes.result + length c.as_str-text.result.now)
-    (rw (c.count_path_bytes.ensures, c.as_str-text.ensures.same) refl) (omega (arith, length-map c.args.files.now file_of))
+    fits_gap (record { path = c.args.path.now; entry = entry }) (map file_of c.args.files.now) c.in-Err.field-0 c.in-Err.ensures (c.args.path_bytes + length c.as_str-text.result.now)
+    (rw (c.requires.counted, c.as_str-text.ensures.same) refl) (omega (arith, length-map c.args.files.now file_of))
 
 pub returns-else-files-lt-MOST_FILES-clause-fits : goal.returns-else-files-lt-MOST_FILES-clause-fits
 returns-else-files-lt-MOST_FILES-clause-fits c entry = (

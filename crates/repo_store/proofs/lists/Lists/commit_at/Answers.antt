@@ -18,4 +18,4 @@ pub returns-clause-rising : goal.returns-clause-rising
 returns-clause-rising c =
     let history = c.self.inside.history.items in
     let found = subst (λ (l : List SharedCommit). IsItemAt l (c.args.number - 1) c.get.result) c.deref.ensures.value c.get.ensures.lookup in
-    commit_rises history (c.args.number - 1) c.get.result c.self.invariant.trees_rise found
+    commit_rises history (c.args.number - 1) c.get.result c.self.invariant.sound.trees_rise found

@@ -10,4 +10,4 @@ use Rattle.repo_store.proofs.lists.Lists.prepare_accept.Goals as goal
 pub returns-clause-rising : goal.returns-clause-rising
 returns-clause-rising c =
     IfOk-weaker c.with_fixes.result _ _
-    (λ files is. subst (λ (l : List File). IsRising l) (sym is) (IsRising-apply_changes (map fix_of c.as_slice-2.result.now) (map file_of c.as_slice.result.now) (subst (λ (l : List SharedFile). IsRising (map file_of l)) (sym c.as_slice.ensures.value) c.self.invariant.staged_rise))) c.with_fixes.ensures
+    (λ files is. subst (λ (l : List File). IsRising l) (sym is) (IsRising-apply_changes (map fix_of c.as_slice-2.result.now) (map file_of c.as_slice.result.now) (subst (λ (l : List SharedFile). IsRising (map file_of l)) (sym c.as_slice.ensures.value) c.self.invariant.sound.staged_rise))) c.with_fixes.ensures

@@ -1,10 +1,8 @@
-use Rattle.std.proofs.Common.{◌≡◌, List, [], ap, sym, subst}
-use Rattle.hook_base.specs.declared.file.File.{File}
+use Rattle.std.proofs.Common.{◌≡◌, refl, ap, sym, subst, arith}
 use Rattle.repo_store.specs.Kept.{Mirror, Kept}
 use Rattle.repo_store.specs.Lists.{repository_of}
 use Rattle.repo_store.specs.Repository.{without_staged}
 use Rattle.repo_store.specs.Sound.{IsSound}
-use Rattle.repo_store.proofs.ListLemmas.{others_held}
 use Rattle.repo_store.proofs.SoundLemmas.{sound_unstaged}
 use Rattle.repo_store.proofs.lists.Lists.unstage.Goals as goal
 
@@ -13,11 +11,13 @@ invariant_of-self c =
     let path = c.args.path.now in
     let inside = c.self.inside in
     let repo = repository_of inside.history.items inside.staged.items inside.fixes.items in
-    let same : without_staged path repo ≡ repository_of inside.history.items c.keep_others.new.files.items c.clear.new.self.items =
-    sym (rw (c.keep_others.ensures, c.clear.ensures.items) (ap (λ (staged : List File). record { history = repo.history; staged = staged; fixes = [] }) (others_held path inside.staged.items))) in
-    subst IsSound same (sound_unstaged path repo c.self.invariant)
+    let same : without_staged path repo ≡ repository_of inside.history.items c.take_out-freed.new.files.items c.clear.new.self.items =
+    sym (rw (c.take_out-freed.ensures.files, c.clear.ensures.items) refl) in
+    let less = c.take_out-freed.ensures.bytes in
+    let counted = c.self.invariant.counted in
+    record { sound = subst IsSound same (sound_unstaged path repo c.self.invariant.sound); counted = omega arith }
 
 pub returns : goal.returns
 returns c =
     let after : Mirror → Kept = λ m. record { repo = without_staged c.args.path.now m.kept.repo; contents = m.kept.contents } in
-    rw (c.keep_others.ensures, c.clear.ensures.items, others_held c.args.path.now c.self.inside.staged.items) (ap after c.self.view_is)
+    rw (c.take_out-freed.ensures.files, c.clear.ensures.items) (ap after c.self.view_is)

@@ -1,4 +1,4 @@
-use Rattle.std.proofs.Common.{◌≡◌, Ok, Err, map, refl, ap, subst, ◌∙◌}
+use Rattle.std.proofs.Common.{◌≡◌, Ok, Err, map, refl, ap, subst, ◌∙◌, arith}
 use Rattle.hook_base.specs.Trees.{apply_changes}
 use Rattle.repo_store.specs.Kept.{accepting}
 use Rattle.repo_store.specs.Lists.{file_of, fix_of}
@@ -7,7 +7,7 @@ use Rattle.repo_store.specs.Shown.{Shown, IsOneTransaction}
 use Rattle.repo_store.proofs.AcceptLemmas.{accepting_handed}
 use Rattle.repo_store.proofs.CompleteLemmas.{complete_accepted}
 use Rattle.repo_store.proofs.RuleLemmas.{obeys_accepted}
-use Rattle.repo_store.proofs.StandLemmas.{tables_in, refused_stands, done_stands, refused_transaction, done_transaction}
+use Rattle.repo_store.proofs.StandLemmas.{tables_in, unnamed_in, refused_stands, done_stands, refused_transaction, done_transaction}
 use Rattle.repo_store.proofs.store.Store.accept.Goals as goal
 
 pub invariant_of-self : goal.invariant_of-self
@@ -36,7 +36,7 @@ returns-in-Err-clause-transaction g c =
     let obeys = obeys_accepted kept c.self.invariant.obeys complete in
     subst (λ (s : Shown g.row.S.Denot). IsOneTransaction g.S.Store s (record { conn = new; kept = kept }) (Err c.fault_of.result) (accepting s.kept)) c.self.view_is
     (refused_transaction g.S.Store c.self.inside.conn new kept (accepting kept) _ c.self.invariant same (g.met.S.Store.shut_if_dirty new.store) complete obeys
-    kept refl c.in-Err.error (c.in-Err.ensures (tables_in kept)) c.fault_of.result)
+    kept refl c.in-Err.error (c.in-Err.ensures (tables_in kept)) c.fault_of.result _ _ (c.in-Err.ensures (unnamed_in kept)) (λ (h : 1 ≡ 0). let never : ⊥ = omega arith in never))
 
 pub invariant_of-self-2 : goal.invariant_of-self-2
 invariant_of-self-2 g c =
@@ -63,4 +63,4 @@ returns-clause-transaction g c =
     let obeys = obeys_accepted kept c.self.invariant.obeys complete in
     subst (λ (s : Shown g.row.S.Denot). IsOneTransaction g.S.Store s (record { conn = new; kept = c.accept.new.self.kept }) (Ok c.count_fixes-number.result) (accepting s.kept)) c.self.view_is
     (done_transaction g.S.Store c.self.inside.conn new kept (accepting kept) _ c.self.invariant same (g.met.S.Store.shut_if_dirty new.store) complete obeys
-    (g.met.S.Store.settled new.store) c.accept.new.self.kept c.accept.ensures c.in_default.field-0 (c.in_default.ensures (tables_in kept)) c.count_fixes-number.result)
+    (g.met.S.Store.settled new.store) c.accept.new.self.kept c.accept.ensures c.in_default.field-0 (c.in_default.ensures (tables_in kept)) c.count_fixes-number.result _ _ (c.in_default.ensures (unnamed_in kept)) (λ (h : 1 ≡ 0). let never : ⊥ = omega arith in never))

@@ -1,4 +1,4 @@
-use Rattle.std.proofs.Common.{◌≢◌, ℕ, List, inl, inr, Ok, Err, drop, ap, ap₂, subst, ◌∙◌}
+use Rattle.std.proofs.Common.{◌≢◌, ℕ, List, inl, inr, Ok, Err, drop, ap, ap₂, subst, ◌∙◌, ◌≡◌, arith}
 use Rattle.std.specs.Str.{IsUtf8}
 use Rattle.hook_base.specs.Paths.{IsRepoPath, message_path}
 use Rattle.hook_base.specs.declared.file.File.{File}
@@ -12,7 +12,7 @@ use Rattle.repo_store.specs.RowRules.{IsPathText}
 use Rattle.repo_store.proofs.KeptLemmas.{staging_handed, forgotten}
 use Rattle.repo_store.proofs.CompleteLemmas.{complete_staged}
 use Rattle.repo_store.proofs.RuleLemmas.{obeys_staged}
-use Rattle.repo_store.proofs.StandLemmas.{tables_in, refused_stands, done_stands, refused_transaction, done_transaction}
+use Rattle.repo_store.proofs.StandLemmas.{tables_in, unnamed_in, refused_stands, done_stands, refused_transaction, done_transaction}
 use Rattle.repo_store.proofs.store.Store.stage.Goals as goal
 
 legal : (path : List ℕ) → IsUtf8 path → IsRepoPath path → path ≢ message_path → IsPathText path
@@ -55,7 +55,7 @@ returns-in-Err-clause-transaction g c =
     let obeys = obeys_staged kept c.self.invariant.obeys c.args.path.now entry (legal c.args.path.now prepared.utf8 prepared.path c.requires) prepared.within.0 complete in
     subst (λ (s : Shown g.row.S.Denot). IsOneTransaction g.S.Store s (record { conn = new; kept = c.forget_since.new.self.kept }) (Err c.fault_of.result) (staging c.args.path.now entry s.kept)) c.self.view_is
     (refused_transaction g.S.Store c.self.inside.conn new kept (staging c.args.path.now entry kept) _ c.self.invariant same (g.met.S.Store.shut_if_dirty new.store) complete obeys
-    c.forget_since.new.self.kept now c.in-Err.error (c.in-Err.ensures (tables_in kept)) c.fault_of.result)
+    c.forget_since.new.self.kept now c.in-Err.error (c.in-Err.ensures (tables_in kept)) c.fault_of.result _ _ (c.in-Err.ensures (unnamed_in kept)) (λ (h : 1 ≡ 0). let never : ⊥ = omega arith in never))
 
 pub invariant_of-self-2 : goal.invariant_of-self-2
 invariant_of-self-2 g c =
@@ -93,4 +93,4 @@ returns-clause-transaction g c =
     let obeys = obeys_staged kept c.self.invariant.obeys c.args.path.now entry (legal c.args.path.now prepared.utf8 prepared.path c.requires) prepared.within.0 complete in
     subst (λ (s : Shown g.row.S.Denot). IsOneTransaction g.S.Store s (record { conn = new; kept = c.stage.new.self.kept }) (Ok tt) (staging c.args.path.now entry s.kept)) c.self.view_is
     (done_transaction g.S.Store c.self.inside.conn new kept (staging c.args.path.now entry kept) _ c.self.invariant same (g.met.S.Store.shut_if_dirty new.store) complete obeys
-    (g.met.S.Store.settled new.store) c.stage.new.self.kept now c.in_default.field-0 (c.in_default.ensures (tables_in kept)) tt)
+    (g.met.S.Store.settled new.store) c.stage.new.self.kept now c.in_default.field-0 (c.in_default.ensures (tables_in kept)) tt _ _ (c.in_default.ensures (unnamed_in kept)) (λ (h : 1 ≡ 0). let never : ⊥ = omega arith in never))
