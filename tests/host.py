@@ -206,6 +206,11 @@ def refuses_fifos_and_waits_for_none(folder):
 
 # ---- several programs at once
 
+def with_added(text, name):
+    """The text of status with a new file's line."""
+    return b"".join(sorted([*text.splitlines(keepends=True), f"A {name}\n".encode()]))
+
+
 def lets_one_program_work_at_a_time(folder):
     """Beside a program that adds a large file, another is refused, or sees the repository before it or after it."""
     do(folder, "init")
@@ -214,24 +219,20 @@ def lets_one_program_work_at_a_time(folder):
         name = f"large{at}"
         write(folder, name, held)
         before = do(folder, "status")
-        with subprocess.Popen([PROGRAM, "add", name], cwd=folder) as child:
+        with subprocess.Popen([PROGRAM, "add", name], cwd=folder, stderr=subprocess.DEVNULL) as child:
             while child.poll() is None:
                 status, out, err = run(folder, "status")
                 is_refused = (status, out, err) == (3, b"", f"hookhost: cannot use {LOCK}\n".encode())
-                check(is_refused or (status == 0 and out in (before, do_sorted(before, name))), f"beside an add: {(status, out, err)!r}")
+                check(is_refused or (status == 0 and out in (before, with_added(before, name))), f"beside an add: {(status, out, err)!r}")
                 refused += is_refused
             # The other may have had the lock just when this one asked for it.
             check(child.returncode in (0, 3), f"add ends with {child.returncode}")
         after = do(folder, "status")
-        check(after == (do_sorted(before, name) if child.returncode == 0 else before), f"after an add that ended with {child.returncode}: {after!r}")
+        check(after == (with_added(before, name) if child.returncode == 0 else before), f"after an add that ended with {child.returncode}: {after!r}")
         if refused and child.returncode == 0:
             return print(f"beside a large add: {refused} times refused")
         os.remove(os.path.join(folder, name))
     raise Wrong("in 20 rounds no program met another")
-
-
-def do_sorted(text, name):
-    return b"".join(sorted([*text.splitlines(keepends=True), f"A {name}\n".encode()]))
 
 
 def loses_nothing_of_programs_at_once(folder):
