@@ -258,4 +258,5 @@ def main():
             time_opening(folder, are_same)
 
 
-main()
+if __name__ == "__main__":
+    main()

@@ -4,10 +4,11 @@ ghost use Rattle.std.specs.Prelude.{◌≡◌, false, IfErr, IfOk};
 ghost use Rattle.hookhost.specs.Stops.{IsStopOfDatabase};
 ghost use Rattle.hookhost.specs.declared.stop.Stop.TheVariants.{CannotUseStore};
 
+use crate::connect::connect;
 use crate::repository::{Found, Lock, STORE, found_at};
 use crate::stop::Stop;
 use commit_flow::Host;
-use sqlite::{Connection, File, FileStore, Unknown};
+use sqlite::{Connection, File, FileStore};
 use std::rt::Files;
 use std::{fs, mem};
 
@@ -71,7 +72,7 @@ pub(crate) fn open_database(
     ensures outside { IfOk result (λ conn. conn.in_transaction ≡ false) }
     ensures refused { IfErr result IsStopOfDatabase }
 {
-    match Connection::open_from(rt, STORE, false, Unknown) {
+    match connect(rt, STORE) {
         Ok(conn) => Ok(conn),
         Err((error, left)) => {
             // Without what is left of the files, another process may have opened a database that was there.

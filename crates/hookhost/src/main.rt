@@ -6,6 +6,7 @@ ghost use Rattle.std.specs.Prelude.{◌≡◌};
 ghost use Rattle.hookhost.specs.Stops.{status_of_run};
 
 mod commands;
+mod connect;
 mod database;
 mod file_tree;
 mod files;

@@ -1,0 +1,77 @@
+//! A connection to a database, with as much room in memory as its file needs.
+
+ghost use Rattle.std.specs.Prelude.{◌≡◌, false, IsTrue, IfErr, IfOk};
+ghost use Rattle.sqlite.specs.Opening.{is_open_error};
+
+use sqlite::{Connection, Error, ErrorCode, File, FileStore, Leftover, Options, Unknown};
+use sqlite_std_file::OpenError;
+use std::fs;
+use std::hash::{BuildHasher, RandomState};
+use std::io::ErrorKind;
+use std::rt::Files;
+
+/// The bytes of a page of the databases that the library makes.
+const PAGE_BYTES: u64 = 4_096;
+
+// The fewest pages that are kept in memory. A database without rows has fewer.
+const FEWEST_PAGES: u64 = 64;
+
+// The most, which are the library's own number: 8 MB.
+const MOST_PAGES: u64 = 2_000;
+
+/// Opens the database at the path, or makes it where there is none. The library takes the room for the pages that it keeps
+/// when it opens the file, which for all of them takes longer than everything else that it does with a small one. The error
+/// comes with what is left of the files, once they were opened.
+pub(crate) fn connect(
+    rt: &HostRuntime,
+    path: &str,
+) -> Result<Connection<FileStore<File>>, (Error, Option<Leftover<File>>)>
+    ensures outside { IfOk result (λ conn. conn.in_transaction ≡ false) }
+    ensures refused { IfErr result (λ failed. IsTrue (is_open_error failed.0)) }
+{
+    let Ok(seed) = random_number(rt) else {
+        return Err((Error::SqliteFailure(ErrorCode::CannotOpen), None));
+    };
+    let options = Options {
+        cache_pages: pages_for(bytes_at(rt, path)),
+        ..Options::new(seed)
+    };
+    let files = match sqlite_std_file::open(rt, path, Unknown) {
+        Ok(files) => files,
+        Err(error) => return Err((error_of(error), None)),
+    };
+    match Connection::open_files(rt.alloc(), files, options) {
+        Ok(conn) => Ok(conn),
+        Err((error, left)) => Err((error, Some(left))),
+    }
+}
+
+fn random_number(rt: &HostRuntime) -> Result<u64, std::io::Error> {
+    Ok(RandomState::new(rt)?.hash_one(&0u8))
+}
+
+// The bytes of the file at the path, 0 where there is none.
+fn bytes_at<R: Files>(rt: &R, path: &str) -> u64 {
+    match fs::symlink_metadata(rt, path) {
+        Ok(found) => found.len(),
+        Err(_) => 0,
+    }
+}
+
+// How many pages are kept in memory of a database of so many bytes: twice as many as it has, since it grows.
+fn pages_for(bytes: u64) -> usize {
+    let pages = bytes / PAGE_BYTES;
+    pages.saturating_mul(2).clamp(FEWEST_PAGES, MOST_PAGES) as usize
+}
+
+fn error_of(error: OpenError) -> Error
+    ensures { IsTrue (is_open_error result) }
+{
+    let code = match error {
+        OpenError::OutOfMemory => ErrorCode::OutOfMemory,
+        OpenError::Io(error) if error.kind() == ErrorKind::OutOfMemory => ErrorCode::OutOfMemory,
+        OpenError::Busy => ErrorCode::DatabaseBusy,
+        OpenError::Io(_) | OpenError::HotJournal => ErrorCode::CannotOpen,
+    };
+    Error::SqliteFailure(code)
+}
