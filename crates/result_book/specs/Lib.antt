@@ -1,3 +1,4 @@
+pub mod CallLemmas
 pub mod Calls
 pub mod Contents
 pub mod Faults
