@@ -8,15 +8,22 @@
 mod answer;
 mod children;
 mod fault;
+mod fuse;
 pub mod laws;
 mod limits;
+mod row_of;
+mod seen;
 mod table;
 mod table_outcome;
 mod table_row;
+mod words;
 
 pub use answer::{Answer, Outcome};
 pub use children::Children;
 pub use fault::Fault;
+pub use fuse::FuseChildren;
 pub use limits::MOST_OUTPUT_BYTES;
+pub use seen::{is_stray, seen_of};
 pub use table::TableChildren;
 pub use table_row::TableRow;
+pub use words::plain_word;
