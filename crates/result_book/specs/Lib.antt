@@ -4,4 +4,3 @@ pub mod Contents
 pub mod Faults
 pub mod KeyLemmas
 pub mod Places
-pub mod Strays

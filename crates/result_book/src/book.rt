@@ -15,7 +15,7 @@ pub trait Book {
     ghost use Rattle.result_book.specs.declared.book_fault.BookFault.{BookFault};
     ghost use Rattle.result_book.specs.Contents.{Contents, Finds, HaveDistinctKeys, count_of};
     ghost use Rattle.result_book.specs.Calls.{AfterFind, AfterPut, AfterForget};
-    ghost use Rattle.result_book.specs.Strays.{is_stray};
+    ghost use Rattle.child_port.specs.Seen.{is_stray};
 
     /// What it remembers.
     ghost contents: { Self → Contents };

@@ -2,7 +2,7 @@
 //! what it answered.
 //!
 //! `Book` is the trait of whoever remembers, `ListBook` remembers in memory, and `BookFault` says why a call is refused.
-//! The contracts cite `specs/Contents.antt`, `specs/Calls.antt`, `specs/Strays.antt` and `specs/Faults.antt`;
+//! The contracts cite `specs/Contents.antt`, `specs/Calls.antt` and `specs/Faults.antt`;
 //! `specs/Places.antt` serves private functions alone. [`laws`] says what a finite map is known by.
 #![tactic(auto)]
 
@@ -12,6 +12,8 @@ mod book_row;
 pub mod laws;
 mod list_book;
 mod rows;
+#[cfg(test)]
+mod tests;
 
 pub use book::Book;
 pub use book_fault::BookFault;
