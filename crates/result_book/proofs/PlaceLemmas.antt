@@ -134,13 +134,16 @@ module _ (words : List (List ℕ)) (seen : List File) (answer : Answer) (new : B
         | inr old ↦ lack other old
       ]
 
-  pub end_distinct : (rows : List BookRow) → HaveDistinctKeys rows → LackRow words seen rows → HaveDistinctKeys (rows ++ new ∷ [])
+  end_distinct : (rows : List BookRow) → HaveDistinctKeys rows → LackRow words seen rows → HaveDistinctKeys (rows ++ new ∷ [])
   end_distinct [] distinct lack = (λ other have. have, tt)
   end_distinct (row ∷ rows) distinct lack =
       (end_lack row rows distinct.0 (λ same. lack row.answer (inl (same, refl))), end_distinct rows distinct.1 (λ other have. lack other (inr have)))
 
-  pub put_at_end : (rows : List BookRow) → LackRow words seen rows → AfterPut words seen answer (unlimited rows) (unlimited (rows ++ new ∷ []))
-  put_at_end rows lack = record {
+  pub distinct_at_end : (rows after : List BookRow) → after ≡ rows ++ new ∷ [] → HaveDistinctKeys rows → LackRow words seen rows → HaveDistinctKeys after
+  distinct_at_end rows after longer distinct lack = subst HaveDistinctKeys (sym longer) (end_distinct rows distinct lack)
+
+  after_end : (rows : List BookRow) → LackRow words seen rows → AfterPut words seen answer (unlimited rows) (unlimited (rows ++ new ∷ []))
+  after_end rows lack = record {
     put = end_put rows;
     replaced = λ other have. elim (end_only rows words seen other have) [
       | inl same ↦ same.1
@@ -150,3 +153,7 @@ module _ (words : List (List ℕ)) (seen : List File) (answer : Answer) (new : B
     only = λ others theirs other have. end_only rows others theirs other have;
     limit = refl;
   }
+
+  pub put_at_end : (rows after : List BookRow) → after ≡ rows ++ new ∷ [] → LackRow words seen rows → AfterPut words seen answer (unlimited rows) (unlimited after)
+  put_at_end rows after longer lack =
+      subst (λ (all : List BookRow). AfterPut words seen answer (unlimited rows) (unlimited all)) (sym longer) (after_end rows lack)

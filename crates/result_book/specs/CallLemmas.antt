@@ -1,12 +1,12 @@
 -- Lemmas on what the calls of a book make of what it remembers.
-use Rattle.std.specs.Prelude.{◌≡◌, ◌≤◌, ℕ, suc, List, [], ◌∷◌, length, Option, None, Some, refl}
+use Rattle.std.specs.Prelude.{◌≡◌, ◌⊎◌, ◌≤◌, ◌+◌, ℕ, suc, List, [], ◌∷◌, length, Option, None, Some, refl}
 use Rattle.std.proofs.Common.{ap, sym, ◌∙◌, inl, inr, subst, arith}
 use Rattle.child_port.specs.declared.answer.Answer.{Answer}
 use Rattle.hook_base.specs.declared.file.File.{File}
 use Rattle.result_book.specs.declared.book_row.BookRow.{BookRow}
 use Rattle.result_book.specs.Contents.{Contents, HasKey, HaveRow, LackRow, HaveDistinctKeys, Holds, Lacks, Finds, IsFull, count_of}
 use Rattle.result_book.specs.Calls.{AfterFind, AfterPut, AfterForget, IsSameKey}
-use Rattle.result_book.specs.KeyLemmas.{same_lack}
+use Rattle.result_book.specs.KeyLemmas.{same_have, same_lack}
 
 -- ---- what is found after each call
 
@@ -57,12 +57,42 @@ length_but words seen answer [] have = absurd have
 length_but words seen answer (row ∷ rows) (inl have) = refl
 length_but words seen answer (row ∷ rows) (inr have) = ap suc (length_but words seen answer rows have)
 
+-- what is answered is answered by the others, or for the same key
+same_or_but : (words : List (List ℕ)) (seen : List File) (answer : Answer) (rows : List BookRow) (have : HaveRow words seen answer rows) (others : List (List ℕ)) (theirs : List File) (other : Answer) → HaveRow others theirs other rows → IsSameKey others theirs words seen ⊎ HaveRow others theirs other (but words seen answer rows have)
+same_or_but words seen answer [] have others theirs other held = absurd have
+same_or_but words seen answer (row ∷ rows) (inl have) others theirs other (inl held) = inl (sym held.0.0 ∙ have.0.0, sym held.0.1 ∙ have.0.1)
+same_or_but words seen answer (row ∷ rows) (inl have) others theirs other (inr held) = inr held
+same_or_but words seen answer (row ∷ rows) (inr have) others theirs other (inl held) = inr (inl held)
+same_or_but words seen answer (row ∷ rows) (inr have) others theirs other (inr held) =
+    elim (same_or_but words seen answer rows have others theirs other held) [
+      | inl same ↦ inl same
+      | inr later ↦ inr (inr later)
+    ]
+
 others_but : (words : List (List ℕ)) (seen : List File) (answer : Answer) (rows : List BookRow) (have : HaveRow words seen answer rows) (others : List (List ℕ)) (theirs : List File) (other : Answer) → ¬ IsSameKey others theirs words seen → HaveRow others theirs other rows → HaveRow others theirs other (but words seen answer rows have)
-others_but words seen answer [] have others theirs other differs held = absurd have
-others_but words seen answer (row ∷ rows) (inl have) others theirs other differs (inl held) = absurd (differs (sym held.0.0 ∙ have.0.0, sym held.0.1 ∙ have.0.1))
-others_but words seen answer (row ∷ rows) (inl have) others theirs other differs (inr held) = held
-others_but words seen answer (row ∷ rows) (inr have) others theirs other differs (inl held) = inl held
-others_but words seen answer (row ∷ rows) (inr have) others theirs other differs (inr held) = inr (others_but words seen answer rows have others theirs other differs held)
+others_but words seen answer rows have others theirs other differs held =
+    elim (same_or_but words seen answer rows have others theirs other held) [
+      | inl same ↦ absurd (differs same)
+      | inr later ↦ later
+    ]
+
+have_but : (words : List (List ℕ)) (seen : List File) (answer : Answer) (rows : List BookRow) (have : HaveRow words seen answer rows) (others : List (List ℕ)) (theirs : List File) (other : Answer) → HaveRow others theirs other (but words seen answer rows have) → HaveRow others theirs other rows
+have_but words seen answer [] have others theirs other held = held
+have_but words seen answer (row ∷ rows) (inl have) others theirs other held = inr held
+have_but words seen answer (row ∷ rows) (inr have) others theirs other (inl held) = inl held
+have_but words seen answer (row ∷ rows) (inr have) others theirs other (inr held) = inr (have_but words seen answer rows have others theirs other held)
+
+lack_but : (words : List (List ℕ)) (seen : List File) (answer : Answer) (rows : List BookRow) (have : HaveRow words seen answer rows) → HaveDistinctKeys rows → (other : Answer) → HaveRow words seen other (but words seen answer rows have) → ⊥
+lack_but words seen answer [] have distinct other held = held
+lack_but words seen answer (row ∷ rows) (inl have) distinct other held = same_lack row.words words row.seen seen rows have.0.0 have.0.1 distinct.0 other held
+lack_but words seen answer (row ∷ rows) (inr have) distinct other (inl held) = same_lack row.words words row.seen seen rows held.0.0 held.0.1 distinct.0 answer have
+lack_but words seen answer (row ∷ rows) (inr have) distinct other (inr held) = lack_but words seen answer rows have distinct.1 other held
+
+distinct_but : (words : List (List ℕ)) (seen : List File) (answer : Answer) (rows : List BookRow) (have : HaveRow words seen answer rows) → HaveDistinctKeys rows → HaveDistinctKeys (but words seen answer rows have)
+distinct_but words seen answer [] have distinct = tt
+distinct_but words seen answer (row ∷ rows) (inl have) distinct = distinct.1
+distinct_but words seen answer (row ∷ rows) (inr have) distinct =
+    (λ other held. distinct.0 other (have_but words seen answer rows have row.words row.seen other held), distinct_but words seen answer rows have distinct.1)
 
 pub at_most_as_long : (rows more : List BookRow) → HaveDistinctKeys rows → ((words : List (List ℕ)) (seen : List File) (answer : Answer) → HaveRow words seen answer rows → HaveRow words seen answer more) → length rows ≤ length more
 at_most_as_long [] more distinct held = omega arith
@@ -79,3 +109,62 @@ same_count a b first second there back =
     let least = at_most_as_long a.rows b.rows first there in
     let most = at_most_as_long b.rows a.rows second back in
     omega arith
+
+-- ---- how many answers are held after a put
+
+module _ (words : List (List ℕ)) (seen : List File) (answer : Answer) (before after : Contents) (distinct : HaveDistinctKeys before.rows) (apart : HaveDistinctKeys after.rows) (step : AfterPut words seen answer before after) (none : before.limit ≡ None) where
+  abbrev new_row : BookRow
+  new_row = record { words = words; seen = seen; answer = answer }
+
+  stays : (others : List (List ℕ)) (theirs : List File) (other : Answer) → ¬ IsSameKey others theirs words seen → Holds others theirs other before → Holds others theirs other after
+  stays others theirs other differs held = others_after_put words seen answer before after others theirs (Some other) step none differs held
+
+  -- what is held afterwards is the new row or held before
+  new_or_old : (others : List (List ℕ)) (theirs : List File) (other : Answer) → Holds others theirs other after → HaveRow others theirs other (new_row ∷ before.rows)
+  new_or_old others theirs other held =
+      elim (step.only others theirs other held) [
+        | inl new ↦ inl ((sym new.0.0, sym new.0.1), sym new.1)
+        | inr old ↦ inr old
+      ]
+
+  -- a key that is held is not one that is lacked
+  apart_from : (others : List (List ℕ)) (theirs : List File) (other : Answer) (rows : List BookRow) → LackRow words seen rows → HaveRow others theirs other rows → ¬ IsSameKey others theirs words seen
+  apart_from others theirs other rows lack held same = lack other (same_have others words theirs seen other rows same.0 same.1 held)
+
+  new_after : (others : List (List ℕ)) (theirs : List File) (other : Answer) → HasKey others theirs new_row × (answer ≡ other) → Holds others theirs other after
+  new_after others theirs other new =
+      subst (λ (it : Answer). Holds others theirs it after) new.1 (same_have words others seen theirs answer after.rows new.0.0 new.0.1 step.put)
+
+  pub count_more : Lacks words seen before → count_of after ≡ count_of before + 1
+  count_more lacks =
+      let least = at_most_as_long after.rows (new_row ∷ before.rows) apart new_or_old in
+      let most = at_most_as_long (new_row ∷ before.rows) after.rows (lacks, distinct) (λ others theirs other held.
+        elim held [
+          | inl new ↦ new_after others theirs other new
+          | inr old ↦ stays others theirs other (apart_from others theirs other before.rows lacks old) old
+        ]) in
+      omega arith
+
+  -- what is held afterwards is the new row or one of the others
+  new_or_other : (old : Answer) (have : Holds words seen old before) (others : List (List ℕ)) (theirs : List File) (other : Answer) → Holds others theirs other after → HaveRow others theirs other (new_row ∷ but words seen old before.rows have)
+  new_or_other old have others theirs other held =
+      elim (new_or_old others theirs other held) [
+        | inl new ↦ inl new
+        | inr earlier ↦ elim (same_or_but words seen old before.rows have others theirs other earlier) [
+          | inl same ↦ inl ((sym same.0, sym same.1), sym (step.replaced other (same_have others words theirs seen other after.rows same.0 same.1 held)))
+          | inr later ↦ inr later
+        ]
+      ]
+
+  pub count_same : (old : Answer) → Holds words seen old before → count_of after ≡ count_of before
+  count_same old have =
+      let rest = but words seen old before.rows have in
+      let lack = lack_but words seen old before.rows have distinct in
+      let least = at_most_as_long after.rows (new_row ∷ rest) apart (new_or_other old have) in
+      let most = at_most_as_long (new_row ∷ rest) after.rows (lack, distinct_but words seen old before.rows have distinct) (λ others theirs other held.
+        elim held [
+          | inl new ↦ new_after others theirs other new
+          | inr earlier ↦ stays others theirs other (apart_from others theirs other rest lack earlier) (have_but words seen old before.rows have others theirs other earlier)
+        ]) in
+      let longer = length_but words seen old before.rows have in
+      omega arith

@@ -1,11 +1,14 @@
 //! Laws of the definitions that the contracts cite: what a finite map is known by. Each is a function that gives nothing:
 //! what it ensures is a theorem.
 
-ghost use Rattle.std.specs.Prelude.{◌≡◌, ℕ, List, None, Option, Some};
+ghost use Rattle.std.specs.Prelude.{◌≡◌, ◌+◌, ℕ, List, None, Option, Some};
 ghost use Rattle.child_port.specs.declared.answer.Answer.{Answer};
 ghost use Rattle.hook_base.specs.declared.file.File.{File};
 ghost use Rattle.result_book.specs.Calls.{AfterFind, AfterForget, AfterPut, IsSameKey};
-ghost use Rattle.result_book.specs.Contents.{Contents, Finds, HaveDistinctKeys, Holds, count_of};
+ghost use Rattle.result_book.specs.Contents.{Contents, Finds, HaveDistinctKeys, Holds, Lacks, count_of};
+ghost use Rattle.result_book.specs.declared.list_book.ListBook.{ListBook};
+
+use crate::{Book, ListBook as InMemory};
 
 /// For the same words and seen files one thing is found.
 pub fn one_thing_is_found()
@@ -37,4 +40,17 @@ pub fn nothing_is_found_after_forgetting()
 /// Two books that hold the same answers hold as many, in whatever order they keep them.
 pub fn books_that_hold_the_same_are_as_long()
     ensures { (a b : Contents) → HaveDistinctKeys a.rows → HaveDistinctKeys b.rows → ((words : List (List ℕ)) (seen : List File) (answer : Answer) → Holds words seen answer a → Holds words seen answer b) → ((words : List (List ℕ)) (seen : List File) (answer : Answer) → Holds words seen answer b → Holds words seen answer a) → count_of a ≡ count_of b }
+{}
+
+/// A book without a limit remembers one answer more once one is put for words and seen files that it lacked (`more`), and as
+/// many where it held one for them (`same`).
+pub fn a_put_adds_one_or_replaces()
+    ensures more { (words : List (List ℕ)) (seen : List File) (answer : Answer) (before after : Contents) → HaveDistinctKeys before.rows → HaveDistinctKeys after.rows → AfterPut words seen answer before after → before.limit ≡ None → Lacks words seen before → count_of after ≡ count_of before + 1 }
+    ensures same { (words : List (List ℕ)) (seen : List File) (answer old : Answer) (before after : Contents) → HaveDistinctKeys before.rows → HaveDistinctKeys after.rows → AfterPut words seen answer before after → before.limit ≡ None → Holds words seen old before → count_of after ≡ count_of before }
+{}
+
+/// A book in memory has no limit (`unlimited`), and a crash leaves nothing of it (`lost`).
+pub fn a_book_in_memory_keeps_all_until_a_crash()
+    ensures unlimited { (book : ListBook) → (⟦<InMemory as Book>⟧.contents book).limit ≡ None }
+    ensures lost { (book : ListBook) (left : Contents) → ¬ ⟦<InMemory as Book>⟧.leaves book left }
 {}

@@ -3,7 +3,7 @@ use Rattle.result_book.specs.declared.book_row.BookRow.{BookRow}
 use Rattle.result_book.specs.Contents.{HasKey, LackRow, HaveDistinctKeys, unlimited}
 use Rattle.result_book.specs.Calls.{AfterPut}
 use Rattle.result_book.specs.Places.{IsAt}
-use Rattle.result_book.proofs.PlaceLemmas.{at_within, at_key, put_in_place, set_distinct, put_at_end, end_distinct}
+use Rattle.result_book.proofs.PlaceLemmas.{at_within, at_key, put_in_place, set_distinct, put_at_end, distinct_at_end}
 use Rattle.result_book.proofs.rows.put_row.Goals as goal
 
 pub index_mut-requires : goal.index_mut-requires
@@ -27,12 +27,10 @@ pub returns-in_ok-push-in-None-clause-put : goal.returns-in_ok-push-in-None-clau
 returns-in_ok-push-in-None-clause-put c =
     let lack = subst (λ (rows : List BookRow). LackRow c.args.words.now c.args.seen.now rows) c.as_slice.ensures.value c.in-None.ensures in
     let row = c.in_ok-copy_row-in-None.ensures in
-    subst (λ (rows : List BookRow). AfterPut c.args.words.now c.args.seen.now c.args.answer.now (unlimited c.args.rows.now.items) (unlimited rows)) (sym c.in_ok-push-in-None.ensures.items)
-    (put_at_end c.args.words.now c.args.seen.now c.args.answer.now c.in_ok-copy_row-in-None.field-0 (ap (λ (row : BookRow). row.words) row, ap (λ (row : BookRow). row.seen) row) (ap (λ (row : BookRow). row.answer) row) c.args.rows.now.items lack)
+    put_at_end c.args.words.now c.args.seen.now c.args.answer.now c.in_ok-copy_row-in-None.field-0 (ap (λ (row : BookRow). row.words) row, ap (λ (row : BookRow). row.seen) row) (ap (λ (row : BookRow). row.answer) row) c.args.rows.now.items _ c.in_ok-push-in-None.ensures.items lack
 
 pub returns-in_ok-push-in-None-clause-distinct : goal.returns-in_ok-push-in-None-clause-distinct
 returns-in_ok-push-in-None-clause-distinct c =
     let lack = subst (λ (rows : List BookRow). LackRow c.args.words.now c.args.seen.now rows) c.as_slice.ensures.value c.in-None.ensures in
     let row = c.in_ok-copy_row-in-None.ensures in
-    subst HaveDistinctKeys (sym c.in_ok-push-in-None.ensures.items)
-    (end_distinct c.args.words.now c.args.seen.now c.args.answer.now c.in_ok-copy_row-in-None.field-0 (ap (λ (row : BookRow). row.words) row, ap (λ (row : BookRow). row.seen) row) (ap (λ (row : BookRow). row.answer) row) c.args.rows.now.items c.requires lack)
+    distinct_at_end c.args.words.now c.args.seen.now c.args.answer.now c.in_ok-copy_row-in-None.field-0 (ap (λ (row : BookRow). row.words) row, ap (λ (row : BookRow). row.seen) row) (ap (λ (row : BookRow). row.answer) row) c.args.rows.now.items _ c.in_ok-push-in-None.ensures.items c.requires lack
