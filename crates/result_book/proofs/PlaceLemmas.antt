@@ -1,12 +1,12 @@
 -- The place of a key among rows: how it is found, and what it makes of the rows to put one there.
-use Rattle.std.specs.Prelude.{◌≡◌, ◌⊎◌, ◌<◌, ◌+◌, ℕ, zero, suc, List, [], ◌∷◌, ◌++◌, length, take, None, Some, refl}
-use Rattle.std.proofs.Common.{ap, sym, ◌∙◌, inl, inr, subst, set, get_or, arith}
+use Rattle.std.specs.Prelude.{◌≡◌, ◌⊎◌, ◌<◌, ℕ, zero, suc, List, [], ◌∷◌, ◌++◌, length, take, refl}
+use Rattle.std.proofs.Common.{sym, ◌∙◌, inl, inr, subst, set, get_or, arith}
 use Rattle.child_port.specs.declared.answer.Answer.{Answer}
 use Rattle.hook_base.specs.declared.file.File.{File}
 use Rattle.result_book.specs.declared.book_row.BookRow.{BookRow}
 use Rattle.result_book.specs.Contents.{HasKey, HaveRow, LackRow, HaveDistinctKeys, unlimited}
 use Rattle.result_book.specs.Calls.{IsSameKey, AfterPut}
-use Rattle.result_book.specs.KeyLemmas.{same_have, same_lack}
+use Rattle.result_book.specs.KeyLemmas.{same_lack}
 use Rattle.result_book.specs.Places.{IsAt}
 
 pub at_within : (words : List (List ℕ)) (seen : List File) (rows : List BookRow) (index : ℕ) → IsAt words seen rows index → index < length rows

@@ -99,7 +99,7 @@ at_most_as_long [] more distinct held = omega arith
 at_most_as_long (row ∷ rows) more distinct held =
     let have = held row.words row.seen row.answer (inl ((refl, refl), refl)) in
     let rest = at_most_as_long rows (but row.words row.seen row.answer more have) distinct.1 (λ words seen answer later.
-      others_but row.words row.seen row.answer more have words seen answer (λ same. same_lack row.words words row.seen seen rows (sym same.0) (sym same.1) distinct.0 answer later) (held words seen answer (inr later))) in
+    others_but row.words row.seen row.answer more have words seen answer (λ same. same_lack row.words words row.seen seen rows (sym same.0) (sym same.1) distinct.0 answer later) (held words seen answer (inr later))) in
     let less = length_but row.words row.seen row.answer more have in
     omega arith
 
@@ -139,10 +139,10 @@ module _ (words : List (List ℕ)) (seen : List File) (answer : Answer) (before 
   count_more lacks =
       let least = at_most_as_long after.rows (new_row ∷ before.rows) apart new_or_old in
       let most = at_most_as_long (new_row ∷ before.rows) after.rows (lacks, distinct) (λ others theirs other held.
-        elim held [
-          | inl new ↦ new_after others theirs other new
-          | inr old ↦ stays others theirs other (apart_from others theirs other before.rows lacks old) old
-        ]) in
+      elim held [
+        | inl new ↦ new_after others theirs other new
+        | inr old ↦ stays others theirs other (apart_from others theirs other before.rows lacks old) old
+      ]) in
       omega arith
 
   -- what is held afterwards is the new row or one of the others
@@ -162,9 +162,9 @@ module _ (words : List (List ℕ)) (seen : List File) (answer : Answer) (before 
       let lack = lack_but words seen old before.rows have distinct in
       let least = at_most_as_long after.rows (new_row ∷ rest) apart (new_or_other old have) in
       let most = at_most_as_long (new_row ∷ rest) after.rows (lack, distinct_but words seen old before.rows have distinct) (λ others theirs other held.
-        elim held [
-          | inl new ↦ new_after others theirs other new
-          | inr earlier ↦ stays others theirs other (apart_from others theirs other rest lack earlier) (have_but words seen old before.rows have others theirs other earlier)
-        ]) in
+      elim held [
+        | inl new ↦ new_after others theirs other new
+        | inr earlier ↦ stays others theirs other (apart_from others theirs other rest lack earlier) (have_but words seen old before.rows have others theirs other earlier)
+      ]) in
       let longer = length_but words seen old before.rows have in
       omega arith

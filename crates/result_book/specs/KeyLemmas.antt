@@ -4,7 +4,7 @@ use Rattle.std.proofs.Common.{ap, sym, ◌∙◌, inl, inr, subst}
 use Rattle.child_port.specs.declared.answer.Answer.{Answer}
 use Rattle.hook_base.specs.declared.file.File.{File}
 use Rattle.result_book.specs.declared.book_row.BookRow.{BookRow}
-use Rattle.result_book.specs.Contents.{Contents, HaveRow, LackRow, HaveDistinctKeys, Holds, Finds}
+use Rattle.result_book.specs.Contents.{Contents, HaveRow, LackRow, HaveDistinctKeys, Finds}
 
 -- that keys are distinct is a fact: there is one proof of it
 pub HaveDistinctKeys-prop : (rows : List BookRow) → IsProp (HaveDistinctKeys rows)

@@ -1,7 +1,6 @@
-use Rattle.std.proofs.Common.{◌≡◌, ℕ, List, rules, ap, sym, subst, refl, arith, set}
+use Rattle.std.proofs.Common.{List, rules, ap, sym, subst, refl, arith}
 use Rattle.result_book.specs.declared.book_row.BookRow.{BookRow}
-use Rattle.result_book.specs.Contents.{HasKey, LackRow, HaveDistinctKeys, unlimited}
-use Rattle.result_book.specs.Calls.{AfterPut}
+use Rattle.result_book.specs.Contents.{HasKey, LackRow}
 use Rattle.result_book.specs.Places.{IsAt}
 use Rattle.result_book.proofs.PlaceLemmas.{at_within, at_key, put_in_place, set_distinct, put_at_end, distinct_at_end}
 use Rattle.result_book.proofs.rows.put_row.Goals as goal
