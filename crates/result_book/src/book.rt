@@ -23,7 +23,7 @@ pub trait Book {
     /// What is remembered by the book that is opened after a crash.
     ghost leaves: { Self → Contents → Type 0 };
 
-    /// What else it keeps rests, from the first moment to the second.
+    /// All else that it keeps is the same at two moments, and so is what a crash may leave of that.
     ghost rests: { Self → Self → Type 0 };
 
     /// The faults that refuse its calls.

@@ -8,7 +8,7 @@ ghost use Rattle.result_book.specs.Calls.{AfterFind, AfterForget, AfterPut, IsSa
 ghost use Rattle.result_book.specs.Contents.{Contents, Finds, HaveDistinctKeys, Holds, Lacks, count_of};
 ghost use Rattle.result_book.specs.declared.list_book.ListBook.{ListBook};
 
-use crate::{Book, ListBook as InMemory};
+use crate::{Book, ListBook};
 
 /// For the same words and seen files one thing is found.
 pub fn one_thing_is_found()
@@ -51,6 +51,6 @@ pub fn a_put_adds_one_or_replaces()
 
 /// A book in memory has no limit (`unlimited`), and a crash leaves nothing of it (`lost`).
 pub fn a_book_in_memory_keeps_all_until_a_crash()
-    ensures unlimited { (book : ListBook) → (⟦<InMemory as Book>⟧.contents book).limit ≡ None }
-    ensures lost { (book : ListBook) (left : Contents) → ¬ ⟦<InMemory as Book>⟧.leaves book left }
+    ensures unlimited { (book : ListBook) → (⟦<ListBook as Book>⟧.contents book).limit ≡ None }
+    ensures lost { (book : ListBook) (left : Contents) → ¬ ⟦<ListBook as Book>⟧.leaves book left }
 {}
