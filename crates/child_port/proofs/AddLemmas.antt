@@ -5,8 +5,8 @@ use Rattle.std.proofs.lemmas.List.Folds.{list_any_more}
 use Rattle.std.specs.List.{list_any}
 use Rattle.std.specs.Str.{bytes_eq}
 use Rattle.std.specs.Cmp.Lexicographic.{bytes_decides}
-use Rattle.child_port.specs.Seen.{is_seen, plain_word}
-use Rattle.child_port.specs.SeenLemmas.{files_at, entry_of-files_at, IsRising-files_at}
+use Rattle.child_port.specs.Seen.{is_seen_path, plain_word}
+use Rattle.child_port.specs.SeenLemmas.{files_where, entry_of-files_where, IsRising-files_where}
 use Rattle.hook_base.specs.declared.file.File.{File}
 use Rattle.hook_base.specs.declared.file.FileEntry.{FileEntry}
 use Rattle.hook_base.specs.Rising.{IsBelow}
@@ -59,21 +59,21 @@ kept_from_held : (kept : Bool) (there : Option FileEntry) → is_some (if kept t
 kept_from_held true there held = refl
 kept_from_held false there held = held
 
-same_files : (keeps others : List ℕ → Bool) (tree : List File) → IsRising tree → ((path : List ℕ) → (if keeps path then entry_of path tree else None) ≡ (if others path then entry_of path tree else None)) → files_at keeps tree ≡ files_at others tree
+same_files : (keeps others : List ℕ → Bool) (tree : List File) → IsRising tree → ((path : List ℕ) → (if keeps path then entry_of path tree else None) ≡ (if others path then entry_of path tree else None)) → files_where keeps tree ≡ files_where others tree
 same_files keeps others tree rising look =
-    same_rows (files_at keeps tree) (files_at others tree) (IsRising-files_at keeps tree rising) (IsRising-files_at others tree rising)
-    (λ path. entry_of-files_at keeps path tree ∙ (look path ∙ sym (entry_of-files_at others path tree)))
+    same_rows (files_where keeps tree) (files_where others tree) (IsRising-files_where keeps tree rising) (IsRising-files_where others tree rising)
+    (λ path. entry_of-files_where keeps path tree ∙ (look path ∙ sym (entry_of-files_where others path tree)))
 
 -- a path at which the tree has no file adds none
-pub added_none : (keeps : List ℕ → Bool) (path : List ℕ) (tree : List File) → IsRising tree → entry_of path tree ≡ None → files_at keeps tree ≡ files_at (λ other. keeps other || bytes_eq path other) tree
+pub added_none : (keeps : List ℕ → Bool) (path : List ℕ) (tree : List File) → IsRising tree → entry_of path tree ≡ None → files_where keeps tree ≡ files_where (λ other. keeps other || bytes_eq path other) tree
 added_none keeps path tree rising absent =
     same_files keeps (or_at keeps path) tree rising
     (λ other. none_added (keeps other) (bytes_eq path other) (entry_of other tree) (λ e. subst (λ (p : List ℕ). entry_of p tree ≡ None) ((bytes_decides path other).0 e) absent))
 
 -- a path whose file is there already adds none
-pub added_again : (keeps : List ℕ → Bool) (path : List ℕ) (tree : List File) → IsRising tree → is_some (entry_of path (files_at keeps tree)) ≡ true → files_at keeps tree ≡ files_at (λ other. keeps other || bytes_eq path other) tree
+pub added_again : (keeps : List ℕ → Bool) (path : List ℕ) (tree : List File) → IsRising tree → is_some (entry_of path (files_where keeps tree)) ≡ true → files_where keeps tree ≡ files_where (λ other. keeps other || bytes_eq path other) tree
 added_again keeps path tree rising held =
-    let kept : keeps path ≡ true = kept_from_held (keeps path) (entry_of path tree) (ap is_some (sym (entry_of-files_at keeps path tree)) ∙ held) in
+    let kept : keeps path ≡ true = kept_from_held (keeps path) (entry_of path tree) (ap is_some (sym (entry_of-files_where keeps path tree)) ∙ held) in
     same_files keeps (or_at keeps path) tree rising
     (λ other. kept_already (keeps other) (bytes_eq path other) (entry_of other tree) (λ e. subst (λ (p : List ℕ). keeps p ≡ true) ((bytes_decides path other).0 e) kept))
 
@@ -88,20 +88,20 @@ added_look keeps path entry tree found other =
     ] refl
 
 -- a path that isn't there yet adds the tree's file
-pub added_file : (keeps : List ℕ → Bool) (path : List ℕ) (entry : FileEntry) (tree : List File) → IsRising tree → entry_of path tree ≡ Some entry → put_file path entry (files_at keeps tree) ≡ files_at (λ other. keeps other || bytes_eq path other) tree
+pub added_file : (keeps : List ℕ → Bool) (path : List ℕ) (entry : FileEntry) (tree : List File) → IsRising tree → entry_of path tree ≡ Some entry → put_file path entry (files_where keeps tree) ≡ files_where (λ other. keeps other || bytes_eq path other) tree
 added_file keeps path entry tree rising found =
-    same_rows (put_file path entry (files_at keeps tree)) (files_at (or_at keeps path) tree)
-    (IsRising-put_row (record { path = path; entry = entry }) (files_at keeps tree) (IsRising-files_at keeps tree rising))
-    (IsRising-files_at (or_at keeps path) tree rising)
-    (λ other. entry_of-put_row other (record { path = path; entry = entry }) (files_at keeps tree) ∙ (ap (λ (rest : Option FileEntry). if bytes_eq other path then Some entry else rest) (entry_of-files_at keeps other tree) ∙ (added_look keeps path entry tree found other ∙ sym (entry_of-files_at (or_at keeps path) other tree))))
+    same_rows (put_file path entry (files_where keeps tree)) (files_where (or_at keeps path) tree)
+    (IsRising-put_row (record { path = path; entry = entry }) (files_where keeps tree) (IsRising-files_where keeps tree rising))
+    (IsRising-files_where (or_at keeps path) tree rising)
+    (λ other. entry_of-put_row other (record { path = path; entry = entry }) (files_where keeps tree) ∙ (ap (λ (rest : Option FileEntry). if bytes_eq other path then Some entry else rest) (entry_of-files_where keeps other tree) ∙ (added_look keeps path entry tree found other ∙ sym (entry_of-files_where (or_at keeps path) other tree))))
 
 -- word by word
 
-pub no_files : (tree : List File) → files_at (is_seen [] []) tree ≡ []
+pub no_files : (tree : List File) → files_where (is_seen_path [] []) tree ≡ []
 no_files [] = refl
 no_files (row ∷ rows) = no_files rows
 
-pub more_files : (words : List (List ℕ)) (i : ℕ) (d path : List ℕ) (tree : List File) → i < length words → path ≡ plain_word (get_or words i d) → files_at (λ other. is_seen (take i words) [] other || bytes_eq path other) tree ≡ files_at (is_seen (take (i + 1) words) []) tree
+pub more_files : (words : List (List ℕ)) (i : ℕ) (d path : List ℕ) (tree : List File) → i < length words → path ≡ plain_word (get_or words i d) → files_where (λ other. is_seen_path (take i words) [] other || bytes_eq path other) tree ≡ files_where (is_seen_path (take (i + 1) words) []) tree
 more_files words i d path tree within plain =
-    filter_agree (λ row. is_seen (take i words) [] row.path || bytes_eq path row.path) (λ row. is_seen (take (i + 1) words) [] row.path)
+    filter_agree (λ row. is_seen_path (take i words) [] row.path || bytes_eq path row.path) (λ row. is_seen_path (take (i + 1) words) [] row.path)
     (λ row. ap (λ (p : List ℕ). list_any (λ word. bytes_eq (plain_word word) row.path) (take i words) || bytes_eq p row.path) plain ∙ sym (list_any_more (λ word. bytes_eq (plain_word word) row.path) words i d within)) tree

@@ -9,10 +9,11 @@ use hook_base::{OutOfMemory, Text, Tree};
 #[derive(Debug, Drop)]
 pub struct FuseChildren<C: Children> {
     inner: C,
-    // The number of the call that fails, and how many outcomes were told when the first of these calls came.
+    // Which of its own calls fails, and with what.
     kth: u64,
-    begun: u64,
     fault: Fault,
+    // How many outcomes the inner ones had told at first, how many are told now, and how many of these are faults.
+    begun: u64,
     told: u64,
     failed: u64,
     ghost later: { begun ≤ told },
@@ -36,8 +37,8 @@ impl<C: Children> FuseChildren<C> {
         FuseChildren {
             inner,
             kth: k,
-            begun: told,
             fault,
+            begun: told,
             told,
             failed,
         }

@@ -3,9 +3,9 @@
 ghost use Rattle.std.specs.Prelude.{◌≡◌, ◌||◌, [], List, ℕ, Bool, IfOk, OnOk};
 ghost use Rattle.std.specs.Str.{bytes_eq};
 ghost use Rattle.child_port.specs.Seen.{is_stray, seen_of};
-ghost use Rattle.child_port.specs.SeenLemmas.{files_at};
+ghost use Rattle.child_port.specs.SeenLemmas.{files_where};
 
-use crate::row_of::row_of;
+use crate::file_at::file_at;
 use crate::{Answer, plain_word};
 use hook_base::{OutOfMemory, Text, Tree};
 use std::alloc::{AllocError, Global};
@@ -13,12 +13,7 @@ use std::alloc::{AllocError, Global};
 /// The files of the tree that a child of this command has seen: those whose path is one of the words, one leading `./`
 /// of the word apart, or all of them where it sees the `whole`. They are copies in memory of their own; `OutOfMemory`
 /// where that is refused.
-pub fn seen_of(
-    alloc: Global,
-    words: &[Text],
-    whole: bool,
-    tree: &Tree,
-) -> Result<Tree, OutOfMemory>
+pub fn seen_of(alloc: Global, words: &[Text], whole: bool, tree: &Tree) -> Result<Tree, OutOfMemory>
     ensures { IfOk result (λ seen. seen ≡ seen_of words.now [] whole tree.now) }
 {
     if whole {
@@ -33,9 +28,9 @@ pub fn seen_of(
 
 // Adds the tree's file at a path to some of its files, where there is one and they lack it.
 fn add_file(seen: &mut Tree, tree: &Tree, path: &str) -> Result<(), OutOfMemory>
-    ensures { OnOk result ((keeps : List ℕ → Bool) → seen.old ≡ files_at keeps tree.now → seen.new ≡ files_at (λ other. keeps other || bytes_eq path.now other) tree.now) }
+    ensures { OnOk result ((keeps : List ℕ → Bool) → seen.old ≡ files_where keeps tree.now → seen.new ≡ files_where (λ other. keeps other || bytes_eq path.now other) tree.now) }
 {
-    let Some(row) = row_of(tree, path) else {
+    let Some(row) = file_at(tree, path) else {
         return Ok(());
     };
     if seen.get(&row.path).is_some() {

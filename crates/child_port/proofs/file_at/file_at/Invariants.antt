@@ -1,7 +1,6 @@
 use Rattle.std.proofs.Common.{◌-◌, ◌≤◌, length}
-use Rattle.hook_base.specs.Trees.{IsRising}
 use Rattle.child_port.proofs.SearchLemmas.{EarlierBelow, LaterAbove}
-use Rattle.child_port.proofs.row_of.row_of.Given as goal
+use Rattle.child_port.proofs.file_at.file_at.Given as goal
 
 abbrev pub invariant-halves : goal.invariant-halves
 invariant-halves l =

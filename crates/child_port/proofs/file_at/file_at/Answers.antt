@@ -1,10 +1,10 @@
-use Rattle.std.proofs.Common.{◌≡◌, ◌+◌, ◌-◌, ◌/◌, ◌<◌, length, None, slice_get, arith, sym, subst, ap, ◌∙◌, ℕ, List}
+use Rattle.std.proofs.Common.{◌≡◌, ◌+◌, ◌-◌, ◌/◌, arith, sym, subst, ap, ◌∙◌, ℕ, List}
 use Rattle.std.proofs.lemmas.Option.{slice_get_past}
 use Rattle.std.specs.declared.cmp.Ordering.TheVariants.{Less, Equal, Greater}
-use Rattle.hook_base.specs.Rising.{IsBelow, path_cmp}
+use Rattle.hook_base.specs.Rising.{path_cmp}
 use Rattle.hook_base.specs.RisingLemmas.{below_from_greater, path_tied}
-use Rattle.child_port.proofs.SearchLemmas.{EarlierBelow, LaterAbove, none_earlier, none_later, more_earlier, more_later, found, missing}
-use Rattle.child_port.proofs.row_of.row_of.Goals as goal
+use Rattle.child_port.proofs.SearchLemmas.{LaterAbove, none_earlier, none_later, more_earlier, more_later, found, missing}
+use Rattle.child_port.proofs.file_at.file_at.Goals as goal
 
 pub halves-init : goal.halves-init
 halves-init c =

@@ -7,7 +7,7 @@ use hook_base::{File, Tree};
 use std::cmp::Ordering;
 
 /// The file that stands at a path, or `None` where none does. It is found by halves, since the paths rise.
-pub(crate) fn row_of<'a>(tree: &'a Tree, path: &str) -> Option<&'a File>
+pub(crate) fn file_at<'a>(tree: &'a Tree, path: &str) -> Option<&'a File>
     ensures row { MatchOption result (entry_of path.now tree.now ≡ None) (λ row. (path.now ≡ row.now.path) × (entry_of path.now tree.now ≡ Some row.now.entry)) }
     ensures rising { IsRising tree.now }
 {
