@@ -1,0 +1,15 @@
+-- Why a call of a book is refused: the numbers of the reasons, and which one a fault of the store is.
+use Rattle.std.specs.Prelude.{ℕ}
+use Rattle.repo_store.specs.declared.fault.StoreFault.{StoreFault}
+use Rattle.repo_store.specs.declared.fault.StoreFault.TheVariants as store
+use Rattle.result_book.specs.declared.book_fault.BookFault.{BookFault}
+use Rattle.result_book.specs.declared.book_fault.BookFault.TheVariants.{OutOfMemory, Store}
+
+abbrev pub number_of : BookFault → ℕ
+number_of OutOfMemory = 1
+number_of (Store fault) = 2
+
+-- want of memory is told from every other fault of the store
+abbrev pub of_store : StoreFault → BookFault
+of_store store.OutOfMemory = OutOfMemory
+of_store fault = Store fault

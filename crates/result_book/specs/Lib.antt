@@ -1,0 +1,6 @@
+pub mod CallLemmas
+pub mod Calls
+pub mod Contents
+pub mod Faults
+pub mod KeyLemmas
+pub mod Places

@@ -1,0 +1,76 @@
+//! Why a call of a book is refused.
+
+ghost use Rattle.std.specs.Prelude.{◌≡◌};
+ghost use Rattle.result_book.specs.Faults.{number_of};
+
+use hook_base::OutOfMemory as Refused;
+use repo_store::StoreFault;
+use std::alloc::{AllocError, AllocFailed};
+use thiserror::Error;
+
+/// Why a call of a book is refused. What the book remembers is as before the call.
+#[derive(Clone, Copy, Debug, PartialEq, Eq, Error)]
+pub enum BookFault {
+    /// Memory was refused.
+    #[error("out of memory")]
+    OutOfMemory,
+    /// The store that keeps the answers refuses, for another reason than want of memory.
+    #[error("the store refuses: {0}")]
+    Store(StoreFault),
+}
+
+impl BookFault {
+    /// The refusal's number: 1 or 2.
+    pub fn number(&self) -> u8
+        ensures { result ≡ number_of self.now }
+    {
+        match self {
+            BookFault::OutOfMemory => 1,
+            BookFault::Store(_) => 2,
+        }
+    }
+}
+
+impl From<StoreFault> for BookFault {
+    ghost use Rattle.result_book.specs.Faults.{of_store};
+
+    ghost from_gives = { λ fault refusal. refusal ≡ of_store fault };
+
+    /// Want of memory is `OutOfMemory`, and every other fault `Store`.
+    fn from(fault: StoreFault) -> Self {
+        match fault {
+            StoreFault::OutOfMemory => BookFault::OutOfMemory,
+            other => BookFault::Store(other),
+        }
+    }
+}
+
+impl From<Refused> for BookFault {
+    ghost use Rattle.result_book.specs.declared.book_fault.BookFault.TheVariants.{OutOfMemory};
+
+    ghost from_gives = { λ _ fault. fault ≡ OutOfMemory };
+
+    fn from(_refused: Refused) -> Self {
+        BookFault::OutOfMemory
+    }
+}
+
+impl From<AllocError> for BookFault {
+    ghost use Rattle.result_book.specs.declared.book_fault.BookFault.TheVariants.{OutOfMemory};
+
+    ghost from_gives = { λ _ fault. fault ≡ OutOfMemory };
+
+    fn from(_refused: AllocError) -> Self {
+        BookFault::OutOfMemory
+    }
+}
+
+impl<T: Drop> From<AllocFailed<T>> for BookFault {
+    ghost use Rattle.result_book.specs.declared.book_fault.BookFault.TheVariants.{OutOfMemory};
+
+    ghost from_gives = { λ _ fault. fault ≡ OutOfMemory };
+
+    fn from(_refused: AllocFailed<T>) -> Self {
+        BookFault::OutOfMemory
+    }
+}

@@ -1,0 +1,21 @@
+//! The remembered answers of children: a finite map from the words of a child's command and the files that it has seen to
+//! what it answered.
+//!
+//! `Book` is the trait of whoever remembers, `ListBook` remembers in memory, and `BookFault` says why a call is refused.
+//! The contracts cite `specs/Contents.antt`, `specs/Calls.antt` and `specs/Faults.antt`;
+//! `specs/Places.antt` serves private functions alone. [`laws`] says what a finite map is known by.
+#![tactic(auto)]
+
+mod book;
+mod book_fault;
+mod book_row;
+pub mod laws;
+mod list_book;
+mod rows;
+#[cfg(test)]
+mod tests;
+
+pub use book::Book;
+pub use book_fault::BookFault;
+pub use book_row::BookRow;
+pub use list_book::ListBook;

@@ -1,0 +1,58 @@
+//! Rows with distinct keys: a look-up by words and seen files, and a row put in its place.
+
+ghost use Rattle.std.specs.Prelude.{◌≡◌, IfOk, OnOk, OnErr};
+ghost use Rattle.result_book.specs.Calls.{AfterPut};
+ghost use Rattle.result_book.specs.Contents.{HaveDistinctKeys, unlimited};
+ghost use Rattle.result_book.specs.Places.{IsPlace};
+
+use crate::BookRow;
+use child_port::Answer;
+use hook_base::{OutOfMemory, Text, Tree, copy_texts};
+use std::alloc::Global;
+
+/// The index of the first row of the words and the seen files, or `None` where there is none.
+pub(crate) fn place_of(rows: &[BookRow], words: &[Text], seen: &Tree) -> Option<usize>
+    ensures { IsPlace words.now seen.now rows.now result }
+{
+    'rows: for (index, row) in rows.iter().enumerate() {
+        if row.is_for(words, seen) {
+            return Some(index);
+        }
+    }
+    None
+}
+
+/// A row of its own memory.
+fn copy_row(
+    alloc: Global,
+    words: &[Text],
+    seen: &Tree,
+    answer: &Answer,
+) -> Result<BookRow, OutOfMemory>
+    ensures { IfOk result (λ row. row ≡ record { words = words.now; seen = seen.now; answer = answer.now }) }
+{
+    Ok(BookRow {
+        words: copy_texts(alloc, words)?,
+        seen: seen.copy()?,
+        answer: answer.clone()?,
+    })
+}
+
+/// Puts an answer in place of the one for the words and the seen files, or adds it. A refusal leaves the rows as they were.
+pub(crate) fn put_row(
+    rows: &mut Vec<BookRow>,
+    words: &[Text],
+    seen: &Tree,
+    answer: &Answer,
+) -> Result<(), OutOfMemory>
+    requires { HaveDistinctKeys rows.old.items }
+    ensures put { OnOk result (AfterPut words.now seen.now answer.now (unlimited rows.old.items) (unlimited rows.new.items)) }
+    ensures kept { OnErr result (rows.new.items ≡ rows.old.items) }
+    ensures distinct { HaveDistinctKeys rows.new.items }
+{
+    match place_of(rows.as_slice(), words, seen) {
+        Some(index) => rows[index].answer = answer.clone()?,
+        None => rows.push(copy_row(*rows.allocator(), words, seen, answer)?)?,
+    }
+    Ok(())
+}
