@@ -105,8 +105,9 @@ impl<S: Alter> Store<S> {
     /// Opens the store that a database holds, and changes nothing. After a crash it is the repository that the crash
     /// left, and never `NotAStore` or `Damaged`. Refused are a database that hasn't exactly the tables of a store, or
     /// whose `meta` holds anything but the one row of version 1 (`NotAStore`), and tables whose rows break a rule of a
-    /// store (`Damaged`). A refusal gives the connection back, with the tables as before where it is still open. The
-    /// connection must be outside a transaction.
+    /// store (`Damaged`). `Sql` is also a store with a row that has the greatest rowid, as SQL's `NoRowid`, since none
+    /// could be put in after it; only another program writes one. A refusal gives the connection back, with the tables
+    /// as before where it is still open. The connection must be outside a transaction.
     pub fn open(alloc: Global, conn: Connection<S>) -> Result<Store<S>, (StoreFault, Connection<S>)>
         requires { conn.in_transaction ≡ false }
         ensures stands { IfOk result (λ store. Stands S.Store store.conn store.kept) }
