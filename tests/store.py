@@ -20,7 +20,7 @@ import time
 from concurrent.futures import ThreadPoolExecutor
 
 from store_cases import (ANSWER_ROWS, ANSWER_ROWS_LEFT, BAD_LINES, COMMITTED_ROWS, DAMAGED, FACTS, FAULTS, FILLING, FIXES_AFTER, HOST_STORY, KEPT_ROWS, META_ROWS,
-                         NOT_A_STORE, ONE, ONE_STAGED, OTHER_PATHS, OTHER_TABLES, PLANTS, REFUSED_ROWS, REPLACED_META_ROWS, SCHEMA, SHOWN, SQL, STORY, TAKEN_ROWS,
+                         NOT_A_STORE, ONE, ONE_STAGED, OTHER_PATHS, OTHER_SCHEMAS, OTHER_TABLES, PLANTS, REFUSED_ROWS, REPLACED_META_ROWS, SCHEMA, SHOWN, SQL, STORY, TAKEN_ROWS,
                          TOO_LARGE, TOO_MANY, UNSTAGED_STORY)
 
 HERE = os.path.dirname(os.path.abspath(__file__))
@@ -466,6 +466,13 @@ def refuses_files_with_other_tables(folder):
         before = ask(path, ALL_OF_IT)
         for word, refusal in (("open", NOT_A_STORE), ("create", SQL)):
             check(answers(path, [word])[0].startswith(refusal), f"{name}: {word} is answered {answers(path, [word])!r}")
+        check(ask(path, ALL_OF_IT) == before, f"{name}: the refusal changed the file")
+    for at, (name, text) in enumerate(OTHER_SCHEMAS):
+        path = os.path.join(folder, f"schema{at}.db")
+        shutil.copyfile(whole, path)
+        ask(path, "PRAGMA foreign_keys = OFF; " + text)
+        before = ask(path, ALL_OF_IT)
+        check(answers(path, ["open"])[0].startswith(SQL), f"{name}: answered {answers(path, ['open'])!r}")
         check(ask(path, ALL_OF_IT) == before, f"{name}: the refusal changed the file")
 
 

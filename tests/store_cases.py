@@ -180,6 +180,7 @@ FILLING = ["create", "stage plain a.txt 1", "stage plain b.txt 2", "commit m\\n"
 # The digests of the contents 1 and 2.
 ONE, TWO = (hashlib.sha256(text).hexdigest() for text in (b"1", b"2"))
 NOT_A_STORE, DAMAGED, SQL = "refused\t1\tNotAStore\t", "refused\t2\tDamaged\t", "refused\t3\tSql\t"
+NO_ROWID = SQL + "no rowid is left"
 TOO_LARGE, TOO_MANY = "refused\t6\tTooLarge\tcontents or a message of more than 16 MiB", "refused\t7\tTooMany\t"
 # What is done to the file of FILLING, how it is refused then, and what takes it back.
 PLANTS = [
@@ -219,6 +220,10 @@ PLANTS = [
     ("contents of more than 16 MiB", f"INSERT INTO blobs VALUES (x'{hashlib.sha256(bytes(16777217)).hexdigest()}', zeroblob(16777217))", DAMAGED,
      "DELETE FROM blobs WHERE length(bytes) > 16777216"),
     ("a message of more than 16 MiB", "UPDATE commits SET message = zeroblob(16777217) WHERE n = 2", DAMAGED, "UPDATE commits SET message = x'6e0a' WHERE n = 2"),
+    # A row more is put in after all others, so behind the greatest rowid there is room for none. Behind the one below it there is.
+    *((f"the greatest rowid in {table}", f"UPDATE {table} SET rowid = {2 ** 63 - 1} WHERE {where}", NO_ROWID, f"UPDATE {table} SET rowid = {2 ** 63 - 2} WHERE {where}")
+      for table, where in [("meta", "name = 'version'"), ("blobs", f"digest = x'{ONE}'"), ("staged", "path = 'a.txt'"), ("fixes", "path = 'a.txt'"),
+                           ("entries", "n = 1 AND path = 'a.txt'")]),
     # Here the tables' own rules are broken, which the kit's database refuses when it opens a file.
     ("an entry without its commit", f"INSERT INTO entries VALUES (3, 'a.txt', 0, x'{ONE}')", SQL, "DELETE FROM entries WHERE n = 3"),
     ("a staged digest that isn't there", "INSERT INTO staged VALUES ('c.txt', 0, x'00')", SQL, "DELETE FROM staged WHERE path = 'c.txt'"),
@@ -246,4 +251,12 @@ OTHER_TABLES = [
     ("a view more", "CREATE VIEW paths AS SELECT path FROM staged"),
     ("a table less", "DROP TABLE answers"),
     ("another table of that name", "DROP TABLE answers; CREATE TABLE answers (words BLOB NOT NULL) STRICT"),
+]
+# What the kit's database itself doesn't open, so that nothing can be said of its tables.
+OTHER_SCHEMAS = [
+    ("a trigger", "CREATE TRIGGER forget AFTER INSERT ON staged BEGIN DELETE FROM fixes; END"),
+    ("an index on an expression", "CREATE INDEX lengths ON staged (length(path))"),
+    ("an index of some rows", "CREATE INDEX plain ON staged (path) WHERE mode = 0"),
+    ("a view with a window", "CREATE VIEW numbered AS SELECT row_number() OVER () FROM staged"),
+    ("pages that move by themselves", "PRAGMA auto_vacuum = FULL; VACUUM"),
 ]

@@ -7,7 +7,7 @@ use Rattle.std.proofs.lemmas.List.{get_or_default, length-map, take-append-drop}
 use Rattle.std.proofs.Math.Seq.{take-append_seam, drop-append_seam}
 use lib.ListN.{get_or-map}
 use Rattle.hook_base.specs.declared.file.File.{File}
-use Rattle.repo_store.specs.declared.shared.SharedFile.{SharedFile}
+use Rattle.repo_store.specs.declared.shared.FileParts.{FileParts}
 use Rattle.repo_store.specs.Clashes.{Clashes, IsFolderOf, slash}
 use Rattle.repo_store.specs.Lists.{file_of}
 
@@ -60,19 +60,19 @@ pub leads_moved : (p path o other : List ℕ) → p ≡ path → o ≡ other →
 leads_moved p path o other p_is o_is leads = subst (λ (l : List ℕ). Leads l other) p_is (subst (Leads p) o_is leads)
 
 -- none of the first files has such a path
-abbrev pub NoneLeads : List ℕ → List SharedFile → ℕ → Type 0
-NoneLeads path files n = (k : ℕ) → k < n → (d : SharedFile) → Leads path (get_or files k d).path → ⊥
+abbrev pub NoneLeads : List ℕ → List FileParts → ℕ → Type 0
+NoneLeads path files n = (k : ℕ) → k < n → (d : FileParts) → Leads path (get_or files k d).path → ⊥
 
-pub none_more : (path : List ℕ) (files : List SharedFile) (i : ℕ) (file : SharedFile) → i < length files → file ≡ get_or files i file → NoneLeads path files i → (Leads path file.path → ⊥) → NoneLeads path files (i + 1)
+pub none_more : (path : List ℕ) (files : List FileParts) (i : ℕ) (file : FileParts) → i < length files → file ≡ get_or files i file → NoneLeads path files i → (Leads path file.path → ⊥) → NoneLeads path files (i + 1)
 none_more path files i file within is before here =
-    below_more (λ (k : ℕ). (d : SharedFile) → Leads path (get_or files k d).path → ⊥) i before
-    (λ d leads. here (subst (λ (f : SharedFile). Leads path f.path) (get_or_default files i d file within ∙ sym is) leads))
+    below_more (λ (k : ℕ). (d : FileParts) → Leads path (get_or files k d).path → ⊥) i before
+    (λ d leads. here (subst (λ (f : FileParts). Leads path f.path) (get_or_default files i d file within ∙ sym is) leads))
 
-pub clash_here : (path : List ℕ) (files : List SharedFile) (i : ℕ) (file : SharedFile) → i < length files → file ≡ get_or files i file → Leads path file.path → Clashes path (map file_of files)
+pub clash_here : (path : List ℕ) (files : List FileParts) (i : ℕ) (file : FileParts) → i < length files → file ≡ get_or files i file → Leads path file.path → Clashes path (map file_of files)
 clash_here path files i file within is leads =
     (i, file_of file, omega (arith, length-map files file_of), get_or-map file_of files i file ∙ ap file_of (sym is), leads)
 
-pub no_clash : (path : List ℕ) (files : List SharedFile) → NoneLeads path files (length files) → Clashes path (map file_of files) → ⊥
+pub no_clash : (path : List ℕ) (files : List FileParts) → NoneLeads path files (length files) → Clashes path (map file_of files) → ⊥
 no_clash path [] none clash = let within = clash.2 in omega arith
 no_clash path (file ∷ files) none clash =
     let all = file ∷ files in

@@ -1,8 +1,12 @@
 -- A database that holds a complete store is refused neither as damaged nor as no store.
-use Rattle.std.proofs.Common.{[], ◌∷◌, inl, inr}
+use Rattle.std.proofs.Common.{◌≡◌, [], ◌∷◌, inl, inr, IsTrue, sym, subst}
 use Rattle.std.proofs.lemmas.List.Sorted.{IsPermutation-refl, IsPermutation-sym, IsPermutation-trans}
-use Rattle.sqlite.specs.Effect.{Database}
+use Rattle.sqlite.specs.Effect.{Database, IsDatabase}
+use Rattle.sqlite.specs.State.{State}
+use Rattle.sqlite_schema.specs.declared.schema.Schema.{Schema}
 use Rattle.sqlite_trees.specs.Tree.{Trees}
+use Rattle.store_tables.proofs.CatalogLemmas.{one_schema}
+use Rattle.store_tables.specs.Schema.{store_schema}
 use Rattle.store_tables.specs.Tables.{Tables, Holds, with_schema}
 use Rattle.repo_store.specs.declared.fault.StoreFault.{StoreFault}
 use Rattle.repo_store.specs.declared.fault.StoreFault.TheVariants.{NotAStore, Damaged, Sql, OutOfMemory, Collision, TooLarge, TooMany}
@@ -35,3 +39,13 @@ left_undamaged trees kept left unfit = held_fit (with_schema trees) kept Damaged
 
 pub left_versioned : (trees : Trees) (kept : Kept) → Leaves kept trees → ¬ IsUnfit (with_schema trees) NotAStore
 left_versioned trees kept left unfit = held_fit (with_schema trees) kept NotAStore left.holds left.obeys unfit
+
+-- A database with the trees of a store has its tables, whatever it takes them for.
+left_holds : (db : Database) (kept : Kept) → Leaves kept db.trees → IsDatabase db → Holds db (tables_of kept.repo kept.contents)
+left_holds db kept left live =
+    subst (λ (s : Schema). Holds (record { schema = s; trees = db.trees }) (tables_of kept.repo kept.contents)) (sym (one_schema db.trees db.schema store_schema live left.holds.sound)) left.holds
+
+-- so what was left of a store is opened, or memory or the database refuses
+pub left_fit : (s : State) (fault : StoreFault) → (IsTrue s.is_open → IsDatabase s.now) → (IsTrue s.is_open → s.now ≡ s.committed) → IsUnfit s.now fault → IsTrue s.is_open → (kept : Kept) → Leaves kept s.committed.trees → IsRefusal ⊥ ⊥ ⊥ fault
+left_fit s fault live settled unfit is_open kept left =
+    let here = subst (λ (db : Database). Leaves kept db.trees) (sym (settled is_open)) left in held_fit s.now kept fault (left_holds s.now kept here (live is_open)) left.obeys unfit

@@ -10,7 +10,7 @@ use Rattle.hook_base.specs.Rising.{IsBelow, IsBelowAll}
 use Rattle.hook_base.specs.RisingLemmas.{above_differs, below_all_later, bytes_same, path_cases}
 use Rattle.hook_base.specs.Trees.{IsRising, IsRisingChanges, path_of, remove_file, rewrite_file, with_bytes, apply_at, apply_change, apply_changes}
 use Rattle.hook_base.specs.TreeLemmas.{remove_file-later, rewrite_file-later}
-use Rattle.repo_store.specs.declared.shared.SharedFile.{SharedFile}
+use Rattle.repo_store.specs.declared.shared.FileParts.{FileParts}
 use Rattle.repo_store.specs.declared.shared.SharedFix.{SharedFix}
 use Rattle.repo_store.specs.Accepted.{HasReached}
 use Rattle.repo_store.specs.Lists.{file_of, fix_of}
@@ -100,12 +100,12 @@ rising_drop zero files rising = rising
 rising_drop (suc n) [] rising = tt
 rising_drop (suc n) (file ∷ files) rising = rising_drop n files rising.1
 
-pub rising_from : (n : ℕ) (files : List SharedFile) → IsRising (map file_of files) → IsRising (map file_of (drop n files))
+pub rising_from : (n : ℕ) (files : List FileParts) → IsRising (map file_of files) → IsRising (map file_of (drop n files))
 rising_from n files rising = subst (λ (l : List File). IsRising l) (drop-map file_of n files) (rising_drop n (map file_of files) rising)
 
-pub walked_all : (made all : List File) (files : List SharedFile) (left : List Change) (i : ℕ) → length files ≤ i → made ++ apply_changes left (map file_of (drop i files)) ≡ all → made ≡ all
+pub walked_all : (made all : List File) (files : List FileParts) (left : List Change) (i : ℕ) → length files ≤ i → made ++ apply_changes left (map file_of (drop i files)) ≡ all → made ≡ all
 walked_all made all files left i over so_far =
-    sym (append-nil made) ∙ ap (λ (l : List File). made ++ l) (sym (none_kept left)) ∙ ap (λ (l : List SharedFile). made ++ apply_changes left (map file_of l)) (sym (drop_of_length-le files over)) ∙ so_far
+    sym (append-nil made) ∙ ap (λ (l : List File). made ++ l) (sym (none_kept left)) ∙ ap (λ (l : List FileParts). made ++ apply_changes left (map file_of l)) (sym (drop_of_length-le files over)) ∙ so_far
 
 -- ---- passing over fixes of earlier paths
 
@@ -142,8 +142,8 @@ pub empty_here : (left : List SharedFix) (file : File) → length left < 1 → a
 empty_here [] file few = refl
 empty_here (fix ∷ left) file few = absurd (omega arith)
 
-pub pushed : (made new : List SharedFile) (value : SharedFile) (out : List File) → new ≡ made ++ value ∷ [] → out ≡ file_of value ∷ [] → map file_of new ≡ map file_of made ++ out
+pub pushed : (made new : List FileParts) (value : FileParts) (out : List File) → new ≡ made ++ value ∷ [] → out ≡ file_of value ∷ [] → map file_of new ≡ map file_of made ++ out
 pushed made new value out new_is out_is = ap (map file_of) new_is ∙ map-append file_of made (value ∷ []) ∙ ap (λ (l : List File). map file_of made ++ l) (sym out_is)
 
-pub not_pushed : (made : List SharedFile) (out : List File) → out ≡ [] → map file_of made ≡ map file_of made ++ out
+pub not_pushed : (made : List FileParts) (out : List File) → out ≡ [] → map file_of made ≡ map file_of made ++ out
 not_pushed made out out_is = sym (append-nil (map file_of made)) ∙ ap (λ (l : List File). map file_of made ++ l) (sym out_is)

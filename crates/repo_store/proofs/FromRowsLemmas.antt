@@ -24,7 +24,7 @@ use Rattle.store_tables.specs.declared.rows.FixRow.{FixRow}
 use Rattle.store_tables.specs.declared.rows.StagedRow.{StagedRow}
 use Rattle.repo_store.specs.declared.fault.StoreFault.{StoreFault}
 use Rattle.repo_store.specs.declared.fault.StoreFault.TheVariants.{NotAStore, Damaged, Sql, OutOfMemory, Collision, TooLarge, TooMany}
-use Rattle.repo_store.specs.declared.shared.SharedFile.{SharedFile}
+use Rattle.repo_store.specs.declared.shared.FileParts.{FileParts}
 use Rattle.repo_store.specs.declared.shared.SharedFix.{SharedFix}
 use Rattle.repo_store.specs.declared.table_rows.StoreRows.{StoreRows}
 use Rattle.repo_store.specs.Kept.{Kept}
@@ -113,7 +113,7 @@ staged_as_entry path (file ∷ files) =
 abbrev Rises : Commit → Type 0
 Rises commit = IsRising commit.tree
 
-pub set_file : (hs : List SharedCommit) (k : ℕ) (c : SharedCommit) (f : File) (files : Vec SharedFile Global) → k < length hs → c ≡ get_or hs k c → map file_of files.items ≡ map file_of c.files.items ++ f ∷ []
+pub set_file : (hs : List SharedCommit) (k : ℕ) (c : SharedCommit) (f : File) (files : Vec FileParts Global) → k < length hs → c ≡ get_or hs k c → map file_of files.items ≡ map file_of c.files.items ++ f ∷ []
     → map commit_of (set hs k (record { message = c.message; files = files })) ≡ with_file k f (map commit_of hs)
 set_file [] k c f files within is added = absurd (omega arith)
 set_file (h ∷ hs) zero c f files within is added =
@@ -277,7 +277,7 @@ perm_same xs ys same = subst (IsPermutation xs) same (IsPermutation-refl xs)
 
 -- ---- all of them
 
-pub lists_same : (rows : StoreRows) (contents : List (List ℕ)) (history : List SharedCommit) (staged : List SharedFile) (fixes : List SharedFix) (kept : Kept) → map blob_row contents ≡ rows.blobs.items → map staged_row (map file_of staged) ≡ rows.staged.items
+pub lists_same : (rows : StoreRows) (contents : List (List ℕ)) (history : List SharedCommit) (staged : List FileParts) (fixes : List SharedFix) (kept : Kept) → map blob_row contents ≡ rows.blobs.items → map staged_row (map file_of staged) ≡ rows.staged.items
     → map fix_row (map fix_of fixes) ≡ rows.fixes.items → commit_rows 1 (map commit_of history) ≡ rows.commits.items → IsPermutation (entry_rows 1 (map commit_of history)) rows.entries.items → rows.answers.items ≡ []
     → kept ≡ record { repo = repository_of history staged fixes; contents = contents } → IsSame (rows_in rows) (tables_of kept.repo kept.contents)
 lists_same rows contents history staged fixes kept blobs files changes commits entries answers is =
@@ -302,7 +302,7 @@ lists_obey rows blobs staged blobs_are staged_are contents files fixes commits e
   answers = answers;
 }
 
-pub lists_sound : (history : List SharedCommit) (staged : List SharedFile) (fixes : List SharedFix) (blobs : List BlobRow) (rows : List FixRow) (commits : List CommitRow) → IsRising (map file_of staged) → Fits (map file_of staged)
+pub lists_sound : (history : List SharedCommit) (staged : List FileParts) (fixes : List SharedFix) (blobs : List BlobRow) (rows : List FixRow) (commits : List CommitRow) → IsRising (map file_of staged) → Fits (map file_of staged)
     → IsRisingChanges (map fix_of fixes) → map fix_row (map fix_of fixes) ≡ rows → AllByRecursion (IsFixRow blobs (map staged_row (map file_of staged))) rows → AllByRecursion Rises (map commit_of history) → commit_rows 1 (map commit_of history) ≡ commits → AreCommitRows commits
     → IsSound (repository_of history staged fixes)
 lists_sound history staged fixes blobs rows commits rising fits up same all trees numbers obeys = record {

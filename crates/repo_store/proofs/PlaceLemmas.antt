@@ -23,31 +23,31 @@ use Rattle.hook_base.specs.Places.{IsAt, IsGap}
 use Rattle.hook_base.specs.Trees.{IsRising, path_of, put_row, remove_file, entry_of, rewrite_file, with_bytes, apply_at, apply_changes}
 use Rattle.hook_base.specs.TreeLemmas.{put_row-at, put_row-gap, gap_within, at_within, entry_of-at, entry_of-gap, remove_file-at}
 use Rattle.hook_base.proofs.PlaceLemmas.{found}
-use Rattle.repo_store.specs.declared.shared.SharedFile.{SharedFile}
+use Rattle.repo_store.specs.declared.shared.FileParts.{FileParts}
 use Rattle.repo_store.specs.Limits.{Fits, path_bytes, most_files, most_tree_path_bytes}
 use Rattle.repo_store.specs.Lists.{entry_in, file_of}
 
-abbrev path_in : SharedFile → List ℕ
+abbrev path_in : FileParts → List ℕ
 path_in file = file.path
 
-below_held : (path : List ℕ) (files : List SharedFile) → IsBelowAll path_of path (map file_of files) → IsBelowAll path_in path files
+below_held : (path : List ℕ) (files : List FileParts) → IsBelowAll path_of path (map file_of files) → IsBelowAll path_in path files
 below_held path [] all = tt
 below_held path (file ∷ files) all = (all.0, below_held path files all.1)
 
-held_rise : (files : List SharedFile) → IsRising (map file_of files) → IsRisingBy path_in files
+held_rise : (files : List FileParts) → IsRising (map file_of files) → IsRisingBy path_in files
 held_rise [] rising = tt
 held_rise (file ∷ files) rising = (below_held file.path files rising.0, held_rise files rising.1)
 
 module _ (path : List ℕ) where
-  abbrev pub side : SharedFile → Ordering
+  abbrev pub side : FileParts → Ordering
   side file = path_cmp file.path path
 
-  sides_rise : (files : List SharedFile) → IsRising (map file_of files) → IsNonDecreasingBy (λ y. ordering_index (side y)) files
+  sides_rise : (files : List FileParts) → IsRising (map file_of files) → IsNonDecreasingBy (λ y. ordering_index (side y)) files
   sides_rise files rising =
       searchable_from_sorted nat_list_cmp_total path_in files path
       (λ k d low high. ap is_lt (greater_from_below (get_or files k d).path (get_or files (k + 1) d).path (rising_pair path_in files k (k + 1) d d (omega arith) high (held_rise files rising))))
 
-  at_equal : (files : List SharedFile) (k : ℕ) → k < length files → IsRising (map file_of files) → HoldsAt (λ y. side y ≡ Equal) files k → IsAt path (map file_of files) k
+  at_equal : (files : List FileParts) (k : ℕ) → k < length files → IsRising (map file_of files) → HoldsAt (λ y. side y ≡ Equal) files k → IsAt path (map file_of files) k
   at_equal [] k within rising equal = absurd (omega arith)
   at_equal (file ∷ files) k within rising equal =
       let all = file ∷ files in
@@ -55,7 +55,7 @@ module _ (path : List ℕ) where
       let same : path ≡ (get_or all k file).path = sym (path_tied (get_or all k file).path path (equal file)) in
       found path (map file_of all) k (file_of file) inside rising (same ∙ ap (λ (r : File). r.path) (sym (get_or-map file_of all k file)))
 
-  gap_between : (files : List SharedFile) (k : ℕ) → k ≤ length files → ((j : ℕ) (d : SharedFile) → 0 ≤ j → j < k → side (get_or files j d) ≡ Less) → ((j : ℕ) (d : SharedFile) → k ≤ j → j < length files → side (get_or files j d) ≡ Greater)
+  gap_between : (files : List FileParts) (k : ℕ) → k ≤ length files → ((j : ℕ) (d : FileParts) → 0 ≤ j → j < k → side (get_or files j d) ≡ Less) → ((j : ℕ) (d : FileParts) → k ≤ j → j < length files → side (get_or files j d) ≡ Greater)
       → IsGap path (map file_of files) k
   gap_between [] zero within before after = tt
   gap_between [] (suc k) within before after = absurd (omega arith)
@@ -65,7 +65,7 @@ module _ (path : List ℕ) where
       (record { is_less = before 0 file (omega arith) (omega arith) }, gap_between files k (omega arith) (λ j d low high. before (suc j) d (omega arith) (omega arith)) (λ j d low high. after (suc j) d (omega arith) (omega arith)))
 
   -- what the search by halves says
-  pub placed : (files : List SharedFile) (r : Result ℕ ℕ) → IsRising (map file_of files) → MatchResult r (λ k. k < length files) (λ k. k ≤ length files) → IsBinarySearchResult side files r
+  pub placed : (files : List FileParts) (r : Result ℕ ℕ) → IsRising (map file_of files) → MatchResult r (λ k. k < length files) (λ k. k ≤ length files) → IsBinarySearchResult side files r
       → MatchResult r (IsAt path (map file_of files)) (IsGap path (map file_of files))
   placed files (Ok k) rising within it = at_equal files k within rising it
   placed files (Err k) rising within it = let parts = it (sides_rise files rising) in gap_between files k within parts.0 parts.1
@@ -136,15 +136,15 @@ fits_removed path rows fits =
 
 -- ---- put among held files
 
-pub held_set : (files : List SharedFile) (k : ℕ) (new : SharedFile) → IsAt new.path (map file_of files) k → map file_of (set files k new) ≡ put_row (file_of new) (map file_of files)
+pub held_set : (files : List FileParts) (k : ℕ) (new : FileParts) → IsAt new.path (map file_of files) k → map file_of (set files k new) ≡ put_row (file_of new) (map file_of files)
 held_set files k new at = map-set file_of files k new ∙ sym (put_row-at (file_of new) (map file_of files) k at)
 
-pub held_insert : (files : List SharedFile) (k : ℕ) (new : SharedFile) → IsGap new.path (map file_of files) k → map file_of (insert files k new) ≡ put_row (file_of new) (map file_of files)
+pub held_insert : (files : List FileParts) (k : ℕ) (new : FileParts) → IsGap new.path (map file_of files) k → map file_of (insert files k new) ≡ put_row (file_of new) (map file_of files)
 held_insert files k new gap =
     map-append file_of (take k files) (new ∷ drop k files) ∙ ap₂ (λ (a b : List File). a ++ (file_of new ∷ b)) (sym (take-map file_of k files)) (sym (drop-map file_of k files))
     ∙ sym (put_row-gap (file_of new) (map file_of files) k gap)
 
-pub held_remove : (files : List SharedFile) (k : ℕ) (path : List ℕ) → IsRising (map file_of files) → IsAt path (map file_of files) k → map file_of (remove files k) ≡ remove_file path (map file_of files)
+pub held_remove : (files : List FileParts) (k : ℕ) (path : List ℕ) → IsRising (map file_of files) → IsAt path (map file_of files) k → map file_of (remove files k) ≡ remove_file path (map file_of files)
 held_remove files k path rising at =
     map-append file_of (take k files) (drop (suc k) files) ∙ ap₂ (λ (a b : List File). a ++ b) (sym (take-map file_of k files)) (sym (drop-map file_of (suc k) files))
     ∙ sym (remove_file-at path (map file_of files) k rising at)
@@ -158,7 +158,7 @@ pub has_placed : (path : List ℕ) (rows : List File) (r : Result ℕ ℕ) → M
 has_placed path rows (Ok k) at = rw (entry_of-at path rows k (record { path = []; entry = record { mode = Plain; bytes = [] } }) at) refl
 has_placed path rows (Err k) gap = rw (entry_of-gap path rows k gap) refl
 
-pub found_at : (path : List ℕ) (files : List SharedFile) (k : ℕ) → IsAt path (map file_of files) k → option_map entry_in (slice_get files k) ≡ entry_of path (map file_of files)
+pub found_at : (path : List ℕ) (files : List FileParts) (k : ℕ) → IsAt path (map file_of files) k → option_map entry_in (slice_get files k) ≡ entry_of path (map file_of files)
 found_at path [] k at = absurd at
 found_at path (file ∷ files) zero at = rw (bytes_same path file.path at) refl
 found_at path (file ∷ files) (suc k) at = rw (above_differs path file.path at.0) (found_at path files k at.1)

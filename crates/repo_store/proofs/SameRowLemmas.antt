@@ -11,7 +11,7 @@ use Rattle.hook_base.specs.declared.file.FileEntry.{FileEntry}
 use Rattle.hook_base.specs.declared.file.Mode.{Mode}
 use Rattle.hook_base.specs.Trees.{entry_of}
 use Rattle.store_tables.specs.declared.rows.StagedRow.{StagedRow}
-use Rattle.repo_store.specs.declared.shared.SharedFile.{SharedFile}
+use Rattle.repo_store.specs.declared.shared.FileParts.{FileParts}
 use Rattle.repo_store.specs.Complete.{HaveContents, HaveDistinctDigests, IsAmong, IsComplete}
 use Rattle.repo_store.specs.Kept.{Kept}
 use Rattle.repo_store.specs.Lists.{entry_in, file_of}
@@ -36,32 +36,32 @@ entry_has contents path (file ∷ files) entry all is =
 
 -- ---- files of the same rows
 
-abbrev pub row_of : SharedFile → StagedRow
+abbrev pub row_of : FileParts → StagedRow
 row_of file = staged_row (file_of file)
 
 -- so far the rows are the same
-abbrev pub SameRows : List SharedFile → List SharedFile → ℕ → Type 0
-SameRows files others n = (k : ℕ) → k < n → (d : SharedFile) → row_of (get_or files k d) ≡ row_of (get_or others k d)
+abbrev pub SameRows : List FileParts → List FileParts → ℕ → Type 0
+SameRows files others n = (k : ℕ) → k < n → (d : FileParts) → row_of (get_or files k d) ≡ row_of (get_or others k d)
 
-row_at : (files : List SharedFile) (i : ℕ) (d : SharedFile) → get_or (map staged_row (map file_of files)) i (row_of d) ≡ row_of (get_or files i d)
+row_at : (files : List FileParts) (i : ℕ) (d : FileParts) → get_or (map staged_row (map file_of files)) i (row_of d) ≡ row_of (get_or files i d)
 row_at files i d = get_or-map staged_row (map file_of files) i (file_of d) ∙ ap staged_row (get_or-map file_of files i d)
 
-rows_count : (files : List SharedFile) → length (map staged_row (map file_of files)) ≡ length files
+rows_count : (files : List FileParts) → length (map staged_row (map file_of files)) ≡ length files
 rows_count files = length-map (map file_of files) staged_row ∙ length-map files file_of
 
-pub rows_apart : (files others : List SharedFile) (i : ℕ) (file other : SharedFile) → i < length others → file ≡ get_or files i file → other ≡ get_or others i other → map staged_row (map file_of files) ≡ map staged_row (map file_of others) → row_of file ≡ row_of other
+pub rows_apart : (files others : List FileParts) (i : ℕ) (file other : FileParts) → i < length others → file ≡ get_or files i file → other ≡ get_or others i other → map staged_row (map file_of files) ≡ map staged_row (map file_of others) → row_of file ≡ row_of other
 rows_apart files others i file other within file_is other_is same =
     ap row_of file_is ∙ sym (row_at files i file) ∙ ap (λ (rows : List StagedRow). get_or rows i (row_of file)) same ∙ row_at others i file ∙ ap row_of (get_or_default others i file other within ∙ sym other_is)
 
-pub rows_differ_in_number : (files others : List SharedFile) → map staged_row (map file_of files) ≡ map staged_row (map file_of others) → length files ≡ length others
+pub rows_differ_in_number : (files others : List FileParts) → map staged_row (map file_of files) ≡ map staged_row (map file_of others) → length files ≡ length others
 rows_differ_in_number files others same = sym (rows_count files) ∙ ap length same ∙ rows_count others
 
-pub more_same : (files others : List SharedFile) (i : ℕ) (file other : SharedFile) → i < length files → i < length others → file ≡ get_or files i file → other ≡ get_or others i other → SameRows files others i → row_of file ≡ row_of other → SameRows files others (i + 1)
+pub more_same : (files others : List FileParts) (i : ℕ) (file other : FileParts) → i < length files → i < length others → file ≡ get_or files i file → other ≡ get_or others i other → SameRows files others i → row_of file ≡ row_of other → SameRows files others (i + 1)
 more_same files others i file other within inside file_is other_is before same =
-    below_more (λ (k : ℕ). (d : SharedFile) → row_of (get_or files k d) ≡ row_of (get_or others k d)) i before
+    below_more (λ (k : ℕ). (d : FileParts) → row_of (get_or files k d) ≡ row_of (get_or others k d)) i before
     (λ d. ap row_of (get_or_default files i d file within ∙ sym file_is) ∙ same ∙ ap row_of (other_is ∙ get_or_default others i other d inside))
 
-pub rows_same : (files others : List SharedFile) → length files ≡ length others → SameRows files others (length files) → map staged_row (map file_of files) ≡ map staged_row (map file_of others)
+pub rows_same : (files others : List FileParts) → length files ≡ length others → SameRows files others (length files) → map staged_row (map file_of files) ≡ map staged_row (map file_of others)
 rows_same [] [] count same = refl
 rows_same [] (other ∷ others) count same = absurd (omega arith)
 rows_same (file ∷ files) others count same =
@@ -77,14 +77,14 @@ same_from_rows kept complete rows =
 
 -- ---- entries of one path
 
-pub same_from_digests : (contents : List (List ℕ)) (path : List ℕ) (files others : List File) (file other : SharedFile) → HaveDistinctDigests contents → HaveContents contents files → HaveContents contents others
+pub same_from_digests : (contents : List (List ℕ)) (path : List ℕ) (files others : List File) (file other : FileParts) → HaveDistinctDigests contents → HaveContents contents files → HaveContents contents others
     → Some (entry_in file) ≡ entry_of path files → Some (entry_in other) ≡ entry_of path others → file.mode ≡ other.mode → sha256 file.content ≡ sha256 other.content → entry_of path files ≡ entry_of path others
 same_from_digests contents path files others file other apart have also file_is other_is mode digest =
     let bytes =
     same_bytes contents contents (IsPermutation-refl contents) apart file.content other.content (entry_has contents path files (entry_in file) have (sym file_is)) (entry_has contents path others (entry_in other) also (sym other_is)) digest in
     sym file_is ∙ ap Some (ap₂ (λ (m : Mode) (b : List ℕ). let made : FileEntry = record { mode = m; bytes = b } in made) mode bytes) ∙ other_is
 
-pub entries_parts : (path : List ℕ) (files others : List File) (file other : SharedFile) → Some (entry_in file) ≡ entry_of path files → Some (entry_in other) ≡ entry_of path others → entry_of path files ≡ entry_of path others
+pub entries_parts : (path : List ℕ) (files others : List File) (file other : FileParts) → Some (entry_in file) ≡ entry_of path files → Some (entry_in other) ≡ entry_of path others → entry_of path files ≡ entry_of path others
     → (file.mode ≡ other.mode) × (sha256 file.content ≡ sha256 other.content)
 entries_parts path files others file other file_is other_is same =
     let all : ◌≡◌ {A = Option FileEntry} (Some (entry_in file)) (Some (entry_in other)) = file_is ∙ same ∙ sym other_is in

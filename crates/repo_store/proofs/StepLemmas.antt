@@ -11,7 +11,7 @@ use Rattle.store_tables.specs.Steps.{IsStep}
 use Rattle.store_tables.specs.Tables.{Tables, with_blob, with_entry, with_fix}
 use Rattle.repo_store.specs.declared.shared.SharedFix.{SharedFix}
 use Rattle.store_tables.specs.declared.rows.FixRow.{FixRow}
-use Rattle.repo_store.specs.declared.shared.SharedFile.{SharedFile}
+use Rattle.repo_store.specs.declared.shared.FileParts.{FileParts}
 use Rattle.repo_store.specs.Lists.{file_of, fix_of}
 use Rattle.repo_store.specs.Rows.{blob_row, with_blobs, entry_row, with_entries, fix_row, with_fix_rows}
 use Rattle.repo_store.proofs.CallLemmas.{step_then}
@@ -37,7 +37,7 @@ blob_more g old mid new news i bytes row within is row_is one two =
     step_same g old new (Ok tt) (λ t. with_blob (blob_row bytes) (with_blobs (take i news) t)) (λ t. with_blobs (take (i + 1) news) t)
     (λ t. same_blobs (with_blob (blob_row bytes) (with_blobs (take i news) t)) (map blob_row (take (i + 1) news) ++ t.blobs) (one_more blob_row news i bytes t.blobs within is)) both
 
-pub entry_more : {S : Type 0} (g : Ghosts S) (old mid new : Held S) (n : ℕ) (files : List SharedFile) (i : ℕ) (file : SharedFile) (row : EntryRow) → i < length files → file ≡ get_or files i file → row ≡ entry_row n (file_of file)
+pub entry_more : {S : Type 0} (g : Ghosts S) (old mid new : Held S) (n : ℕ) (files : List FileParts) (i : ℕ) (file : FileParts) (row : EntryRow) → i < length files → file ≡ get_or files i file → row ≡ entry_row n (file_of file)
     → IsStep {A = Unit {0}} g old mid (Ok tt) (λ t. with_entries (map (entry_row n) (map file_of (take i files))) t) → IsStep {A = Unit {0}} g mid new (Ok tt) (with_entry row)
     → IsStep {A = Unit {0}} g old new (Ok tt) (λ t. with_entries (map (entry_row n) (map file_of (take (i + 1) files))) t)
 entry_more g old mid new n files i file row within is row_is one two =
@@ -47,7 +47,7 @@ entry_more g old mid new n files i file row within is row_is one two =
     step_same g old new (Ok tt) (λ t. with_entry (entry_row n (file_of file)) (before t)) (λ t. with_entries (map (entry_row n) (map file_of (take (i + 1) files))) t)
     (λ t. same_entries (with_entry (entry_row n (file_of file)) (before t)) (map (entry_row n) (map file_of (take (i + 1) files)) ++ t.entries)
     (subst₂ (λ (a b : List EntryRow). IsPermutation (entry_row n (file_of file) ∷ (a ++ t.entries)) (b ++ t.entries)) (sym (map-map (entry_row n) file_of (take i files))) (sym (map-map (entry_row n) file_of (take (i + 1) files)))
-    (one_more (λ (f : SharedFile). entry_row n (file_of f)) files i file t.entries within is))) both
+    (one_more (λ (f : FileParts). entry_row n (file_of f)) files i file t.entries within is))) both
 
 pub fix_more : {S : Type 0} (g : Ghosts S) (old mid new : Held S) (fixes : List SharedFix) (i : ℕ) (fix : SharedFix) → i < length fixes → fix ≡ get_or fixes i fix
     → IsStep {A = Unit {0}} g old mid (Ok tt) (λ t. with_fix_rows (map fix_row (map fix_of (take i fixes))) t) → IsStep {A = Unit {0}} g mid new (Ok tt) (with_fix (fix_row (fix_of fix)))

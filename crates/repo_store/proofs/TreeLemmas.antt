@@ -9,7 +9,7 @@ use Rattle.hook_base.specs.declared.file.File.{File}
 use Rattle.hook_base.specs.Rising.{IsBelow, IsBelowAll}
 use Rattle.hook_base.specs.RisingLemmas.{greater_from_below}
 use Rattle.hook_base.specs.Trees.{IsRising, path_of, put_row}
-use Rattle.repo_store.specs.declared.shared.SharedFile.{SharedFile}
+use Rattle.repo_store.specs.declared.shared.FileParts.{FileParts}
 use Rattle.repo_store.specs.declared.shared.SharedCommit.{SharedCommit}
 use Rattle.repo_store.specs.declared.log_entry.LogEntry.{LogEntry}
 use Rattle.repo_store.specs.Lists.{file_of, commit_of}
@@ -35,10 +35,10 @@ rising_front zero rows rising = tt
 rising_front (suc n) [] rising = tt
 rising_front (suc n) (row ∷ rows) rising = (below_front row.path n rows rising.0, rising_front n rows rising.1)
 
-pub tree_more : (files : List SharedFile) (i : ℕ) (file : SharedFile) (tree : List File) → i < length files → file ≡ get_or files i file → IsRising (map file_of files) → tree ≡ map file_of (take i files) → put_row (file_of file) tree ≡ map file_of (take (i + 1) files)
+pub tree_more : (files : List FileParts) (i : ℕ) (file : FileParts) (tree : List File) → i < length files → file ≡ get_or files i file → IsRising (map file_of files) → tree ≡ map file_of (take i files) → put_row (file_of file) tree ≡ map file_of (take (i + 1) files)
 tree_more files i file tree within is rising tree_is =
     let step : map file_of (take (i + 1) files) ≡ map file_of (take i files) ++ file_of file ∷ [] =
-    ap (map file_of) (take_more files i file within ∙ ap (λ (f : SharedFile). take i files ++ f ∷ []) (sym is)) ∙ map-append file_of (take i files) (file ∷ []) in
+    ap (map file_of) (take_more files i file within ∙ ap (λ (f : FileParts). take i files ++ f ∷ []) (sym is)) ∙ map-append file_of (take i files) (file ∷ []) in
     let front : IsRising (map file_of (take (i + 1) files)) = subst IsRising (take-map file_of (i + 1) files) (rising_front (i + 1) (map file_of files) rising) in
     ap (put_row (file_of file)) tree_is ∙ put_last (map file_of (take i files)) (file_of file) (subst IsRising step front) ∙ sym step
 

@@ -15,6 +15,7 @@ pub mod Opening
 pub mod Repository
 pub mod RowRules
 pub mod Rows
+pub mod Shared
 pub mod Shown
 pub mod Sound
 pub mod Transactions

@@ -31,8 +31,8 @@ fn rewrite<S: Alter>(
         Some(file) => put_staged(
             tx,
             path.as_str(),
-            number_of(file.mode),
-            file.content.digest(),
+            number_of(file.mode()),
+            file.content().digest(),
         ),
         None => Ok(()),
     }

@@ -30,7 +30,7 @@ pub(crate) fn clashes(files: &[SharedFile], path: &RepoPath) -> bool
 {
     let text = path.as_str();
     'files: for file in files {
-        if are_nested(text, file.path.as_str()) {
+        if are_nested(text, file.path().as_str()) {
             return true;
         }
     }

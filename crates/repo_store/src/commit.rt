@@ -25,9 +25,9 @@ fn put_files<S: Alter>(
         put_entry(
             tx,
             n,
-            file.path.as_str(),
-            number_of(file.mode),
-            file.content.digest(),
+            file.path().as_str(),
+            number_of(file.mode()),
+            file.content().digest(),
         )?;
     }
     Ok(())

@@ -16,14 +16,14 @@ use hook_base::RepoPath;
 fn is_same_entry(file: &SharedFile, other: &SharedFile) -> bool
     ensures { IsTrue result ↔ ((file.now.mode ≡ other.now.mode) × (sha256 file.now.content ≡ sha256 other.now.content)) }
 {
-    file.mode == other.mode && file.content.digest() == other.content.digest()
+    file.mode() == other.mode() && file.content().digest() == other.content().digest()
 }
 
 // Whether two files have the same path and mode, and contents of the same digest.
 fn is_same_row(file: &SharedFile, other: &SharedFile) -> bool
     ensures { IsTrue result ↔ (staged_row (file_of file.now) ≡ staged_row (file_of other.now)) }
 {
-    file.path == other.path && is_same_entry(file, other)
+    file.path() == other.path() && is_same_entry(file, other)
 }
 
 /// Whether there are as many files here as there, and each is the same as that of its index.

@@ -18,7 +18,7 @@ pub(crate) fn place_of(files: &[SharedFile], path: &RepoPath) -> Result<usize, u
     requires { IsRising (map file_of files.now) }
     ensures { MatchResult result (IsAt path.now (map file_of files.now)) (IsGap path.now (map file_of files.now)) }
 {
-    files.binary_search_by(|file| file.path.cmp(path))
+    files.binary_search_by(|file| file.path().cmp(path))
 }
 
 /// Whether a path has a file.
@@ -34,7 +34,7 @@ pub(crate) fn count_path_bytes(files: &[SharedFile]) -> usize
     requires { path_bytes_of (map file_of files.now) < 2 ^ 64 }
     ensures { result ≡ path_bytes_of (map file_of files.now) }
 {
-    files.iter().map(|file| file.path.as_str().len()).sum()
+    files.iter().map(|file| file.path().as_str().len()).sum()
 }
 
 /// Whether the files are within the limits of a staged tree.
@@ -46,7 +46,7 @@ pub(crate) fn fit(files: &[SharedFile]) -> bool
     }
     let mut left = MOST_TREE_PATH_BYTES;
     'files: for file in files {
-        let len = file.path.as_str().len();
+        let len = file.path().as_str().len();
         if len > left {
             return false;
         }
@@ -82,13 +82,13 @@ pub(crate) fn put_file(files: &mut Vec<SharedFile>, file: SharedFile) -> usize
     ensures files { map file_of files.new.items ≡ put_row (file_of file) (map file_of files.old.items) }
     ensures bytes { path_bytes_of (map file_of files.new.items) ≡ path_bytes_of (map file_of files.old.items) + result }
 {
-    match place_of(files.as_slice(), &file.path) {
+    match place_of(files.as_slice(), file.path()) {
         Ok(index) => {
             files[index] = file;
             0
         }
         Err(index) => {
-            let bytes = file.path.as_str().len();
+            let bytes = file.path().as_str().len();
             let _done = files.insert(index, file);
             bytes
         }

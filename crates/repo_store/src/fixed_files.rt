@@ -50,20 +50,21 @@ fn first_at<'a>(fixes: &'a [SharedFix], path: &RepoPath) -> Option<&'a SharedFix
 }
 
 // The file with these contents.
-fn with_content(file: &SharedFile, content: &Content) -> Result<SharedFile, OutOfMemory>
+fn with_content(
+    alloc: Global,
+    file: &SharedFile,
+    content: &Content,
+) -> Result<SharedFile, OutOfMemory>
     ensures { IfOk result (λ made. file_of made ≡ with_bytes content.now (file_of file.now)) }
 {
-    let path = file.path.clone()?;
+    let path = file.path().clone()?;
     let content = content.clone()?;
-    Ok(SharedFile {
-        path,
-        mode: file.mode,
-        content,
-    })
+    SharedFile::of(alloc, path, file.mode(), content)
 }
 
 // Adds a file as the fixes leave it, of which none is of an earlier path.
 fn push_fixed(
+    alloc: Global,
     made: &mut Vec<SharedFile>,
     file: &SharedFile,
     fixes: &[SharedFix],
@@ -72,13 +73,13 @@ fn push_fixed(
     requires reached { HasReached file.now.path (map fix_of fixes.now) }
     ensures { OnOk result (map file_of made.new.items ≡ map file_of made.old.items ++ apply_changes (map fix_of fixes.now) (file_of file.now ∷ [])) }
 {
-    match first_at(fixes, &file.path) {
+    match first_at(fixes, file.path()) {
         Some(fix) => {
             if let Some(content) = &fix.now {
-                made.push(with_content(file, content)?)?;
+                made.push(with_content(alloc, file, content)?)?;
             }
         }
-        None => made.push(with_content(file, &file.content)?)?,
+        None => made.push(file.clone()?)?,
     }
     Ok(())
 }
@@ -96,8 +97,8 @@ pub(crate) fn with_fixes(
     let mut made = Vec::with_capacity(alloc, files.len())?;
     let mut left = fixes;
     'files: for file in files {
-        left = from_path(left, &file.path);
-        push_fixed(&mut made, file, left)?;
+        left = from_path(left, file.path());
+        push_fixed(alloc, &mut made, file, left)?;
     }
     Ok(made)
 }

@@ -170,12 +170,15 @@ impl Lists {
         }
         let path = path.clone()?;
         self.reserve()?;
+        let before = self.count();
         let content = self.keep(bytes)?;
-        Ok(SharedFile {
-            path,
-            mode,
-            content,
-        })
+        match SharedFile::of(*self.staged.allocator(), path, mode, content) {
+            Ok(file) => Ok(file),
+            Err(_refused) => {
+                self.forget_since(before);
+                Err(StoreFault::OutOfMemory)
+            }
+        }
     }
 
     /// Stages a file, for which there is room, and forgets the fixes.
@@ -401,7 +404,7 @@ impl Lists {
         ensures { result ≡ option_map (λ (entry : FileEntry). entry.mode) (entry_of path.now self.now.kept.repo.staged) }
     {
         match file_at(self.staged.as_slice(), path) {
-            Some(file) => Some(file.mode),
+            Some(file) => Some(file.mode()),
             None => None,
         }
     }
@@ -411,7 +414,7 @@ impl Lists {
         ensures { option_copied result ≡ option_map (λ (entry : FileEntry). entry.bytes) (entry_of path.now self.now.kept.repo.staged) }
     {
         match file_at(self.staged.as_slice(), path) {
-            Some(file) => Some(file.content.as_slice()),
+            Some(file) => Some(file.content().as_slice()),
             None => None,
         }
     }

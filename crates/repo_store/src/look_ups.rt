@@ -27,9 +27,9 @@ pub(crate) fn shown(file: &SharedFile) -> FileRef<'_>
     ensures { copied_file result ≡ file_of file.now }
 {
     FileRef {
-        path: &file.path,
-        mode: file.mode,
-        bytes: file.content.as_slice(),
+        path: file.path(),
+        mode: file.mode(),
+        bytes: file.content().as_slice(),
     }
 }
 

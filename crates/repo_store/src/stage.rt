@@ -24,12 +24,12 @@ fn stage_in<S: Alter>(
 {
     keep_in(tx, news)?;
     clear_fixes(tx)?;
-    take_staged(tx, file.path.as_str())?;
+    take_staged(tx, file.path().as_str())?;
     put_staged(
         tx,
-        file.path.as_str(),
-        number_of(file.mode),
-        file.content.digest(),
+        file.path().as_str(),
+        number_of(file.mode()),
+        file.content().digest(),
     )
 }
 

@@ -103,10 +103,11 @@ impl<S: Alter> Store<S> {
     }
 
     /// Opens the store that a database holds, and changes nothing. After a crash it is the repository that the crash
-    /// left. Refused are a database that hasn't exactly the tables of a store, or whose `meta` holds anything but the
-    /// one row of version 1 (`NotAStore`), and tables whose rows break a rule of a store (`Damaged`). A refusal gives
-    /// the connection back, with the tables as before where it is still open. The connection must be outside a
-    /// transaction.
+    /// left, and never `NotAStore` or `Damaged`. Refused are a database that hasn't exactly the tables of a store, or
+    /// whose `meta` holds anything but the one row of version 1 (`NotAStore`), and tables whose rows break a rule of a
+    /// store (`Damaged`). `Sql` is also a store with a row that has the greatest rowid, as SQL's `NoRowid`, since none
+    /// could be put in after it; only another program writes one. A refusal gives the connection back, with the tables
+    /// as before where it is still open. The connection must be outside a transaction.
     pub fn open(alloc: Global, conn: Connection<S>) -> Result<Store<S>, (StoreFault, Connection<S>)>
         requires { conn.in_transaction ≡ false }
         ensures stands { IfOk result (λ store. Stands S.Store store.conn store.kept) }
@@ -116,6 +117,7 @@ impl<S: Alter> Store<S> {
         ensures refused { IfErr result (λ e. Rests (state S.Store conn) (state S.Store e.1)) }
         ensures outside { IfErr result (λ e. e.1.in_transaction ≡ false) }
         ensures why { IfErr result (λ e. HasCleanDisk (state S.Store e.1) → IsUnfit (state S.Store conn).now e.0) }
+        ensures left { IfErr result (λ e. HasCleanDisk (state S.Store e.1) → IsTrue (state S.Store conn).is_open → (kept : Kept) → Leaves kept (state S.Store conn).committed.trees → IsRefusal ⊥ ⊥ ⊥ e.0) }
         ensures crash_opened { IfOk result (λ store. Survives (state S.Store conn) (state S.Store store.conn) (λ _. ⊥)) }
         ensures crash_refused { IfErr result (λ e. Survives (state S.Store conn) (state S.Store e.1) (λ _. ⊥)) }
         ensures durable { IfOk result (λ store. LeavesOnly S.Store store.conn store.kept) }

@@ -14,9 +14,9 @@ use std::alloc::Global;
 fn entry_of(file: &SharedFile, alloc: Global) -> Result<FileEntry, OutOfMemory>
     ensures { IfOk result (λ entry. entry ≡ (file_of file.entry.now).entry) }
 {
-    let bytes = Bytes::copy_of(alloc, file.content.as_slice())?;
+    let bytes = Bytes::copy_of(alloc, file.content().as_slice())?;
     Ok(FileEntry {
-        mode: file.mode,
+        mode: file.mode(),
         bytes,
     })
 }
@@ -28,7 +28,7 @@ pub(crate) fn tree_of(alloc: Global, files: &[SharedFile]) -> Result<Tree, OutOf
 {
     let mut tree = Tree::new(alloc);
     for file in files {
-        tree.put(file.path.clone()?, entry_of(file, alloc)?)?;
+        tree.put(file.path().clone()?, entry_of(file, alloc)?)?;
     }
     Ok(tree)
 }

@@ -148,7 +148,7 @@ abbrev pub all_meta : List ℕ
 all_meta = codes "SELECT rowid, name, value FROM meta ORDER BY name"
 
 abbrev pub all_blobs : List ℕ
-all_blobs = codes "SELECT digest, bytes FROM blobs ORDER BY digest"
+all_blobs = codes "SELECT rowid, digest, bytes FROM blobs ORDER BY digest"
 
 abbrev pub all_staged : List ℕ
 all_staged = codes "SELECT rowid, path, mode, digest FROM staged ORDER BY path"
@@ -160,7 +160,7 @@ abbrev pub all_commits : List ℕ
 all_commits = codes "SELECT n, message FROM commits ORDER BY n"
 
 abbrev pub all_entries : List ℕ
-all_entries = codes "SELECT n, path, mode, digest FROM entries ORDER BY n, path"
+all_entries = codes "SELECT rowid, n, path, mode, digest FROM entries ORDER BY n, path"
 
 abbrev pub all_answers : List ℕ
 all_answers = codes "SELECT rowid, words, seen, output, changes, status FROM answers ORDER BY words, seen"
@@ -235,7 +235,7 @@ module _ (more : MoreTables) where
   unfolding understood everything
   all_meta_is = ((refl, (refl, refl)), refl)
 
-  pub all_blobs_is : Selects schema all_blobs 2 (col 1 1 ∷ col 1 2 ∷ []) (rising 1 ∷ []) (codes "digest" ∷ codes "bytes" ∷ [])
+  pub all_blobs_is : Selects schema all_blobs 2 (col 1 0 ∷ col 1 1 ∷ col 1 2 ∷ []) (rising 1 ∷ []) (codes "rowid" ∷ codes "digest" ∷ codes "bytes" ∷ [])
   unfolding understood everything
   all_blobs_is = ((refl, (refl, refl)), refl)
 
@@ -251,7 +251,7 @@ module _ (more : MoreTables) where
   unfolding understood everything
   all_commits_is = ((refl, (refl, refl)), refl)
 
-  pub all_entries_is : Selects schema all_entries 9 (col 1 1 ∷ col 1 2 ∷ col 1 3 ∷ col 1 4 ∷ []) (rising 1 ∷ rising 2 ∷ []) (codes "n" ∷ codes "path" ∷ codes "mode" ∷ codes "digest" ∷ [])
+  pub all_entries_is : Selects schema all_entries 9 (col 1 0 ∷ col 1 1 ∷ col 1 2 ∷ col 1 3 ∷ col 1 4 ∷ []) (rising 1 ∷ rising 2 ∷ []) (codes "rowid" ∷ codes "n" ∷ codes "path" ∷ codes "mode" ∷ codes "digest" ∷ [])
   unfolding understood everything
   all_entries_is = ((refl, (refl, refl)), refl)
 

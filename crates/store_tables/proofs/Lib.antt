@@ -1,4 +1,5 @@
 pub mod AnswerLemmas
+pub mod CatalogLemmas
 pub mod ColumnLemmas
 pub mod Compiles
 pub mod EmptyStatementLemmas

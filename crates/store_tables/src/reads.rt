@@ -1,6 +1,7 @@
 //! One query for each table. A contract says which rows are answered; that they come in the order that is asked for is
 //! shown by a test. An error is the database's own or want of memory, or where it says so `InvalidQuery`; nothing is
-//! changed.
+//! changed. `NoRowid` comes where a row of any table but `commits`, whose rowids are its numbers, has the greatest rowid
+//! that there is: no row could be put in after it.
 
 ghost use Rattle.std.specs.Prelude.{◌≡◌, [], ◌∷◌, true};
 ghost use Rattle.sqlite_rules.specs.Edit.{have_rowids};
@@ -35,8 +36,12 @@ pub fn read_blobs<S: Alter>(
     ensures same_reference { tx.new.conn.ghost_name ≡ tx.old.conn.ghost_name }
     ensures read { IsRead S.Store tx.old.conn.now tx.new.conn.now result (λ rows trees. Stored blob_cells (1 ∷ 2 ∷ []) rows.items (trees 2)) }
 {
-    let shown = tx.query_all("SELECT digest, bytes FROM blobs ORDER BY digest", &[])?;
-    decoded(alloc, shown, 0)
+    let shown = tx.query_all(
+        "SELECT rowid, digest, bytes FROM blobs ORDER BY digest",
+        &[],
+    )?;
+    let _rowids = rowids_in(alloc, &shown)?;
+    decoded(alloc, shown, 1)
 }
 
 /// All commits, asked for in the order of their numbers.
@@ -60,10 +65,11 @@ pub fn read_entries<S: Alter>(
     ensures read { IsRead S.Store tx.old.conn.now tx.new.conn.now result (λ rows trees. Stored entry_cells (1 ∷ 2 ∷ 3 ∷ 4 ∷ []) rows.items (trees 9)) }
 {
     let shown = tx.query_all(
-        "SELECT n, path, mode, digest FROM entries ORDER BY n, path",
+        "SELECT rowid, n, path, mode, digest FROM entries ORDER BY n, path",
         &[],
     )?;
-    decoded(alloc, shown, 0)
+    let _rowids = rowids_in(alloc, &shown)?;
+    decoded(alloc, shown, 1)
 }
 
 /// The staged files, asked for in the order of their paths. `InvalidQuery` comes where two rows show one rowid, which a

@@ -91,11 +91,8 @@ pub(crate) fn file_at(
     };
     let path = path_at(alloc, path)?;
     let content = content_at(contents, digest)?;
-    Ok(SharedFile {
-        path,
-        mode,
-        content,
-    })
+    let file = SharedFile::of(alloc, path, mode, content)?;
+    Ok(file)
 }
 
 /// Whether a path comes after another.

@@ -28,7 +28,7 @@ fn follows_files(files: &[SharedFile], path: &RepoPath) -> bool
     ensures { IsTrue result → AllByRecursion (λ (file : File). IsBelowPath file.path path.now) (map file_of files.now) }
 {
     match files {
-        [.., last] => is_after(&last.path, path),
+        [.., last] => is_after(last.path(), path),
         [] => true,
     }
 }
@@ -40,7 +40,7 @@ pub(crate) fn add_file(files: &mut Vec<SharedFile>, file: SharedFile) -> Result<
     ensures rising { OnOk result (IsRising (map file_of files.new.items)) }
     ensures why { IfErr result (IsDamage ⊥) }
 {
-    if !follows_files(files.as_slice(), &file.path) {
+    if !follows_files(files.as_slice(), file.path()) {
         return Err(StoreFault::Sql(Error::InvalidQuery));
     }
     files.push(file)?;

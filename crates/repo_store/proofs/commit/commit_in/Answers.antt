@@ -1,7 +1,7 @@
 use Rattle.std.proofs.Common.{List, ℕ, Ok, pos, map, subst}
 use Rattle.store_tables.specs.Steps.{IsStep}
 use Rattle.store_tables.specs.Tables.{with_commit, without_fixes}
-use Rattle.repo_store.specs.declared.shared.SharedFile.{SharedFile}
+use Rattle.repo_store.specs.declared.shared.FileParts.{FileParts}
 use Rattle.repo_store.specs.Lists.{file_of}
 use Rattle.repo_store.specs.Rows.{entry_row, with_entries}
 use Rattle.repo_store.proofs.CallLemmas.{step_then}
@@ -15,6 +15,6 @@ returns-clause-step g c =
     let new = c.clear_fixes.new.tx.conn.now in
     let commit = c.args.commit.now in
     let one = subst (λ (message : List ℕ). IsStep {A = Unit {0}} g.S.Store old made (Ok tt) (with_commit (record { n = pos c.args.n; message = message }))) c.as_slice.ensures c.in_ok-put_commit.ensures.step in
-    let two = subst (λ (files : List SharedFile). IsStep {A = Unit {0}} g.S.Store made filled (Ok tt) (λ t. with_entries (map (entry_row c.args.n) (map file_of files)) t)) c.as_slice-2.ensures.value c.in_ok-put_files.ensures.step in
+    let two = subst (λ (files : List FileParts). IsStep {A = Unit {0}} g.S.Store made filled (Ok tt) (λ t. with_entries (map (entry_row c.args.n) (map file_of files)) t)) c.as_slice-2.ensures.value c.in_ok-put_files.ensures.step in
     let both = step_then g.S.Store old made filled (Ok tt) (with_commit (record { n = pos c.args.n; message = commit.message })) (λ t. with_entries (map (entry_row c.args.n) (map file_of commit.files.items)) t) one two in
     step_then g.S.Store old filled new c.clear_fixes.result (λ t. with_entries (map (entry_row c.args.n) (map file_of commit.files.items)) (with_commit (record { n = pos c.args.n; message = commit.message }) t)) without_fixes both c.clear_fixes.ensures.step

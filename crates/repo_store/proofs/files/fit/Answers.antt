@@ -4,13 +4,13 @@ use Rattle.std.proofs.lemmas.List.{length-map}
 use Rattle.std.proofs.lemmas.List.Sums.{sum_by_more_le}
 use lib.ListN.{get_or-map}
 use Rattle.hook_base.specs.declared.file.File.{File}
-use Rattle.repo_store.specs.declared.shared.SharedFile.{SharedFile}
+use Rattle.repo_store.specs.declared.shared.FileParts.{FileParts}
 use Rattle.repo_store.specs.Limits.{path_bytes}
 use Rattle.repo_store.specs.Lists.{file_of}
 use Rattle.repo_store.proofs.files.fit.Goals as goal
 
 -- the paths so far and the next are within all
-next_within : (files : List SharedFile) (i : ℕ) (file : SharedFile) → i < length files → file ≡ get_or files i file → path_bytes (map file_of (take i files)) + length file.path ≤ path_bytes (map file_of files)
+next_within : (files : List FileParts) (i : ℕ) (file : FileParts) → i < length files → file ≡ get_or files i file → path_bytes (map file_of (take i files)) + length file.path ≤ path_bytes (map file_of files)
 next_within files i file within is =
     let most = sum_by_more_le (λ (f : File). length f.path) (map file_of files) i (file_of file) (omega (arith, length-map files file_of)) in
     let front : path_bytes (take i (map file_of files)) ≡ path_bytes (map file_of (take i files)) = ap path_bytes (take-map file_of i files) in
@@ -23,7 +23,7 @@ returns-then-len-left c = (
   λ fits.
       let most = next_within c.args.files.now c.files.file-index c.file-item.result c.files-test.true c.file-item.is in
       let obeys = fits.paths_fit in
-      let len = ap length c.as_str-len.ensures.same in
+      let len = ap length (c.as_str-len.ensures.same ∙ c.path.ensures) in
       let left = c.files.invariant in
       let over = c.if-len-left.true in
       let broken : ⊥ = omega arith in

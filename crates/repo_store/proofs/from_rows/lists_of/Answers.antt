@@ -1,7 +1,7 @@
 use Rattle.std.proofs.Common.{List, map, vec_len, sym, subst, ◌∙◌, arith}
 use Rattle.std.specs.List.{AllByRecursion}
 use Rattle.std.proofs.lemmas.Bool.{eqb-true}
-use Rattle.repo_store.specs.declared.shared.SharedFile.{SharedFile}
+use Rattle.repo_store.specs.declared.shared.FileParts.{FileParts}
 use Rattle.repo_store.specs.Complete.{HaveDistinctDigests, IsComplete}
 use Rattle.repo_store.specs.Lists.{file_of}
 use Rattle.repo_store.specs.Rows.{blob_row, staged_row}
@@ -15,7 +15,7 @@ of-requires c =
     let rows = c.args.rows in
     let staged = c.in_ok-staged.staged.items in
     let blobs = map blob_row c.in_ok-contents.contents in
-    let fixes = subst (λ (l : List SharedFile). AllByRecursion (IsFixRow blobs (map staged_row (map file_of l))) rows.fixes.items) c.as_slice.ensures.value c.in_ok-fixes.ensures.obeys in
+    let fixes = subst (λ (l : List FileParts). AllByRecursion (IsFixRow blobs (map staged_row (map file_of l))) rows.fixes.items) c.as_slice.ensures.value c.in_ok-fixes.ensures.obeys in
     lists_sound c.in_ok-history.history.items staged c.in_ok-fixes.fixes.items blobs rows.fixes.items rows.commits.items c.in_ok-staged.ensures.rising c.in_ok-staged.ensures.fits
     c.in_ok-fixes.ensures.rising c.in_ok-fixes.ensures.fixes fixes c.in_ok-history.ensures.rising c.in_ok-history.ensures.commits c.in_ok-history.ensures.obeys.0
 
@@ -24,7 +24,7 @@ returns-clause-complete c =
     let rows = c.args.rows in
     let staged = c.in_ok-staged.staged.items in
     let blobs = map blob_row c.in_ok-contents.contents in
-    let fixes = subst (λ (l : List SharedFile). AllByRecursion (IsFixRow blobs (map staged_row (map file_of l))) rows.fixes.items) c.as_slice.ensures.value c.in_ok-fixes.ensures.obeys in
+    let fixes = subst (λ (l : List FileParts). AllByRecursion (IsFixRow blobs (map staged_row (map file_of l))) rows.fixes.items) c.as_slice.ensures.value c.in_ok-fixes.ensures.obeys in
     let sound =
     lists_sound c.in_ok-history.history.items staged c.in_ok-fixes.fixes.items blobs rows.fixes.items rows.commits.items c.in_ok-staged.ensures.rising c.in_ok-staged.ensures.fits
     c.in_ok-fixes.ensures.rising c.in_ok-fixes.ensures.fixes fixes c.in_ok-history.ensures.rising c.in_ok-history.ensures.commits c.in_ok-history.ensures.obeys.0 in
@@ -43,6 +43,6 @@ returns-clause-obeys c =
     let rows = c.args.rows in
     let blobs = map blob_row c.in_ok-contents.contents in
     let none = none_there rows.answers.items (let empty = eqb-true (vec_len rows.answers) 0 (sym c.is_empty.ensures ∙ c.if-not-is_empty.false) in let long = rows.answers.ok.0 in omega arith) in
-    let fixes = subst (λ (l : List SharedFile). AllByRecursion (IsFixRow blobs (map staged_row (map file_of l))) rows.fixes.items) c.as_slice.ensures.value c.in_ok-fixes.ensures.obeys in
+    let fixes = subst (λ (l : List FileParts). AllByRecursion (IsFixRow blobs (map staged_row (map file_of l))) rows.fixes.items) c.as_slice.ensures.value c.in_ok-fixes.ensures.obeys in
     lists_obey rows blobs (map staged_row (map file_of c.in_ok-staged.staged.items)) c.in_ok-contents.ensures.contents c.in_ok-staged.ensures.files c.in_ok-contents.ensures.obeys c.in_ok-staged.ensures.obeys
     fixes c.in_ok-history.ensures.obeys.0 c.in_ok-history.ensures.obeys.1 none

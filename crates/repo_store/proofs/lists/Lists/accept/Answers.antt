@@ -1,7 +1,7 @@
 use Rattle.std.proofs.Common.{◌≡◌, List, map, refl, sym, ap, subst, ◌∙◌, arith}
 use Rattle.hook_base.specs.Trees.{apply_changes}
 use Rattle.repo_store.specs.Kept.{Mirror, Kept, accepting}
-use Rattle.repo_store.specs.declared.shared.SharedFile.{SharedFile}
+use Rattle.repo_store.specs.declared.shared.FileParts.{FileParts}
 use Rattle.repo_store.specs.Limits.{path_bytes}
 use Rattle.repo_store.specs.Lists.{repository_of, file_of}
 use Rattle.repo_store.specs.Repository.{accepted}
@@ -25,7 +25,7 @@ invariant_of-self c =
     let repo = repository_of inside.history.items inside.staged.items inside.fixes.items in
     let files : map file_of c.args.files.items ≡ apply_changes repo.fixes repo.staged = c.requires ∙ ap (λ (m : Mirror). apply_changes m.kept.repo.fixes m.kept.repo.staged) (sym c.self.view_is) in
     let same : repository_of inside.history.items c.args.files.items c.clear.new.self.items ≡ accepted repo = rw (files, c.clear.ensures.items) refl in
-    record { sound = subst IsSound (sym same) (sound_accepted repo c.self.invariant.sound); counted = c.count_path_bytes-staged_bytes.ensures ∙ ap (λ (l : List SharedFile). path_bytes (map file_of l)) c.as_slice.ensures.value }
+    record { sound = subst IsSound (sym same) (sound_accepted repo c.self.invariant.sound); counted = c.count_path_bytes-staged_bytes.ensures ∙ ap (λ (l : List FileParts). path_bytes (map file_of l)) c.as_slice.ensures.value }
 
 pub returns : goal.returns
 returns c =

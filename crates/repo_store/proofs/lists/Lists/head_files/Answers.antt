@@ -1,7 +1,7 @@
 use Rattle.std.proofs.Common.{◌≡◌, ◌+◌, ◌-◌, ◌<◌, length, get_or, List, map, sym, ap, subst, ◌∙◌, arith}
 use Rattle.hook_base.specs.Trees.{IsRising}
 use Rattle.repo_store.specs.declared.shared.SharedCommit.{SharedCommit}
-use Rattle.repo_store.specs.declared.shared.SharedFile.{SharedFile}
+use Rattle.repo_store.specs.declared.shared.FileParts.{FileParts}
 use Rattle.repo_store.specs.Kept.{Mirror}
 use Rattle.repo_store.specs.Lists.{file_of}
 use Rattle.repo_store.specs.Repository.{last_tree}
@@ -21,4 +21,4 @@ returns-in-len1-up-clause-rising c =
     let n = length c.as_slice.result.now in
     let read = subst (λ (l : List SharedCommit). c.commit-item.result ≡ get_or l (n - 1) c.commit-item.result) c.as_slice.ensures.value c.commit-item.is in
     let within : n - 1 < length c.self.inside.history.items = let same = ap length c.as_slice.ensures.value in omega arith in
-    subst (λ (l : List SharedFile). IsRising (map file_of l)) (sym c.as_slice-in-len1-up.ensures.value) (rising_at c.self.inside.history.items (n - 1) c.commit-item.result c.self.invariant.sound.trees_rise within read)
+    subst (λ (l : List FileParts). IsRising (map file_of l)) (sym c.as_slice-in-len1-up.ensures.value) (rising_at c.self.inside.history.items (n - 1) c.commit-item.result c.self.invariant.sound.trees_rise within read)

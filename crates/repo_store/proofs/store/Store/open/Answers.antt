@@ -1,4 +1,7 @@
-use Rattle.std.proofs.Common.{refl}
+use Rattle.std.proofs.Common.{refl, sym, inl, true≢false}
+use Rattle.sqlite.specs.Held.{state}
+use Rattle.repo_store.specs.declared.fault.StoreFault.TheVariants.{NotAStore}
+use Rattle.repo_store.proofs.FitLemmas.{left_fit}
 use Rattle.repo_store.proofs.ListedLemmas.{opened_again, opened_durable, opened_holds, opened_stands, rests_if_open}
 use Rattle.repo_store.proofs.store.Store.open.Goals as goal
 
@@ -22,3 +25,11 @@ returns-in-Err-clause-refused g c = rests_if_open g.S.Store c.args.conn c.read_s
 
 pub returns-in-Ok-clause-durable : goal.returns-in-Ok-clause-durable
 returns-in-Ok-clause-durable g c = opened_durable g.S.Store c.args.conn c.read_store.new.conn c.in-Ok.lists c.in-Ok.ensures.complete c.in-Ok.ensures.obeys (c.if-not-has_tables.ensures.ours.0 refl) c.if-not-has_tables.ensures.live c.if-not-has_tables.ensures.settled c.in-Ok.ensures.read (g.met.S.Store.shut_if_dirty c.read_store.new.conn.store) (g.met.S.Store.settled c.args.conn.store)
+
+pub returns-then-not-has_tables-clause-left : goal.returns-then-not-has_tables-clause-left
+returns-then-not-has_tables-clause-left g c _ is_open kept left =
+    left_fit (state g.S.Store c.args.conn) NotAStore c.if-not-has_tables.ensures.live c.if-not-has_tables.ensures.settled (inl (λ same. true≢false (sym (c.if-not-has_tables.ensures.ours.1 same)))) is_open kept left
+
+pub returns-in-Err-clause-left : goal.returns-in-Err-clause-left
+returns-in-Err-clause-left g c clean is_open kept left =
+    left_fit (state g.S.Store c.args.conn) c.in-Err.fault c.if-not-has_tables.ensures.live c.if-not-has_tables.ensures.settled (c.in-Err.ensures.read.found clean (c.if-not-has_tables.ensures.ours.0 refl) c.if-not-has_tables.ensures.live) is_open kept left

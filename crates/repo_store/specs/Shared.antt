@@ -1,0 +1,11 @@
+-- Serves private functions only: how a file in memory is told apart.
+use Rattle.std.specs.Prelude.{ℕ, List, refl}
+use Rattle.std.specs.Coded.{Coded, code_by, coded×, coded_ℕ, coded_list}
+use Rattle.hook_base.specs.declared.file.Mode.{Mode}
+use Rattle.hook_base.specs.contracts.file.Mode as mode
+use Rattle.repo_store.specs.declared.shared.FileParts.{FileParts}
+
+abbrev pub parts_code : Coded FileParts
+parts_code =
+    code_by (List ℕ × (Mode × List ℕ)) (coded× (coded_list coded_ℕ) (coded× mode.the_row.coded (coded_list coded_ℕ))) (λ f. (f.path, (f.mode, f.content))) (λ p. record { path = p.0; mode = p.1.0; content = p.1.1 })
+    (λ _. refl)
