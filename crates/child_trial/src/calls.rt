@@ -1,8 +1,8 @@
 //! The calls of the program.
 
-use crate::outcomes::outcome_text;
-use child_port::Children;
-use hook_base::{Bytes, FileEntry, Mode, RepoPath, Text, Tree};
+use crate::outcomes::{measured_text, outcome_text};
+use child_port::{Children, Outcome};
+use hook_base::{Bytes, FileEntry, Mode, OutOfMemory, RepoPath, Text, Tree};
 use process_children::ProcessChildren;
 use std::alloc::Global;
 use trial_rows::{Row, Stop, number_of, only, text_of};
@@ -33,6 +33,7 @@ impl Play {
             "letters" => self.letters(arguments),
             "remove" => self.remove(arguments),
             "run" => self.run(arguments),
+            "measure" => self.measure(arguments),
             _ => Err(Stop::NoCall),
         }
     }
@@ -69,8 +70,19 @@ impl Play {
         Ok(Vec::new(self.alloc))
     }
 
-    // A child of these words, which has seen nothing.
+    // A child of these words.
     fn run(&mut self, arguments: &[Vec<u8>]) -> Result<Vec<u8>, Stop> {
+        let outcome = self.outcome_of(arguments)?;
+        let (calls, faults) = (self.children.calls(), self.children.faults());
+        outcome_text(self.alloc, outcome, calls, faults)
+    }
+
+    // A child of these words, of whose answer the numbers alone are told, for a script that measures.
+    fn measure(&mut self, arguments: &[Vec<u8>]) -> Result<Vec<u8>, Stop> {
+        measured_text(self.alloc, self.outcome_of(arguments)?)
+    }
+
+    fn outcome_of(&mut self, arguments: &[Vec<u8>]) -> Result<Result<Outcome, OutOfMemory>, Stop> {
         let mut words = Vec::new(self.alloc);
         for argument in arguments {
             words.push(Text::copy_of(self.alloc, text_of(argument.as_slice())?)?)?;
@@ -79,8 +91,6 @@ impl Play {
             return Err(Stop::OutOfMemory);
         }
         let seen = Tree::new(self.alloc);
-        let outcome = self.children.run(words.as_slice(), &self.tree, &seen);
-        let (calls, faults) = (self.children.calls(), self.children.faults());
-        outcome_text(self.alloc, outcome, calls, faults)
+        Ok(self.children.run(words.as_slice(), &self.tree, &seen))
     }
 }

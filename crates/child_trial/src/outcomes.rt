@@ -24,6 +24,22 @@ pub(crate) fn outcome_text(
     Ok(bytes)
 }
 
+/// The numbers of an outcome: its status, how long its output is, and how many files changed. Nothing where there is no
+/// answer.
+pub(crate) fn measured_text(
+    alloc: Global,
+    outcome: Result<Outcome, OutOfMemory>,
+) -> Result<Vec<u8>, Stop> {
+    let mut bytes = Vec::new(alloc);
+    if let Ok(Outcome::Done(answer)) = outcome {
+        let status = answer.status;
+        let (length, changes) = (answer.output.len(), answer.changes.len());
+        let text = format!(in alloc; "{status} {length} {changes}")?;
+        bytes.extend_from_slice(text.as_str().as_bytes())?;
+    }
+    Ok(bytes)
+}
+
 fn push_answer(alloc: Global, text: &mut String, answer: &Answer) -> Result<(), AllocError> {
     let status = answer.status;
     text.push_str(format!(in alloc; "{status} =")?.as_str())?;

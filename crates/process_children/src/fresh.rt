@@ -33,6 +33,11 @@ impl Fresh {
         self.mode
     }
 
+    /// The owner and the group of what is new.
+    pub(crate) fn owner_and_group(&self) -> (u32, u32) {
+        (self.owner, self.group)
+    }
+
     /// Whether this is a folder, not a link to one, of the same owner.
     pub(crate) fn is_folder(&self, found: &Metadata) -> bool {
         found.is_dir() && self.is_owner_of(found)

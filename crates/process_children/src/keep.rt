@@ -11,7 +11,7 @@ use child_port::Fault;
 use hook_base::Tree;
 use std::alloc::Global;
 use std::fs::{Files, Permissions};
-use std::os::unix::fs::PermissionsExt;
+use std::os::unix::fs::{PermissionsExt, lchown};
 use std::path::{AsPath, Path};
 use std::{fs, io};
 
@@ -174,6 +174,11 @@ impl<'a, R: Files> Keeping<'a, R> {
 
     fn finish(&mut self) -> io::Result<()> {
         empty_trash(self.files, self.alloc, &mut self.trash)?;
+        let found = fs::symlink_metadata(self.files, self.folder)?;
+        if !self.fresh.is_folder(&found) {
+            let (owner, group) = self.fresh.owner_and_group();
+            lchown(self.files, self.folder, Some(owner), Some(group))?;
+        }
         let mode = Permissions::from_mode(self.fresh.folder_mode());
         fs::set_permissions(self.files, self.folder, mode)
     }
