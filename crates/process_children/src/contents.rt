@@ -1,0 +1,83 @@
+//! What files contain.
+
+ghost use Rattle.std.specs.Io.{ReadsAtMost};
+
+use hook_base::MOST_FILE_BYTES;
+use std::alloc::Global;
+use std::fs::{Files, OpenOptions};
+use std::io::{ErrorKind, Read, Write};
+use std::{fs, io};
+
+/// How many bytes are read at once.
+pub(crate) const PIECE_BYTES: usize = 65_536;
+
+/// Whether a file begins with these bytes, where its length is theirs: whether it contains them.
+pub(crate) fn contains<R: Files>(
+    files: &R,
+    place: &str,
+    bytes: &[u8],
+    piece: &mut [u8],
+) -> io::Result<bool> {
+    let mut file = fs::open(files, place)?;
+    let mut left = bytes;
+    for _ in 0..u64::MAX {
+        if left.is_empty() {
+            return Ok(true);
+        }
+        let count = read_some(&mut file, piece)?;
+        match left.split_at_checked(count) {
+            Some((first, rest)) if count > 0 && are_equal(first, &piece[..count]) => left = rest,
+            _ => return Ok(false),
+        }
+    }
+    Ok(false)
+}
+
+// Whether two slices of one length are equal. It doesn't stop at the first difference, so that many bytes are compared at
+// once.
+fn are_equal(a: &[u8], b: &[u8]) -> bool {
+    let pairs = a.iter().zip(b);
+    pairs.fold(0u8, |differing, (x, y)| differing | (*x ^ *y)) == 0
+}
+
+/// What a file contains. An error of its own where that is more than a file may have.
+pub(crate) fn read_file<R: Files>(
+    files: &R,
+    alloc: Global,
+    place: &str,
+    piece: &mut [u8],
+) -> io::Result<Vec<u8>> {
+    let mut file = fs::open(files, place)?;
+    let mut bytes = Vec::new(alloc);
+    for _ in 0..u64::MAX {
+        let count = read_some(&mut file, piece)?;
+        if count == 0 {
+            return Ok(bytes);
+        }
+        bytes.extend_from_slice(&piece[..count])?;
+        if bytes.len() > MOST_FILE_BYTES {
+            break;
+        }
+    }
+    Err(io::Error::from(ErrorKind::FileTooLarge))
+}
+
+/// Makes a new file, where none may stand, with these bytes.
+pub(crate) fn write_new<R: Files>(files: &R, place: &str, bytes: &[u8]) -> io::Result<()> {
+    let mut options = OpenOptions::new();
+    let mut file = options.write(true).create_new(true).open(files, place)?;
+    file.write_all(bytes)
+}
+
+/// Reads once, and again where a signal came first. 0 at the end.
+pub(crate) fn read_some<F: Read>(file: &mut F, piece: &mut [u8]) -> io::Result<usize>
+    ensures { ReadsAtMost result piece.new }
+{
+    for _ in 0..u64::MAX {
+        match file.read(piece) {
+            Err(e) if e.kind() == ErrorKind::Interrupted => {}
+            ended => return ended,
+        }
+    }
+    Ok(0)
+}

@@ -1,0 +1,53 @@
+//! How a child ended.
+
+use crate::outputs::Outputs;
+use crate::stop::Stop;
+use child_port::Fault;
+use hook_base::Bytes;
+use std::alloc::Global;
+use std::io::Read;
+use std::os::fd::AsRawFd;
+use std::process::{Child, OpenProcess};
+
+/// How a child ended that gave an exit code, and what it wrote.
+#[derive(Debug, Drop)]
+pub(crate) struct Ending {
+    /// Its exit code.
+    pub status: u8,
+    /// Its standard output, followed by its standard error.
+    pub output: Bytes,
+}
+
+/// Reads what the child writes until it has closed both outputs, and waits for its end. It is waited for whatever
+/// happens, so that none goes on while the next one runs.
+///
+/// `WaitFailed` where that can't be done, `Signal` where it ended without an exit code, `OutputTooLong` where it wrote
+/// more than it may.
+pub(crate) fn ending_of<P: OpenProcess + Drop>(
+    alloc: Global,
+    mut child: Child<P>,
+    piece: &mut [u8],
+) -> Result<Ending, Stop>
+where
+    P::Stdout: AsRawFd,
+    P::Stderr: AsRawFd,
+{
+    let mut outputs = Outputs::new(alloc);
+    let read = match (child.stdout.take(), child.stderr.take()) {
+        (Some(output), Some(error)) => outputs.read_from(output, error, piece).is_ok(),
+        _ => false,
+    };
+    let Ok(status) = child.wait() else {
+        return Err(Stop::Fault(Fault::WaitFailed));
+    };
+    if !read {
+        return Err(Stop::Fault(Fault::WaitFailed));
+    }
+    match status.code().map(u8::try_from) {
+        Some(Ok(status)) => {
+            let output = outputs.into_bytes()?;
+            Ok(Ending { status, output })
+        }
+        _ => Err(Stop::Fault(Fault::Signal)),
+    }
+}

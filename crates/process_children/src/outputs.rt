@@ -1,0 +1,174 @@
+//! The two outputs of a child, read side by side.
+
+ghost use Rattle.std.specs.Io.{ReadsAtMost};
+
+use crate::contents::read_some;
+use crate::stop::Stop;
+use child_port::{Fault, MOST_OUTPUT_BYTES};
+use hook_base::Bytes;
+use libc::net::POLLIN;
+use libc::types::pollfd;
+use std::alloc::{AllocError, Global};
+use std::io;
+use std::io::{ErrorKind, Read};
+use std::os::fd::AsRawFd;
+
+/// What is kept of the two outputs of a child.
+#[derive(Debug, Drop)]
+pub(crate) struct Outputs {
+    standard_output: Vec<u8>,
+    standard_error: Vec<u8>,
+    kept: Kept,
+}
+
+// Whether everything that was read is kept.
+#[derive(Clone, Copy, Debug, PartialEq, Eq)]
+enum Kept {
+    All,
+    // There is more than a child may write, and nothing is kept.
+    TooLong,
+    // Memory was refused, and nothing is kept.
+    OutOfMemory,
+}
+
+impl Outputs {
+    /// Nothing, before the first byte.
+    pub(crate) fn new(alloc: Global) -> Outputs {
+        Outputs {
+            standard_output: Vec::new(alloc),
+            standard_error: Vec::new(alloc),
+            kept: Kept::All,
+        }
+    }
+
+    /// Reads both pipes to their ends, whichever of them has something. Past the limit, or once memory is refused, what
+    /// comes is dropped: the child can still write, so that its own end is what ends it.
+    pub(crate) fn read_from<O: Read + AsRawFd + Drop, E: Read + AsRawFd + Drop>(
+        &mut self,
+        standard_output: O,
+        standard_error: E,
+        piece: &mut [u8],
+    ) -> io::Result<()> {
+        let mut standard_output = Some(standard_output);
+        let mut standard_error = Some(standard_error);
+        for _ in 0..u64::MAX {
+            if standard_output.is_none() && standard_error.is_none() {
+                break;
+            }
+            let ready = wait_for_either(number_of(&standard_output), number_of(&standard_error))?;
+            if ready.standard_output {
+                let count = read_or_close(&mut standard_output, piece)?;
+                self.keep(Stream::Output, &piece[..count]);
+            }
+            if ready.standard_error {
+                let count = read_or_close(&mut standard_error, piece)?;
+                self.keep(Stream::Error, &piece[..count]);
+            }
+        }
+        Ok(())
+    }
+
+    fn keep(&mut self, stream: Stream, bytes: &[u8]) {
+        if self.kept != Kept::All {
+            return;
+        }
+        let length = self
+            .standard_output
+            .len()
+            .saturating_add(self.standard_error.len());
+        if length.saturating_add(bytes.len()) > MOST_OUTPUT_BYTES {
+            self.drop_all(Kept::TooLong);
+            return;
+        }
+        let kept = match stream {
+            Stream::Output => self.standard_output.extend_from_slice(bytes),
+            Stream::Error => self.standard_error.extend_from_slice(bytes),
+        };
+        if kept.is_err() {
+            self.drop_all(Kept::OutOfMemory);
+        }
+    }
+
+    fn drop_all(&mut self, why: Kept) {
+        let alloc = *self.standard_output.allocator();
+        self.standard_output = Vec::new(alloc);
+        self.standard_error = Vec::new(alloc);
+        self.kept = why;
+    }
+
+    /// The standard output followed by the standard error. `OutputTooLong` where they are longer than a child may write.
+    pub(crate) fn into_bytes(self) -> Result<Bytes, Stop> {
+        let Outputs {
+            standard_output: mut output,
+            standard_error,
+            kept,
+        } = self;
+        match kept {
+            Kept::All => {
+                output.extend_from_slice(standard_error.as_slice())?;
+                Ok(Bytes::from(output))
+            }
+            Kept::TooLong => Err(Stop::Fault(Fault::OutputTooLong)),
+            Kept::OutOfMemory => Err(Stop::OutOfMemory),
+        }
+    }
+}
+
+// One of the two.
+#[derive(Clone, Copy, Debug)]
+enum Stream {
+    Output,
+    Error,
+}
+
+// Reads once. At its end the pipe is closed.
+fn read_or_close<P: Read + Drop>(pipe: &mut Option<P>, piece: &mut [u8]) -> io::Result<usize>
+    ensures { ReadsAtMost result piece.new }
+{
+    let Some(open) = pipe else {
+        return Ok(0);
+    };
+    let count = read_some(open, piece)?;
+    if count == 0 {
+        *pipe = None;
+    }
+    Ok(count)
+}
+
+// The number of an open pipe. A wait looks at no negative one.
+fn number_of<P: AsRawFd>(pipe: &Option<P>) -> i32 {
+    match pipe {
+        Some(pipe) => pipe.as_raw_fd(),
+        None => -1,
+    }
+}
+
+// Which of the two has something to read, or is at its end.
+#[derive(Clone, Copy, Debug)]
+struct Ready {
+    standard_output: bool,
+    standard_error: bool,
+}
+
+fn wait_for_either(standard_output: i32, standard_error: i32) -> io::Result<Ready> {
+    let asked = |fd| pollfd {
+        fd,
+        events: POLLIN,
+        revents: 0,
+    };
+    let mut both = [asked(standard_output), asked(standard_error)];
+    if libc::net::poll(&mut both, -1) < 0 {
+        let error = io::Error::from_raw_os_error(os::errno());
+        if error.kind() != ErrorKind::Interrupted {
+            return Err(error);
+        }
+        return Ok(Ready {
+            standard_output: false,
+            standard_error: false,
+        });
+    }
+    Ok(Ready {
+        standard_output: both[0].revents != 0,
+        standard_error: both[1].revents != 0,
+    })
+}

@@ -1,0 +1,31 @@
+//! Where things stand on the disk.
+
+use std::alloc::{AllocError, Global};
+use std::fs::{Files, Metadata};
+use std::io::ErrorKind;
+use std::{fs, io};
+
+/// The place of a path below a folder.
+pub(crate) fn place_in(alloc: Global, folder: &str, path: &str) -> Result<String, AllocError> {
+    let mut place = String::from_str(alloc, folder)?;
+    if !path.is_empty() {
+        place.push('/')?;
+        place.push_str(path)?;
+    }
+    Ok(place)
+}
+
+/// What stands at a place, or `None` where nothing does. A link there is told of and not followed.
+pub(crate) fn standing(files: &impl Files, place: &str) -> io::Result<Option<Metadata>> {
+    match fs::symlink_metadata(files, place) {
+        Ok(found) => Ok(Some(found)),
+        Err(e) if e.kind() == ErrorKind::NotFound => Ok(None),
+        Err(e) if e.kind() == ErrorKind::NotADirectory => Ok(None),
+        Err(e) => Err(e),
+    }
+}
+
+/// The error for a link where none is followed.
+pub(crate) fn link_refused() -> io::Error {
+    io::Error::from(ErrorKind::FilesystemLoop)
+}

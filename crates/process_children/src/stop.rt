@@ -1,0 +1,39 @@
+//! Why a call ends before its child has answered.
+
+use child_port::Fault;
+use std::alloc::AllocError;
+use std::io;
+use std::io::ErrorKind;
+
+/// Why a call ends before its child has answered.
+#[derive(Debug, Drop)]
+pub(crate) enum Stop {
+    /// Memory was refused, which counts as no call.
+    OutOfMemory,
+    /// The child failed.
+    Fault(Fault),
+}
+
+impl Stop {
+    /// The stop that an error is at a station: want of memory, whether the allocator refused it or the system, or else
+    /// the station's fault.
+    pub(crate) fn of(error: &io::Error, fault: Fault) -> Stop {
+        if is_want_of_memory(error) {
+            Stop::OutOfMemory
+        } else {
+            Stop::Fault(fault)
+        }
+    }
+}
+
+impl From<AllocError> for Stop {
+    fn from(_refusal: AllocError) -> Stop {
+        Stop::OutOfMemory
+    }
+}
+
+/// Whether memory was refused. The C library takes some of its own while it starts a program, so the system's error for
+/// it counts too.
+pub(crate) fn is_want_of_memory(error: &io::Error) -> bool {
+    error.kind() == ErrorKind::OutOfMemory
+}

@@ -1,0 +1,91 @@
+//! Where folders go that don't belong in the scratch folder, until they are emptied.
+
+use std::alloc::{AllocError, Global};
+use std::fs::Files;
+use std::io::ErrorKind;
+use std::{fs, io};
+
+/// A new folder in the scratch folder, into which other folders are moved to be emptied one by one. However deep they
+/// lie within one another, and whatever their names, each then has a short path. Its own name begins with a byte that no
+/// path of a tree has.
+#[derive(Debug, Drop)]
+pub(crate) struct Trash {
+    alloc: Global,
+    place: String,
+    moved: u64,
+    emptied: u64,
+}
+
+impl Trash {
+    /// Makes the folder, under the first name that isn't taken.
+    pub(crate) fn make_in<R: Files>(files: &R, alloc: Global, folder: &str) -> io::Result<Trash> {
+        for number in 0..u64::MAX {
+            let place = format!(in alloc; "{folder}/\u{1}{number}")?;
+            match fs::create_dir(files, place.as_str()) {
+                Ok(()) => return Ok(Trash::at(alloc, place)),
+                Err(e) if e.kind() == ErrorKind::AlreadyExists => {}
+                Err(e) => return Err(e),
+            }
+        }
+        Err(io::Error::from(ErrorKind::AlreadyExists))
+    }
+
+    fn at(alloc: Global, place: String) -> Trash {
+        Trash {
+            alloc,
+            place,
+            moved: 0,
+            emptied: 0,
+        }
+    }
+
+    /// Where it stands.
+    pub(crate) fn place(&self) -> &str {
+        self.place.as_str()
+    }
+
+    /// Takes away what stands at a place: a folder is moved here, anything else is removed. A link is not followed.
+    pub(crate) fn take(&mut self, place: &[u8]) -> io::Result<()> {
+        if os::unlink(place) == 0 {
+            return Ok(());
+        }
+        match os::errno() {
+            libc::ENOENT => Ok(()),
+            libc::EISDIR => self.move_here(place),
+            error => Err(io::Error::from_raw_os_error(error)),
+        }
+    }
+
+    // A folder whose owner may not write can't be moved, and can't be emptied.
+    fn move_here(&mut self, place: &[u8]) -> io::Result<()> {
+        let moved = self.numbered(self.moved)?;
+        succeeded(os::chmod(place, 0o700))?;
+        succeeded(os::rename(place, moved.as_str().as_bytes()))?;
+        self.moved = self.moved.saturating_add(1);
+        Ok(())
+    }
+
+    /// The place of the next folder that was moved here, or `None` after the last. It is to be emptied and removed.
+    pub(crate) fn next_folder(&mut self) -> Result<Option<String>, AllocError> {
+        if self.emptied == self.moved {
+            return Ok(None);
+        }
+        let place = self.numbered(self.emptied)?;
+        self.emptied = self.emptied.saturating_add(1);
+        Ok(Some(place))
+    }
+
+    fn numbered(&self, number: u64) -> Result<String, AllocError> {
+        let place = self.place.as_str();
+        format!(in self.alloc; "{place}/{number}")
+    }
+}
+
+// Turns C's -1 into the error that it stands for.
+fn succeeded(status: i32) -> io::Result<()> {
+    if status < 0 {
+        Err(io::Error::from_raw_os_error(os::errno()))
+    } else {
+        Ok(())
+    }
+}

@@ -1,0 +1,443 @@
+#!/usr/bin/env python3
+"""Runs real children by the built program child_trial: hostile ones, what they leave for the next, and how long they take.
+
+Usage: tests/children.py [PROGRAM]   (default: crates/child_trial/out/child_trial)
+
+Each case has a folder of its own, in which the children's folder is h/scratch. As root, what hangs on modes is played as
+nobody too. What the next child sees is told by the next child itself, and compared with a folder that is made anew.
+"""
+import atexit
+import os
+import re
+import shutil
+import signal
+import subprocess
+import sys
+import tempfile
+import time
+from pathlib import Path
+
+HERE = Path(__file__).resolve().parent
+PROGRAM = os.path.abspath(sys.argv[1] if len(sys.argv) > 1 else HERE.parent / "crates/child_trial/out/child_trial")
+NOBODY = 65534
+MIB = 1 << 20
+NAMES = ["NotStarted", "WaitFailed", "Signal", "OutputTooLong", "ScratchFailed"]
+# What a child sees: each entry's kind, mode, links and path, and what each file contains.
+SEEN = "find . -printf '%y %m %n %U %P\\n' | sed 's/^d \\([0-7]*\\) [0-9]*/d \\1/' | LC_ALL=C sort; find . -type f -print0 | LC_ALL=C sort -z | xargs -0r sha256sum"
+TREE = {"a.txt": b"one\n", "b.txt": b"two\n", "d/c.txt": b"three\n", "d/e/f.txt": b"", "d-e": b"x", "é/日本": b"y"}
+
+
+class Wrong(Exception):
+    """What is wrong, in words."""
+
+
+def check(holds, text):
+    if not holds:
+        raise Wrong(text)
+
+
+def equal(found, wanted, text):
+    check(found == wanted, f"{text}: {str(found)[:600]} in place of {str(wanted)[:600]}")
+
+
+def digits(data):
+    data = data.encode() if isinstance(data, str) else data
+    return data.hex() or "-"
+
+
+class Trial:
+    """A child_trial in a new folder, with a tree."""
+
+    def __init__(self, tree=(), user=None, keep=None, **how):
+        self.top = keep or tempfile.mkdtemp(prefix="children-", dir=BASE)
+        os.chmod(self.top, 0o777)
+        self.tree = {}
+        self.calls = self.faults = 0
+        as_user = {"user": user, "group": user, "extra_groups": []} if user is not None and os.getuid() == 0 else {}
+        self.process = subprocess.Popen([PROGRAM, "h/scratch"], cwd=self.top, stdin=subprocess.PIPE, stdout=subprocess.PIPE, stderr=subprocess.DEVNULL, **as_user, **how)
+        for path, data in dict(tree).items():
+            self.file(path, data)
+
+    def ask(self, *words):
+        self.process.stdin.write(" ".join(words).encode() + b"\n")
+        self.process.stdin.flush()
+        line = self.process.stdout.readline()
+        return bytes.fromhex(line.decode().strip()).decode() if line.endswith(b"\n") else None
+
+    def file(self, path, data):
+        self.tree[path] = data
+        self.ask("file", digits(path), digits(data))
+
+    def remove(self, path):
+        del self.tree[path]
+        self.ask("remove", digits(path))
+
+    def run(self, *words):
+        """What became of a child: a fault's name, or (status, output, changes)."""
+        text = self.ask("run", *map(digits, words))
+        check(text is not None, f"the program ends at {words!r}")
+        calls, faults, *rest = text.split(" ")
+        if rest == ["memory"]:
+            equal((calls, faults), (f"calls={self.calls}", f"faults={self.faults}"), "counts after want of memory")
+            return "memory"
+        self.calls += 1
+        self.faults += rest[0] in NAMES
+        equal((calls, faults), (f"calls={self.calls}", f"faults={self.faults}"), "counts")
+        if rest[0] in NAMES:
+            return rest[0]
+        changes = {}
+        for change in rest[2:]:
+            path, mark, data = re.fullmatch(r"([0-9a-f]+)([=-])([0-9a-f]*)", change).groups()
+            changes[bytes.fromhex(path).decode()] = bytes.fromhex(data) if mark == "=" else None
+        return int(rest[0]), bytes.fromhex(rest[1][1:]), changes
+
+    def sh(self, text):
+        return self.run("sh", "-c", text)
+
+    def sees_the_tree(self, after):
+        """That the next child finds what it would in a folder made anew, and that it leaves it so."""
+        wanted = Trial(self.tree, user=NOBODY if self.is_nobody() else None)
+        equal(self.sh(SEEN), wanted.sh(SEEN), f"what the child after {after!r} sees")
+        wanted.end()
+
+    def is_nobody(self):
+        return os.getuid() == 0 and os.stat(f"/proc/{self.process.pid}").st_uid == NOBODY
+
+    def peak(self):
+        """The most memory that the program has had, in bytes."""
+        return int(re.search(r"VmHWM:\s*(\d+) kB", Path(f"/proc/{self.process.pid}/status").read_text())[1]) * 1024
+
+    def end(self):
+        self.process.stdin.close()
+        self.process.wait()
+
+
+def users():
+    return [None, NOBODY] if os.getuid() == 0 else [None]
+
+
+# ---- how a child ends
+
+def each_status_is_told():
+    trial = Trial(TREE)
+    for status in range(256):
+        equal(trial.sh(f"exit {status}"), (status, b"", {}), f"exit {status}")
+
+
+def each_deadly_signal_is_a_fault():
+    trial = Trial(TREE)
+    deadly = [1, 2, 3, 4, 5, 6, 7, 8, 9, 10, 11, 12, 13, 14, 15, 16, 24, 25, 26, 27, 29, 30, 31, *range(34, 65)]
+    for number in deadly:
+        equal(trial.sh(f"ulimit -c 0; echo x; kill -{number} $$; sleep 9"), "Signal", f"signal {number}")
+    equal(trial.sh("ulimit -f 1; exec head -c 100000 /dev/zero > big"), "Signal", "a file past ulimit -f")
+    trial.sees_the_tree("signals")
+
+
+def what_cant_start_is_a_fault():
+    trial = Trial(TREE | {"run": b"#!/bin/sh\necho run\n"})
+    for words in (["no-such-program"], ["./a.txt"], ["./none"], ["/none"], ["a.txt/x"], [""], [], ["/"], ["sh\0"], ["sh", "-c", "\0"], ["./run"], ["d/../run"]):
+        equal(trial.run(*words), "NotStarted", f"{words!r}")
+    equal(trial.run("../prog"), "NotStarted", "a program outside that isn't there")
+    prog = Path(trial.top, "h/prog")
+    prog.write_text("#!/bin/sh\necho \"$0 $*\"\n")
+    prog.chmod(0o755)
+    equal(trial.run("../prog", "a b", ""), (0, b"../prog a b \n", {}), "a program word with a slash, from within the folder")
+    equal(trial.run(str(prog), "x"), (0, f"{prog} x\n".encode(), {}), "a program word that begins with a slash")
+    prog.write_text("echo no mark\n")
+    equal(trial.run("../prog"), "NotStarted", "a program without #!")
+
+
+# ---- what a child is given
+
+def nothing_but_the_tree_is_given():
+    reader, writer = os.pipe()
+    held = os.open("/etc/passwd", os.O_RDONLY)
+    environment = {"PATH": os.environ["PATH"], "ONE": "1 =\n", "LC_ALL": "C"}
+    trial = Trial(TREE, pass_fds=(reader, writer, held), env=environment)
+    equal(trial.sh("pwd -P; cat; readlink /proc/self/fd/0"), (0, os.path.realpath(f"{trial.top}/h/scratch").encode() + b"\n/dev/null\n", {}), "folder and input")
+    # The shell lists its own numbers by a pattern, which opens the folder for a moment.
+    numbers = trial.run("python3", "-c", "import os\nfor n in range(1000):\n  try: os.fstat(n); print(n)\n  except OSError: pass")
+    equal(numbers, (0, b"0\n1\n2\n", {}), "open files")
+    equal(trial.run("env"), (0, "".join(f"{k}={v}\n" for k, v in environment.items()).encode(), {}), "environment")
+    equal(trial.sh("ls -l /proc/self/fd | wc -l"), (0, b"5\n", {}), "/proc/self/fd: a total, three, and the folder that ls lists")
+
+
+# ---- outputs
+
+def outputs_have_a_limit():
+    trial = Trial({"a.txt": b"x" * MIB, "b.txt": b"x" * (MIB + 1), "c.txt": b"y" * 200_000})
+    equal(trial.run("cat", "a.txt"), (0, b"x" * MIB, {}), "1 MiB")
+    equal(trial.run("cat", "b.txt"), "OutputTooLong", "1 MiB and a byte")
+    equal(trial.sh("cat b.txt >&2"), "OutputTooLong", "1 MiB and a byte of standard error")
+    equal(trial.sh("head -c 1048575 a.txt >&2; echo"), (0, b"\n" + b"x" * (MIB - 1), {}), "both together 1 MiB")
+    equal(trial.sh("cat a.txt >&2; echo"), "OutputTooLong", "both together 1 MiB and a byte")
+    equal(trial.sh("cat c.txt >&2; tr y z < c.txt"), (0, b"z" * 200_000 + b"y" * 200_000, {}), "one after the other")
+    equal(trial.sh("cat b.txt; kill -9 $$"), "Signal", "a signal goes before the length")
+    equal(trial.sh("cat b.txt; rm a.txt; mkdir a.txt"), "OutputTooLong", "the length goes before what can't be read back")
+    peak = trial.peak()
+    equal(trial.run("python3", "-c", "import os\nx = bytes(65536)\nfor i in range(8192): os.write(1, x); os.write(2, x)"), "OutputTooLong", "1 GiB in turns")
+    check(trial.peak() <= peak + 4 * MIB, f"1 GiB of output takes {trial.peak() - peak} bytes")
+
+
+def outputs_may_be_closed_early():
+    trial = Trial(TREE)
+    equal(trial.sh("exec >&- 2>&-; sleep 0.3; echo late > a.txt; exit 7"), (7, b"", {"a.txt": b"late\n"}), "both closed")
+    equal(trial.sh("echo a; exec >&-; echo b >&2; sleep 0.1; echo c >&2"), (0, b"a\nb\nc\n", {}), "one closed")
+    equal(trial.sh("(sleep 0.4; echo late) & echo now"), (0, b"now\nlate\n", {}), "a grandchild that holds the pipe")
+
+
+# ---- what is read back
+
+def changes_are_read_back():
+    trial = Trial(TREE | {"big": b"x" * 70_000})
+    equal(trial.sh("rm a.txt"), (0, b"", {"a.txt": None}), "a file is gone")
+    equal(trial.sh("rm -r d; : > d"), (0, b"", {"d/c.txt": None, "d/e/f.txt": None}), "a file in a folder's place")
+    equal(trial.sh("rm a.txt; mkdir a.txt"), "ScratchFailed", "a folder in a file's place")
+    equal(trial.sh("echo more >> big; : > b.txt; echo new > new; chmod 600 d-e"), (0, b"", {"b.txt": b"", "big": b"x" * 70_000 + b"more\n"}), "changed files")
+    equal(trial.sh("printf 'y' | dd of=big bs=1 seek=69999 conv=notrunc 2>/dev/null"), (0, b"", {"big": b"x" * 69_999 + b"y"}), "the last byte")
+    equal(trial.sh("head -c 16777216 /dev/zero > a.txt")[2]["a.txt"], bytes(16 * MIB), "16 MiB")
+    equal(trial.sh("head -c 16777217 /dev/zero > a.txt"), "ScratchFailed", "16 MiB and a byte")
+    equal(trial.sh("truncate -s 1T a.txt"), "ScratchFailed", "a file of holes")
+    equal(trial.sh('rm -rf "$PWD"'), (0, b"", dict.fromkeys(trial.tree)), "the folder is gone")
+    equal(trial.sh('cd ../..; rm -rf h'), (0, b"", dict.fromkeys(trial.tree)), "its parent is gone too")
+    equal(trial.sh('cd ..; rm -rf scratch; : > scratch'), (0, b"", dict.fromkeys(trial.tree)), "a file in the folder's place")
+    trial.sees_the_tree("a removed folder")
+
+
+def modes_hide_nothing_from_the_next():
+    for user in users():
+        trial = Trial(TREE, user=user)
+        is_root = os.getuid() == 0 and user is None
+        for text in ("chmod 000 .", "chmod 000 a.txt", "chmod 000 d", "chmod 400 d", "chmod 300 d; mkdir z z/y z/y/x; : > z/y/x/f; chmod 000 z/y/x z/y z"):
+            unreadable = not is_root and text != "chmod 300 d; mkdir z z/y z/y/x; : > z/y/x/f; chmod 000 z/y/x z/y z"
+            equal(trial.sh(text), "ScratchFailed" if unreadable else (0, b"", {}), f"{text} as {user}")
+            trial.sees_the_tree(text)
+        for text in ("chmod 7777 .", "chmod 2777 d; chmod 4755 a.txt", "umask 0; mkdir o; : > o/x", "chmod 500 ."):
+            equal(trial.sh(text), (0, b"", {}), f"{text} as {user}")
+            trial.sees_the_tree(text)
+
+
+STRAYS = [
+    "touch new .hidden 'a b' -x; mkdir -p d/n/n/n d/e/f.txt.d; touch d/n/n/n/x é/z",
+    "mkfifo f; ln -s f l; ln -s /etc e; ln -s none n; ln -s . d/loop",
+    "rm a.txt; mkfifo a.txt",
+    "rm a.txt; ln -s b.txt a.txt",
+    "rm a.txt; mkdir a.txt; touch a.txt/x",
+    "rm -r d; touch d",
+    "rm -r d; mkfifo d",
+    "rm -r d; ln -s /etc d",
+    "rm b.txt; ln a.txt b.txt",
+    "ln a.txt second",
+    "touch $(printf '\\377') $(printf 'd/\\200\\201'); mkdir $(printf '\\376'); touch $(printf '\\376/\\375'); mkdir -p $(printf 'd/\\374/\\373')",
+    "mkdir -p $(printf '\\001')0/1/0 $(printf '\\001')1; touch $(printf '\\001')2 $(printf '\\001')0/0; rm a.txt",
+    "i=0; while [ $i -lt 300 ]; do mkdir dddddddddddddddddddddd; cd dddddddddddddddddddddd; i=$((i+1)); done; touch x",
+    "mkdir -p d/$(printf 'x%.0s' $(seq 250)); touch d/$(printf 'y%.0s' $(seq 255))",
+    "rm -r d a.txt b.txt; mkdir -p d/c.txt/e d/e/f.txt; chmod 000 d/c.txt d/e d",
+    "rm a.txt; : > a.txt; printf 'ONE\\n' > a.txt",
+    "touch -d 1970-01-01 a.txt; rm d-e; printf y > d-e",
+]
+
+
+def whatever_a_child_left_is_gone():
+    for user in users():
+        trial = Trial(TREE, user=user)
+        for text in STRAYS:
+            trial.sh(text)
+            trial.sees_the_tree(text)
+        trial.run("python3", "-c", "import socket; socket.socket(socket.AF_UNIX).bind('a socket')")
+        trial.sees_the_tree("a socket")
+        trial.run("python3", "-c", "import os\nfor i in range(100000): os.close(os.open(f'd/{i}', os.O_CREAT | os.O_WRONLY))")
+        start = time.monotonic()
+        trial.sees_the_tree("100,000 files")
+        check(time.monotonic() - start < 20, f"100,000 files take {time.monotonic() - start:.1f} s to remove")
+        trial.run("python3", "-c", "import os\nfor i in range(3000): os.mkdir('deep'); os.chdir('deep')")
+        trial.sees_the_tree("folders 3,000 deep")
+    if os.getuid() == 0:
+        trial = Trial(TREE)
+        for text in ("chown 65534 a.txt", "chown 65534:65534 d", "chown -R 65534 ."):
+            equal(trial.sh(text), (0, b"", {}), text)
+            trial.sees_the_tree(text)
+
+
+def the_tree_may_change_between_two():
+    trial = Trial(TREE)
+    for path, data in (("a.txt", b"other\n"), ("d", None), ("d/c.txt", b""), ("n/e/w", b"1"), ("a.txt/x", b"2"), ("zz", b"3")):
+        if data is None:
+            for inner in [p for p in trial.tree if p.startswith("d/")]:
+                trial.remove(inner)
+            trial.file("d", b"a file now")
+        else:
+            for outer in [p for p in trial.tree if path.startswith(p + "/")]:
+                trial.remove(outer)
+            trial.file(path, data)
+        trial.sees_the_tree(f"{path} is put")
+    for path in list(trial.tree):
+        trial.remove(path)
+    trial.sees_the_tree("all files are removed")
+
+
+# ---- links
+
+def no_link_is_followed():
+    outside = tempfile.mkdtemp(prefix="outside-", dir=BASE)
+    Path(outside, "c.txt").write_text("secret\n")
+    Path(outside, "scratch").mkdir()
+    Path(outside, "scratch/kept").write_text("kept\n")
+    before = sorted((p, p.is_file() and p.read_bytes()) for p in Path(outside).rglob("*"))
+
+    def untouched(text):
+        equal(sorted((p, p.is_file() and p.read_bytes()) for p in Path(outside).rglob("*")), before, f"what lies outside, after {text}")
+
+    trial = Trial(TREE)
+    for text in (f"rm a.txt; ln -s {outside}/c.txt a.txt", f"rm -r d; ln -s {outside} d", f"cd ..; rm -r scratch; ln -s {outside} scratch"):
+        equal(trial.sh(text), "ScratchFailed", text)
+        if text.startswith("cd"):
+            equal(trial.sh("true"), "ScratchFailed", "the folder is a link")
+            untouched(text)
+            os.unlink(f"{trial.top}/h/scratch")
+        trial.sees_the_tree(text)
+        untouched(text)
+    trial.sh(f"cd ../..; mv h g; ln -s {outside} h")
+    equal(trial.sh("true"), "ScratchFailed", "the folder's parent is a link")
+    untouched("a parent that is a link")
+
+
+def no_file_is_written_in_place():
+    trial = Trial(TREE)
+    outside = Path(trial.top, "outside")
+    outside.write_bytes(b"one\n")
+    trial.sh("rm a.txt; ln ../../outside a.txt; chmod 644 a.txt")
+    trial.sees_the_tree("a second name outside, with equal bytes")
+    check(outside.stat().st_nlink == 1, "the outside file keeps a name inside")
+    trial.sh("rm a.txt; ln ../../outside a.txt")
+    trial.file("a.txt", b"changed\n")
+    trial.sees_the_tree("a second name outside, with other bytes")
+    equal(outside.read_bytes(), b"one\n", "the outside file")
+    trial.file("a.txt", b"same\n")
+    trial.file("b.txt", b"same\n")
+    trial.sh("rm b.txt; ln a.txt b.txt")
+    equal(trial.sh("echo x >> a.txt"), (0, b"", {"a.txt": b"same\nx\n"}), "two files that the child before had linked")
+
+
+# ---- stops and refusals
+
+def a_killed_program_leaves_no_harm():
+    trial = Trial({f"n{i % 7}/f{i}": b"x" * i for i in range(300)})
+    tree, top = trial.tree, trial.top
+    for turn in range(12):
+        trial.process.stdin.write(b"run " + digits("sh").encode() + b" 2d63 " + digits("touch new; rm -r n1; sleep 0.02").encode() + b"\n")
+        trial.process.stdin.flush()
+        time.sleep(0.004 * turn)
+        trial.process.send_signal(signal.SIGKILL)
+        trial.process.wait()
+        time.sleep(0.1)
+        trial = Trial(tree, keep=top)
+        trial.sees_the_tree(f"kill {turn}")
+
+
+def refused_memory_is_told_as_such():
+    library = Path(BASE, "refuse.so")
+    hide = Path(BASE, "hide.c")
+    # The children are to have their memory.
+    hide.write_text('#include <stdlib.h>\n__attribute__((constructor)) static void hide(void) { unsetenv("LD_PRELOAD"); }\n')
+    subprocess.run(["cc", "-O2", "-shared", "-fPIC", "-o", library, HERE / "refuse_allocation.c", hide, "-ldl"], check=True)
+    rows = [f"file {digits(p)} {digits(d)}" for p, d in {"a.txt": b"one\n", "d/b.txt": b"two\n"}.items()]
+    hostile = "cat a.txt; echo e >&2; echo x > a.txt; rm d/b.txt; mkdir -p n/m; touch n/m/x"
+    rows += [f"run {digits('sh')} {digits('-c')} {digits(hostile)}"] * 2
+    wanted = None
+    told = 0
+    for number in range(0, 2_000):
+        top = tempfile.mkdtemp(prefix="refused-", dir=BASE)
+        refused = Path(top, "refused")
+        environment = os.environ | {"LD_PRELOAD": str(library), "REFUSE_ALLOCATION": str(number), "REFUSED_FILE": str(refused)}
+        done = subprocess.run([PROGRAM, "h/scratch"], cwd=top, input="\n".join(rows).encode() + b"\n", env=environment, capture_output=True)
+        answers = [bytes.fromhex(line).decode() for line in done.stdout.decode().split("\n")[:-1]]
+        outcomes = [re.sub(r"^calls=\d+ faults=\d+ ", "", a) for a in answers if a]
+        if wanted is None:
+            wanted = outcomes
+            equal(len(wanted), 2, "two outcomes with ample memory")
+        for outcome, right in zip(outcomes, wanted):
+            check(outcome in (right, "memory"), f"allocation {number} is refused, and the outcome is {outcome}")
+        check(done.returncode == 3 or len(outcomes) == 2, f"allocation {number} is refused, and the program ends with {done.returncode}")
+        check(outcomes.count("memory") <= 1, f"allocation {number} is refused, and memory is refused twice")
+        told += outcomes.count("memory")
+        was_refused = refused.exists()
+        shutil.rmtree(top)
+        if number > 0 and not was_refused:
+            break
+    check(number > 50 and told > 20, f"only {number} allocations, {told} of them told of")
+
+
+# ---- time and memory
+
+def seconds(action, times=5):
+    best = None
+    for _ in range(times):
+        start = time.monotonic()
+        action()
+        best = min(best or 9e9, time.monotonic() - start)
+    return best
+
+
+def a_second_child_takes_about_as_long_as_reading():
+    for text, tree in (("5,000 files", {f"d{i % 50}/f{i}": b"x" * 400 for i in range(5_000)}), ("4 files of 16 MiB", {f"f{i}": None for i in range(4)})):
+        trial = Trial()
+        for path, data in tree.items():
+            trial.file(path, data) if data is not None else trial.ask("letters", digits(path), digits(str(16 * MIB)))
+        equal(trial.run("true"), (0, b"", {}), "the first child")
+        scratch = f"{trial.top}/h/scratch"
+        for _round in range(5):
+            reading = seconds(lambda: subprocess.run("find . -type f -print0 | xargs -0 cat > /dev/null", shell=True, cwd=scratch, check=True))
+            ours = seconds(lambda: equal(trial.run("true"), (0, b"", {}), "a second child"))
+            if ours <= 3 * reading:
+                break
+        print(f"children: a second child over {text}: {ours * 1000:.0f} ms, cat {reading * 1000:.0f} ms, {ours / reading:.2f} times")
+        size = sum(len(d) if d is not None else 16 * MIB for d in tree.values())
+        check(ours <= 3 * reading, f"a second child over {text} takes {ours / reading:.2f} times as long as cat")
+        if size > 32 * MIB:
+            check(trial.peak() <= 4 * size, f"{trial.peak()} bytes for a tree of {size}")
+
+
+def output_is_read_as_fast_as_by_cat():
+    trial = Trial({"a.txt": b"x" * MIB})
+    trial.run("cat", "a.txt")
+    path = f"{trial.top}/h/scratch/a.txt"
+    nothing = seconds(lambda: trial.run("true"), 20)
+    told = seconds(lambda: equal(trial.ask("measure", digits("cat"), digits("a.txt")), f"0 {MIB} 0", "1 MiB of output"), 20)
+    piped = seconds(lambda: subprocess.run(f"cat {path} | cat > /dev/null", shell=True), 20)
+    print(f"children: a child with 1 MiB of output: {told * 1000:.1f} ms, one without {nothing * 1000:.1f} ms, cat to cat {piped * 1000:.1f} ms")
+    check(told - nothing <= 3 * piped, f"1 MiB of output takes {(told - nothing) / piped:.2f} times as long as from cat to cat")
+
+
+def memory_is_in_proportion_to_the_tree():
+    size = 4 * 16 * MIB
+    trial = Trial()
+    for i in range(4):
+        trial.ask("letters", digits(f"f{i}"), digits(str(16 * MIB)))
+    before = trial.peak()
+    equal(trial.ask("measure", "sh".encode().hex(), "-c".encode().hex(), digits("for f in f*; do tr x y < $f > new; mv new $f; done")), "0 0 4", "all files change")
+    print(f"children: memory for a tree of {size // MIB} MiB: {before // MIB} MiB before a child that changes all of it, {trial.peak() // MIB} MiB after")
+    check(trial.peak() <= 4 * size, f"{trial.peak()} bytes for a tree of {size}")
+
+
+CASES = [case for name, case in list(globals().items()) if callable(case) and getattr(case, "__module__", "") == __name__ and "_" in name and case.__code__.co_argcount == 0]
+
+if __name__ == "__main__":
+    BASE = tempfile.mkdtemp(prefix="children-")
+    # A shell in the background hands these on as ignored.
+    for number in (signal.SIGINT, signal.SIGQUIT):
+        signal.signal(number, signal.SIG_DFL)
+    os.chmod(BASE, 0o777)
+    atexit.register(shutil.rmtree, BASE, True)
+    failed = 0
+    for case in CASES:
+        start = time.monotonic()
+        try:
+            case()
+        except Wrong as wrong:
+            failed += 1
+            print(f"children: {case.__name__}: {wrong}")
+        if "-v" in sys.argv:
+            print(f"children: {case.__name__}: {time.monotonic() - start:.1f} s")
+    print(f"children: {len(CASES) - failed} passed, {failed} failed")
+    sys.exit(1 if failed else 0)
