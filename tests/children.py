@@ -1,5 +1,5 @@
 #!/usr/bin/env python3
-"""Runs real children by the built program child_trial: hostile ones, what they leave for the next, and how long they take.
+"""Runs real children by the built program child_trial: hostile ones, and what they leave for the next.
 
 Usage: tests/children.py [PROGRAM]   (default: crates/child_trial/out/child_trial)
 
@@ -18,7 +18,15 @@ import time
 from pathlib import Path
 
 HERE = Path(__file__).resolve().parent
-PROGRAM = os.path.abspath(sys.argv[1] if len(sys.argv) > 1 else HERE.parent / "crates/child_trial/out/child_trial")
+# Everything lies here, a copy of the program too, which nobody may run where the repository is closed to all but its owner.
+BASE = tempfile.mkdtemp(prefix="children-")
+os.chmod(BASE, 0o777)
+atexit.register(shutil.rmtree, BASE, True)
+PROGRAM = shutil.copy(sys.argv[1] if len(sys.argv) > 1 else HERE.parent / "crates/child_trial/out/child_trial", Path(BASE, "child_trial"))
+os.chmod(PROGRAM, 0o755)
+# A shell in the background hands these on as ignored.
+for number in (signal.SIGINT, signal.SIGQUIT):
+    signal.signal(number, signal.SIG_DFL)
 NOBODY = 65534
 MIB = 1 << 20
 NAMES = ["NotStarted", "WaitFailed", "Signal", "OutputTooLong", "ScratchFailed"]
@@ -247,9 +255,7 @@ def whatever_a_child_left_is_gone():
         trial.run("python3", "-c", "import socket; socket.socket(socket.AF_UNIX).bind('a socket')")
         trial.sees_the_tree("a socket")
         trial.run("python3", "-c", "import os\nfor i in range(100000): os.close(os.open(f'd/{i}', os.O_CREAT | os.O_WRONLY))")
-        start = time.monotonic()
         trial.sees_the_tree("100,000 files")
-        check(time.monotonic() - start < 20, f"100,000 files take {time.monotonic() - start:.1f} s to remove")
         trial.run("python3", "-c", "import os\nfor i in range(3000): os.mkdir('deep'); os.chdir('deep')")
         trial.sees_the_tree("folders 3,000 deep")
     if os.getuid() == 0:
@@ -368,67 +374,20 @@ def refused_memory_is_told_as_such():
     check(number > 50 and told > 20, f"only {number} allocations, {told} of them told of")
 
 
-# ---- time and memory
-
-def seconds(action, times=5):
-    best = None
-    for _ in range(times):
-        start = time.monotonic()
-        action()
-        best = min(best or 9e9, time.monotonic() - start)
-    return best
-
-
-def a_second_child_takes_about_as_long_as_reading():
-    for text, tree in (("5,000 files", {f"d{i % 50}/f{i}": b"x" * 400 for i in range(5_000)}), ("4 files of 16 MiB", {f"f{i}": None for i in range(4)})):
-        trial = Trial()
-        for path, data in tree.items():
-            trial.file(path, data) if data is not None else trial.ask("letters", digits(path), digits(str(16 * MIB)))
-        equal(trial.run("true"), (0, b"", {}), "the first child")
-        scratch = f"{trial.top}/h/scratch"
-        for _round in range(5):
-            reading = seconds(lambda: subprocess.run("find . -type f -print0 | xargs -0 cat > /dev/null", shell=True, cwd=scratch, check=True))
-            ours = seconds(lambda: equal(trial.run("true"), (0, b"", {}), "a second child"))
-            if ours <= 3 * reading:
-                break
-        print(f"children: a second child over {text}: {ours * 1000:.0f} ms, cat {reading * 1000:.0f} ms, {ours / reading:.2f} times")
-        size = sum(len(d) if d is not None else 16 * MIB for d in tree.values())
-        check(ours <= 3 * reading, f"a second child over {text} takes {ours / reading:.2f} times as long as cat")
-        if size > 32 * MIB:
-            check(trial.peak() <= 4 * size, f"{trial.peak()} bytes for a tree of {size}")
-
-
-def output_is_read_as_fast_as_by_cat():
-    trial = Trial({"a.txt": b"x" * MIB})
-    trial.run("cat", "a.txt")
-    path = f"{trial.top}/h/scratch/a.txt"
-    nothing = seconds(lambda: trial.run("true"), 20)
-    told = seconds(lambda: equal(trial.ask("measure", digits("cat"), digits("a.txt")), f"0 {MIB} 0", "1 MiB of output"), 20)
-    piped = seconds(lambda: subprocess.run(f"cat {path} | cat > /dev/null", shell=True), 20)
-    print(f"children: a child with 1 MiB of output: {told * 1000:.1f} ms, one without {nothing * 1000:.1f} ms, cat to cat {piped * 1000:.1f} ms")
-    check(told - nothing <= 3 * piped, f"1 MiB of output takes {(told - nothing) / piped:.2f} times as long as from cat to cat")
-
+# ---- memory
 
 def memory_is_in_proportion_to_the_tree():
     size = 4 * 16 * MIB
     trial = Trial()
     for i in range(4):
         trial.ask("letters", digits(f"f{i}"), digits(str(16 * MIB)))
-    before = trial.peak()
     equal(trial.ask("measure", "sh".encode().hex(), "-c".encode().hex(), digits("for f in f*; do tr x y < $f > new; mv new $f; done")), "0 0 4", "all files change")
-    print(f"children: memory for a tree of {size // MIB} MiB: {before // MIB} MiB before a child that changes all of it, {trial.peak() // MIB} MiB after")
     check(trial.peak() <= 4 * size, f"{trial.peak()} bytes for a tree of {size}")
 
 
 CASES = [case for name, case in list(globals().items()) if callable(case) and getattr(case, "__module__", "") == __name__ and "_" in name and case.__code__.co_argcount == 0]
 
 if __name__ == "__main__":
-    BASE = tempfile.mkdtemp(prefix="children-")
-    # A shell in the background hands these on as ignored.
-    for number in (signal.SIGINT, signal.SIGQUIT):
-        signal.signal(number, signal.SIG_DFL)
-    os.chmod(BASE, 0o777)
-    atexit.register(shutil.rmtree, BASE, True)
     failed = 0
     for case in CASES:
         start = time.monotonic()

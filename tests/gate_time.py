@@ -21,9 +21,9 @@ from collections import defaultdict
 
 # What the whole gate may take, in processor minutes: 130, 8 for each of file_tags, path_select, builtin_hooks and report_text,
 # 12 for hook_run, 8 for what hook_config, hook_cli and the scripts grew with it, 15 for commit_flow, 8 for what the
-# store's crates grew for it, 5 for its commands in the program and their scripts, and 8 for each of arg_partition and
-# result_book. Who adds a crate says what it adds.
-BUDGET = 130 + 4 * 8 + 12 + 8 + 15 + 8 + 5 + 2 * 8
+# store's crates grew for it, 5 for its commands in the program and their scripts, and 8 for each of arg_partition,
+# result_book and process_children. Who adds a crate says what it adds.
+BUDGET = 130 + 4 * 8 + 12 + 8 + 15 + 8 + 5 + 3 * 8
 PAUSE = 0.5
 TICKS = os.sysconf("SC_CLK_TCK")
 PHASES = ["proofs", "edits", "program"]
