@@ -1,9 +1,9 @@
 //! Children that are real processes: `ProcessChildren` is the trait `Children` over the system's programs and files.
 //!
-//! One call goes through four stations, each a file of its own: the scratch folder is made to hold the files of the tree
-//! and nothing else (`keep`, with `trash` for what doesn't belong there), the words are started in it (`start`), both
-//! outputs are read side by side to their ends and the child is waited for (`outputs`), and the files are read back
-//! (`read_back`). The first fault decides.
+//! One call goes through four stations. The scratch folder is made to hold the files of the tree and nothing else
+//! (`keep`; `strays` and `trash` for what doesn't belong there, `fresh` for what is as it would be made). The words are
+//! started in it (`start`). Both outputs are read side by side to their ends, and the child is waited for (`outputs`,
+//! `ending`). The files are read back (`read_back`). The first fault decides.
 //!
 //! What a process does can't be told beforehand, so the contracts speak of the counts alone, by the words of
 //! `child_port`: any outcome may be told (`specs/Anything.antt`).
