@@ -1,4 +1,1 @@
-pub mod EndingLemmas
-pub mod OneRunLemmas
-pub mod ReportLemmas
-pub mod RunLemmas
+pub mod HookRefs

@@ -9,16 +9,26 @@
 #![tactic(auto)]
 
 mod asked;
-mod ending;
+mod begun;
+mod command;
+mod course;
+mod gathered;
 pub mod laws;
+mod limits;
+mod modified;
 mod need;
 mod plan;
+mod progress;
 mod report;
 mod run_ask;
-mod run_hooks;
 mod run_out;
 mod run_refusal;
+mod standing;
+mod stub;
+mod waiting;
+mod work;
 
+pub use limits::{MOST_COMMAND_BYTES, MOST_NAMES};
 pub use need::Need;
 pub use plan::RunPlan;
 pub use run_ask::RunAsk;
