@@ -1,1 +1,2 @@
 pub mod HookRefs
+pub mod RowLemmas

@@ -1,5 +1,5 @@
 -- Where a plan stands, as the code has it. Serves private functions alone.
-use Rattle.std.specs.Prelude.{◌≡◌, ℕ, Bool, false, List, [], ◌∷◌, drop, map, Option, None, Some}
+use Rattle.std.specs.Prelude.{◌≡◌, ℕ, Bool, false, if◌then◌else◌, List, [], ◌∷◌, drop, map, Option, None, Some}
 use Rattle.hook_base.specs.declared.file.File.{File}
 use Rattle.hook_run.specs.SeenStub.{seen_of}
 use Rattle.hook_config.specs.declared.configuration.Config.{Config}
@@ -8,8 +8,10 @@ use Rattle.report_text.specs.declared.hook_result.Ending.{Ending}
 use Rattle.hook_config.specs.declared.configuration.Hook.{Hook}
 use Rattle.path_select.specs.Candidates.{ArePassing}
 use Rattle.hook_run.specs.declared.course.Course.{Course}
+use Rattle.hook_run.specs.declared.gathered.Gathered.{Gathered}
 use Rattle.hook_run.specs.declared.progress.Progress.{Progress}
 use Rattle.hook_run.specs.declared.run_ask.RunAsk.{RunAsk}
+use Rattle.hook_run.specs.declared.run_out.RunOut.{RunOut}
 use Rattle.hook_run.specs.declared.begun.Begun.{Begun}
 use Rattle.hook_run.specs.declared.begun.Begun.TheVariants as begun
 use Rattle.hook_run.specs.declared.waiting.Waiting.{Waiting}
@@ -20,7 +22,7 @@ use Rattle.hook_run.specs.Asks.{hooks_of_run, names_of_run}
 use Rattle.hook_run.specs.HookRun.{IsEnding, commands_of, further_of, sees_whole}
 use Rattle.hook_run.specs.Parts.{ArePartsOf, Part}
 use Rattle.hook_run.specs.PartsEnding.{ending_of_parts}
-use Rattle.hook_run.specs.Plans.{AtHook, ending_of_gathered, nothing_gathered}
+use Rattle.hook_run.specs.Plans.{AtHook, Completes, Plan, ending_of_gathered, nothing_gathered}
 
 -- the hooks are those that the run goes through, and the candidates those that pass the patterns of the configuration
 pub record IsCourse (course : Course) : Type 0 where
@@ -52,6 +54,10 @@ at_hook waiting = record {
 abbrev pub waiting_at : Standing → Option AtHook
 waiting_at (Waits waiting) = Some (at_hook waiting)
 waiting_at (Over report) = None
+
+-- the same, with other things gathered
+abbrev pub with_gathered : AtHook → Gathered → AtHook
+with_gathered at all = record { hook = at.hook; before = at.before; commands = at.commands; gathered = all }
 
 -- what the child of the next part sees is made of this tree
 abbrev pub IsSeenOn : List File → Waiting → Type 0
@@ -87,3 +93,16 @@ pub record IsFirstOf (EndsWith : List Part → Ending → Type 0) (hook : Hook) 
 abbrev pub HasBegun : (List Part → Ending → Type 0) → Hook → List File → Begun → Type 0
 HasBegun EndsWith hook tree (begun.Ended ending unsteady) = EndsWith [] ending × (unsteady ≡ false)
 HasBegun EndsWith hook tree (begun.Waits waiting) = IsFirstOf EndsWith hook tree (at_hook waiting) × IsSeenOn tree waiting
+
+-- ---- what hooks that are done left
+
+abbrev pub id_if : Bool → Hook → List (List ℕ)
+id_if unsteady hook = if unsteady then hook.id ∷ [] else []
+
+-- the same on another tree
+abbrev pub on_tree : Progress → List File → Progress
+on_tree done tree = record { results = done.results; unsteady = done.unsteady; tree = tree }
+
+-- what completes the plan goes on so
+abbrev pub GoesOnSo : (List Part → RunOut → Type 0) → Plan → Type 0
+GoesOnSo Goes plan = (parts : List Part) (out : RunOut) → Completes plan parts out → Goes parts out
