@@ -27,9 +27,17 @@ entry-behind path rows i row at other = ap (entry_of path) (drop-at rows i row a
 pub entry-none : (path : List ℕ) (rows : List File) (i : ℕ) → length rows ≤ i → entry_of path (drop i rows) ≡ None
 entry-none path rows i past = ap (entry_of path) (drop_of_length-le rows past)
 
-pub any-behind : (test : File → Bool) (rows : List File) (i : ℕ) (row : File) → slice_get rows i ≡ Some row
+any-behind : (test : File → Bool) (rows : List File) (i : ℕ) (row : File) → slice_get rows i ≡ Some row
     → list_any test (drop i rows) ≡ (test row || list_any test (drop (i + 1) rows))
 any-behind test rows i row at = ap (list_any test) (drop-at rows i row at)
+
+pub any-found : (test : File → Bool) (rows : List File) (i : ℕ) (row : File) → slice_get rows i ≡ Some row → test row ≡ true
+    → list_any test (drop i rows) ≡ true
+any-found test rows i row at found = any-behind test rows i row at ∙ ap (λ b. b || list_any test (drop (i + 1) rows)) found
+
+pub any-passed : (test : File → Bool) (rows : List File) (i : ℕ) (row : File) → slice_get rows i ≡ Some row → test row ≡ false
+    → list_any test (drop i rows) ≡ list_any test (drop (i + 1) rows)
+any-passed test rows i row at not_found = any-behind test rows i row at ∙ ap (λ b. b || list_any test (drop (i + 1) rows)) not_found
 
 pub any-none : (test : File → Bool) (rows : List File) (i : ℕ) → length rows ≤ i → list_any test (drop i rows) ≡ false
 any-none test rows i past = ap (list_any test) (drop_of_length-le rows past)

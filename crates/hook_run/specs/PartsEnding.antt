@@ -54,9 +54,13 @@ abbrev pub has_changed : File → Option FileEntry → Bool
 has_changed row None = true
 has_changed row (Some entry) = not (bytes_eq row.entry.bytes entry.bytes)
 
+-- the row is that of a tracked file, which is gone from the tree, or has other bytes there
+abbrev pub is_modified_row : List File → File → Bool
+is_modified_row after row = is_tracked row && has_changed row (entry_of row.path after)
+
 -- a tracked file of the first tree is gone from the second, or has other bytes there
 abbrev pub is_modified : List File → List File → Bool
-is_modified before after = list_any (λ row. is_tracked row && has_changed row (entry_of row.path after)) before
+is_modified before after = list_any (is_modified_row after) before
 
 -- how a hook with these parts ends, which began on this tree
 abbrev pub ending_of_parts : List File → List Part → Ending

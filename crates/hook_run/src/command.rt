@@ -3,6 +3,7 @@
 ghost use Rattle.std.specs.Prelude.{◌≡◌, ◌++◌, ◌∷◌, IfOk, Some, None};
 ghost use Rattle.std.specs.List.{list_any};
 ghost use Rattle.std.specs.Option.{option_copied};
+ghost use Rattle.std.specs.Str.{bytes_eq};
 ghost use Rattle.hook_base.specs.Paths.{is_slash};
 ghost use Rattle.hook_base.specs.Trees.{entry_of};
 ghost use Rattle.hook_run.specs.Commands.{command_of, command_with, starter_of};
@@ -11,7 +12,7 @@ ghost use Rattle.file_tags.specs.Shebangs.{shebang_of};
 
 use crate::stub::plain_word;
 use file_tags::shebang;
-use hook_base::{FileEntry, Items, OutOfMemory, Text, Tree};
+use hook_base::{File, FileEntry, Items, OutOfMemory, Text, Tree};
 use std::alloc::Global;
 
 /// The command of a hook on the tree, without names, from the words of its entry and arguments. `is_script` says that its
@@ -43,11 +44,17 @@ fn entry_at<'a>(tree: &'a Tree, path: &str) -> Option<&'a FileEntry>
 {
     'rows: for index in 0..tree.len() {
         let row = tree.entry(index);
-        if row.path.as_str() == path {
+        if is_at(row, path) {
             return Some(&row.entry);
         }
     }
     None
+}
+
+fn is_at(row: &File, path: &str) -> bool
+    ensures { result ≡ bytes_eq path.now row.now.path }
+{
+    path == row.path.as_str()
 }
 
 fn has_slash(word: &str) -> bool

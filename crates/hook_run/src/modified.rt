@@ -1,9 +1,8 @@
 //! Whether a hook modified files.
 
-ghost use Rattle.std.specs.Prelude.{◌≡◌, ◌&&◌};
-ghost use Rattle.std.specs.List.{list_any};
+ghost use Rattle.std.specs.Prelude.{◌≡◌};
 ghost use Rattle.std.specs.Option.{option_copied};
-ghost use Rattle.hook_run.specs.PartsEnding.{has_changed, is_modified, is_tracked};
+ghost use Rattle.hook_run.specs.PartsEnding.{has_changed, is_modified, is_modified_row, is_tracked};
 
 use hook_base::{File, FileEntry, Tree};
 
@@ -13,11 +12,17 @@ pub fn is_modified(before: &Tree, after: &Tree) -> bool
 {
     'rows: for index in 0..before.len() {
         let row = before.entry(index);
-        if is_tracked(row) && has_changed(row, after.get(&row.path)) {
+        if is_modified_row(after, row) {
             return true;
         }
     }
     false
+}
+
+fn is_modified_row(after: &Tree, row: &File) -> bool
+    ensures { result ≡ is_modified_row after.now row.now }
+{
+    is_tracked(row) && has_changed(row, after.get(&row.path))
 }
 
 // The message of a commit isn't tracked.

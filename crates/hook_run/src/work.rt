@@ -53,14 +53,14 @@ pub(crate) fn go_on<'a>(
 
 // The next part of the hook, which isn't begun yet, waits.
 fn waits<'a>(alloc: Global, work: Work<'a>, tree: &Tree) -> Result<Begun<'a>, OutOfMemory>
-    requires { work.entry.begun < length work.entry.cuts }
+    requires { work.begun < length work.cuts }
     ensures { IfOk result (HasGoneOn (at_work work.entry) tree.now) }
 {
     let mut work = work;
     let cut = work.cuts.as_slice()[work.begun];
     let names = names_of(work.names.as_slice(), cut);
     let command = command_with(alloc, work.words.as_slice(), names)?;
-    let seen = seen_of(command.as_slice(), !work.hook.pass_filenames, tree)?;
+    let seen = seen_of(alloc, command.as_slice(), !work.hook.pass_filenames, tree)?;
     work.begun += 1;
     Ok(Begun::Waits(Waiting {
         work,
@@ -71,7 +71,7 @@ fn waits<'a>(alloc: Global, work: Work<'a>, tree: &Tree) -> Result<Begun<'a>, Ou
 
 // The hook has ended, as what its parts came to says.
 fn ended<'a>(work: Work<'a>, tree: &Tree) -> Begun<'a>
-    requires { length work.entry.cuts ≤ work.entry.begun }
+    requires { length work.cuts ≤ work.begun }
     ensures { HasGoneOn (at_work work.entry) tree.now result }
 {
     let Work {
