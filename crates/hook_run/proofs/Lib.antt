@@ -1,2 +1,6 @@
+pub mod AdvanceLemmas
+pub mod BeginLemmas
 pub mod HookRefs
+pub mod PlanLemmas
 pub mod RowLemmas
+pub mod RunLemmas

@@ -4,6 +4,7 @@ pub mod HookRun
 pub mod Limits
 pub mod Parts
 pub mod PartsEnding
+pub mod PlanRuns
 pub mod Plans
 pub mod Refusals
 pub mod Standing

@@ -1,12 +1,14 @@
 -- Where a plan stands, as the code has it. Serves private functions alone.
-use Rattle.std.specs.Prelude.{◌≡◌, ℕ, Bool, false, if◌then◌else◌, List, [], ◌∷◌, drop, map, Option, None, Some}
+use Rattle.std.specs.Prelude.{◌≡◌, ◌+◌, ◌≤◌, All, ℕ, Bool, false, if◌then◌else◌, List, [], ◌∷◌, drop, map, Option, None, Some}
 use Rattle.hook_base.specs.declared.file.File.{File}
+use Rattle.child_port.specs.declared.answer.Outcome.{Outcome}
 use Rattle.hook_run.specs.SeenStub.{seen_of}
 use Rattle.hook_config.specs.declared.configuration.Config.{Config}
-use Rattle.report_text.specs.Report.{report_text}
+use Rattle.report_text.specs.Report.{columns_of, report_text, width_of}
 use Rattle.report_text.specs.declared.hook_result.Ending.{Ending}
 use Rattle.hook_config.specs.declared.configuration.Hook.{Hook}
 use Rattle.path_select.specs.Candidates.{ArePassing}
+use Rattle.report_text.specs.declared.hook_result.HookResult.{HookResult}
 use Rattle.hook_run.specs.declared.course.Course.{Course}
 use Rattle.hook_run.specs.declared.gathered.Gathered.{Gathered}
 use Rattle.hook_run.specs.declared.progress.Progress.{Progress}
@@ -22,7 +24,7 @@ use Rattle.hook_run.specs.Asks.{hooks_of_run, names_of_run}
 use Rattle.hook_run.specs.HookRun.{IsEnding, commands_of, further_of, sees_whole}
 use Rattle.hook_run.specs.Parts.{ArePartsOf, Part}
 use Rattle.hook_run.specs.PartsEnding.{ending_of_parts}
-use Rattle.hook_run.specs.Plans.{AtHook, Completes, Plan, ending_of_gathered, nothing_gathered}
+use Rattle.hook_run.specs.Plans.{AtHook, Completes, GoesOn, GoesOnAt, Plan, ending_of_gathered, nothing_gathered}
 
 -- the hooks are those that the run goes through, and the candidates those that pass the patterns of the configuration
 pub record IsCourse (course : Course) : Type 0 where
@@ -64,13 +66,43 @@ abbrev pub IsSeenOn : List File → Waiting → Type 0
 IsSeenOn tree waiting =
     waiting.seen ≡ seen_of waiting.command (further_of waiting.work.hook.now tree) (sees_whole waiting.work.hook.now) tree
 
+-- the part that waits, with this outcome
+abbrev pub part_at : Waiting → List File → Outcome → Bool → Part
+part_at waiting tree outcome unsteady = record {
+  words = waiting.command;
+  seen = seen_of waiting.command (further_of waiting.work.hook.now tree) (sees_whole waiting.work.hook.now) tree;
+  outcome = outcome;
+  unsteady = unsteady;
+}
+
 -- what is stored for the outside is what is defined
 abbrev pub IsStored : Config → RunAsk → Progress → Standing → Type 0
 IsStored config ask done (Waits waiting) = IsSeenOn done.tree waiting
 IsStored config ask done (Over report) = report ≡ report_text (names_of_run config ask) done.results
 
+-- ---- the columns of the report
+
+-- the names of all hooks that the run goes through
+abbrev pub names_in : Course → List (List ℕ)
+names_in course = map (λ hook. hook.now.name) course.hooks.items
+
+-- the name is one of those that the columns are made for
+abbrev pub FitsName : Course → List ℕ → Type 0
+FitsName course name = width_of name + 30 ≤ columns_of (names_in course)
+
+abbrev pub FitsResults : Course → List HookResult → Type 0
+FitsResults course results = All (λ one. width_of one.name + 30 ≤ columns_of (names_in course)) results
+
+abbrev pub FitsAt : Course → Standing → Type 0
+FitsAt course (Waits waiting) = FitsName course waiting.work.hook.now.name
+FitsAt course (Over report) = Unit {0}
+
+-- ---- a plan
+
 -- what a plan's fields are to each other
 pub record IsPlanned (course : Course) (done : Progress) (standing : Standing) : Type 0 where
+  pub fits : FitsResults course done.results
+  pub fits_at : FitsAt course standing
   pub planned : IsCourse course
   pub stored : IsStored course.config.now course.ask.now done standing
 
@@ -106,3 +138,14 @@ on_tree done tree = record { results = done.results; unsteady = done.unsteady; t
 -- what completes the plan goes on so
 abbrev pub GoesOnSo : (List Part → RunOut → Type 0) → Plan → Type 0
 GoesOnSo Goes plan = (parts : List Part) (out : RunOut) → Completes plan parts out → Goes parts out
+
+-- whatever completes the plan, goes on from what is done with the hooks from a place on
+abbrev pub IsPlanFrom : Course → Progress → ℕ → Plan → Type 0
+IsPlanFrom course done place plan = GoesOnSo (GoesOn course.config.now course.ask.now done (hooks_from course place)) plan
+
+-- whatever completes the plan, goes on at the hook that waits, behind the part with this outcome
+abbrev pub IsToldFrom : Course → Progress → ℕ → Waiting → Outcome → Bool → Plan → Type 0
+IsToldFrom course done place waiting outcome unsteady plan =
+    (parts : List Part) (out : RunOut) → Completes plan parts out
+    → GoesOnAt course.config.now course.ask.now done (at_hook waiting) (hooks_from course place)
+    (part_at waiting done.tree outcome unsteady ∷ parts) out

@@ -8,7 +8,9 @@
 //! `specs/Parts.antt` (their children); and `specs/Refusals.antt`. [`laws`] says that they leave nothing of a run open.
 #![tactic(auto)]
 
+mod advance;
 mod asked;
+mod begin;
 mod begun;
 mod command;
 mod course;
@@ -21,6 +23,7 @@ mod plan;
 mod progress;
 mod report;
 mod run_ask;
+mod run_hooks;
 mod run_out;
 mod run_refusal;
 mod standing;
@@ -32,5 +35,6 @@ pub use limits::{MOST_COMMAND_BYTES, MOST_NAMES};
 pub use need::Need;
 pub use plan::RunPlan;
 pub use run_ask::RunAsk;
+pub use run_hooks::run_hooks;
 pub use run_out::RunOut;
 pub use run_refusal::RunRefusal;
