@@ -1,6 +1,6 @@
 -- How a hook begins.
 use Rattle.std.proofs.Common.{◌≡◌, ◌∙◌, ap, sym, subst, refl, ℕ, Bool, false, List, [], ◌∷◌, Result, Ok, Err, IfOk, Option, None, Some}
-use Rattle.std.specs.Prelude.{MatchBool, MatchOption}
+use Rattle.std.specs.Prelude.{IsSome, MatchBool, MatchOption}
 use Rattle.arg_partition.specs.declared.cut.Cut.{Cut}
 use Rattle.arg_partition.specs.Parts.{AreParts, fits, too_long_at}
 use Rattle.hook_base.specs.declared.file.File.{File}
@@ -18,7 +18,7 @@ use Rattle.hook_run.specs.declared.run_ask.RunAsk.{RunAsk}
 use Rattle.hook_run.specs.declared.waiting.Waiting.{Waiting}
 use Rattle.hook_run.specs.Asks.{is_skipped}
 use Rattle.hook_run.specs.HookRun.{AreItsParts, IsCommandRun, IsEnding, IsHookRun, commands_of, ending_of_misfit, further_of, most_names_of, rules_of, sees_whole}
-use Rattle.hook_run.specs.Limits.{most_command_bytes}
+use Rattle.hook_run.specs.Limits.{most_command_bytes, most_names}
 use Rattle.hook_run.specs.Parts.{ArePartsOf, Part}
 use Rattle.hook_run.specs.PartsEnding.{ending_of_parts}
 use Rattle.hook_run.specs.Plans.{AtHook, ending_of_gathered, nothing_gathered}
@@ -81,8 +81,8 @@ command-begun : (hook : Hook) (words names : List (List ℕ)) (tree before : Lis
 command-begun hook words names tree before cuts gathered (Ended ending unsteady) fitting cut same none is =
     (fitting-ends hook words names tree cuts fitting cut [] ending
         (commands-run hook tree [] (commands_of words names cuts) [] (sym is.0) tt)
-        (is.1.0 ∙ ap (λ (start : List File). ended_from gathered start tree) same ∙ ap (λ (all : Gathered). ended_from all tree tree) none),
-      is.1.1 ∙ ap (λ (all : Gathered). all.unsteady) none)
+        (is.1 ∙ ap (λ (start : List File). ended_from gathered start tree) same ∙ ap (λ (all : Gathered). ended_from all tree tree) none),
+      is.2 ∙ ap (λ (all : Gathered). all.unsteady) none)
 command-begun hook words names tree before cuts gathered (Waits waiting) fitting cut same none is =
     (record {
         of_hook = ap (λ (at : AtHook). at.hook) is.0;
@@ -100,3 +100,12 @@ pub command-begun_if : {E : Type 0} (hook : Hook) (words names : List (List ℕ)
 command-begun_if hook words names tree before cuts gathered (Ok begun) fitting cut same none is =
     command-begun hook words names tree before cuts gathered begun fitting cut same none is
 command-begun_if hook words names tree before cuts gathered (Err refusal) fitting cut same none is = tt
+
+-- the cuts that are given of a command
+pub cuts-given : (words names : List (List ℕ)) (all : Option (List Cut)) (cuts : List Cut) → all ≡ Some cuts
+    → MatchOption all (IsSome (too_long_at (fits words most_command_bytes) names))
+    (λ given. (too_long_at (fits words most_command_bytes) names ≡ None) × AreParts (fits words most_command_bytes) most_names names given)
+    → (too_long_at (fits words most_command_bytes) names ≡ None) × AreParts (fits words most_command_bytes) most_names names cuts
+cuts-given words names all cuts same given =
+    subst (λ (some : Option (List Cut)). MatchOption some (IsSome (too_long_at (fits words most_command_bytes) names))
+    (λ each. (too_long_at (fits words most_command_bytes) names ≡ None) × AreParts (fits words most_command_bytes) most_names names each)) same given

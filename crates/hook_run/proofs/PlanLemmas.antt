@@ -134,7 +134,7 @@ hook-done config ask done hook hooks here ending ids rest out ends same more =
       is = more.is ∙ same-out config ask _ _ _ _ _ _ (append_assoc done.results (result ∷ []) more.results)
           (sym (after_parts-append done.tree here (all_parts more.trace)))
           (append_assoc done.unsteady ids (unsteady_ids (hooks_after config hook ending hooks) more.trace)
-          ∙ ap₂ (λ a b. done.unsteady ++ a ++ b) same (ids-behind last config ask after hooks more.trace more.results more.run));
+          ∙ ap₂ (λ a b. done.unsteady ++ (a ++ b)) same (ids-behind last config ask after hooks more.trace more.results more.run));
     }
 
 -- ---- a hook that has begun, and the run behind it

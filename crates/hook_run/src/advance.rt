@@ -1,9 +1,9 @@
 //! The hooks of a run one after another, up to one that waits.
 
-ghost use Rattle.std.specs.Prelude.{◌≡◌, ◌<◌, ◌≤◌, IfOk, length};
+ghost use Rattle.std.specs.Prelude.{◌≡◌, ◌<◌, ◌≤◌, ◌+◌, ◌-◌, ◌∷◌, IfOk, length};
 ghost use Rattle.hook_run.specs.Plans.{hooks_after};
 ghost use Rattle.hook_run.specs.StageRun.{is_last};
-ghost use Rattle.hook_run.specs.Standing.{FitsResults, IsCourse, IsPlanFrom, hooks_from};
+ghost use Rattle.hook_run.specs.Standing.{FitsName, FitsResults, IsCourse, IsPlanFrom, hooks_from};
 
 use crate::RunPlan;
 use crate::begin::begin_hook;
@@ -31,7 +31,7 @@ pub(crate) fn advance<'a>(
     let mut done = done;
     let mut place = place;
     'hooks: while place < course.hooks.len() {
-        let hook = course.hooks[place];
+        let hook = hook_at(&course, place);
         place += 1;
         match begin_hook(alloc, &course, hook, &done.tree)? {
             Begun::Waits(waiting) => {
@@ -51,9 +51,19 @@ pub(crate) fn advance<'a>(
     over(alloc, course, done, place)
 }
 
+// The hook at a place.
+fn hook_at<'a>(course: &Course<'a>, place: usize) -> &'a Hook
+    requires { place < length course.now.hooks.items }
+    ensures left { hooks_from course.now place ≡ result.now ∷ hooks_from course.now (place + 1) }
+    ensures fits { FitsName course.now result.now.name }
+{
+    course.hooks[place]
+}
+
 /// The place that the run goes on at behind a hook that ends so: this one, or behind all where the hook is the last.
 pub(crate) fn place_behind(course: &Course, hook: &Hook, ending: &Ending, place: usize) -> usize
-    ensures { hooks_from course.now result ≡ hooks_after course.now.config.now hook.now ending.now (hooks_from course.now place) }
+    ensures later { length course.now.hooks.items - result ≤ length course.now.hooks.items - place }
+    ensures left { hooks_from course.now result ≡ hooks_after course.now.config.now hook.now ending.now (hooks_from course.now place) }
 {
     if is_last(course.config, hook, ending) {
         course.hooks.len()

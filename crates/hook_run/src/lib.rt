@@ -23,8 +23,9 @@ mod plan;
 mod progress;
 mod report;
 mod run_ask;
-mod run_hooks;
+
 mod run_out;
+mod run_over;
 mod run_refusal;
 mod standing;
 mod stub;
@@ -35,6 +36,6 @@ pub use limits::{MOST_COMMAND_BYTES, MOST_NAMES};
 pub use need::Need;
 pub use plan::RunPlan;
 pub use run_ask::RunAsk;
-pub use run_hooks::run_hooks;
+pub use run_over::run_hooks;
 pub use run_out::RunOut;
 pub use run_refusal::RunRefusal;
