@@ -1,6 +1,9 @@
 pub mod AlikeLemmas
+pub mod Fuses
 pub mod Limits
 pub mod Outcomes
+pub mod Seen
+pub mod SeenLemmas
 pub mod Tables
 pub mod Telling
 pub mod TellingLemmas

@@ -1,22 +1,33 @@
 //! The children that a run starts: what one answers, how it can fail, and the trait `Children` of whatever starts them.
 //!
-//! `Outcome` is what became of one child, `Answer` what a completed one gave, `Fault` how it failed. `TableChildren`
-//! answers by a table of `TableRow`s. The contracts cite `specs/Telling.antt`, `specs/Outcomes.antt`, `specs/Tables.antt`
-//! and `specs/Limits.antt`. [`laws`] says that the limit of the code is that of the definitions.
+//! `Outcome` is what became of one child, `Answer` what a completed one gave, `Fault` how it failed. [`seen_of`] says which
+//! files a child has seen, [`is_stray`] whether an answer changes others, and [`plain_word`] which path a word may be.
+//! `TableChildren` answers by a table of `TableRow`s, and `FuseChildren` as others do but for one call. The contracts cite
+//! `specs/Telling.antt`, `specs/Outcomes.antt`, `specs/Seen.antt`, `specs/Tables.antt`, `specs/Fuses.antt` and
+//! `specs/Limits.antt`. [`laws`] says that the limit of the code is that of the definitions.
 #![tactic(auto)]
 
 mod answer;
 mod children;
 mod fault;
+mod file_at;
+mod fuse;
 pub mod laws;
 mod limits;
+mod seen;
 mod table;
 mod table_outcome;
 mod table_row;
+#[cfg(test)]
+mod tests;
+mod words;
 
 pub use answer::{Answer, Outcome};
 pub use children::Children;
 pub use fault::Fault;
+pub use fuse::FuseChildren;
 pub use limits::MOST_OUTPUT_BYTES;
+pub use seen::{is_stray, seen_of};
 pub use table::TableChildren;
 pub use table_row::TableRow;
+pub use words::plain_word;

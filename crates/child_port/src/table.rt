@@ -26,9 +26,18 @@ impl TableChildren {
         ensures no_calls { ⟦<TableChildren as Children>⟧.call_count result ≡ 0 }
         ensures no_faults { ⟦<TableChildren as Children>⟧.fault_count result ≡ 0 }
     {
+        TableChildren::with_calls(rows, 0)
+    }
+
+    /// Children that answer by these rows, and count as if they had told `calls` outcomes already, none of them a fault.
+    pub fn with_calls(rows: Items<TableRow>, calls: u64) -> TableChildren
+        ensures tells { SameTells (TableTells rows) (⟦<TableChildren as Children>⟧.tells result) }
+        ensures calls { ⟦<TableChildren as Children>⟧.call_count result ≡ calls }
+        ensures no_faults { ⟦<TableChildren as Children>⟧.fault_count result ≡ 0 }
+    {
         TableChildren {
             rows,
-            completed: 0,
+            completed: calls,
             failed: 0,
         }
     }

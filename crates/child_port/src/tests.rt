@@ -1,0 +1,187 @@
+//! Tests of what no clause says: that the calls which take memory succeed, the rules by example, and which call of a
+//! fuse fails.
+
+use crate::{
+    Answer, Children, Fault, FuseChildren, Outcome, TableChildren, TableRow, is_stray, plain_word,
+    seen_of,
+};
+use hook_base::{Bytes, Change, Changes, FileEntry, Items, Mode, RepoPath, Text, Tree};
+use std::alloc::Global;
+use std::process::Abort;
+use std::test::Fail;
+
+fn words_of(alloc: Global, line: &str) -> Result<Items<Text>, Fail> {
+    let mut words = Vec::new(alloc);
+    for word in line.split_whitespace() {
+        words.push(Text::copy_of(alloc, word)?)?;
+    }
+    Ok(Items::from(words))
+}
+
+// A file at each of these paths. It holds its path, and is to be run where this ends in `.sh`.
+fn tree_of(alloc: Global, paths: &str) -> Result<Tree, Fail> {
+    let mut tree = Tree::new(alloc);
+    for path in paths.split_whitespace() {
+        let mode = if path.ends_with(".sh") {
+            Mode::Executable
+        } else {
+            Mode::Plain
+        };
+        let bytes = Bytes::copy_of(alloc, path.as_bytes())?;
+        tree.put(RepoPath::read(alloc, path)?, FileEntry { mode, bytes })?;
+    }
+    Ok(tree)
+}
+
+#[test]
+fn sees_the_files_that_its_words_name(rt: HostRuntime) -> Result<(), Fail> {
+    let alloc = rt.alloc();
+    let all = "a.txt b.txt tools/lint.sh tools/lint.sh.txt x";
+    let tree = tree_of(alloc, all)?;
+    for (words, paths) in [
+        ("", ""),
+        ("sh tools/lint.sh a.txt", "a.txt tools/lint.sh"),
+        ("x a.txt b.txt", "a.txt b.txt x"),
+        ("./x", "x"),
+        ("././x", ""),
+        (".//x", ""),
+        ("x/", ""),
+        ("/x", ""),
+        ("tools", ""),
+        ("x x ./x a.txt x", "a.txt x"),
+        ("--config=a.txt B.TXT c.txt", ""),
+    ] {
+        let words_read = words_of(alloc, words)?;
+        let seen = seen_of(alloc, words_read.as_slice(), false, &tree)?;
+        assert_eq!(rt; seen, tree_of(alloc, paths)?, "{words}");
+        let whole = seen_of(alloc, words_read.as_slice(), true, &tree)?;
+        assert_eq!(rt; whole, tree_of(alloc, all)?, "{words}, whole");
+    }
+    Ok(())
+}
+
+#[test]
+fn takes_one_dot_slash_away(rt: HostRuntime) {
+    for (word, plain) in [
+        ("", ""),
+        ("x", "x"),
+        ("./x", "x"),
+        ("././x", "./x"),
+        ("./", ""),
+        (".", "."),
+        ("..", ".."),
+        ("../x", "../x"),
+        (".x", ".x"),
+        ("x/./y", "x/./y"),
+    ] {
+        assert_eq!(rt; plain_word(word), plain, "{word}");
+    }
+}
+
+// An answer that leaves these bytes in the file of each word's path, or says of a path alone that it is gone.
+fn answer_of(alloc: Global, changes: &str) -> Result<Answer, Fail> {
+    let mut list = Vec::new(alloc);
+    for change in changes.split_whitespace() {
+        let (path, now) = match change.split_once('=') {
+            Some((path, bytes)) => (path, Some(Bytes::copy_of(alloc, bytes.as_bytes())?)),
+            None => (change, None),
+        };
+        let path = RepoPath::read(alloc, path)?;
+        list.push(Change { path, now })?;
+    }
+    Ok(Answer {
+        status: 0,
+        output: Bytes::copy_of(alloc, b"")?,
+        changes: Changes::from_rising(list).ok().ok_or("not rising")?,
+    })
+}
+
+#[test]
+fn strays_where_it_changes_what_it_has_not_seen(rt: HostRuntime) -> Result<(), Fail> {
+    let alloc = rt.alloc();
+    let seen = tree_of(alloc, "a.txt c.txt")?;
+    for (changes, stray) in [
+        ("", false),
+        ("a.txt=new", false),
+        ("a.txt=a.txt c.txt", false),
+        ("b.txt=new", true),
+        ("b.txt=b.txt", true),
+        ("b.txt", true),
+        ("a.txt=new b.txt=new", true),
+        ("a.txt=new c.txt=new d.txt=new", true),
+    ] {
+        let answer = answer_of(alloc, changes)?;
+        assert_eq!(rt; is_stray(&answer, &seen), stray, "{changes}");
+    }
+    Ok(())
+}
+
+// What became of a child of this word that sees the whole tree.
+fn told<C: Children>(
+    rt: &impl Abort,
+    children: &mut C,
+    word: &str,
+    tree: &Tree,
+    alloc: Global,
+) -> Result<Outcome, Fail> {
+    let words = words_of(alloc, word)?;
+    assert!(rt; children.calls() < u64::MAX);
+    Ok(children.run(words.as_slice(), tree, tree)?)
+}
+
+// Children that answer `c` alone on this tree, and have told so many outcomes.
+fn children_of(alloc: Global, tree: &Tree, calls: u64) -> Result<TableChildren, Fail> {
+    let mut rows = Vec::new(alloc);
+    rows.push(TableRow {
+        words: words_of(alloc, "c")?,
+        seen: tree.copy()?,
+        answer: answer_of(alloc, "a.txt=new")?,
+    })?;
+    Ok(TableChildren::with_calls(Items::from(rows), calls))
+}
+
+#[test]
+fn fails_its_kth_call_alone(rt: HostRuntime) -> Result<(), Fail> {
+    let alloc = rt.alloc();
+    let tree = tree_of(alloc, "a.txt")?;
+    let done = Outcome::Done(answer_of(alloc, "a.txt=new")?);
+    for fault in [
+        Fault::NotStarted,
+        Fault::WaitFailed,
+        Fault::Signal,
+        Fault::OutputTooLong,
+        Fault::ScratchFailed,
+    ] {
+        for k in 0..5 {
+            let mut children = FuseChildren::new(children_of(alloc, &tree, 7)?, k, fault);
+            assert_eq!(rt; (children.calls(), children.faults()), (7, 0));
+            for call in 1..4 {
+                let outcome = told(&rt, &mut children, "c", &tree, alloc)?;
+                let failed = Outcome::Failed(fault);
+                let wanted = if call == k { &failed } else { &done };
+                assert_eq!(rt; &outcome, wanted, "call {call}, k {k}");
+                let faults = u64::from(k != 0 && k <= call);
+                assert_eq!(rt; (children.calls(), children.faults()), (7 + call, faults));
+            }
+        }
+    }
+    Ok(())
+}
+
+#[test]
+fn keeps_the_failed_call_from_the_inner_children(rt: HostRuntime) -> Result<(), Fail> {
+    let alloc = rt.alloc();
+    let tree = tree_of(alloc, "a.txt")?;
+    let inner = FuseChildren::new(children_of(alloc, &tree, 0)?, 2, Fault::WaitFailed);
+    let mut children = FuseChildren::new(inner, 1, Fault::Signal);
+    for (word, wanted) in [
+        ("c", Outcome::Failed(Fault::Signal)),
+        ("c", Outcome::Done(answer_of(alloc, "a.txt=new")?)),
+        ("c", Outcome::Failed(Fault::WaitFailed)),
+        ("d", Outcome::Failed(Fault::NotStarted)),
+    ] {
+        assert_eq!(rt; told(&rt, &mut children, word, &tree, alloc)?, wanted);
+    }
+    assert_eq!(rt; (children.calls(), children.faults()), (4, 3));
+    Ok(())
+}
