@@ -1,6 +1,6 @@
 //! The words of a hook's command.
 
-ghost use Rattle.std.specs.Prelude.{◌≡◌, ◌≢◌, [], ◌∷◌};
+ghost use Rattle.std.specs.Prelude.{◌≡◌, ◌≢◌, [], ◌∷◌, IfOk};
 ghost use Rattle.hook_config.specs.CommandWords.{command_words_of, entry_words_of, first_word};
 ghost use Rattle.hook_config.specs.Gives.{GivesValue};
 
@@ -41,7 +41,7 @@ impl CommandWords {
         ensures { GivesValue (λ words. words) result (command_words_of entry.now args.now) }
     {
         let mut words = entry_words_of(alloc, entry.as_str())?;
-        'args: for arg in args {
+        for arg in args {
             words.push(arg.clone()?.into_text())?;
         }
         Ok(CommandWords { words })
@@ -74,7 +74,8 @@ impl CommandWords {
 // The words of an entry, of which the first isn't empty.
 #[tactic(auto, unfolding(crate::specs::CommandWords::entry_words_of))]
 fn entry_words_of(alloc: Global, entry: &str) -> Result<Vec<Text>, ConfigKind>
-    ensures { GivesValue (λ words. words.items) result (entry_words_of entry.now) }
+    ensures words { GivesValue (λ words. words.items) result (entry_words_of entry.now) }
+    ensures named { IfOk result (λ words. first_word words.items ≢ []) }
 {
     let words = words(alloc, entry)?.into_vec();
     match words.as_slice() {
