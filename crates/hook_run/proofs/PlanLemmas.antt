@@ -6,7 +6,7 @@ use Rattle.std.specs.Prelude.{MatchBool, if◌then◌else◌}
 use Rattle.hook_base.specs.declared.file.File.{File}
 use Rattle.child_port.specs.Outcomes.{after_outcome}
 use Rattle.child_port.specs.declared.answer.Outcome.{Outcome}
-use Rattle.hook_run.specs.SeenStub.{seen_of}
+use Rattle.child_port.specs.Seen.{seen_of}
 use Rattle.hook_config.specs.declared.configuration.Config.{Config}
 use Rattle.hook_config.specs.declared.configuration.Hook.{Hook}
 use Rattle.report_text.specs.declared.hook_result.Ending.{Ending}

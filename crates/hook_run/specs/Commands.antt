@@ -2,7 +2,7 @@
 -- the first of them names.
 use Rattle.std.specs.Prelude.{ℕ, Bool, true, false, ◌||◌, if◌then◌else◌, List, [], ◌∷◌, ◌++◌, Option, None, Some, codes}
 use Rattle.std.specs.List.{list_any}
-use Rattle.hook_run.specs.SeenStub.{plain_word}
+use Rattle.child_port.specs.Seen.{plain_word}
 use Rattle.file_tags.specs.Shebangs.{shebang_of}
 use Rattle.hook_base.specs.Paths.{is_slash}
 use Rattle.hook_base.specs.Trees.{entry_of}

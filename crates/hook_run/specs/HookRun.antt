@@ -10,7 +10,7 @@ use Rattle.builtin_hooks.specs.GrepAnswer.{grep_answer}
 use Rattle.hook_config.specs.declared.configuration.Config.{Config}
 use Rattle.hook_config.specs.declared.configuration.Hook.{Hook}
 use Rattle.hook_config.specs.declared.configuration.Language.{Language}
-use Rattle.hook_config.specs.declared.configuration.Language.TheVariants.{Fail, Pygrep}
+use Rattle.hook_config.specs.declared.configuration.Language.TheVariants.{Fail, Pygrep, System, Script}
 use Rattle.report_text.specs.declared.hook_result.Ending.{Ending}
 use Rattle.report_text.specs.declared.hook_result.Ending.TheVariants.{SkippedAsked, SkippedNoFiles, Ran}
 use Rattle.report_text.specs.declared.hook_result.HookResult.{HookResult}
@@ -84,8 +84,8 @@ IsCommandRun hook words names tree parts ending =
 abbrev pub IsLanguageRun : Language → Hook → List (List ℕ) → List File → List Part → Ending → Type 0
 IsLanguageRun Fail hook names tree parts ending = IsAnswered (fail_answer hook.entry names) parts ending
 IsLanguageRun (Pygrep search) hook names tree parts ending = IsAnswered (grep_answer search names tree) parts ending
--- IsLanguageRun (System words) hook names tree parts ending = IsCommandRun hook (command_of false words tree) names tree parts ending
--- IsLanguageRun (Script words) hook names tree parts ending = IsCommandRun hook (command_of true words tree) names tree parts ending
+IsLanguageRun (System words) hook names tree parts ending = IsCommandRun hook (command_of false words tree) names tree parts ending
+IsLanguageRun (Script words) hook names tree parts ending = IsCommandRun hook (command_of true words tree) names tree parts ending
 
 -- a hook with these files ends so: without any it is skipped, unless it always runs
 abbrev pub IsHookRun : Hook → List (List ℕ) → List File → List Part → Ending → Type 0

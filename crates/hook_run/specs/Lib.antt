@@ -8,7 +8,6 @@ pub mod PlanRuns
 pub mod Plans
 pub mod Refusals
 pub mod Standing
-pub mod SeenStub
 pub mod RunOuts
 pub mod SameRuns
 pub mod StageRun

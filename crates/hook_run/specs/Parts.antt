@@ -4,7 +4,7 @@ use Rattle.std.specs.Prelude.{◌≡◌, ℕ, ◌+◌, Bool, List, [], ◌∷◌
 use Rattle.hook_base.specs.declared.file.File.{File}
 use Rattle.child_port.specs.declared.answer.Outcome.{Outcome}
 use Rattle.child_port.specs.Outcomes.{after_outcome, faults_in}
-use Rattle.hook_run.specs.SeenStub.{seen_of}
+use Rattle.child_port.specs.Seen.{seen_of}
 
 -- the words of a command, the files that its child sees, and what became of it; and whether that is another answer than
 -- the one that was remembered

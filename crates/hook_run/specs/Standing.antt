@@ -2,7 +2,7 @@
 use Rattle.std.specs.Prelude.{◌≡◌, ◌+◌, ◌≤◌, All, ℕ, Bool, false, if◌then◌else◌, List, [], ◌∷◌, drop, map, Option, None, Some}
 use Rattle.hook_base.specs.declared.file.File.{File}
 use Rattle.child_port.specs.declared.answer.Outcome.{Outcome}
-use Rattle.hook_run.specs.SeenStub.{seen_of}
+use Rattle.child_port.specs.Seen.{seen_of}
 use Rattle.hook_config.specs.declared.configuration.Config.{Config}
 use Rattle.report_text.specs.Report.{columns_of, report_text, width_of}
 use Rattle.report_text.specs.declared.hook_result.Ending.{Ending}

@@ -9,6 +9,7 @@ ghost use Rattle.hook_run.specs.Standing.{HasBegun, IsCourse};
 
 use crate::asked::is_skipped;
 use crate::begun::Begun;
+use crate::command::command_of;
 use crate::course::Course;
 use crate::gathered::nothing_gathered;
 use crate::limits::{MOST_COMMAND_BYTES, MOST_NAMES};
@@ -100,6 +101,14 @@ fn begin_language<'a>(
             let answer = grep.answer(alloc, names.as_slice(), tree)?;
             Ok(Begun::Ended(ending_of_answer(alloc, answer), false))
         }
+        Language::System(words) => {
+            let command = command_of(alloc, false, words.as_slice(), tree)?;
+            begin_command(alloc, hook, command, names, tree)
+        }
+        Language::Script(words) => {
+            let command = command_of(alloc, true, words.as_slice(), tree)?;
+            begin_command(alloc, hook, command, names, tree)
+        }
     }
 }
 
@@ -115,7 +124,7 @@ fn ending_of_answer(alloc: Global, answer: Answer) -> Ending
 }
 
 // How the hook begins whose command has these words, with these names behind them.
-pub(crate) fn begin_command<'a>(
+fn begin_command<'a>(
     alloc: Global,
     hook: &'a Hook,
     words: Items<Text>,

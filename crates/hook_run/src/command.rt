@@ -7,10 +7,10 @@ ghost use Rattle.std.specs.Str.{bytes_eq};
 ghost use Rattle.hook_base.specs.Paths.{is_slash};
 ghost use Rattle.hook_base.specs.Trees.{entry_of};
 ghost use Rattle.hook_run.specs.Commands.{command_of, command_with, starter_of};
-ghost use Rattle.hook_run.specs.SeenStub.{plain_word};
+ghost use Rattle.child_port.specs.Seen.{plain_word};
 ghost use Rattle.file_tags.specs.Shebangs.{shebang_of};
 
-use crate::stub::plain_word;
+use child_port::plain_word;
 use file_tags::shebang;
 use hook_base::{File, FileEntry, Items, OutOfMemory, Text, Tree};
 use std::alloc::Global;

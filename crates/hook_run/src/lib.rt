@@ -28,7 +28,6 @@ mod run_out;
 mod run_over;
 mod run_refusal;
 mod standing;
-mod stub;
 mod waiting;
 mod work;
 
