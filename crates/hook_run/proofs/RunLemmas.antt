@@ -9,9 +9,12 @@ use Rattle.hook_config.specs.declared.configuration.Config.{Config}
 use Rattle.hook_run.specs.declared.need.Need.TheVariants.{Child, Over}
 use Rattle.hook_run.specs.declared.run_ask.RunAsk.{RunAsk}
 use Rattle.hook_run.specs.declared.run_out.RunOut.{RunOut}
+use Rattle.child_port.specs.SeenLemmas.{IsPartOf-seen_of}
+use Rattle.hook_base.specs.Trees.{IsPartOf}
+use Rattle.hook_run.specs.HookRun.{further_of, sees_whole}
 use Rattle.hook_run.specs.Parts.{AllTold, Part, all_parts, faults_of}
 use Rattle.hook_run.specs.PlanRuns.{IsPlanRun}
-use Rattle.hook_run.specs.Plans.{AtHook, Completes, CompletesAt, IsPlanAfter, IsPlanOf, Plan, need_at, need_of, out_of_plan, part_with, seen_of_plan, words_of}
+use Rattle.hook_run.specs.Plans.{AtHook, Completes, CompletesAt, IsPlanAfter, IsPlanOf, Plan, need_at, need_of, first_of, out_of_plan, part_with, seen_at, seen_of_plan, tree_of_plan, words_of}
 use Rattle.hook_run.specs.RunOuts.{IsCounted, IsRunOver}
 
 
@@ -37,7 +40,7 @@ told-append tells [] more first second = second
 told-append tells (part ∷ parts) more first second = (first.0, told-append tells parts more first.1 second)
 
 faults-append : (parts more : List Part) → faults_of (parts ++ more) ≡ faults_of parts + faults_of more
-faults-append [] more = refl
+faults-append [] more = omega arith
 faults-append (part ∷ parts) more = let rest = faults-append parts more in omega arith
 
 pub told-more : (tells : List (List ℕ) → List File → Outcome → Type 0) (calls calls_now calls_after faults faults_now faults_after : ℕ) (first plan after : Plan) (outcome : Outcome)
@@ -93,3 +96,13 @@ pub run-over_if : {E : Type 0} (tells : List (List ℕ) → List File → Outcom
     → IfOk result (IsRunOver tells calls calls_after faults faults_after config ask tree)
 run-over_if tells calls calls_after faults faults_after config ask tree plan (Ok out) of on = run-over tells calls calls_after faults faults_after config ask tree plan out of on
 run-over_if tells calls calls_after faults faults_after config ask tree plan (Err refusal) of on = tt
+
+-- ---- what the child of a plan sees is a part of the tree that it runs on
+
+seen-at : (waiting : Option AtHook) (tree : List File) → IsPartOf (seen_at waiting tree) tree
+seen-at None tree = record { held = λ path entry found. absurd (cc) }
+seen-at (Some at) tree = IsPartOf-seen_of (first_of at.commands) (further_of at.hook tree) (sees_whole at.hook) tree
+
+pub seen-part : (plan : Plan) (seen tree : List File) → seen ≡ seen_of_plan plan → tree ≡ tree_of_plan plan → IsPartOf seen tree
+seen-part plan seen tree sees on =
+    subst (λ (t : List File). IsPartOf seen t) (sym on) (subst (λ (s : List File). IsPartOf s plan.done.tree) (sym sees) (seen-at plan.waiting plan.done.tree))
