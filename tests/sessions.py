@@ -179,7 +179,7 @@ def lay(kind, what, body):
     elif kind == "remove":
         shutil.rmtree(what) if os.path.isdir(what) else os.remove(what)
     elif kind == "demo":
-        shutil.copytree(os.path.join(TOP, "demo"), ".", dirs_exist_ok=True)
+        shutil.copytree(os.path.join(TOP, "demo"), ".", dirs_exist_ok=True, ignore=shutil.ignore_patterns(".*"))
     elif kind == "repeat":
         count, path = what.split(" ", 1)
         with open(path, "ab") as file:
