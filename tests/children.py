@@ -24,9 +24,12 @@ os.chmod(BASE, 0o777)
 atexit.register(shutil.rmtree, BASE, True)
 PROGRAM = shutil.copy(sys.argv[1] if len(sys.argv) > 1 else HERE.parent / "crates/child_trial/out/child_trial", Path(BASE, "child_trial"))
 os.chmod(PROGRAM, 0o755)
-# A shell in the background hands these on as ignored.
-for number in (signal.SIGINT, signal.SIGQUIT):
-    signal.signal(number, signal.SIG_DFL)
+# The signals whose default is to end a process.
+DEADLY = [1, 2, 3, 4, 5, 6, 7, 8, 9, 10, 11, 12, 13, 14, 15, 16, 24, 25, 26, 27, 29, 30, 31, *range(34, 65)]
+# A signal that is ignored here is in each child too: a shell in the background ignores some, and nohup another.
+for number in DEADLY:
+    if number != signal.SIGKILL:
+        signal.signal(number, signal.SIG_DFL)
 NOBODY = 65534
 MIB = 1 << 20
 NAMES = ["NotStarted", "WaitFailed", "Signal", "OutputTooLong", "ScratchFailed"]
@@ -134,8 +137,7 @@ def each_status_is_told():
 
 def each_deadly_signal_is_a_fault():
     trial = Trial(TREE)
-    deadly = [1, 2, 3, 4, 5, 6, 7, 8, 9, 10, 11, 12, 13, 14, 15, 16, 24, 25, 26, 27, 29, 30, 31, *range(34, 65)]
-    for number in deadly:
+    for number in DEADLY:
         equal(trial.sh(f"ulimit -c 0; echo x; kill -{number} $$; sleep 9"), "Signal", f"signal {number}")
     equal(trial.sh("ulimit -f 1; exec head -c 100000 /dev/zero > big"), "Signal", "a file past ulimit -f")
     trial.sees_the_tree("signals")
