@@ -1,13 +1,18 @@
--- Serves private functions only, those of the modules `accept` and `fixed_files`: the rows of the staged files, where those
--- of some paths are written anew, and where a walk over the fixes is.
-use Rattle.std.specs.Prelude.{ℕ, not, List, [], ◌∷◌, filter, Option, None, Some}
+-- Serves private functions only, those of the modules `accept`, `accepted`, `fixed_files` and `few_fixes`: the rows of the
+-- staged files, where those of some paths are written anew, where a walk over the fixes is, and what is made ready for the
+-- staged files.
+use Rattle.std.specs.Prelude.{◌≡◌, ℕ, not, List, [], ◌∷◌, ◌++◌, map, filter, if◌then◌else◌, Option, None, Some}
 use Rattle.std.specs.Str.{bytes_eq}
 use Rattle.hook_base.specs.declared.file.File.{File}
 use Rattle.hook_base.specs.declared.file.FileEntry.{FileEntry}
 use Rattle.hook_base.specs.declared.change.Change.{Change}
 use Rattle.hook_base.specs.Rising.{IsBelow}
-use Rattle.hook_base.specs.Trees.{entry_of}
+use Rattle.hook_base.specs.Trees.{entry_of, remove_file, apply_changes}
 use Rattle.store_tables.specs.declared.rows.StagedRow.{StagedRow}
+use Rattle.repo_store.specs.declared.shared.FileParts.{FileParts}
+use Rattle.repo_store.specs.declared.accepted.Accepted.{Accepted}
+use Rattle.repo_store.specs.declared.accepted.Accepted.TheVariants.{Few, All}
+use Rattle.repo_store.specs.Lists.{file_of}
 use Rattle.repo_store.specs.Rows.{staged_row}
 
 abbrev pub with_entry_at : List ℕ → Option FileEntry → List StagedRow → List StagedRow
@@ -27,3 +32,45 @@ all_rewritten files (fix ∷ fixes) rows = all_rewritten files fixes (rewritten 
 abbrev pub HasReached : List ℕ → List Change → Type 0
 HasReached path [] = Unit {0}
 HasReached path (fix ∷ fixes) = ¬ IsBelow fix.path path
+
+-- ---- few fixes
+
+abbrev pub file_at : List ℕ → Option FileEntry → List File
+file_at path None = []
+file_at path (Some entry) = record { path = path; entry = entry } ∷ []
+
+-- the files that stand at the paths of the fixes
+abbrev pub files_with_fix : List Change → List File → List File
+files_with_fix [] files = []
+files_with_fix (fix ∷ fixes) files = file_at fix.path (entry_of fix.path files) ++ files_with_fix fixes files
+
+-- the file in place of the one at its path, where there is one
+abbrev pub replaced : File → List File → List File
+replaced new [] = []
+replaced new (file ∷ files) = (if bytes_eq new.path file.path then new else file) ∷ replaced new files
+
+-- the file of a path has this entry, or is gone; where there is none, there is none then
+abbrev pub settled_at : List ℕ → Option FileEntry → List File → List File
+settled_at path None files = remove_file path files
+settled_at path (Some entry) files = replaced (record { path = path; entry = entry }) files
+
+-- at the path of each fix stands what the other files have there
+abbrev pub settled : List File → List Change → List File → List File
+settled others [] files = files
+settled others (fix ∷ fixes) files = settled others fixes (settled_at fix.path (entry_of fix.path others) files)
+
+-- both have the same at the path of each fix
+abbrev pub HaveSameFixed : List Change → List File → List File → Type 0
+HaveSameFixed [] files others = Unit {0}
+HaveSameFixed (fix ∷ fixes) files others = (entry_of fix.path files ≡ entry_of fix.path others) × HaveSameFixed fixes files others
+
+-- ---- what is made ready
+
+abbrev pub accepted_files : Accepted → List FileParts
+accepted_files (Few files) = files.items
+accepted_files (All files) = files.items
+
+-- at the paths of the fixes these are the files with the fixes applied, and if they are all of them, everywhere
+abbrev pub IsAccepted : List Change → List File → Accepted → Type 0
+IsAccepted fixes staged (Few files) = HaveSameFixed fixes (map file_of files.items) (apply_changes fixes staged)
+IsAccepted fixes staged (All files) = map file_of files.items ≡ apply_changes fixes staged
