@@ -6,7 +6,7 @@ Usage: tests/compare_reports.py [PROGRAM [COUNT [SEED]]]   (default: crates/hook
 pre-commit (Debian's package of that name) must be there, for the Python that runs this or for /usr/bin/python3, which
 Debian's packages serve; where it is missing, nothing can be compared, and that is a failure. So must `git` be.
 
-Each tree is laid and staged in a repository of its own, and each configuration, of `fail` and `pygrep` hooks, is run on
+Each tree is laid and staged in a repository of its own, and each configuration, of `fail`, `pygrep` and `system` hooks, is run on
 it: by `hookhost try CONFIG PATH..` with all staged files, and by pre-commit in this process. pre-commit's `pygrep` is
 called here too, but for some configurations, where it starts its own process, as it always would. Patterns are of what
 both languages of patterns share, texts of what both readers of YAML do.
@@ -40,7 +40,7 @@ try:
     from pre_commit import output as printed
     from pre_commit.commands import run as running
     from pre_commit.languages import pygrep
-    from pre_commit.xargs import partition
+    from pre_commit.xargs import partition, xargs
 except ImportError:
     try_again("pre-commit (Debian's package)")
 
@@ -91,6 +91,12 @@ ARGUMENTS = ["-i", "--ignore-case", "--multiline", "--negate"]
 NAMES = ["Check", "a", "A name of more than fifty columns, so that each line is wider than eighty", "\u65e5\u672c", "\u65e5" * 30, "caf\u00e9: 'x'", ""]
 ACCENT = "e\u0301 accent"
 ENTRIES = ["no such names", "", "one\ntwo", "  blanks around\n\n", "caf\u00e9 \u65e5", "it's \"quoted\" \\ {x} #y"]
+# pre-commit counts a blank behind each word of a command, the last one too, and leaves room for the environment.
+LONGEST = 131_072 + 1
+# Commands that pass, fail, print, and modify files. The last leaves room for a few names, so it runs in several parts.
+COMMANDS = ["true", "false", "cat", "grep -n TODO", "wc -c", "sed -i s/a/b/", "sed -i s/c/c/", "sh -c 'echo out; echo err >&2; exit 7' --",
+            "sh -c 'test $# = 1 || printf \"%s|\" \"$@\"; exit $#' --", "sh -c 'printf \"x\" >> \"$1\"' --",
+            "/bin/sh -c 'shift; echo $# \"$1\"; exit $#' -- " + 130_960 * "c"]
 STAGES = [["commit"], ["commit", "push"], ["push"], ["manual"], []]
 
 
@@ -118,15 +124,18 @@ def truth(rng):
 
 
 def hook(rng, number):
-    language = rng.choice(["fail", "pygrep", "pygrep"])
+    language = rng.choice(["fail", "pygrep", "pygrep", "system"])
     made = {"id": rng.choice(["same", f"h{number}"]), "name": rng.choice(NAMES) if rng.random() < 0.97 else ACCENT, "language": language}
-    made["entry"] = rng.choice(ENTRIES) if language == "fail" else line_pattern(rng)
+    made["entry"] = line_pattern(rng) if language == "pygrep" else rng.choice(COMMANDS if language == "system" else ENTRIES)
     tags = lambda: rng.sample(TAGS, rng.randint(0, 2))
     made |= maybe(rng, 0.25, files=lambda: path_pattern(rng), exclude=lambda: path_pattern(rng), args=lambda: [it for it in ARGUMENTS if rng.random() < 0.4])
     made |= maybe(rng, 0.15, types=tags, types_or=tags, exclude_types=tags, alias=lambda: "other")
     made |= maybe(rng, 0.15, pass_filenames=truth(rng), always_run=truth(rng), verbose=truth(rng), fail_fast=truth(rng), require_serial=truth(rng))
     made |= maybe(rng, 0.05, stages=lambda: rng.choice(STAGES), description=lambda: "of no use")
     made |= maybe(rng, 0.02, color=lambda: "unknown to both")
+    if language == "system":
+        # pre-commit would hand the names in another order to several commands at once.
+        made |= {"require_serial": True, "args": []}
     return made
 
 
@@ -149,15 +158,20 @@ def configuration(top, hooks):
 # ---- the two answers: the verdict and the report
 
 
-def lay(case, rng):
-    """Lays the tree in the current folder, with its configuration, and stages it: the staged paths."""
-    subprocess.run(["git", "init", "--quiet", "--template="], check=True)
+def lay_files(case):
+    """Lays the tree in the current folder, anew where the commands of hooks have changed it."""
     for path, file in case.tree.items():
         if os.path.dirname(path):
             os.makedirs(os.path.dirname(path), exist_ok=True)
         with open(path, "wb") as made:
             made.write(file.contents)
         os.chmod(path, 0o755 if file.executable else 0o644)
+
+
+def lay(case, rng):
+    """Lays the tree in the current folder, with its configuration, and stages it: the staged paths."""
+    subprocess.run(["git", "init", "--quiet", "--template="], check=True)
+    lay_files(case)
     with open(CONFIGURATION, "w", encoding="utf-8") as made:
         made.write(configuration(case.top, case.hooks))
     paths = list(case.tree) + ([CONFIGURATION] if rng.random() < 0.5 else [])
@@ -181,6 +195,7 @@ def theirs(patches, own_process=False):
     with contextlib.ExitStack() as stack:
         for patch in patches if own_process else [*patches, mock.patch.object(pygrep, "xargs", pygrep_here)]:
             stack.enter_context(patch)
+        stack.enter_context(mock.patch.dict(xargs.__kwdefaults__, _max_length=LONGEST))
         stack.enter_context(writing_to(taken))
         stack.enter_context(contextlib.redirect_stderr(io.StringIO()))
         status = pre_commit.main(["run", "--all-files", "--color", "never"])
@@ -303,6 +318,7 @@ def of_bytes(made):
 
 def agree_but_for(reasons, case, paths):
     """Whether the two answers are the same, these reasons and those of lines apart."""
+    lay_files(case)
     executable = [path for path, file in case.tree.items() if file.executable and PLAIN in reasons]
     for path in executable:
         os.chmod(path, 0o644)

@@ -71,6 +71,13 @@ pub record IsTriedOver (given left held holds : Option (List ℕ)) (tells : List
 
 -- ---- what is refused
 
+-- a configuration's run is refused for want of memory, or since the children have told `calls` outcomes, as many as can be
+-- counted
+abbrev pub IsRefusedRun : ℕ → TryFault → Type 0
+IsRefusedRun calls OutOfMemory = Unit {0}
+IsRefusedRun calls Spent = calls ≡ 2 ^ 64 - 1
+IsRefusedRun calls _ = ⊥
+
 -- what holds where a run is refused: the children had told `calls` outcomes before it, and have told `calls_after` now
 abbrev pub IsRefusedBy : Option (List ℕ) → Option (List ℕ) → ℕ → ℕ → TryFault → Type 0
 IsRefusedBy given left calls calls_after Read = calls_after ≡ calls

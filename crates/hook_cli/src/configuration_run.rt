@@ -5,17 +5,17 @@
 ghost use Rattle.std.specs.Prelude.{◌≡◌, ◌≢◌, ◌≤◌, ◌+◌, IfOk, IfErr, OnOk};
 ghost use Rattle.std.specs.Io.KnownBytes.{Appends};
 ghost use Rattle.child_port.specs.Telling.{SameTells};
-ghost use Rattle.hook_run.specs.RunOuts.{IsRunOut};
-ghost use Rattle.hook_cli.specs.TryOver.{IsRefusedBy, IsTriedOver, ReadsWithin, ask_for_all, most_bytes};
+ghost use Rattle.hook_run.specs.RunOuts.{IsRunOver};
+ghost use Rattle.hook_cli.specs.TryOver.{IsRefusedBy, IsRefusedRun, IsTriedOver, ReadsWithin, ask_for_all, most_bytes};
 ghost use Rattle.hook_cli.specs.declared.try_fault.TryFault.TheVariants as fault;
 
 use crate::TryFault;
 use crate::configuration_bytes::read_bytes;
 use crate::run_ask::ask_for_all;
 use child_port::Children;
-use hook_base::{OutOfMemory, Tree};
+use hook_base::Tree;
 use hook_config::{Config, read_config};
-use hook_run::{Need, RunOut, RunPlan, RunRefusal};
+use hook_run::{RunOut, RunRefusal, run_hooks};
 use std::alloc::Global;
 use std::io::{Read, Write};
 
@@ -57,31 +57,33 @@ pub fn try_over<R: Read, W: Write, C: Children>(
 {
     let bytes = read_bytes(alloc, reader)?;
     let config = read_config(alloc, bytes.as_slice())?;
-    let out = run_on_all(alloc, &config, tree)?;
+    let out = run_on_all(alloc, children, &config, tree)?;
     write_report(writer, out.report.as_slice())?;
     Ok(out.passed)
 }
 
-// The run of the stage `pre-commit` with all files of the tree as candidates. Its hooks need no children yet.
-fn run_on_all(alloc: Global, config: &Config, tree: &Tree) -> Result<RunOut, OutOfMemory>
-    ensures { IfOk result (IsRunOut config.now (ask_for_all tree.now) tree.now) }
-{
-    let plan = plan_on_all(alloc, config, tree)?;
-    match plan.next() {
-        Need::Over => Ok(plan.finish()),
-        Need::Child => unreachable!(),
-    }
-}
-
-fn plan_on_all(alloc: Global, config: &Config, tree: &Tree) -> Result<RunPlan, OutOfMemory>
-    ensures { IfOk result (IsRunOut config.now (ask_for_all tree.now) tree.now) }
+// The run of the stage `pre-commit` with all files of the tree as candidates.
+fn run_on_all<C: Children>(
+    alloc: Global,
+    children: &mut C,
+    config: &Config,
+    tree: &Tree,
+) -> Result<RunOut, TryFault>
+    ensures run { IfOk result (IsRunOver (C.tells children.old) (C.call_count children.old) (C.call_count children.new) (C.fault_count children.old) (C.fault_count children.new) config.now (ask_for_all tree.now) tree.now) }
+    ensures refused { IfErr result (IsRefusedRun (C.call_count children.new)) }
+    ensures same { SameTells (C.tells children.old) (C.tells children.new) }
+    ensures calls { C.call_count children.old ≤ C.call_count children.new }
+    ensures faults { C.fault_count children.old ≤ C.fault_count children.new }
+    ensures faults_are_calls { C.fault_count children.new + C.call_count children.old
+        ≤ C.fault_count children.old + C.call_count children.new }
 {
     let ask = ask_for_all(alloc, tree)?;
-    match RunPlan::begin(alloc, config, &ask, tree) {
-        Ok(plan) => Ok(plan),
-        Err(RunRefusal::OutOfMemory) => Err(OutOfMemory),
-        // No hook is asked for by its name, and no child was needed.
-        Err(RunRefusal::NoSuchHook | RunRefusal::Spent) => unreachable!(),
+    match run_hooks(alloc, children, config, &ask, tree) {
+        Ok(out) => Ok(out),
+        Err(RunRefusal::OutOfMemory) => Err(TryFault::OutOfMemory),
+        Err(RunRefusal::Spent) => Err(TryFault::Spent),
+        // No hook is asked for by its name.
+        Err(RunRefusal::NoSuchHook) => unreachable!(),
     }
 }
 

@@ -1,96 +1,108 @@
--- A run of a stage, hook by hook from the front.
-use Rattle.std.proofs.Common.{◌≡◌, ◌∙◌, ap, sym, subst, refl, add-one, append_assoc, ℕ, suc, ◌+◌, ◌<◌, ◌≤◌, Bool, true, false, List, [], ◌∷◌, ◌++◌, Bor, length, drop, get_or, map}
+-- A run over children, part by part.
+use Rattle.std.proofs.Common.{◌≡◌, ◌∙◌, ap, sym, subst, refl, arith, append_assoc, ℕ, ◌+◌, Bool, false, List, [], ◌∷◌, ◌++◌, All, length, length-append, Option, None, Some, Result, Ok, Err, IfOk}
 use Rattle.std.proofs.lemmas.List.{append-nil}
-use Rattle.std.proofs.Math.Seq.{drop-cons}
-use Rattle.std.proofs.Math.ListN.{drop_of_length-le}
-use Rattle.std.specs.Prelude.{MatchBool}
+use Rattle.std.proofs.lemmas.List.Elements.{All-append, All-cons, All-nil}
 use Rattle.hook_base.specs.declared.file.File.{File}
+use Rattle.child_port.specs.Outcomes.{faults_in}
+use Rattle.child_port.specs.declared.answer.Outcome.{Outcome}
 use Rattle.hook_config.specs.declared.configuration.Config.{Config}
-use Rattle.hook_config.specs.declared.configuration.Hook.{Hook}
-use Rattle.report_text.specs.declared.hook_result.HookResult.{HookResult}
+use Rattle.hook_run.specs.declared.need.Need.TheVariants.{Child, Over}
 use Rattle.hook_run.specs.declared.run_ask.RunAsk.{RunAsk}
-use Rattle.hook_run.specs.Childless.{no_parts}
-use Rattle.hook_run.specs.HookRun.{IsResult}
-use Rattle.hook_run.specs.Parts.{Part, all_parts, tree_after}
-use Rattle.hook_run.specs.StageRun.{IsRun, is_last}
+use Rattle.hook_run.specs.declared.run_out.RunOut.{RunOut}
+use Rattle.child_port.specs.SeenLemmas.{IsPartOf-seen_of}
+use Rattle.hook_base.specs.Trees.{IsPartOf}
+use Rattle.hook_run.specs.HookRun.{further_of, sees_whole}
+use Rattle.hook_run.specs.Parts.{AllTold, Part, all_parts, faults_of}
+use Rattle.hook_run.specs.PlanRuns.{IsPlanRun}
+use Rattle.hook_run.specs.Plans.{AtHook, Completes, CompletesAt, IsPlanAfter, IsPlanOf, Plan, need_at, need_of, first_of, out_of_plan, part_with, seen_at, seen_of_plan, tree_of_plan, words_of}
+use Rattle.hook_run.specs.RunOuts.{IsCounted, IsRunOver}
 
--- whatever runs the hooks that are left runs, behind the results so far, all hooks
-pub record Continues (config : Config) (ask : RunAsk) (tree : List File) (hooks left : List Hook) (results : List HookResult) : Type 0 where
-  pub join : (rest : List HookResult) → IsRun config ask tree left (no_parts rest) rest
-      → IsRun config ask tree hooks (no_parts (results ++ rest)) (results ++ rest)
 
-pub continues-none : (config : Config) (ask : RunAsk) (tree : List File) (hooks : List Hook) (results : List HookResult) → results ≡ []
-    → Continues config ask tree hooks hooks results
-continues-none config ask tree hooks results none = record {
-  join = λ rest run. subst (λ (r : List HookResult). IsRun config ask tree hooks (no_parts (r ++ rest)) (r ++ rest)) (sym none) run;
+-- the parts that the children have told since the first moment, and the plan that they led to
+pub record ToldSoFar (tells : List (List ℕ) → List File → Outcome → Type 0) (calls calls_after faults faults_after : ℕ) (first plan : Plan) : Type 0 where
+  pub parts : List Part
+  pub told : AllTold tells parts
+  pub steady : All (λ part. part.unsteady ≡ false) parts
+  pub counted : IsCounted calls calls_after faults faults_after parts
+  pub leads : (rest : List Part) (out : RunOut) → Completes plan rest out → Completes first (parts ++ rest) out
+
+pub told-none : (tells : List (List ℕ) → List File → Outcome → Type 0) (calls faults : ℕ) (plan : Plan) → ToldSoFar tells calls calls faults faults plan plan
+told-none tells calls faults plan = record {
+  parts = [];
+  told = tt;
+  steady = All-nil (λ part. part.unsteady ≡ false);
+  counted = record { called = omega arith; faulted = omega arith };
+  leads = λ rest out on. on;
 }
 
-run-first : (config : Config) (ask : RunAsk) (tree : List File) (hook : Hook) (hooks : List Hook) (result : HookResult) (rest : List HookResult)
-    → IsResult config ask tree hook [] result → is_last config hook result.ending ≡ false
-    → IsRun config ask tree hooks (no_parts rest) rest → IsRun config ask tree (hook ∷ hooks) (no_parts (result ∷ rest)) (result ∷ rest)
-run-first config ask tree hook hooks result rest is more run =
-    (is, subst (λ (b : Bool). MatchBool b ((no_parts rest ≡ []) × (rest ≡ [])) (IsRun config ask tree hooks (no_parts rest) rest)) (sym more) run)
+told-append : (tells : List (List ℕ) → List File → Outcome → Type 0) (parts more : List Part) → AllTold tells parts → AllTold tells more → AllTold tells (parts ++ more)
+told-append tells [] more first second = second
+told-append tells (part ∷ parts) more first second = (first.0, told-append tells parts more first.1 second)
 
-abbrev NothingMore : List (List Part) → List HookResult → Type 0
-NothingMore trace results = (trace ≡ []) × (results ≡ [])
+faults-append : (parts more : List Part) → faults_of (parts ++ more) ≡ faults_of parts + faults_of more
+faults-append [] more = omega arith
+faults-append (part ∷ parts) more = let rest = faults-append parts more in omega arith
 
-run-last : (config : Config) (ask : RunAsk) (tree : List File) (hook : Hook) (hooks : List Hook) (result : HookResult)
-    → IsResult config ask tree hook [] result → is_last config hook result.ending ≡ true
-    → IsRun config ask tree (hook ∷ hooks) (no_parts (result ∷ [])) (result ∷ [])
-run-last config ask tree hook hooks result is last =
-    (is, subst (λ (b : Bool). MatchBool b (NothingMore [] []) (IsRun config ask tree hooks [] [])) (sym last) (refl, refl))
+pub told-more : (tells : List (List ℕ) → List File → Outcome → Type 0) (calls calls_now calls_after faults faults_now faults_after : ℕ) (first plan after : Plan) (outcome : Outcome)
+    → ToldSoFar tells calls calls_now faults faults_now first plan → tells (words_of plan) (seen_of_plan plan) outcome
+    → calls_after ≡ calls_now + 1 → faults_after ≡ faults_now + faults_in outcome → IsPlanAfter plan outcome false after
+    → ToldSoFar tells calls calls_after faults faults_after first after
+told-more tells calls calls_now calls_after faults faults_now faults_after first plan after outcome so_far told call fault follows =
+    let part = part_with plan outcome false in
+    let called = so_far.counted.called in
+    let faulted = so_far.counted.faulted in
+    let long = length-append so_far.parts (part ∷ []) in
+    let many = faults-append so_far.parts (part ∷ []) in
+    record {
+      parts = so_far.parts ++ part ∷ [];
+      told = told-append tells so_far.parts (part ∷ []) so_far.told (told, tt);
+      steady = All-append (λ one. one.unsteady ≡ false) so_far.parts (part ∷ []) so_far.steady
+          (All-cons (λ one. one.unsteady ≡ false) part [] refl (All-nil (λ one. one.unsteady ≡ false)));
+      counted = record { called = omega arith; faulted = omega arith };
+      leads = λ rest out on. subst (λ (all : List Part). Completes first all out) (sym (append_assoc so_far.parts (part ∷ []) rest))
+          (so_far.leads (part ∷ rest) out (follows rest out on));
+    }
 
--- the hooks that references lead to
-abbrev pub hooks_behind : List (Bor Hook) → List Hook
-hooks_behind hooks = map (λ hook. hook.now) hooks
+over-at : (plan : Plan) (waiting : Option AtHook) (out : RunOut) → need_at waiting ≡ Over → out ≡ out_of_plan plan → CompletesAt plan waiting [] out
+over-at plan None out need is = (refl, is)
+over-at plan (Some at) out need is = absurd (cc)
 
-left_of : (hooks : List (Bor Hook)) (place : ℕ) (hook : Bor Hook) → place < length hooks → hook ≡ get_or hooks place hook
-    → hooks_behind (drop place hooks) ≡ hook.now ∷ hooks_behind (drop (place + 1) hooks)
-left_of hooks place hook within is =
-    ap hooks_behind (drop-cons hooks place hook within ∙ ap (λ h. h ∷ drop (suc place) hooks) (sym is)
-    ∙ ap (λ n. hook ∷ drop n hooks) (sym (add-one place)))
-
-pub continues-more : (config : Config) (ask : RunAsk) (tree : List File) (all : List Hook) (hooks : List (Bor Hook)) (place : ℕ) (hook : Bor Hook)
-    (result : HookResult) (results after : List HookResult) → Continues config ask tree all (hooks_behind (drop place hooks)) results
-    → place < length hooks → hook ≡ get_or hooks place hook → IsResult config ask tree hook.now [] result
-    → is_last config hook.now result.ending ≡ false → after ≡ results ++ result ∷ []
-    → Continues config ask tree all (hooks_behind (drop (place + 1) hooks)) after
-continues-more config ask tree all hooks place hook result results after so_far within is ran more made = record {
-  join = λ rest run.
-      let joined = so_far.join (result ∷ rest)
-      (subst (λ (left : List Hook). IsRun config ask tree left (no_parts (result ∷ rest)) (result ∷ rest)) (sym (left_of hooks place hook within is))
-      (run-first config ask tree hook.now (hooks_behind (drop (place + 1) hooks)) result rest ran more run)) in
-      subst (λ (r : List HookResult). IsRun config ask tree all (no_parts r) r)
-      (sym (append_assoc results (result ∷ []) rest) ∙ ap (λ r. r ++ rest) (sym made)) joined;
+pub told-all : (tells : List (List ℕ) → List File → Outcome → Type 0) (calls calls_after faults faults_after : ℕ) (first plan : Plan) (out : RunOut)
+    → ToldSoFar tells calls calls_after faults faults_after first plan → need_of plan ≡ Over → out ≡ out_of_plan plan
+    → IsPlanRun tells calls calls_after faults faults_after first out
+told-all tells calls calls_after faults faults_after first plan out so_far over is = record {
+  parts = so_far.parts;
+  told = so_far.told;
+  steady = so_far.steady;
+  counted = so_far.counted;
+  completes = subst (λ (all : List Part). Completes first all out) (append-nil so_far.parts) (so_far.leads [] out (over-at plan plan.waiting out over is));
 }
 
-pub run-stopped : (config : Config) (ask : RunAsk) (tree : List File) (all : List Hook) (hooks : List (Bor Hook)) (place : ℕ) (hook : Bor Hook)
-    (result : HookResult) (results after : List HookResult) → Continues config ask tree all (hooks_behind (drop place hooks)) results
-    → place < length hooks → hook ≡ get_or hooks place hook → IsResult config ask tree hook.now [] result
-    → is_last config hook.now result.ending ≡ true → after ≡ results ++ result ∷ [] → IsRun config ask tree all (no_parts after) after
-run-stopped config ask tree all hooks place hook result results after so_far within is ran last made =
-    subst (λ (r : List HookResult). IsRun config ask tree all (no_parts r) r) (sym made)
-    (so_far.join (result ∷ [])
-    (subst (λ (left : List Hook). IsRun config ask tree left (no_parts (result ∷ [])) (result ∷ [])) (sym (left_of hooks place hook within is))
-    (run-last config ask tree hook.now (hooks_behind (drop (place + 1) hooks)) result ran last)))
+run-over : (tells : List (List ℕ) → List File → Outcome → Type 0) (calls calls_after faults faults_after : ℕ) (config : Config) (ask : RunAsk) (tree : List File) (plan : Plan) (out : RunOut)
+    → IsPlanOf config ask tree plan → IsPlanRun tells calls calls_after faults faults_after plan out
+    → IsRunOver tells calls calls_after faults faults_after config ask tree out
+run-over tells calls calls_after faults faults_after config ask tree plan out of on =
+    let run = of on.parts out on.completes in
+    record {
+      trace = run.0;
+      run = run.2;
+      told = subst (AllTold tells) (sym run.1) on.told;
+      steady = subst (λ (parts : List Part). All (λ part. part.unsteady ≡ false) parts) (sym run.1) on.steady;
+      counted = subst (IsCounted calls calls_after faults faults_after) (sym run.1) on.counted;
+    }
 
-drop-all : (hooks : List (Bor Hook)) (place : ℕ) → length hooks ≤ place → hooks_behind (drop place hooks) ≡ []
-drop-all hooks place past = ap hooks_behind (drop_of_length-le hooks past)
+pub run-over_if : {E : Type 0} (tells : List (List ℕ) → List File → Outcome → Type 0) (calls calls_after faults faults_after : ℕ) (config : Config) (ask : RunAsk) (tree : List File) (plan : Plan)
+    (result : Result RunOut E) → IsPlanOf config ask tree plan → IfOk result (IsPlanRun tells calls calls_after faults faults_after plan)
+    → IfOk result (IsRunOver tells calls calls_after faults faults_after config ask tree)
+run-over_if tells calls calls_after faults faults_after config ask tree plan (Ok out) of on = run-over tells calls calls_after faults faults_after config ask tree plan out of on
+run-over_if tells calls calls_after faults faults_after config ask tree plan (Err refusal) of on = tt
 
-pub run-ended : (config : Config) (ask : RunAsk) (tree : List File) (all : List Hook) (hooks : List (Bor Hook)) (place : ℕ) (results : List HookResult)
-    → Continues config ask tree all (hooks_behind (drop place hooks)) results → length hooks ≤ place
-    → IsRun config ask tree all (no_parts results) results
-run-ended config ask tree all hooks place results so_far past =
-    let joined = so_far.join []
-    (subst (λ (left : List Hook). IsRun config ask tree left (no_parts []) []) (sym (drop-all hooks place past)) tt) in
-    subst (λ (r : List HookResult). IsRun config ask tree all (no_parts r) r) (append-nil results) joined
+-- ---- what the child of a plan sees is a part of the tree that it runs on
 
--- ---- a run without children
+seen-at : (waiting : Option AtHook) (tree : List File) → IsPartOf (seen_at waiting tree) tree
+seen-at None tree = record { held = λ path entry found. absurd (cc) }
+seen-at (Some at) tree = IsPartOf-seen_of (first_of at.commands) (further_of at.hook tree) (sees_whole at.hook) tree
 
-pub childless : (results : List HookResult) → all_parts (no_parts results) ≡ []
-childless [] = refl
-childless (result ∷ results) = childless results
-
-pub same-tree : (tree : List File) (results : List HookResult) → tree ≡ tree_after tree (no_parts results)
-same-tree tree [] = refl
-same-tree tree (result ∷ results) = same-tree tree results
+pub seen-part : (plan : Plan) (seen tree : List File) → seen ≡ seen_of_plan plan → tree ≡ tree_of_plan plan → IsPartOf seen tree
+seen-part plan seen tree sees on =
+    subst (λ (t : List File). IsPartOf seen t) (sym on) (subst (λ (s : List File). IsPartOf s plan.done.tree) (sym sees) (seen-at plan.waiting plan.done.tree))

@@ -1,13 +1,25 @@
 //! Laws of what the contracts cite. Each is a function that gives nothing: what it ensures is a theorem.
 
-ghost use Rattle.std.specs.Prelude.{◌≡◌, List};
+ghost use Rattle.std.specs.Prelude.{◌≡◌, ◌++◌, List};
 ghost use Rattle.hook_base.specs.declared.file.File.{File};
 ghost use Rattle.hook_config.specs.declared.configuration.Config.{Config};
 ghost use Rattle.hook_run.specs.declared.run_ask.RunAsk.{RunAsk};
 ghost use Rattle.hook_run.specs.declared.run_out.RunOut.{RunOut};
+ghost use Rattle.hook_run.specs.Limits.{most_command_bytes, most_names};
+ghost use Rattle.hook_run.specs.Parts.{Part, all_parts};
 ghost use Rattle.hook_run.specs.RunOuts.{IsRunOut};
+ghost use Rattle.hook_run.specs.SameRuns.{IsNextOf};
 
-/// What is said of a run leaves nothing open: of one configuration, asked the same, on one tree, all runs give the same.
-pub fn a_run_gives_one_thing()
-    ensures { (config : Config) (ask : RunAsk) (tree : List File) (first second : RunOut) → IsRunOut config ask tree first → IsRunOut config ask tree second → first ≡ second }
+use crate::{MOST_COMMAND_BYTES, MOST_NAMES};
+
+/// The limits of the code are those that the definitions name.
+pub fn the_limits_are_those_defined()
+    ensures bytes { MOST_COMMAND_BYTES ≡ most_command_bytes }
+    ensures names { MOST_NAMES ≡ most_names }
+{}
+
+/// Of one configuration, asked the same, on one tree, the outcomes so far decide what comes next: the next part's words and
+/// what its child sees, or the end with what the run gives.
+pub fn outcomes_decide_a_run()
+    ensures { (config : Config) (ask : RunAsk) (tree : List File) (trace others : List (List Part)) (first second : RunOut) (front rest more : List Part) → IsRunOut config ask tree trace first → IsRunOut config ask tree others second → all_parts trace ≡ front ++ rest → all_parts others ≡ front ++ more → IsNextOf first second rest more }
 {}

@@ -1,7 +1,7 @@
 //! The calls by their names. Each library has a function of its own here.
 
 use crate::{
-    checks, command_lines, config_kinds, config_texts, configurations, host_commands, plans,
+    checks, child_runs, command_lines, config_kinds, config_texts, configurations, host_commands, plans,
     report_texts, runs, stages, try_faults,
 };
 use std::alloc::Global;
@@ -57,6 +57,7 @@ fn of_hook_cli(alloc: Global, call: &str, arguments: &[Vec<u8>]) -> Option<Resul
         "hook_text" => report_texts::of_hook(alloc, arguments),
         "columns" => report_texts::for_names(alloc, arguments),
         "run" => plans::played(alloc, arguments),
+        "run_hooks" => child_runs::played(alloc, arguments),
         _ => return None,
     })
 }

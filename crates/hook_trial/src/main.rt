@@ -7,6 +7,8 @@
 mod asks;
 mod calls;
 mod checks;
+mod child_rows;
+mod child_runs;
 mod command_lines;
 mod config_kinds;
 mod config_texts;

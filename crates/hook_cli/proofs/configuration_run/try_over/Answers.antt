@@ -2,28 +2,27 @@ use Rattle.std.proofs.Common.{◌∙◌, ap, sym, subst, List, ℕ, arith}
 use Rattle.std.proofs.lemmas.Result.{err_from_is_err_and}
 use Rattle.std.specs.Io.KnownBytes.{Appends}
 use Rattle.hook_config.specs.Configuration.{configuration_of}
-use Rattle.hook_run.specs.Parts.{all_parts}
+use Rattle.hook_run.specs.declared.run_out.RunOut.{RunOut}
 use Rattle.hook_cli.proofs.ReadingLemmas.{read-configuration, refused-write}
-use Rattle.hook_cli.proofs.RunLemmas.{counted-none, told-none}
 use Rattle.hook_cli.proofs.configuration_run.try_over.Goals as goal
 
 pub returns-clause-tried : goal.returns-clause-tried
 returns-clause-tried g c =
-    let run = c.in_ok-out.ensures in
+    let run = c.in_ok-out.ensures.run in
     let meant = ap configuration_of (sym c.as_slice.ensures.value) ∙ c.in_ok-config.ensures.meant in
     record {
       config = c.in_ok-config.config;
       trace = run.trace;
-      results = c.in_ok-out.out.results;
+      results = run.run.results;
       read = read-configuration (g.R.Read.remaining c.args.reader.now) (g.R.Read.remaining c.read_bytes.new.reader) c.in_ok-bytes.bytes.items
           c.in_ok-config.config c.in_ok-bytes.ensures.read meant;
-      run = run.run;
-      told = told-none (g.C.Children.tells c.args.children.now) (all_parts run.trace) run.childless;
-      called = omega arith;
-      counted = counted-none (g.C.Children.fault_count c.args.children.now) (all_parts run.trace) run.childless;
-      verdict = run.verdict;
+      run = run.run.run;
+      told = run.told;
+      called = let called = run.counted.called in omega arith;
+      counted = run.counted.faulted;
+      verdict = ap (λ (out : RunOut). out.passed) run.run.is;
       written = subst (λ (bytes : List ℕ). Appends (g.W.Write.contents c.args.writer.now) (g.W.Write.contents c.write_report.new.writer) bytes)
-          (c.as_slice-2.ensures ∙ run.report) c.in_ok-write_report.ensures.ok;
+          (c.as_slice-2.ensures ∙ ap (λ (out : RunOut). out.report) run.run.is) c.in_ok-write_report.ensures.ok;
     }
 
 pub returns-in_err-write_report-clause-refused : goal.returns-in_err-write_report-clause-refused
@@ -34,5 +33,5 @@ returns-in_err-write_report-clause-refused g c =
     let read = read-configuration (g.R.Read.remaining c.args.reader.now) (g.R.Read.remaining c.read_bytes.new.reader) c.in_ok-bytes.bytes.items
     c.in_ok-config.config c.in_ok-bytes.ensures.read meant in
     rw (p.1, p.2)
-    (refused-write _ _ (g.C.Children.call_count c.args.children.now) (g.C.Children.call_count c.args.children.now) c.in_ok-config.config
+    (refused-write _ _ (g.C.Children.call_count c.args.children.now) (g.C.Children.call_count c.run_on_all.new.children) c.in_ok-config.config
     c.in_err-write_report.field-0.0 c.in_err-write_report.ensures.err read)
