@@ -5,3 +5,4 @@ pub mod OneRunLemmas
 pub mod PlanLemmas
 pub mod RowLemmas
 pub mod RunLemmas
+pub mod SomeRunLemmas
