@@ -1,5 +1,5 @@
 -- What a run gives, and a run over children and remembered answers.
-use Rattle.std.specs.Prelude.{◌≡◌, ◌+◌, ◌-◌, ◌^◌, ℕ, if◌then◌else◌, List, [], ◌∷◌, ◌++◌, length}
+use Rattle.std.specs.Prelude.{◌≡◌, ◌≢◌, ◌+◌, ◌-◌, ◌^◌, ℕ, if◌then◌else◌, List, [], ◌∷◌, ◌++◌, length}
 use Rattle.hook_base.specs.declared.file.File.{File}
 use Rattle.child_port.specs.declared.answer.Outcome.{Outcome}
 use Rattle.hook_config.specs.declared.configuration.Config.{Config}
@@ -48,6 +48,19 @@ pub record IsCounted (calls calls_after faults faults_after : ℕ) (parts : List
   pub called : calls_after ≡ calls + length parts
   pub faulted : faults_after ≡ faults + faults_of parts
 
+-- a run of the hooks that are asked for begins with these parts
+pub record IsBegun (config : Config) (ask : RunAsk) (tree : List File) (front : List Part) : Type 0 where
+  pub trace : List (List Part)
+  pub rest : List Part
+  pub out : RunOut
+  pub joined : all_parts trace ≡ front ++ rest
+  pub run : IsRunOut config ask tree trace out
+
+-- it has a further part behind these
+pub record NeedsPart (config : Config) (ask : RunAsk) (tree : List File) (front : List Part) : Type 0 where
+  pub part : Part
+  pub begun : IsBegun config ask tree (front ++ part ∷ [])
+
 -- a run with parts that the children told, where `before` and `after` are remembered before it and after it
 pub record IsRunOver (tells : List (List ℕ) → List File → Outcome → Type 0) (calls calls_after faults faults_after : ℕ) (before after : Contents)
     (config : Config) (ask : RunAsk) (tree : List File) (out : RunOut) : Type 0 where
@@ -57,8 +70,8 @@ pub record IsRunOver (tells : List (List ℕ) → List File → Outcome → Type
   pub starts : Starts ask.fresh before after (all_parts trace)
   pub counted : IsCounted calls calls_after faults faults_after (all_parts trace)
 
--- a run that is refused, with the parts that the children told before that: none where no hook has the name, and as many as
--- can be counted where it is spent
+-- a run that is refused, with the parts that the children told before that: none where no hook has the name, else those that
+-- a run begins with. Where it is spent, a run has a further part, and the children have told as many as can be counted
 pub record IsStoppedRun (tells : List (List ℕ) → List File → Outcome → Type 0) (calls calls_after faults faults_after : ℕ) (before after : Contents)
     (config : Config) (ask : RunAsk) (tree : List File) (refusal : RunRefusal) : Type 0 where
   pub parts : List Part
@@ -66,4 +79,6 @@ pub record IsStoppedRun (tells : List (List ℕ) → List File → Outcome → T
   pub starts : Starts ask.fresh before after parts
   pub counted : IsCounted calls calls_after faults faults_after parts
   pub no_hook : refusal ≡ NoSuchHook → parts ≡ []
+  pub begins : refusal ≢ NoSuchHook → IsBegun config ask tree parts
+  pub needs : refusal ≡ Spent → NeedsPart config ask tree parts
   pub spent : refusal ≡ Spent → calls_after ≡ 2 ^ 64 - 1

@@ -11,7 +11,7 @@
 //! `specs/PartsEnding.antt` (its children, and what they come to), `specs/Asks.antt` (which hooks a run goes through, and
 //! `names_no_hook`) and `specs/Limits.antt`; `specs/Refusals.antt` has the numbers, and `specs/CountLemmas.antt` what follows
 //! for the children's counts. `specs/Standing.antt` and `specs/PlanRuns.antt` serve private functions alone. [`laws`] says
-//! that the outcomes decide all else of a run.
+//! that the outcomes decide all else of a run, and [`plan_laws`] that each plan can be completed.
 #![tactic(auto)]
 
 mod advance;
@@ -26,6 +26,7 @@ mod limits;
 mod modified;
 mod need;
 mod plan;
+pub mod plan_laws;
 mod progress;
 mod report;
 mod run_ask;

@@ -22,7 +22,7 @@ use std::alloc::Global;
 ///
 /// `NoSuchHook` exactly where `only` has a name that no hook of the stage has; then `OutOfMemory` where memory is refused, and
 /// `Spent` where a child is needed and the children have told as many outcomes as can be counted. `Book` is never answered
-/// yet. A refusal leaves the children with the outcomes that they have told.
+/// yet. A refusal leaves the children with the outcomes that they have told, with which a run begins.
 pub fn run_hooks<C: Children, B: Book>(
     alloc: Global,
     children: &mut C,
@@ -45,7 +45,7 @@ pub fn run_hooks<C: Children, B: Book>(
 // Completes the plan with the children's outcomes.
 fn run_plan<C: Children>(children: &mut C, plan: RunPlan) -> Result<RunOut, RunRefusal>
     ensures run { IfOk result (IsPlanRun (C.tells children.old) (C.call_count children.old) (C.call_count children.new) (C.fault_count children.old) (C.fault_count children.new) plan.entry) }
-    ensures stopped { IfErr result (IsPlanStopped (C.tells children.old) (C.call_count children.old) (C.call_count children.new) (C.fault_count children.old) (C.fault_count children.new)) }
+    ensures stopped { IfErr result (IsPlanStopped (C.tells children.old) (C.call_count children.old) (C.call_count children.new) (C.fault_count children.old) (C.fault_count children.new) plan.entry) }
     ensures not_asked { IfErr result (λ refusal. refusal ≢ RunRefusal.NoSuchHook) }
     ensures not_book { IfErr result (λ refusal. is_of_book refusal ≡ false) }
     ensures same { SameTells (C.tells children.old) (C.tells children.new) }
