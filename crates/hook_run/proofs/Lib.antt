@@ -1,5 +1,6 @@
 pub mod AdvanceLemmas
 pub mod BeginLemmas
+pub mod FaultLemmas
 pub mod HookRefs
 pub mod OneRunLemmas
 pub mod PlanLemmas

@@ -6,8 +6,9 @@ ghost use Rattle.hook_base.specs.declared.file.File.{File};
 ghost use Rattle.hook_config.specs.declared.configuration.Config.{Config};
 ghost use Rattle.hook_run.specs.declared.run_ask.RunAsk.{RunAsk};
 ghost use Rattle.hook_run.specs.declared.run_out.RunOut.{RunOut};
+ghost use Rattle.hook_run.specs.ChildFaults.{child_faults};
 ghost use Rattle.hook_run.specs.Limits.{most_command_bytes, most_names};
-ghost use Rattle.hook_run.specs.Parts.{AllTold, Part, all_parts};
+ghost use Rattle.hook_run.specs.Parts.{AllTold, Part, all_parts, faults_of};
 ghost use Rattle.hook_run.specs.RunOuts.{IsRunOut};
 ghost use Rattle.hook_run.specs.SameRuns.{IsNextOf};
 
@@ -23,6 +24,12 @@ pub fn the_limits_are_those_defined()
 /// is a run with these outcomes.
 pub fn there_is_a_run()
     ensures { (config : Config) (ask : RunAsk) (tree : List File) (answers : List (List ℕ) → List File → Outcome) → (trace : List (List Part)) × (out : RunOut) × IsRunOut config ask tree trace out × AllTold (λ words seen outcome. outcome ≡ answers words seen) (all_parts trace) }
+{}
+
+/// The results of a run report as many children's faults as its parts are: a name that doesn't fit is none, and neither a
+/// hook that was skipped nor one that starts no child has any.
+pub fn each_fault_is_reported()
+    ensures { (config : Config) (ask : RunAsk) (tree : List File) (trace : List (List Part)) (out : RunOut) → IsRunOut config ask tree trace out → child_faults out.results ≡ faults_of (all_parts trace) }
 {}
 
 /// Of one configuration, asked the same, on one tree, the outcomes so far decide what comes next: the next part's words and
