@@ -1,6 +1,7 @@
 pub mod AdvanceLemmas
 pub mod BeginLemmas
 pub mod CompletionLemmas
+pub mod FaultLemmas
 pub mod HookRefs
 pub mod OneRunLemmas
 pub mod PlanLemmas

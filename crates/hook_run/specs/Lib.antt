@@ -1,4 +1,5 @@
 pub mod Asks
+pub mod ChildFaults
 pub mod Commands
 pub mod CountLemmas
 pub mod HookRun
