@@ -18,7 +18,7 @@ use Rattle.store_tables.specs.declared.rows.StagedRow.{StagedRow}
 use Rattle.store_tables.specs.Steps.{IsStep}
 use Rattle.store_tables.specs.Tables.{Tables, without_fixes}
 use Rattle.repo_store.specs.declared.shared.SharedFix.{SharedFix}
-use Rattle.repo_store.specs.Accepted.{all_rewritten, rewritten, with_entry_at}
+use Rattle.repo_store.specs.Accepted.{HaveSameFixed, all_rewritten, rewritten, with_entry_at}
 use Rattle.repo_store.specs.Kept.{Kept, accepting}
 use Rattle.repo_store.specs.Lists.{fix_of}
 use Rattle.repo_store.specs.Rows.{staged_row, with_staged_rows}
@@ -65,7 +65,7 @@ whole path (file ∷ files) rising =
 
 -- ---- other paths
 
-other_entry : (path at : List ℕ) (now : Option (List ℕ)) (files : List File) → bytes_eq path at ≡ false → entry_of path (apply_at at now files) ≡ entry_of path files
+pub other_entry : (path at : List ℕ) (now : Option (List ℕ)) (files : List File) → bytes_eq path at ≡ false → entry_of path (apply_at at now files) ≡ entry_of path files
 other_entry path at None [] differs = refl
 other_entry path at (Some bytes) [] differs = refl
 other_entry path at None (file ∷ files) differs =
@@ -86,7 +86,7 @@ other_entry path at (Some bytes) (file ∷ files) differs =
 abbrev change_path : Change → List ℕ
 change_path change = change.path
 
-earlier_entry : (path : List ℕ) (changes : List Change) (files : List File) → IsBelowAll change_path path changes → entry_of path (apply_changes changes files) ≡ entry_of path files
+pub earlier_entry : (path : List ℕ) (changes : List Change) (files : List File) → IsBelowAll change_path path changes → entry_of path (apply_changes changes files) ≡ entry_of path files
 earlier_entry path [] files below = refl
 earlier_entry path (change ∷ changes) files below =
     earlier_entry path changes (apply_at change.path change.now files) below.1 ∙ other_entry path change.path change.now files (below_differs path change.path below.0)
@@ -122,13 +122,19 @@ accepted_rows (fix ∷ fixes) files rising up =
     (all_permuted (apply_changes fixes after) fixes (rewritten (apply_changes fixes after) fix.path (map staged_row files)) (map staged_row after) (one_rewritten fix fixes files rising up.0))
     (accepted_rows fixes after (IsRising-apply_at fix.path fix.now files rising) up.1)
 
+-- files that have the same at the paths of the fixes serve as well
+alike_rewritten : (fixes : List Change) (files others : List File) (rows : List StagedRow) → HaveSameFixed fixes files others → all_rewritten files fixes rows ≡ all_rewritten others fixes rows
+alike_rewritten [] files others rows same = refl
+alike_rewritten (fix ∷ fixes) files others rows same =
+    ap (λ (o : Option FileEntry). all_rewritten files fixes (with_entry_at fix.path o (filter (λ (row : StagedRow). not (bytes_eq row.path fix.path)) rows))) same.0 ∙ alike_rewritten fixes files others (rewritten others fix.path rows) same.1
+
 -- what the code hands over makes of the tables those of the accepted fixes
-pub accepting_handed : (files : List File) (fixes : List Change) (kept : Kept) → IsSound kept.repo → files ≡ apply_changes kept.repo.fixes kept.repo.staged → fixes ≡ kept.repo.fixes
+pub accepting_handed : (files : List File) (fixes : List Change) (kept : Kept) → IsSound kept.repo → HaveSameFixed kept.repo.fixes files (apply_changes kept.repo.fixes kept.repo.staged) → fixes ≡ kept.repo.fixes
     → IsSame (with_staged_rows (all_rewritten files fixes (tables_in kept).staged) (without_fixes (tables_in kept))) (tables_in (accepting kept))
-accepting_handed files fixes kept sound files_is fixes_is =
+accepting_handed files fixes kept sound files_same fixes_is =
     let staged = map staged_row kept.repo.staged in
-    subst (λ (l : List File). IsSame (with_staged_rows (all_rewritten l fixes staged) (without_fixes (tables_in kept))) (tables_in (accepting kept))) (sym files_is)
-    (subst (λ (l : List Change). IsSame (with_staged_rows (all_rewritten (apply_changes kept.repo.fixes kept.repo.staged) l staged) (without_fixes (tables_in kept))) (tables_in (accepting kept))) (sym fixes_is)
+    subst (λ (l : List Change). IsSame (with_staged_rows (all_rewritten files l staged) (without_fixes (tables_in kept))) (tables_in (accepting kept))) (sym fixes_is)
+    (subst (λ (l : List StagedRow). IsSame (with_staged_rows l (without_fixes (tables_in kept))) (tables_in (accepting kept))) (sym (alike_rewritten kept.repo.fixes files (apply_changes kept.repo.fixes kept.repo.staged) staged files_same))
     (same_staged (with_staged_rows (all_rewritten (apply_changes kept.repo.fixes kept.repo.staged) kept.repo.fixes staged) (without_fixes (tables_in kept))) (map staged_row (apply_changes kept.repo.fixes kept.repo.staged))
     (accepted_rows kept.repo.fixes kept.repo.staged sound.staged_rise sound.fixes_rise)))
 

@@ -4,6 +4,7 @@ pub mod CellLemmas
 pub mod ChangeLemmas
 pub mod ClashLemmas
 pub mod CompleteLemmas
+pub mod FewLemmas
 pub mod FitLemmas
 pub mod FixLemmas
 pub mod FixedLemmas

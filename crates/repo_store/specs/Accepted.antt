@@ -1,13 +1,18 @@
--- Serves private functions only, those of the modules `accept` and `fixed_files`: the rows of the staged files, where those
--- of some paths are written anew, and where a walk over the fixes is.
-use Rattle.std.specs.Prelude.{ℕ, not, List, [], ◌∷◌, filter, Option, None, Some}
+-- Serves private functions only, those of the modules `accept`, `accepted`, `few_fixes`, `fixed_files` and `lists`: the rows
+-- of the staged files, where those of some paths are written anew, where a walk over the fixes is, and what is made before the
+-- tables change.
+use Rattle.std.specs.Prelude.{◌≡◌, ℕ, not, List, [], ◌∷◌, ◌++◌, map, filter, Option, None, Some}
 use Rattle.std.specs.Str.{bytes_eq}
 use Rattle.hook_base.specs.declared.file.File.{File}
 use Rattle.hook_base.specs.declared.file.FileEntry.{FileEntry}
 use Rattle.hook_base.specs.declared.change.Change.{Change}
 use Rattle.hook_base.specs.Rising.{IsBelow}
-use Rattle.hook_base.specs.Trees.{entry_of}
+use Rattle.hook_base.specs.Trees.{entry_of, apply_changes}
 use Rattle.store_tables.specs.declared.rows.StagedRow.{StagedRow}
+use Rattle.repo_store.specs.declared.shared.FileParts.{FileParts}
+use Rattle.repo_store.specs.declared.accepted.Accepted.{Accepted}
+use Rattle.repo_store.specs.declared.accepted.Accepted.TheVariants.{Few, All}
+use Rattle.repo_store.specs.Lists.{file_of}
 use Rattle.repo_store.specs.Rows.{staged_row}
 
 abbrev pub with_entry_at : List ℕ → Option FileEntry → List StagedRow → List StagedRow
@@ -27,3 +32,28 @@ all_rewritten files (fix ∷ fixes) rows = all_rewritten files fixes (rewritten 
 abbrev pub HasReached : List ℕ → List Change → Type 0
 HasReached path [] = Unit {0}
 HasReached path (fix ∷ fixes) = ¬ IsBelow fix.path path
+
+abbrev pub file_at : List ℕ → Option FileEntry → List File
+file_at path None = []
+file_at path (Some entry) = record { path = path; entry = entry } ∷ []
+
+-- the files at the paths of the fixes
+abbrev pub files_with_fix : List Change → List File → List File
+files_with_fix [] files = []
+files_with_fix (fix ∷ fixes) files = file_at fix.path (entry_of fix.path files) ++ files_with_fix fixes files
+
+-- both have the same at the path of each fix
+abbrev pub HaveSameFixed : List Change → List File → List File → Type 0
+HaveSameFixed [] files others = Unit {0}
+HaveSameFixed (fix ∷ fixes) files others = (entry_of fix.path files ≡ entry_of fix.path others) × HaveSameFixed fixes files others
+
+-- ---- what is made before the tables change
+
+abbrev pub accepted_files : Accepted → List FileParts
+accepted_files (Few files) = files.items
+accepted_files (All files) = files.items
+
+-- at the paths of the fixes they are the staged files with the fixes applied; if they are all files, everywhere
+abbrev pub IsAccepted : List Change → List File → Accepted → Type 0
+IsAccepted fixes staged (Few files) = HaveSameFixed fixes (map file_of files.items) (apply_changes fixes staged)
+IsAccepted fixes staged (All files) = map file_of files.items ≡ apply_changes fixes staged

@@ -12,6 +12,7 @@
 #![tactic(auto)]
 
 mod accept;
+mod accepted;
 mod blobs;
 mod clashes;
 mod commit;
@@ -21,6 +22,7 @@ mod create;
 mod differences;
 mod digest;
 mod fault;
+mod few_fixes;
 mod file_ref;
 mod files;
 mod fixed_files;

@@ -5,7 +5,8 @@ ghost use Rattle.std.specs.Option.{option_copied};
 ghost use Rattle.std.specs.Str.{IsUtf8};
 ghost use Rattle.hook_base.specs.declared.file.FileEntry.{FileEntry};
 ghost use Rattle.hook_base.specs.Paths.{IsRepoPath};
-ghost use Rattle.hook_base.specs.Trees.{IsRising, IsRisingChanges, apply_changes, entry_of, put_file};
+ghost use Rattle.hook_base.specs.Trees.{IsRising, IsRisingChanges, entry_of, put_file};
+ghost use Rattle.repo_store.specs.Accepted.{IsAccepted, accepted_files};
 ghost use Rattle.repo_store.specs.Clashes.{Clashes};
 ghost use Rattle.repo_store.specs.Complete.{IsComplete};
 ghost use Rattle.repo_store.specs.FileRefs.{copied_file};
@@ -18,12 +19,12 @@ ghost use Rattle.repo_store.specs.Log.{log_from};
 ghost use Rattle.repo_store.specs.Repository.{Commit, commit_at, empty, last_tree, staged_changes, tree_at, with_staged};
 ghost use Rattle.repo_store.specs.Sound.{IsSound};
 
+use crate::accepted::Accepted;
 use crate::clashes::clashes;
 use crate::content::Content;
 use crate::contents::Contents;
 use crate::differences::{are_same_rows, differ_at};
 use crate::files::{commit_with, count_path_bytes, has_path, may_put, put_file, take_out};
-use crate::fixed_files::with_fixes;
 use crate::limits::{MOST_COMMITS, MOST_CONTENT_BYTES};
 use crate::look_ups::{file_at, shown_at};
 use crate::shared::{SharedCommit, SharedFile, SharedFix};
@@ -482,22 +483,23 @@ impl Lists {
         self.fixes.as_slice()
     }
 
-    /// The staged files with the fixes applied.
-    pub(crate) fn prepare_accept(&self) -> Result<Vec<SharedFile>, OutOfMemory>
-        ensures files { IfOk result (λ files. map file_of files.items ≡ apply_changes self.now.kept.repo.fixes self.now.kept.repo.staged) }
-        ensures rising { IfOk result (λ files. IsRising (map file_of files.items)) }
+    /// What the fixes make of the staged files.
+    pub(crate) fn prepare_accept(&self) -> Result<Accepted, OutOfMemory>
+        ensures accepted { IfOk result (IsAccepted self.now.kept.repo.fixes self.now.kept.repo.staged) }
+        ensures rising { IfOk result (λ accepted. IsRising (map file_of (accepted_files accepted))) }
     {
         let alloc = *self.staged.allocator();
-        with_fixes(alloc, self.staged.as_slice(), self.fixes.as_slice())
+        Accepted::of(alloc, self.staged.as_slice(), self.fixes.as_slice())
     }
 
     /// Stages the files with the fixes applied, and forgets the fixes.
-    pub(crate) fn accept(&mut self, files: Vec<SharedFile>)
-        requires { map file_of files.items ≡ apply_changes self.old.kept.repo.fixes self.old.kept.repo.staged }
+    pub(crate) fn accept(&mut self, accepted: Accepted)
+        requires accepted { IsAccepted self.old.kept.repo.fixes self.old.kept.repo.staged accepted }
+        requires rising { IsRising (map file_of (accepted_files accepted)) }
         ensures { self.new.kept ≡ accepting self.old.kept }
     {
-        self.staged = files;
-        let staged_bytes = count_path_bytes(self.staged.as_slice());
+        let fixes = self.fixes.as_slice();
+        let staged_bytes = accepted.put_into(&mut self.staged, self.staged_bytes, fixes);
         self.staged_bytes = staged_bytes;
         self.fixes.clear();
     }

@@ -198,12 +198,12 @@ impl<S: Alter> Store<S> {
         ensures why { IfErr result (IsRefusal ⊥ ⊥ ⊥) }
     {
         let number = self.lists.count_fixes();
-        let files = self.lists.prepare_accept()?;
+        let accepted = self.lists.prepare_accept()?;
         let fixes = self.lists.shared_fixes();
-        if let Err(error) = accept_rows(&mut self.conn, fixes, files.as_slice()) {
+        if let Err(error) = accept_rows(&mut self.conn, fixes, accepted.as_slice()) {
             return Err(fault_of(error));
         }
-        self.lists.accept(files);
+        self.lists.accept(accepted);
         Ok(number)
     }
 

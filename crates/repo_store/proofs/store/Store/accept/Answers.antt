@@ -1,11 +1,14 @@
-use Rattle.std.proofs.Common.{◌≡◌, Ok, Err, map, refl, ap, subst, ◌∙◌, arith}
+use Rattle.std.proofs.Common.{◌≡◌, Ok, Err, List, map, refl, sym, subst, arith}
 use Rattle.hook_base.specs.Trees.{apply_changes}
+use Rattle.repo_store.specs.declared.shared.FileParts.{FileParts}
+use Rattle.repo_store.specs.Accepted.{HaveSameFixed}
 use Rattle.repo_store.specs.Kept.{accepting}
 use Rattle.repo_store.specs.Lists.{file_of, fix_of}
 use Rattle.repo_store.specs.AllOrNothing.{IsAllOrNothing}
 use Rattle.repo_store.specs.Shown.{Shown, IsOneTransaction}
 use Rattle.repo_store.proofs.AcceptLemmas.{accepting_handed}
 use Rattle.repo_store.proofs.CompleteLemmas.{complete_accepted}
+use Rattle.repo_store.proofs.FewLemmas.{accepted_same}
 use Rattle.repo_store.proofs.RuleLemmas.{obeys_accepted}
 use Rattle.repo_store.proofs.StandLemmas.{tables_in, unnamed_in, refused_stands, done_stands, refused_transaction, done_transaction}
 use Rattle.repo_store.proofs.store.Store.accept.Goals as goal
@@ -14,7 +17,8 @@ pub invariant_of-self : goal.invariant_of-self
 invariant_of-self g c =
     let new = c.accept_rows.new.conn in
     let kept = c.self.inside.lists.kept in
-    let files : map file_of c.as_slice.result.now ≡ apply_changes kept.repo.fixes kept.repo.staged = ap (map file_of) c.as_slice.ensures.value ∙ c.in_ok-files.ensures.files in
+    let files : HaveSameFixed kept.repo.fixes (map file_of c.as_slice.result.now) (apply_changes kept.repo.fixes kept.repo.staged) =
+    subst (λ (l : List FileParts). HaveSameFixed kept.repo.fixes (map file_of l) (apply_changes kept.repo.fixes kept.repo.staged)) (sym c.as_slice.ensures) (accepted_same kept.repo.fixes kept.repo.staged c.in_ok-accepted.accepted c.in_ok-accepted.ensures.accepted) in
     let same = accepting_handed (map file_of c.as_slice.result.now) (map fix_of c.shared_fixes-fixes.result.now) kept c.self.invariant.complete.sound files c.shared_fixes-fixes.ensures in
     let complete = complete_accepted kept c.self.invariant.complete in
     let obeys = obeys_accepted kept c.self.invariant.obeys complete in
@@ -30,7 +34,8 @@ pub returns-in-Err-clause-transaction : goal.returns-in-Err-clause-transaction
 returns-in-Err-clause-transaction g c =
     let new = c.accept_rows.new.conn in
     let kept = c.self.inside.lists.kept in
-    let files : map file_of c.as_slice.result.now ≡ apply_changes kept.repo.fixes kept.repo.staged = ap (map file_of) c.as_slice.ensures.value ∙ c.in_ok-files.ensures.files in
+    let files : HaveSameFixed kept.repo.fixes (map file_of c.as_slice.result.now) (apply_changes kept.repo.fixes kept.repo.staged) =
+    subst (λ (l : List FileParts). HaveSameFixed kept.repo.fixes (map file_of l) (apply_changes kept.repo.fixes kept.repo.staged)) (sym c.as_slice.ensures) (accepted_same kept.repo.fixes kept.repo.staged c.in_ok-accepted.accepted c.in_ok-accepted.ensures.accepted) in
     let same = accepting_handed (map file_of c.as_slice.result.now) (map fix_of c.shared_fixes-fixes.result.now) kept c.self.invariant.complete.sound files c.shared_fixes-fixes.ensures in
     let complete = complete_accepted kept c.self.invariant.complete in
     let obeys = obeys_accepted kept c.self.invariant.obeys complete in
@@ -42,7 +47,8 @@ pub invariant_of-self-2 : goal.invariant_of-self-2
 invariant_of-self-2 g c =
     let new = c.accept_rows.new.conn in
     let kept = c.self.inside.lists.kept in
-    let files : map file_of c.as_slice.result.now ≡ apply_changes kept.repo.fixes kept.repo.staged = ap (map file_of) c.as_slice.ensures.value ∙ c.in_ok-files.ensures.files in
+    let files : HaveSameFixed kept.repo.fixes (map file_of c.as_slice.result.now) (apply_changes kept.repo.fixes kept.repo.staged) =
+    subst (λ (l : List FileParts). HaveSameFixed kept.repo.fixes (map file_of l) (apply_changes kept.repo.fixes kept.repo.staged)) (sym c.as_slice.ensures) (accepted_same kept.repo.fixes kept.repo.staged c.in_ok-accepted.accepted c.in_ok-accepted.ensures.accepted) in
     let same = accepting_handed (map file_of c.as_slice.result.now) (map fix_of c.shared_fixes-fixes.result.now) kept c.self.invariant.complete.sound files c.shared_fixes-fixes.ensures in
     let complete = complete_accepted kept c.self.invariant.complete in
     let obeys = obeys_accepted kept c.self.invariant.obeys complete in
@@ -57,7 +63,8 @@ pub returns-clause-transaction : goal.returns-clause-transaction
 returns-clause-transaction g c =
     let new = c.accept_rows.new.conn in
     let kept = c.self.inside.lists.kept in
-    let files : map file_of c.as_slice.result.now ≡ apply_changes kept.repo.fixes kept.repo.staged = ap (map file_of) c.as_slice.ensures.value ∙ c.in_ok-files.ensures.files in
+    let files : HaveSameFixed kept.repo.fixes (map file_of c.as_slice.result.now) (apply_changes kept.repo.fixes kept.repo.staged) =
+    subst (λ (l : List FileParts). HaveSameFixed kept.repo.fixes (map file_of l) (apply_changes kept.repo.fixes kept.repo.staged)) (sym c.as_slice.ensures) (accepted_same kept.repo.fixes kept.repo.staged c.in_ok-accepted.accepted c.in_ok-accepted.ensures.accepted) in
     let same = accepting_handed (map file_of c.as_slice.result.now) (map fix_of c.shared_fixes-fixes.result.now) kept c.self.invariant.complete.sound files c.shared_fixes-fixes.ensures in
     let complete = complete_accepted kept c.self.invariant.complete in
     let obeys = obeys_accepted kept c.self.invariant.obeys complete in

@@ -1,0 +1,96 @@
+//! Few fixes: the files that have one, and how each is put in place or taken out, so that the others aren't walked over.
+
+ghost use Rattle.std.specs.Prelude.{◌≡◌, ◌++◌, ◌+◌, ◌<◌, ◌^◌, map, is_some, IfOk, OnOk, IsTrue};
+ghost use Rattle.hook_base.specs.Trees.{IsRising, IsRisingChanges, apply_change, apply_changes, entry_of, put_row, remove_file};
+ghost use Rattle.repo_store.specs.Accepted.{HaveSameFixed, file_at, files_with_fix};
+ghost use Rattle.repo_store.specs.Limits.{path_bytes as path_bytes_of};
+ghost use Rattle.repo_store.specs.Lists.{file_of, fix_of};
+
+use crate::files::{place_of, take_out};
+use crate::shared::{SharedFile, SharedFix};
+use hook_base::{OutOfMemory, RepoPath};
+use std::alloc::Global;
+
+// Adds the file of a path, if it has one.
+fn push_at(
+    found: &mut Vec<SharedFile>,
+    files: &[SharedFile],
+    path: &RepoPath,
+) -> Result<(), OutOfMemory>
+    requires { IsRising (map file_of files.now) }
+    ensures { OnOk result (map file_of found.new.items ≡ map file_of found.old.items ++ file_at path.now (entry_of path.now (map file_of files.now))) }
+{
+    if let Ok(index) = place_of(files, path) {
+        found.push(files[index].clone()?)?;
+    }
+    Ok(())
+}
+
+/// The files that have a fix.
+pub(crate) fn files_with_fix(
+    alloc: Global,
+    files: &[SharedFile],
+    fixes: &[SharedFix],
+) -> Result<Vec<SharedFile>, OutOfMemory>
+    requires { IsRising (map file_of files.now) }
+    ensures { IfOk result (λ found. map file_of found.items ≡ files_with_fix (map fix_of fixes.now) (map file_of files.now)) }
+{
+    let mut found = Vec::with_capacity(alloc, fixes.len())?;
+    'fixes: for fix in fixes {
+        push_at(&mut found, files, &fix.path)?;
+    }
+    Ok(found)
+}
+
+// Puts a file in place of the one at its path.
+fn replace(files: &mut Vec<SharedFile>, file: SharedFile)
+    requires rising { IsRising (map file_of files.old.items) }
+    requires there { IsTrue (is_some (entry_of file.path (map file_of files.old.items))) }
+    ensures files { map file_of files.new.items ≡ put_row (file_of file) (map file_of files.old.items) }
+    ensures bytes { path_bytes_of (map file_of files.new.items) ≡ path_bytes_of (map file_of files.old.items) }
+{
+    if let Ok(index) = place_of(files.as_slice(), file.path()) {
+        files[index] = file;
+    }
+}
+
+// Moves the file that the fixed ones have at the path of the fix in place of the one there; where they have none, takes that
+// out. Answers the bytes that the paths have less then.
+fn settle(files: &mut Vec<SharedFile>, fixed: &mut Vec<SharedFile>, fix: &SharedFix) -> usize
+    requires files_rise { IsRising (map file_of files.old.items) }
+    requires fixed_rise { IsRising (map file_of fixed.old.items) }
+    requires same { entry_of fix.now.path (map file_of fixed.old.items) ≡ entry_of fix.now.path (apply_change (fix_of fix.now) (map file_of files.old.items)) }
+    ensures files { map file_of files.new.items ≡ apply_change (fix_of fix.entry.now) (map file_of files.old.items) }
+    ensures fixed { map file_of fixed.new.items ≡ remove_file fix.entry.now.path (map file_of fixed.old.items) }
+    ensures bytes { path_bytes_of (map file_of files.old.items) ≡ path_bytes_of (map file_of files.new.items) + result }
+{
+    match place_of(fixed.as_slice(), &fix.path) {
+        Ok(index) => {
+            replace(files, fixed.remove(index));
+            0
+        }
+        Err(_) => take_out(files, &fix.path),
+    }
+}
+
+/// Applies the fixes to the files, whose fixed ones are made already. Answers the bytes that the paths have less then.
+pub(crate) fn settle_all(
+    files: &mut Vec<SharedFile>,
+    fixed: Vec<SharedFile>,
+    fixes: &[SharedFix],
+) -> usize
+    requires files_rise { IsRising (map file_of files.old.items) }
+    requires fixed_rise { IsRising (map file_of fixed.items) }
+    requires fixes_rise { IsRisingChanges (map fix_of fixes.now) }
+    requires same { HaveSameFixed (map fix_of fixes.now) (map file_of fixed.items) (apply_changes (map fix_of fixes.now) (map file_of files.old.items)) }
+    requires counted { path_bytes_of (map file_of files.old.items) < 2 ^ 64 }
+    ensures files { map file_of files.new.items ≡ apply_changes (map fix_of fixes.now) (map file_of files.old.items) }
+    ensures bytes { path_bytes_of (map file_of files.old.items) ≡ path_bytes_of (map file_of files.new.items) + result }
+{
+    let mut left = fixed;
+    let mut freed = 0;
+    'fixes: for fix in fixes {
+        freed += settle(files, &mut left, fix);
+    }
+    freed
+}
