@@ -1,5 +1,5 @@
 -- What a command leaves, from what the store's call leaves.
-use Rattle.std.proofs.Common.{◌≡◌, ℕ, List, Option, Ok, Err, inl, refl, sym, subst, arith}
+use Rattle.std.proofs.Common.{◌≡◌, ℕ, List, length, Option, Ok, Err, inl, refl, sym, subst, arith}
 use Rattle.sqlite_trees.specs.declared.store.Store.{Ghosts}
 use Rattle.sqlite_trees.specs.Tree.{Trees}
 use Rattle.sqlite.specs.Held.{state}
@@ -7,15 +7,15 @@ use Rattle.sqlite.specs.State.{State, Survives}
 use Rattle.sqlite.proofs.StateLemmas.{survives_weaker}
 use Rattle.hook_base.specs.declared.file.Mode.{Mode}
 use Rattle.hook_base.specs.Trees.{entry_of}
-use Rattle.repo_store.specs.Kept.{Kept, staging, unstaging}
+use Rattle.repo_store.specs.Kept.{Kept, accepting, staging, unstaging}
 use Rattle.repo_store.specs.Shown.{IsOneTransaction, Leaves, LeavesOnly, Shown}
 use Rattle.commit_flow.specs.declared.command.Command.{Command}
-use Rattle.commit_flow.specs.declared.command.Command.TheVariants.{Add, Remove}
+use Rattle.commit_flow.specs.declared.command.Command.TheVariants.{Add, Remove, Accept}
 use Rattle.commit_flow.specs.declared.host_refusal.HostRefusal.{HostRefusal}
-use Rattle.commit_flow.specs.declared.reply.Reply.TheVariants.{Added, Removed}
+use Rattle.commit_flow.specs.declared.reply.Reply.TheVariants.{Added, Removed, Accepted}
 use Rattle.commit_flow.specs.Crashes.{IsOneCommand, LeavesDone}
 use Rattle.commit_flow.specs.Hosts.{Hosted}
-use Rattle.commit_flow.specs.Steps.{IsAddable, IsLegal, IsStaged, entry_to_add, mode_to_add}
+use Rattle.commit_flow.specs.Steps.{HasFixes, IsAddable, IsLegal, IsStaged, entry_to_add, mode_to_add}
 
 survives_itself : (s : State) (P : Trees → Type 0) → Survives s s P
 survives_itself s P = record {
@@ -69,5 +69,15 @@ remove_reached kept path legal staged trees leaves = record {
   done = tt;
   faults = 0;
   step = (record { legal = legal; staged = staged; made = refl }, refl);
+  leaves = leaves;
+}
+
+pub accept_reached : (kept : Kept) → HasFixes kept.repo → (trees : Trees) → Leaves (accepting kept) trees → LeavesDone kept.repo Accept trees
+accept_reached kept some trees leaves = record {
+  kept = accepting kept;
+  reply = Accepted (length kept.repo.fixes);
+  done = tt;
+  faults = 0;
+  step = (record { some = some; counted = refl; made = refl }, refl);
   leaves = leaves;
 }
