@@ -13,7 +13,9 @@ mod files;
 mod new_repository;
 mod repository;
 mod stop;
+mod terminal;
 
+use child_display::ShownChildren;
 use commands::host_command;
 use files::{read_configuration, read_tree};
 use hook_base::{Items, Text, Tree};
@@ -27,6 +29,7 @@ use std::process::ExitCode;
 use std::rt::Files;
 use std::{env, io, mem};
 use stop::{Stop, tell};
+use terminal::terminal_of;
 
 // The file that `check` reads, in the working folder.
 const CONFIGURATION: &str = ".pre-commit-config.yaml";
@@ -110,10 +113,13 @@ fn try_files(rt: &HostRuntime, config: Text, paths: Items<Text>) -> Result<bool,
     Ok(passed)
 }
 
-// Runs the configuration over the tree, with children that are processes, and prints the report.
+// Runs the configuration over the tree, with children that are processes, which a terminal shows, and prints the report.
 fn report(rt: &HostRuntime, reader: &mut impl Read, tree: &Tree) -> Result<bool, Stop> {
     let folder = String::from_str(rt.alloc(), SCRATCH)?;
-    let mut children = ProcessChildren::new(rt.clone()?, folder);
+    let mut children = ShownChildren::new(
+        ProcessChildren::new(rt.clone()?, folder),
+        terminal_of(rt),
+    );
     let passed = try_over(rt.alloc(), reader, &mut io::writer(rt), tree, &mut children)?;
     Ok(passed)
 }
