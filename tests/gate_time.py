@@ -20,10 +20,10 @@ import time
 from collections import defaultdict
 
 # What the whole gate may take, in processor minutes: 130, 8 for each of file_tags, path_select, builtin_hooks and report_text,
-# 12 for hook_run, 8 for what hook_config, hook_cli and the scripts grew with it, 15 for commit_flow, 8 for what the
+# 20 for hook_run, 8 for what hook_config, hook_cli and the scripts grew with it, 15 for commit_flow, 8 for what the
 # store's crates grew for it, 5 for its commands in the program and their scripts, and 8 for each of arg_partition,
-# result_book and process_children. Who adds a crate says what it adds.
-BUDGET = 130 + 4 * 8 + 12 + 8 + 15 + 8 + 5 + 3 * 8
+# result_book, process_children and child_display. Who adds a crate says what it adds.
+BUDGET = 130 + 4 * 8 + 20 + 8 + 15 + 8 + 5 + 4 * 8
 PAUSE = 0.5
 TICKS = os.sysconf("SC_CLK_TCK")
 PHASES = ["proofs", "edits", "program"]

@@ -6,9 +6,9 @@ use Rattle.yaml_profile.specs.Text.{meaning_of}
 use Rattle.hook_config.specs.Configuration.{configuration_of}
 use Rattle.hook_config.specs.declared.configuration.Config.{Config}
 use Rattle.hook_cli.specs.Reading.{ReadsToLimit}
-use Rattle.hook_cli.specs.TryOver.{IsRefusedBy, ReadsConfiguration, most_bytes}
+use Rattle.hook_cli.specs.TryOver.{IsRefusedBy, IsRefusedRun, ReadsConfiguration, most_bytes}
 use Rattle.hook_cli.specs.declared.try_fault.TryFault.{TryFault}
-use Rattle.hook_cli.specs.declared.try_fault.TryFault.TheVariants.{Write}
+use Rattle.hook_cli.specs.declared.try_fault.TryFault.TheVariants.{Read, Config as BadConfig, Write, OutOfMemory, Spent}
 
 characters_of-long : (bytes : List ℕ) → most_bytes < length bytes → characters_of bytes ≡ None
 unfolding characters_of
@@ -45,3 +45,12 @@ read-configuration given left bytes config was meant = record {
 pub refused-write : (given left : Option (List ℕ)) (calls calls_after : ℕ) (config : Config) (fault : TryFault) → fault ≡ Write
     → ReadsConfiguration given left config → IsRefusedBy given left calls calls_after fault
 refused-write given left calls calls_after config fault is read = rw is (config, read)
+
+-- a run that is refused after a configuration was read
+pub refused-run : (given left : Option (List ℕ)) (calls calls_after : ℕ) (config : Config) (fault : TryFault)
+    → ReadsConfiguration given left config → IsRefusedRun calls_after fault → IsRefusedBy given left calls calls_after fault
+refused-run given left calls calls_after config OutOfMemory read stop = tt
+refused-run given left calls calls_after config Spent read stop = ((config, read), stop)
+refused-run given left calls calls_after config Read read stop = absurd stop
+refused-run given left calls calls_after config (BadConfig why) read stop = absurd stop
+refused-run given left calls calls_after config Write read stop = absurd stop

@@ -1,19 +1,19 @@
 -- The commands over a repository: what each makes of it, what it prints, and the exit status.
-use Rattle.std.specs.Prelude.{◌≡◌, ◌⊎◌, ℕ, List, None, Some, IsSome, option_map, Result, Ok, Err, IfErr, OnOk}
+use Rattle.std.specs.Prelude.{◌≡◌, ◌⊎◌, ℕ, List, length, None, Some, IsSome, option_map, Result, Ok, Err, IfErr, OnOk}
 use Rattle.sqlite_trees.specs.declared.store.Store.{Ghosts}
 use Rattle.hook_base.specs.declared.file.FileEntry.{FileEntry}
 use Rattle.hook_base.specs.Paths.{path_fault}
 use Rattle.hook_base.specs.Trees.{entry_of}
 use Rattle.repo_store.specs.AllOrNothing.{IsAllOrNothing}
 use Rattle.repo_store.specs.Contents.{Collides}
-use Rattle.repo_store.specs.Kept.{Kept, staging, unstaging}
+use Rattle.repo_store.specs.Kept.{Kept, accepting, staging, unstaging}
 use Rattle.repo_store.specs.Repository.{Repository, commit_at, last_tree}
 use Rattle.commit_flow.specs.declared.command.Command.{Command}
 use Rattle.commit_flow.specs.declared.command.Command.TheVariants as command
 use Rattle.commit_flow.specs.declared.host_refusal.HostRefusal.{HostRefusal}
 use Rattle.commit_flow.specs.declared.host_refusal.HostRefusal.TheVariants.{OutOfMemory, BadPath, NotStaged, Collision}
 use Rattle.commit_flow.specs.declared.reply.Reply.{Reply}
-use Rattle.commit_flow.specs.declared.reply.Reply.TheVariants.{Added, Removed}
+use Rattle.commit_flow.specs.declared.reply.Reply.TheVariants.{Added, Removed, Accepted}
 use Rattle.commit_flow.specs.Commands.{reply_of}
 use Rattle.commit_flow.specs.Crashes.{IsOneCommand}
 use Rattle.commit_flow.specs.Hosts.{Hosted}
@@ -42,20 +42,23 @@ IsOverHost (Show number) = Unit {0}
 
 -- ---- the commands that change the repository
 
--- the reply of the command that is done
-abbrev pub reply_to : Command → Reply
-reply_to (command.Add path bytes mode) = Added
-reply_to (command.Remove path) = Removed
+-- the reply of the command that is done, where this was kept
+abbrev pub reply_to : Command → Kept → Reply
+reply_to (command.Add path bytes mode) kept = Added
+reply_to (command.Remove path) kept = Removed
+reply_to command.Accept kept = Accepted (length kept.repo.fixes)
 
 -- what is kept once the command is done
 abbrev pub kept_after : Command → Kept → Kept
 kept_after (command.Add path bytes mode) kept = staging path (entry_to_add kept.repo path bytes mode) kept
 kept_after (command.Remove path) kept = unstaging path kept
+kept_after command.Accept kept = accepting kept
 
 -- the command brings contents that have the digest of others that are kept
 abbrev pub BringsCollision : Command → Kept → Type 0
 BringsCollision (command.Add path bytes mode) kept = Collides bytes kept.contents
 BringsCollision (command.Remove path) kept = ⊥
+BringsCollision command.Accept kept = ⊥
 
 -- done, the command prints nothing; refused, it tells why
 abbrev pub IsReplied : {A : Type 0} → Output → Output → Result A HostRefusal → CommandEnding → Type 0
@@ -66,7 +69,7 @@ IsReplied out err (Err refusal) ending = IsSilent out × IsTold err (refusal_tex
 -- whatever stops it, and a writer's error undoes none of it.
 pub record IsChanged {S : Type 0} (g : Ghosts S) (old new : Hosted S) (command : Command) (out err : Output) (ending : CommandEnding) : Type 0 where
   pub answer : Result (Unit {0}) HostRefusal
-  pub step : Step old.store.kept.repo command (reply_of (λ _. reply_to command) answer) 0 new.store.kept.repo
+  pub step : Step old.store.kept.repo command (reply_of (λ _. reply_to command old.store.kept) answer) 0 new.store.kept.repo
   pub change : IsAllOrNothing old.store.kept new.store.kept answer (kept_after command old.store.kept)
   pub one : IsOneCommand g old new command answer
   pub apart : OnOk answer (¬ BringsCollision command old.store.kept)

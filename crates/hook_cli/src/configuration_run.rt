@@ -2,10 +2,11 @@
 //!
 //! The contract of [`try_over`] cites `specs/TryOver.antt`.
 
-ghost use Rattle.std.specs.Prelude.{◌≡◌, ◌≢◌, ◌≤◌, ◌+◌, IfOk, IfErr, OnOk};
+ghost use Rattle.std.specs.Prelude.{◌≡◌, ◌≢◌, ◌≤◌, ◌+◌, IfOk, IfErr, OnOk, []};
 ghost use Rattle.std.specs.Io.KnownBytes.{Appends};
 ghost use Rattle.child_port.specs.Telling.{SameTells};
 ghost use Rattle.hook_run.specs.RunOuts.{IsRunOver};
+ghost use Rattle.result_book.specs.Contents.{unlimited};
 ghost use Rattle.hook_cli.specs.TryOver.{IsRefusedBy, IsRefusedRun, IsTriedOver, ReadsWithin, ask_for_all, most_bytes};
 ghost use Rattle.hook_cli.specs.declared.try_fault.TryFault.TheVariants as fault;
 
@@ -16,6 +17,7 @@ use child_port::Children;
 use hook_base::Tree;
 use hook_config::{Config, read_config};
 use hook_run::{RunOut, RunRefusal, run_hooks};
+use result_book::ListBook;
 use std::alloc::Global;
 use std::io::{Read, Write};
 
@@ -69,7 +71,7 @@ fn run_on_all<C: Children>(
     config: &Config,
     tree: &Tree,
 ) -> Result<RunOut, TryFault>
-    ensures run { IfOk result (IsRunOver (C.tells children.old) (C.call_count children.old) (C.call_count children.new) (C.fault_count children.old) (C.fault_count children.new) config.now (ask_for_all tree.now) tree.now) }
+    ensures run { IfOk result (IsRunOver (C.tells children.old) (C.call_count children.old) (C.call_count children.new) (C.fault_count children.old) (C.fault_count children.new) (unlimited []) (unlimited []) config.now (ask_for_all tree.now) tree.now) }
     ensures refused { IfErr result (IsRefusedRun (C.call_count children.new)) }
     ensures same { SameTells (C.tells children.old) (C.tells children.new) }
     ensures calls { C.call_count children.old ≤ C.call_count children.new }
@@ -78,12 +80,13 @@ fn run_on_all<C: Children>(
         ≤ C.fault_count children.old + C.call_count children.new }
 {
     let ask = ask_for_all(alloc, tree)?;
-    match run_hooks(alloc, children, config, &ask, tree) {
+    let mut book = ListBook::new(alloc);
+    match run_hooks(alloc, children, &mut book, config, &ask, tree) {
         Ok(out) => Ok(out),
         Err(RunRefusal::OutOfMemory) => Err(TryFault::OutOfMemory),
         Err(RunRefusal::Spent) => Err(TryFault::Spent),
-        // No hook is asked for by its name.
-        Err(RunRefusal::NoSuchHook) => unreachable!(),
+        // No hook is asked for by its name, and the book isn't asked at all.
+        Err(RunRefusal::NoSuchHook | RunRefusal::Book(_)) => unreachable!(),
     }
 }
 

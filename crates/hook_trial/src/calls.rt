@@ -1,8 +1,8 @@
 //! The calls by their names. Each library has a function of its own here.
 
 use crate::{
-    checks, child_runs, command_lines, config_kinds, config_texts, configurations, host_commands, plans,
-    report_texts, runs, stages, try_faults,
+    checks, child_runs, command_lines, config_kinds, config_texts, configurations, host_commands,
+    plans, report_texts, runs, stages, try_faults,
 };
 use std::alloc::Global;
 use trial_rows::{Row, Stop};

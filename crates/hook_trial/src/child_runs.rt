@@ -8,6 +8,7 @@ use child_port::{Children, FuseChildren, TableChildren, TableRow};
 use hook_base::{Items, Tree};
 use hook_config::{Config, read_config};
 use hook_run::{RunAsk, RunOut, run_hooks};
+use result_book::ListBook;
 use std::alloc::{AllocError, Global};
 use trial_rows::{Stop, number_of, text_of};
 
@@ -59,7 +60,8 @@ fn run_over(
     tree: &Tree,
 ) -> Result<Vec<u8>, Stop> {
     let (calls, faults) = (children.calls(), children.faults());
-    match run_hooks(alloc, children, config, ask, tree) {
+    let mut book = ListBook::new(alloc);
+    match run_hooks(alloc, children, &mut book, config, ask, tree) {
         Ok(out) => {
             let calls = children.calls().saturating_sub(calls);
             let faults = children.faults().saturating_sub(faults);
@@ -80,7 +82,11 @@ fn head_of(alloc: Global, out: &RunOut, calls: u64, faults: u64) -> Result<Strin
 fn push_changes(alloc: Global, text: &mut String, tree: &Tree, after: &Tree) -> Result<(), Stop> {
     for change in tree.changes_to(after)?.as_slice() {
         let path = change.path.as_str();
-        let what = if change.now.is_some() { "changed" } else { "gone" };
+        let what = if change.now.is_some() {
+            "changed"
+        } else {
+            "gone"
+        };
         text.push_str(format!(in alloc; "{what} {path}\n")?.as_str())?;
     }
     Ok(())

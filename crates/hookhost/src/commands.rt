@@ -4,7 +4,6 @@ ghost use Rattle.std.specs.Prelude.{◌≡◌, ◌⊎◌, IfErr, IfOk};
 ghost use Rattle.hook_cli.specs.CommandOver.{IsOverHost};
 ghost use Rattle.hookhost.specs.Stops.{IsStopOfCommand, IsStopOfOpening};
 
-use crate::connect::StoreFile;
 use crate::database::{Before, leave, open_database};
 use crate::files::read_file_of;
 use crate::repository::{Found, Lock, look_at_store, take_lock};
@@ -12,7 +11,7 @@ use crate::stop::Stop;
 use commit_flow::Host;
 use hook_cli::{Line, command_over};
 use repo_store::{Store, StoreFault};
-use sqlite::FileStore;
+use sqlite::{File, FileStore};
 use std::{io, mem};
 
 // The exit status of a command that was done.
@@ -36,7 +35,7 @@ pub(crate) fn host_command(rt: &HostRuntime, line: &Line) -> Result<u8, Stop>
     Ok(status)
 }
 
-fn answer(rt: &HostRuntime, line: &Line, bytes: &[u8], host: &mut Host<FileStore<StoreFile>>) -> u8
+fn answer(rt: &HostRuntime, line: &Line, bytes: &[u8], host: &mut Host<FileStore<File>>) -> u8
     requires { IsOverHost line.now }
     ensures { (result ≡ 0) ⊎ (result ≡ 3) }
 {
@@ -57,7 +56,7 @@ fn open_store(
     rt: &HostRuntime,
     lock: &Lock,
     before: &Before,
-) -> Result<Store<FileStore<StoreFile>>, Stop>
+) -> Result<Store<FileStore<File>>, Stop>
     ensures { IfErr result IsStopOfOpening }
 {
     match before.store {

@@ -3,8 +3,8 @@
 ghost use Rattle.std.specs.Prelude.{◌≡◌, false, IsTrue, IfErr, IfOk};
 ghost use Rattle.sqlite.specs.Opening.{is_open_error};
 
-use sqlite::{Connection, Error, ErrorCode, FileStore, Leftover, Options, Wary};
-use sqlite_std_file::{FileFrom, OpenError};
+use sqlite::{Connection, Error, ErrorCode, File, FileStore, Leftover, Options, Unknown};
+use sqlite_std_file::OpenError;
 use std::fs;
 use std::hash::{BuildHasher, RandomState};
 use std::io::ErrorKind;
@@ -19,17 +19,13 @@ const FEWEST_PAGES: u64 = 64;
 // The most, which are the library's own number: 8 MB.
 const MOST_PAGES: u64 = 2_000;
 
-/// A file of a database of which nothing is supposed that a loss of power may leave of a write. With less to suppose, each
-/// change is waited for twice; but the library then writes no zeros for the next ones, which another process will make.
-pub(crate) type StoreFile = FileFrom<Wary>;
-
 /// Opens the database at the path, or makes it where there is none. The library takes the room for the pages that it keeps
 /// when it opens the file, which for all of them takes longer than everything else that it does with a small one. The error
 /// comes with what is left of the files, once they were opened.
 pub(crate) fn connect(
     rt: &HostRuntime,
     path: &str,
-) -> Result<Connection<FileStore<StoreFile>>, (Error, Option<Leftover<StoreFile>>)>
+) -> Result<Connection<FileStore<File>>, (Error, Option<Leftover<File>>)>
     ensures outside { IfOk result (λ conn. conn.in_transaction ≡ false) }
     ensures refused { IfErr result (λ failed. IsTrue (is_open_error failed.0)) }
 {
@@ -40,7 +36,7 @@ pub(crate) fn connect(
         cache_pages: pages_for(bytes_at(rt, path)),
         ..Options::new(seed)
     };
-    let files = match sqlite_std_file::open(rt, path, Wary) {
+    let files = match sqlite_std_file::open(rt, path, Unknown) {
         Ok(files) => files,
         Err(error) => return Err((error_of(error), None)),
     };

@@ -4,11 +4,11 @@ ghost use Rattle.std.specs.Prelude.{◌≡◌, false, IfErr, IfOk};
 ghost use Rattle.hookhost.specs.Stops.{IsStopOfDatabase};
 ghost use Rattle.hookhost.specs.declared.stop.Stop.TheVariants.{CannotUseStore};
 
-use crate::connect::{StoreFile, connect};
+use crate::connect::connect;
 use crate::repository::{Found, Lock, STORE, found_at};
 use crate::stop::Stop;
 use commit_flow::Host;
-use sqlite::{Connection, FileStore};
+use sqlite::{Connection, File, FileStore};
 use std::rt::Files;
 use std::{fs, mem};
 
@@ -19,7 +19,7 @@ const LOG: &str = ".hookhost/store.db-wal";
 const LEAST_CHANGED_LOG: u64 = 56;
 
 /// A connection to the store's database.
-pub(crate) type Database = Connection<FileStore<StoreFile>>;
+pub(crate) type Database = Connection<FileStore<File>>;
 
 /// What stood at the names of the database and of its log before it was opened.
 #[derive(Clone, Copy, Debug)]
@@ -99,7 +99,7 @@ pub(crate) fn close_database(rt: &HostRuntime, conn: Database) {
 /// away; where there was no change, the log is as before.
 pub(crate) fn leave(
     rt: &HostRuntime,
-    host: Host<FileStore<StoreFile>>,
+    host: Host<FileStore<File>>,
     before: &Before,
     is_changed: bool,
 ) {

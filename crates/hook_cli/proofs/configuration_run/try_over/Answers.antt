@@ -3,7 +3,7 @@ use Rattle.std.proofs.lemmas.Result.{err_from_is_err_and}
 use Rattle.std.specs.Io.KnownBytes.{Appends}
 use Rattle.hook_config.specs.Configuration.{configuration_of}
 use Rattle.hook_run.specs.declared.run_out.RunOut.{RunOut}
-use Rattle.hook_cli.proofs.ReadingLemmas.{read-configuration, refused-write}
+use Rattle.hook_cli.proofs.ReadingLemmas.{read-configuration, refused-run, refused-write}
 use Rattle.hook_cli.proofs.configuration_run.try_over.Goals as goal
 
 pub returns-clause-tried : goal.returns-clause-tried
@@ -35,3 +35,14 @@ returns-in_err-write_report-clause-refused g c =
     rw (p.1, p.2)
     (refused-write _ _ (g.C.Children.call_count c.args.children.now) (g.C.Children.call_count c.run_on_all.new.children) c.in_ok-config.config
     c.in_err-write_report.field-0.0 c.in_err-write_report.ensures.err read)
+
+pub returns-in_err-out-clause-refused : goal.returns-in_err-out-clause-refused
+returns-in_err-out-clause-refused g c =
+    let refusal = c.from_residual-in_err-out in
+    let p = err_from_is_err_and refusal.result refusal.ensures.1 in
+    let meant = ap configuration_of (sym c.as_slice.ensures.value) ∙ c.in_ok-config.ensures.meant in
+    let read = read-configuration (g.R.Read.remaining c.args.reader.now) (g.R.Read.remaining c.read_bytes.new.reader) c.in_ok-bytes.bytes.items
+    c.in_ok-config.config c.in_ok-bytes.ensures.read meant in
+    rw (p.1, p.2)
+    (refused-run _ _ (g.C.Children.call_count c.args.children.now) (g.C.Children.call_count c.run_on_all.new.children) c.in_ok-config.config
+    c.in_err-out.field-0.0 read c.in_err-out.ensures.refused)
