@@ -20,11 +20,18 @@ pub(crate) fn row_of(alloc: Global, text: &str) -> Result<TableRow, Stop> {
         words: Items::from(words_of(alloc, words)?),
         seen: seen_of(alloc, seen)?,
         answer: Answer {
-            status: number_of(status.as_bytes())? as u8,
+            status: status_of(status)?,
             output: Bytes::copy_of(alloc, output.as_bytes())?,
             changes: changes_of(alloc, changes)?,
         },
     })
+}
+
+fn status_of(text: &str) -> Result<u8, Stop> {
+    match number_of(text.as_bytes())? {
+        status @ 0..=255 => Ok(status as u8),
+        _ => Err(Stop::BadLine),
+    }
 }
 
 /// The fault of this name.
