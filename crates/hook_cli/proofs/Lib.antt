@@ -1,5 +1,6 @@
 pub mod AskLemmas
 pub mod CommandLemmas
+pub mod CountLemmas
 pub mod KnownBytesLemmas
 pub mod LineLemmas
 pub mod OverHostLemmas

@@ -5,8 +5,7 @@
 ghost use Rattle.std.specs.Prelude.{◌≡◌, ◌≢◌, ◌≤◌, ◌+◌, IfOk, IfErr, OnOk};
 ghost use Rattle.std.specs.Io.KnownBytes.{Appends};
 ghost use Rattle.child_port.specs.Telling.{SameTells};
-ghost use Rattle.hook_run.specs.RunOuts.{IsRunOver};
-ghost use Rattle.hook_cli.specs.TryOver.{IsRefusedBy, IsRefusedRun, IsTriedOver, ReadsWithin, ask_for_all, most_bytes};
+ghost use Rattle.hook_cli.specs.TryOver.{IsRefusedBy, IsRefusedRun, IsRunOfAll, IsTriedOver, ReadsWithin, most_bytes};
 ghost use Rattle.hook_cli.specs.declared.try_fault.TryFault.TheVariants as fault;
 
 use crate::TryFault;
@@ -16,6 +15,7 @@ use child_port::Children;
 use hook_base::Tree;
 use hook_config::{Config, read_config};
 use hook_run::{RunOut, RunRefusal, run_hooks};
+use result_book::ListBook;
 use std::alloc::Global;
 use std::io::{Read, Write};
 
@@ -43,8 +43,9 @@ pub fn try_over<R: Read, W: Write, C: Children>(
         (W.contents writer.old) (W.contents writer.new) (C.tells children.old)
         (C.call_count children.old) (C.call_count children.new)
         (C.fault_count children.old) (C.fault_count children.new) tree.now) }
-    ensures refused { IfErr result (IsRefusedBy (R.remaining reader.old) (R.remaining reader.new)
-        (C.call_count children.old) (C.call_count children.new)) }
+    ensures refused { IfErr result (IsRefusedBy (R.remaining reader.old) (R.remaining reader.new) (C.tells children.old)
+        (C.call_count children.old) (C.call_count children.new)
+        (C.fault_count children.old) (C.fault_count children.new) tree.now) }
     ensures unwritten { IfErr result (λ e. e ≢ fault.Write → writer.new ≡ writer.old) }
     ensures within { ReadsWithin (most_bytes + 1) (R.remaining reader.old) (R.remaining reader.new) }
     ensures same { SameTells (C.tells children.old) (C.tells children.new) }
@@ -62,28 +63,27 @@ pub fn try_over<R: Read, W: Write, C: Children>(
     Ok(out.passed)
 }
 
-// The run of the stage `pre-commit` with all files of the tree as candidates.
+// The run of the stage `pre-commit` with all files of the tree as candidates, over a book of its own.
 fn run_on_all<C: Children>(
     alloc: Global,
     children: &mut C,
     config: &Config,
     tree: &Tree,
 ) -> Result<RunOut, TryFault>
-    ensures run { IfOk result (IsRunOver (C.tells children.old) (C.call_count children.old) (C.call_count children.new) (C.fault_count children.old) (C.fault_count children.new) config.now (ask_for_all tree.now) tree.now) }
-    ensures refused { IfErr result (IsRefusedRun (C.call_count children.new)) }
+    ensures run { IfOk result (IsRunOfAll (C.tells children.old) (C.call_count children.old) (C.call_count children.new)
+        (C.fault_count children.old) (C.fault_count children.new) config.now tree.now) }
+    ensures refused { IfErr result (IsRefusedRun (C.tells children.old) (C.call_count children.old) (C.call_count children.new)
+        (C.fault_count children.old) (C.fault_count children.new) config.now tree.now) }
     ensures same { SameTells (C.tells children.old) (C.tells children.new) }
-    ensures calls { C.call_count children.old ≤ C.call_count children.new }
-    ensures faults { C.fault_count children.old ≤ C.fault_count children.new }
-    ensures faults_are_calls { C.fault_count children.new + C.call_count children.old
-        ≤ C.fault_count children.old + C.call_count children.new }
 {
     let ask = ask_for_all(alloc, tree)?;
-    match run_hooks(alloc, children, config, &ask, tree) {
+    let mut book = ListBook::new(alloc);
+    match run_hooks(alloc, children, &mut book, config, &ask, tree) {
         Ok(out) => Ok(out),
         Err(RunRefusal::OutOfMemory) => Err(TryFault::OutOfMemory),
         Err(RunRefusal::Spent) => Err(TryFault::Spent),
-        // No hook is asked for by its name.
-        Err(RunRefusal::NoSuchHook) => unreachable!(),
+        // No hook is asked for by its name, and a book in memory has no other fault than want of it.
+        Err(RunRefusal::NoSuchHook | RunRefusal::Book(_)) => unreachable!(),
     }
 }
 
