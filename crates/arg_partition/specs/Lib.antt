@@ -3,6 +3,7 @@ pub mod PartsFaults
 pub mod PartsLaws
 pub mod Quoted
 pub mod Rooms
+pub mod SomePartsLemmas
 pub mod Steps
 pub mod Words
 pub mod WordsFaults

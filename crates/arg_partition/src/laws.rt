@@ -1,9 +1,9 @@
 //! Laws of what the contracts cite. Each is a function that gives nothing: what it ensures is a theorem.
 
-ghost use Rattle.std.specs.Prelude.{◌≡◌, ℕ, List, Ok, chars, encode_utf8_all, map};
+ghost use Rattle.std.specs.Prelude.{◌≡◌, ◌≤◌, ℕ, List, None, Ok, chars, encode_utf8_all, map};
 ghost use Rattle.std.specs.List.{flat_map};
 ghost use Rattle.arg_partition.specs.declared.cut.Cut.{Cut};
-ghost use Rattle.arg_partition.specs.Parts.{AreParts, fits, names_of};
+ghost use Rattle.arg_partition.specs.Parts.{AreParts, fits, names_of, too_long_at};
 ghost use Rattle.arg_partition.specs.Quoted.{all_quoted};
 ghost use Rattle.arg_partition.specs.Words.{words_of};
 
@@ -17,6 +17,11 @@ pub fn quoted_words_are_read_back()
 /// The parts of a command are determined: there is one list of cuts that are its parts.
 pub fn there_is_one_list_of_parts()
     ensures { (words names : List (List ℕ)) (limit most : ℕ) (cuts others : List Cut) → AreParts (fits words limit) most names cuts → AreParts (fits words limit) most names others → cuts ≡ others }
+{}
+
+/// Wherever each name fits with the words alone, or without names the words do, there are parts.
+pub fn there_are_parts()
+    ensures { (words names : List (List ℕ)) (limit most : ℕ) → 1 ≤ most → too_long_at (fits words limit) names ≡ None → (cuts : List Cut) × AreParts (fits words limit) most names cuts }
 {}
 
 /// The names of all parts, one part after another, are all names in their order, each once.

@@ -1,7 +1,9 @@
 pub mod AdvanceLemmas
 pub mod BeginLemmas
+pub mod CompletionLemmas
 pub mod HookRefs
 pub mod OneRunLemmas
 pub mod PlanLemmas
 pub mod RowLemmas
 pub mod RunLemmas
+pub mod SomeRunLemmas

@@ -43,11 +43,14 @@ parts-apart P whole further [] tree [] (other ∷ others) rest more one two then
 parts-apart P whole further [] tree (part ∷ parts) others rest more one two then = absurd one
 parts-apart P whole further (words ∷ commands) tree [] others rest more one two then = absurd one
 parts-apart P whole further (words ∷ commands) tree (part ∷ parts) [] rest more one two then = absurd two
-parts-apart P whole further (words ∷ commands) tree (part ∷ parts) (other ∷ others) rest more one two then =
-    (one.0 ∙ sym two.0, one.1 ∙ sym two.1, λ (same : part ≡ other).
-        parts-apart P whole further commands (after_outcome tree part.outcome) parts others rest more one.2
-        (subst (λ (p : Part). ArePartsOf whole further commands (after_outcome tree p.outcome) others) (sym same) two.2)
-        (λ (left : parts ≡ others). then (ap₂ (λ (p : Part) (ps : List Part). p ∷ ps) same left)))
+parts-apart P whole further (words ∷ commands) tree (part ∷ parts) (other ∷ others) rest more one two then = (
+  one.0 ∙ sym two.0,
+  one.1 ∙ sym two.1,
+  λ (same : part ≡ other).
+      parts-apart P whole further commands (after_outcome tree part.outcome) parts others rest more one.2
+      (subst (λ (p : Part). ArePartsOf whole further commands (after_outcome tree p.outcome) others) (sym same) two.2)
+      (λ (left : parts ≡ others). then (ap₂ (λ (p : Part) (ps : List Part). p ∷ ps) same left)),
+)
 
 abbrev NoParts : Ending → List Part → Ending → Type 0
 NoParts is parts ending = (parts ≡ []) × (ending ≡ is)
@@ -145,14 +148,14 @@ run-apart P config ask tree (hook ∷ hooks) (parts ∷ trace) (others ∷ rest)
 run-apart P config ask tree (hook ∷ hooks) (parts ∷ trace) (others ∷ rest) (result ∷ results) (other ∷ more) one two then =
     hook-apart P config ask tree hook parts others (all_parts trace) (all_parts rest) result.ending other.ending one.0.ending two.0.ending
     (λ (same : parts ≡ others) (ending : result.ending ≡ other.ending).
-        let is : result ≡ other = same-result config ask tree hook parts others result other one.0 two.0 ending in
-        let second = subst (λ (e : Ending). MatchBool (is_last config hook e) (Ends rest more) (IsRun config ask (after_parts tree others) hooks rest more)) (sym ending) two.1 in
-        let third = subst (λ (p : List Part). MatchBool (is_last config hook result.ending) (Ends rest more) (IsRun config ask (after_parts tree p) hooks rest more)) (sym same) second in
-        let joined = λ (left : trace ≡ rest) (behind : results ≡ more). then (ap₂ (λ (p : List Part) (t : List (List Part)). p ∷ t) same left) (ap₂ (λ (r : HookResult) (rs : List HookResult). r ∷ rs) is behind) in
-        either-apart (is_last config hook result.ending)
-        (λ a b. ended-apart P trace rest results more a b joined)
-        (λ a b. run-apart P config ask (after_parts tree parts) hooks trace rest results more a b joined)
-        one.1 third)
+    let is : result ≡ other = same-result config ask tree hook parts others result other one.0 two.0 ending in
+    let second = subst (λ (e : Ending). MatchBool (is_last config hook e) (Ends rest more) (IsRun config ask (after_parts tree others) hooks rest more)) (sym ending) two.1 in
+    let third = subst (λ (p : List Part). MatchBool (is_last config hook result.ending) (Ends rest more) (IsRun config ask (after_parts tree p) hooks rest more)) (sym same) second in
+    let joined = λ (left : trace ≡ rest) (behind : results ≡ more). then (ap₂ (λ (p : List Part) (t : List (List Part)). p ∷ t) same left) (ap₂ (λ (r : HookResult) (rs : List HookResult). r ∷ rs) is behind) in
+    either-apart (is_last config hook result.ending)
+    (λ a b. ended-apart P trace rest results more a b joined)
+    (λ a b. run-apart P config ask (after_parts tree parts) hooks trace rest results more a b joined)
+    one.1 third)
 
 -- ---- what comes next
 

@@ -2,7 +2,6 @@
 -- gathered, so that no outcome is kept.
 use Rattle.std.specs.Prelude.{◌≡◌, ℕ, Bool, false, ◌||◌, max, if◌then◌else◌, List, [], ◌∷◌, ◌++◌, Option, None, Some}
 use Rattle.hook_base.specs.declared.file.File.{File}
-use Rattle.child_port.specs.Outcomes.{after_outcome}
 use Rattle.child_port.specs.Seen.{seen_of}
 use Rattle.child_port.specs.declared.answer.Outcome.{Outcome}
 use Rattle.hook_config.specs.declared.configuration.Config.{Config}
@@ -10,7 +9,6 @@ use Rattle.hook_config.specs.declared.configuration.Hook.{Hook}
 use Rattle.report_text.specs.declared.hook_result.Ending.{Ending}
 use Rattle.report_text.specs.declared.hook_result.Ending.TheVariants.{Ran}
 use Rattle.report_text.specs.declared.hook_result.HookResult.{HookResult}
-use Rattle.report_text.specs.declared.hook_result.LineFault.{LineFault}
 use Rattle.hook_run.specs.declared.gathered.Gathered.{Gathered}
 use Rattle.hook_run.specs.declared.need.Need.{Need}
 use Rattle.hook_run.specs.declared.need.Need.TheVariants.{Child, Over}
@@ -19,7 +17,7 @@ use Rattle.hook_run.specs.declared.run_ask.RunAsk.{RunAsk}
 use Rattle.hook_run.specs.declared.run_out.RunOut.{RunOut}
 use Rattle.hook_run.specs.HookRun.{further_of, sees_whole}
 use Rattle.hook_run.specs.Parts.{ArePartsOf, Part, after_parts, all_parts, tree_after}
-use Rattle.hook_run.specs.PartsEnding.{is_modified, is_unsteady, line_faults_in, output_in, status_in}
+use Rattle.hook_run.specs.PartsEnding.{is_modified, line_faults_in, output_in, status_in}
 use Rattle.hook_run.specs.RunOuts.{IsRunOut, out_of, unsteady_ids}
 use Rattle.hook_run.specs.StageRun.{IsRun, is_last}
 
@@ -81,6 +79,18 @@ pub record AtHook : Type 0 where
   pub commands : List (List (List ℕ))
   pub gathered : Gathered
 
+-- a hook of which a part waits for its outcome: the command of that part, and those of the parts behind it
+pub record AtPart : Type 0 where
+  pub hook : Hook
+  pub before : List File
+  pub command : List (List ℕ)
+  pub behind : List (List (List ℕ))
+  pub gathered : Gathered
+
+-- the hook, of which that part is left too
+abbrev pub left_at : AtPart → AtHook
+left_at at = record { hook = at.hook; before = at.before; commands = at.command ∷ at.behind; gathered = at.gathered }
+
 -- what a run goes on from once the hook has these parts more
 abbrev pub progress_behind : Progress → AtHook → List Part → Progress
 progress_behind done at parts =
@@ -101,15 +111,15 @@ pub record GoesOnAt (config : Config) (ask : RunAsk) (done : Progress) (at : AtH
 
 -- ---- a plan
 
--- a plan stands at a hook, the first of whose commands waits for its outcome, with the hooks behind it; or at its end
+-- a plan stands at a hook of which a part waits, with the hooks behind it; or at its end
 pub record Plan : Type 0 where
   pub config : Config
   pub ask : RunAsk
   pub done : Progress
-  pub waiting : Option AtHook
+  pub waiting : Option AtPart
   pub hooks : List Hook
 
-abbrev pub need_at : Option AtHook → Need
+abbrev pub need_at : Option AtPart → Need
 need_at None = Over
 need_at (Some at) = Child
 
@@ -117,21 +127,17 @@ need_at (Some at) = Child
 abbrev pub need_of : Plan → Need
 need_of plan = need_at plan.waiting
 
-abbrev pub first_of : List (List (List ℕ)) → List (List ℕ)
-first_of [] = []
-first_of (command ∷ commands) = command
-
-abbrev pub command_at : Option AtHook → List (List ℕ)
+abbrev pub command_at : Option AtPart → List (List ℕ)
 command_at None = []
-command_at (Some at) = first_of at.commands
+command_at (Some at) = at.command
 
 -- the command of the part that the plan needs, with its names
 abbrev pub words_of : Plan → List (List ℕ)
 words_of plan = command_at plan.waiting
 
-abbrev pub seen_at : Option AtHook → List File → List File
+abbrev pub seen_at : Option AtPart → List File → List File
 seen_at None tree = []
-seen_at (Some at) tree = seen_of (first_of at.commands) (further_of at.hook tree) (sees_whole at.hook) tree
+seen_at (Some at) tree = seen_of at.command (further_of at.hook tree) (sees_whole at.hook) tree
 
 -- the files that the child of that part sees, of the tree that it runs on
 abbrev pub seen_of_plan : Plan → List File
@@ -145,14 +151,20 @@ tree_of_plan plan = plan.done.tree
 abbrev pub out_of_plan : Plan → RunOut
 out_of_plan plan = out_of plan.config plan.ask plan.done.results plan.done.tree plan.done.unsteady
 
-abbrev pub CompletesAt : Plan → Option AtHook → List Part → RunOut → Type 0
+abbrev pub CompletesAt : Plan → Option AtPart → List Part → RunOut → Type 0
 CompletesAt plan None parts out = (parts ≡ []) × (out ≡ out_of_plan plan)
-CompletesAt plan (Some at) parts out = GoesOnAt plan.config plan.ask plan.done at plan.hooks parts out
+CompletesAt plan (Some at) parts out = GoesOnAt plan.config plan.ask plan.done (left_at at) plan.hooks parts out
 
 -- these parts complete the plan, which then gives this: none where it is over; else those of the hook that waits, the first
 -- the part that it needs, and those of the hooks behind it
 abbrev pub Completes : Plan → List Part → RunOut → Type 0
 Completes plan parts out = CompletesAt plan plan.waiting parts out
+
+-- some parts that begin with these complete the plan
+pub record CanComplete (plan : Plan) (front : List Part) : Type 0 where
+  pub rest : List Part
+  pub out : RunOut
+  pub completes : Completes plan (front ++ rest) out
 
 -- the part that the plan needs, with this outcome
 abbrev pub part_with : Plan → Outcome → Bool → Part

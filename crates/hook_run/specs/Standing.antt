@@ -21,10 +21,10 @@ use Rattle.hook_run.specs.declared.work.Work.{Work}
 use Rattle.hook_run.specs.declared.standing.Standing.{Standing}
 use Rattle.hook_run.specs.declared.standing.Standing.TheVariants.{Waits, Over}
 use Rattle.hook_run.specs.Asks.{hooks_of_run, names_of_run}
-use Rattle.hook_run.specs.HookRun.{IsEnding, commands_of, further_of, sees_whole}
+use Rattle.hook_run.specs.HookRun.{commands_of, further_of, sees_whole}
 use Rattle.hook_run.specs.Parts.{ArePartsOf, Part}
 use Rattle.hook_run.specs.PartsEnding.{ending_of_parts}
-use Rattle.hook_run.specs.Plans.{AtHook, Completes, GoesOn, GoesOnAt, Plan, ending_of_gathered, nothing_gathered}
+use Rattle.hook_run.specs.Plans.{AtHook, AtPart, Completes, GoesOn, GoesOnAt, Plan, ending_of_gathered, left_at, nothing_gathered}
 
 -- the hooks are those that the run goes through, and the candidates those that pass the patterns of the configuration
 pub record IsCourse (course : Course) : Type 0 where
@@ -44,17 +44,22 @@ at_work work = record {
   gathered = work.gathered;
 }
 
--- the same, where the command of its next part is made
-abbrev pub at_hook : Waiting → AtHook
-at_hook waiting = record {
+-- a hook of which a part waits
+abbrev pub at_part : Waiting → AtPart
+at_part waiting = record {
   hook = waiting.work.hook.now;
   before = waiting.work.before;
-  commands = waiting.command ∷ commands_of waiting.work.words waiting.work.names (drop waiting.work.begun waiting.work.cuts);
+  command = waiting.command;
+  behind = commands_of waiting.work.words waiting.work.names (drop waiting.work.begun waiting.work.cuts);
   gathered = waiting.work.gathered;
 }
 
-abbrev pub waiting_at : Standing → Option AtHook
-waiting_at (Waits waiting) = Some (at_hook waiting)
+-- the hook, of which that part is left too
+abbrev pub at_hook : Waiting → AtHook
+at_hook waiting = left_at (at_part waiting)
+
+abbrev pub waiting_at : Standing → Option AtPart
+waiting_at (Waits waiting) = Some (at_part waiting)
 waiting_at (Over report) = None
 
 -- the same, with other things gathered

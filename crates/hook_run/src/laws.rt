@@ -1,12 +1,13 @@
 //! Laws of what the contracts cite. Each is a function that gives nothing: what it ensures is a theorem.
 
-ghost use Rattle.std.specs.Prelude.{◌≡◌, ◌++◌, List};
+ghost use Rattle.std.specs.Prelude.{◌≡◌, ◌++◌, ℕ, List};
+ghost use Rattle.child_port.specs.declared.answer.Outcome.{Outcome};
 ghost use Rattle.hook_base.specs.declared.file.File.{File};
 ghost use Rattle.hook_config.specs.declared.configuration.Config.{Config};
 ghost use Rattle.hook_run.specs.declared.run_ask.RunAsk.{RunAsk};
 ghost use Rattle.hook_run.specs.declared.run_out.RunOut.{RunOut};
 ghost use Rattle.hook_run.specs.Limits.{most_command_bytes, most_names};
-ghost use Rattle.hook_run.specs.Parts.{Part, all_parts};
+ghost use Rattle.hook_run.specs.Parts.{AllTold, Part, all_parts};
 ghost use Rattle.hook_run.specs.RunOuts.{IsRunOut};
 ghost use Rattle.hook_run.specs.SameRuns.{IsNextOf};
 
@@ -16,6 +17,12 @@ use crate::{MOST_COMMAND_BYTES, MOST_NAMES};
 pub fn the_limits_are_those_defined()
     ensures bytes { MOST_COMMAND_BYTES ≡ most_command_bytes }
     ensures names { MOST_NAMES ≡ most_names }
+{}
+
+/// Whatever is asked of a configuration on a tree, and whatever its children answer to their words and what they see, there
+/// is a run with these outcomes.
+pub fn there_is_a_run()
+    ensures { (config : Config) (ask : RunAsk) (tree : List File) (answers : List (List ℕ) → List File → Outcome) → (trace : List (List Part)) × (out : RunOut) × IsRunOut config ask tree trace out × AllTold (λ words seen outcome. outcome ≡ answers words seen) (all_parts trace) }
 {}
 
 /// Of one configuration, asked the same, on one tree, the outcomes so far decide what comes next: the next part's words and
