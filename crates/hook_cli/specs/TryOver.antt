@@ -81,10 +81,11 @@ pub record IsStopOfAll (tells : List (List ℕ) → List File → Outcome → Ty
   pub remembered : Contents
   pub stopped : IsStoppedRun tells calls calls_after faults faults_after nothing remembered config (ask_for_all tree) tree refusal
 
--- a configuration's run is refused for want of memory, or since a child is needed and no more can be counted
+-- A configuration's run is refused since a child is needed and no more can be counted, or for want of memory, before it began
+-- or later.
 abbrev pub IsRefusedRun : (List (List ℕ) → List File → Outcome → Type 0) → ℕ → ℕ → ℕ → ℕ → Config → List File → TryFault → Type 0
 IsRefusedRun tells calls calls_after faults faults_after config tree OutOfMemory =
-    IsStopOfAll tells calls calls_after faults faults_after config tree stop.OutOfMemory
+    (calls_after ≡ calls) × (faults_after ≡ faults) ⊎ IsStopOfAll tells calls calls_after faults faults_after config tree stop.OutOfMemory
 IsRefusedRun tells calls calls_after faults faults_after config tree Spent =
     IsStopOfAll tells calls calls_after faults faults_after config tree stop.Spent
 IsRefusedRun tells calls calls_after faults faults_after config tree _ = ⊥
