@@ -1,5 +1,5 @@
 -- What a terminal shows while a child runs: one line with its command, cut to the terminal's width.
-use Rattle.std.specs.Prelude.{ℕ, ◌-◌, ◌<◌, ◌^◌, nat_le, false, Option, None, Some, unwrap_or, is_some, if◌then◌else◌, List, [], ◌∷◌, ◌++◌, codes, chars, encode_utf8_all}
+use Rattle.std.specs.Prelude.{ℕ, ◌-◌, ◌<◌, ◌^◌, nat_le, false, unwrap_or, is_some, if◌then◌else◌, List, [], ◌∷◌, ◌++◌, codes, chars, encode_utf8_all}
 use Rattle.std.specs.List.{flat_map}
 use Rattle.std.specs.Fmt.{decimal}
 use Rattle.std.specs.Str.Parse.{IsNumeral, digits_value, without_leading_plus}

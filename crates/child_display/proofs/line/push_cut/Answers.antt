@@ -1,4 +1,4 @@
-use Rattle.std.proofs.Common.{◌≡◌, ◌++◌, ◌∷◌, ◌∙◌, ap, refl, [], suc, drop, length, List, ℕ, encode_utf8_all, string_bytes}
+use Rattle.std.proofs.Common.{◌++◌, ◌∷◌, ◌∙◌, ap, refl, [], suc, drop, length, List, ℕ, encode_utf8_all, string_bytes}
 use Rattle.std.specs.Str.{chars}
 use Rattle.std.proofs.lemmas.Iterator.{YieldsList-from_chars}
 use Rattle.std.proofs.lemmas.Iterator.Consumers.{YieldsList-end, YieldsList-so_far, YieldsList-turn}

@@ -1,5 +1,4 @@
 use Rattle.std.proofs.Common.{◌≡◌, ◌++◌, List, ℕ, string_bytes, encode_utf8_all}
-use Rattle.std.specs.Str.{chars}
 use Rattle.child_display.specs.Lines.{cut_to}
 use Rattle.child_display.proofs.line.push_cut.Given as goal
 
