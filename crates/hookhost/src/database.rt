@@ -18,6 +18,10 @@ const LOG: &str = ".hookhost/store.db-wal";
 // A log of fewer bytes has no room for its header and the header of a page, and so holds no change.
 const LEAST_CHANGED_LOG: u64 = 56;
 
+// A longer log is copied into the database by the command that made it so. Each command reads it, which takes longer than
+// to copy it once in a while.
+const MOST_KEPT_LOG: u64 = 131_072;
+
 /// A connection to the store's database.
 pub(crate) type Database = Connection<FileStore<StoreFile>>;
 
@@ -95,8 +99,9 @@ pub(crate) fn close_database(rt: &HostRuntime, conn: Database) {
     }
 }
 
-/// Leaves the database of a host, of which a command may have made a change. Its log is copied into the database and taken
-/// away; where there was no change, the log is as before.
+/// Leaves the database of a host, of which a command may have made a change. What was changed is whole in the log, which
+/// stays beside the database until it is long: then it is copied into the database and taken away. Where there was no
+/// change, the log is as before.
 pub(crate) fn leave(
     rt: &HostRuntime,
     host: Host<FileStore<StoreFile>>,
@@ -104,19 +109,26 @@ pub(crate) fn leave(
     is_changed: bool,
 ) {
     let had_log = before.log == Found::Filled || before.log == Found::Other;
-    if is_changed || !(had_log || is_log_bare(rt)) {
-        close_database(rt, host.into_store().into_connection());
+    let stays = if is_changed {
+        log_bytes(rt) <= MOST_KEPT_LOG
     } else {
-        put_back(rt, LOG, before.log);
+        had_log || log_bytes(rt) < LEAST_CHANGED_LOG
+    };
+    if stays {
+        if !is_changed {
+            put_back(rt, LOG, before.log);
+        }
         // The process ends next: its files and memory go with it.
         mem::forget(host);
+    } else {
+        close_database(rt, host.into_store().into_connection());
     }
 }
 
-// Whether the log holds no change.
-fn is_log_bare<R: Files>(rt: &R) -> bool {
+// The bytes of the log. Where that can't be told, there are too many to keep it.
+fn log_bytes<R: Files>(rt: &R) -> u64 {
     match fs::symlink_metadata(rt, LOG) {
-        Ok(found) => found.len() < LEAST_CHANGED_LOG,
-        Err(_) => false,
+        Ok(found) => found.len(),
+        Err(_) => u64::MAX,
     }
 }
