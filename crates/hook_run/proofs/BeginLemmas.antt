@@ -1,5 +1,5 @@
 -- How a hook begins.
-use Rattle.std.proofs.Common.{◌≡◌, ◌∙◌, ap, sym, subst, refl, ℕ, Bool, false, List, [], ◌∷◌, Result, Ok, Err, IfOk, Option, None, Some}
+use Rattle.std.proofs.Common.{◌≡◌, ◌∙◌, ap, sym, subst, refl, ℕ, Bool, false, List, [], Result, Ok, Err, IfOk, Option, None, Some}
 use Rattle.std.specs.Prelude.{IsSome, MatchBool, MatchOption}
 use Rattle.arg_partition.specs.declared.cut.Cut.{Cut}
 use Rattle.arg_partition.specs.Parts.{AreParts, fits, too_long_at}
@@ -15,26 +15,27 @@ use Rattle.hook_run.specs.declared.begun.Begun.{Begun}
 use Rattle.hook_run.specs.declared.begun.Begun.TheVariants.{Ended, Waits}
 use Rattle.hook_run.specs.declared.gathered.Gathered.{Gathered}
 use Rattle.hook_run.specs.declared.run_ask.RunAsk.{RunAsk}
-use Rattle.hook_run.specs.declared.waiting.Waiting.{Waiting}
 use Rattle.hook_run.specs.Asks.{is_skipped}
 use Rattle.hook_run.specs.HookRun.{AreItsParts, IsCommandRun, IsEnding, IsHookRun, commands_of, ending_of_misfit, further_of, most_names_of, rules_of, sees_whole}
 use Rattle.hook_run.specs.Limits.{most_command_bytes, most_names}
 use Rattle.hook_run.specs.Parts.{ArePartsOf, Part}
 use Rattle.hook_run.specs.PartsEnding.{ending_of_parts}
 use Rattle.hook_run.specs.Plans.{AtHook, ending_of_gathered, nothing_gathered}
-use Rattle.hook_run.specs.Standing.{HasBegun, HasGoneOn, IsFirstOf, at_hook}
+use Rattle.hook_run.specs.Standing.{HasBegun, HasGoneOn, at_hook}
 
 -- what a hook begins to, it begins to under a weaker claim
 pub begun-weaker : (P Q : List Part → Ending → Type 0) (hook : Hook) (tree : List File) (begun : Begun)
     → ((parts : List Part) (ending : Ending) → P parts ending → Q parts ending) → HasBegun P hook tree begun → HasBegun Q hook tree begun
 begun-weaker P Q hook tree (Ended ending unsteady) weaker is = (weaker [] ending is.0, is.1)
-begun-weaker P Q hook tree (Waits waiting) weaker is =
-    (record {
-        of_hook = is.0.of_hook;
-        before = is.0.before;
-        gathered = is.0.gathered;
-        ended = λ parts run. weaker parts (ending_of_parts tree parts) (is.0.ended parts run);
-      }, is.1)
+begun-weaker P Q hook tree (Waits waiting) weaker is = (
+  record {
+    of_hook = is.0.of_hook;
+    before = is.0.before;
+    gathered = is.0.gathered;
+    ended = λ parts run. weaker parts (ending_of_parts tree parts) (is.0.ended parts run);
+  },
+  is.1,
+)
 
 pub begun-weaker_if : {E : Type 0} (P Q : List Part → Ending → Type 0) (hook : Hook) (tree : List File) (result : Result Begun E)
     → ((parts : List Part) (ending : Ending) → P parts ending → Q parts ending) → IfOk result (HasBegun P hook tree) → IfOk result (HasBegun Q hook tree)
@@ -78,19 +79,22 @@ command-begun : (hook : Hook) (words names : List (List ℕ)) (tree before : Lis
     → before ≡ tree → gathered ≡ nothing_gathered
     → HasGoneOn (record { hook = hook; before = before; commands = commands_of words names cuts; gathered = gathered }) tree begun
     → HasBegun (IsCommandRun hook words names tree) hook tree begun
-command-begun hook words names tree before cuts gathered (Ended ending unsteady) fitting cut same none is =
-    (fitting-ends hook words names tree cuts fitting cut [] ending
-        (commands-run hook tree [] (commands_of words names cuts) [] (sym is.0) tt)
-        (is.1 ∙ ap (λ (start : List File). ended_from gathered start tree) same ∙ ap (λ (all : Gathered). ended_from all tree tree) none),
-      is.2 ∙ ap (λ (all : Gathered). all.unsteady) none)
-command-begun hook words names tree before cuts gathered (Waits waiting) fitting cut same none is =
-    (record {
-        of_hook = ap (λ (at : AtHook). at.hook) is.0;
-        before = ap (λ (at : AtHook). at.before) is.0 ∙ same;
-        gathered = ap (λ (at : AtHook). at.gathered) is.0 ∙ none;
-        ended = λ parts run. fitting-ends hook words names tree cuts fitting cut parts (ending_of_parts tree parts)
+command-begun hook words names tree before cuts gathered (Ended ending unsteady) fitting cut same none is = (
+  fitting-ends hook words names tree cuts fitting cut [] ending
+      (commands-run hook tree [] (commands_of words names cuts) [] (sym is.0) tt)
+      (is.1 ∙ ap (λ (start : List File). ended_from gathered start tree) same ∙ ap (λ (all : Gathered). ended_from all tree tree) none),
+  is.2 ∙ ap (λ (all : Gathered). all.unsteady) none,
+)
+command-begun hook words names tree before cuts gathered (Waits waiting) fitting cut same none is = (
+  record {
+    of_hook = ap (λ (at : AtHook). at.hook) is.0;
+    before = ap (λ (at : AtHook). at.before) is.0 ∙ same;
+    gathered = ap (λ (at : AtHook). at.gathered) is.0 ∙ none;
+    ended = λ parts run. fitting-ends hook words names tree cuts fitting cut parts (ending_of_parts tree parts)
         (commands-run hook tree (at_hook waiting).commands (commands_of words names cuts) parts (ap (λ (at : AtHook). at.commands) is.0) run) refl;
-      }, is.1)
+  },
+  is.1,
+)
 
 pub command-begun_if : {E : Type 0} (hook : Hook) (words names : List (List ℕ)) (tree before : List File) (cuts : List Cut) (gathered : Gathered) (result : Result Begun E)
     → too_long_at (fits words most_command_bytes) names ≡ None → AreParts (fits words most_command_bytes) (most_names_of hook) names cuts

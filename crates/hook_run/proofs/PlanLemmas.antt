@@ -18,10 +18,10 @@ use Rattle.hook_run.specs.declared.progress.Progress.{Progress}
 use Rattle.hook_run.specs.declared.run_ask.RunAsk.{RunAsk}
 use Rattle.hook_run.specs.declared.run_out.RunOut.{RunOut}
 use Rattle.hook_run.specs.Asks.{hooks_of_run}
-use Rattle.hook_run.specs.HookRun.{IsEnding, IsResult, further_of, sees_whole}
-use Rattle.hook_run.specs.Parts.{ArePartsOf, Part, after_parts, all_parts, tree_after}
+use Rattle.hook_run.specs.HookRun.{IsEnding, further_of, sees_whole}
+use Rattle.hook_run.specs.Parts.{ArePartsOf, Part, after_parts, all_parts}
 use Rattle.hook_run.specs.PartsEnding.{ending_of_parts, greatest_status, is_modified, is_unsteady, joined_output, line_faults, line_faults_in, output_in, status_in}
-use Rattle.hook_run.specs.Plans.{AtHook, Completes, GoesOn, GoesOnAt, Plan, ending_of_gathered, gathered_parts, gathered_with, hooks_after, hooks_behind_parts, id_of_gathered, nothing_gathered, progress_behind, progress_with, result_of}
+use Rattle.hook_run.specs.Plans.{AtHook, GoesOn, GoesOnAt, ending_of_gathered, gathered_parts, gathered_with, hooks_after, id_of_gathered, nothing_gathered, progress_with, result_of}
 use Rattle.hook_run.specs.RunOuts.{IsRunOut, out_of, unsteady_id, unsteady_ids}
 use Rattle.hook_run.specs.Standing.{IsFirstOf, id_if, on_tree}
 use Rattle.hook_run.specs.StageRun.{IsRun, is_last}

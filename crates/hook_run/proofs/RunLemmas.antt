@@ -1,22 +1,25 @@
 -- A run over children, part by part.
-use Rattle.std.proofs.Common.{◌≡◌, ◌∙◌, ap, sym, subst, refl, arith, append_assoc, ℕ, ◌+◌, Bool, false, List, [], ◌∷◌, ◌++◌, All, length, length-append, Option, None, Some, Result, Ok, Err, IfOk}
+use Rattle.std.proofs.Common.{◌≡◌, ◌≢◌, ◌∙◌, sym, subst, refl, arith, append_assoc, ℕ, ◌+◌, ◌-◌, ◌^◌, false, List, [], ◌∷◌, ◌++◌, All, length-append, Option, None, Some, Result, Ok, Err, IfOk, IfErr, IsErrAnd}
 use Rattle.std.proofs.lemmas.List.{append-nil}
 use Rattle.std.proofs.lemmas.List.Elements.{All-append, All-cons, All-nil}
 use Rattle.hook_base.specs.declared.file.File.{File}
 use Rattle.child_port.specs.Outcomes.{faults_in}
 use Rattle.child_port.specs.declared.answer.Outcome.{Outcome}
 use Rattle.hook_config.specs.declared.configuration.Config.{Config}
-use Rattle.hook_run.specs.declared.need.Need.TheVariants.{Child, Over}
+use Rattle.hook_run.specs.declared.need.Need.TheVariants.{Over}
 use Rattle.hook_run.specs.declared.run_ask.RunAsk.{RunAsk}
 use Rattle.hook_run.specs.declared.run_out.RunOut.{RunOut}
 use Rattle.child_port.specs.SeenLemmas.{IsPartOf-seen_of}
 use Rattle.hook_base.specs.Trees.{IsPartOf}
 use Rattle.hook_run.specs.HookRun.{further_of, sees_whole}
-use Rattle.hook_run.specs.Parts.{AllTold, Part, all_parts, faults_of}
-use Rattle.hook_run.specs.PlanRuns.{IsPlanRun}
+use Rattle.hook_run.specs.Parts.{AllTold, Part, faults_of}
+use Rattle.result_book.specs.Contents.{Contents}
+use Rattle.hook_run.specs.declared.run_refusal.RunRefusal.{RunRefusal}
+use Rattle.hook_run.specs.declared.run_refusal.RunRefusal.TheVariants.{NoSuchHook, OutOfMemory, Spent}
+use Rattle.hook_run.specs.PlanRuns.{IsPlanRun, IsPlanStopped}
 use Rattle.hook_run.specs.Plans.{AtHook, Completes, CompletesAt, IsPlanAfter, IsPlanOf, Plan, need_at, need_of, first_of, out_of_plan, part_with, seen_at, seen_of_plan, tree_of_plan, words_of}
-use Rattle.hook_run.specs.RunOuts.{IsCounted, IsRunOver}
-
+use Rattle.hook_run.specs.RunOuts.{IsCounted, IsRunOver, IsStoppedRun}
+use Rattle.hook_run.specs.Starts.{Starts}
 
 -- the parts that the children have told since the first moment, and the plan that they led to
 pub record ToldSoFar (tells : List (List ℕ) → List File → Outcome → Type 0) (calls calls_after faults faults_after : ℕ) (first plan : Plan) : Type 0 where
@@ -78,24 +81,97 @@ told-all tells calls calls_after faults faults_after first plan out so_far over 
   completes = subst (λ (all : List Part). Completes first all out) (append-nil so_far.parts) (so_far.leads [] out (over-at plan plan.waiting out over is));
 }
 
-run-over : (tells : List (List ℕ) → List File → Outcome → Type 0) (calls calls_after faults faults_after : ℕ) (config : Config) (ask : RunAsk) (tree : List File) (plan : Plan) (out : RunOut)
-    → IsPlanOf config ask tree plan → IsPlanRun tells calls calls_after faults faults_after plan out
-    → IsRunOver tells calls calls_after faults faults_after config ask tree out
-run-over tells calls calls_after faults faults_after config ask tree plan out of on =
+-- what the children had told when no outcome came
+pub told-stopped : (tells : List (List ℕ) → List File → Outcome → Type 0) (calls calls_now calls_after faults faults_now faults_after : ℕ) (first plan : Plan) (refusal : RunRefusal)
+    → ToldSoFar tells calls calls_now faults faults_now first plan → calls_after ≡ calls_now → faults_after ≡ faults_now
+    → (refusal ≡ Spent → calls_after ≡ 2 ^ 64 - 1) → IsPlanStopped tells calls calls_after faults faults_after refusal
+told-stopped tells calls calls_now calls_after faults faults_now faults_after first plan refusal so_far call fault spent =
+    let called = so_far.counted.called in
+    let faulted = so_far.counted.faulted in
+    record {
+      parts = so_far.parts;
+      told = so_far.told;
+      steady = so_far.steady;
+      counted = record { called = call ∙ called; faulted = fault ∙ faulted };
+      spent = spent;
+    }
+
+-- what they had told when there was no memory for an outcome
+pub told-lost : (tells : List (List ℕ) → List File → Outcome → Type 0) (calls calls_now calls_after faults faults_now faults_after : ℕ) (first plan : Plan) (outcome : Outcome) (refusal : RunRefusal)
+    → ToldSoFar tells calls calls_now faults faults_now first plan → tells (words_of plan) (seen_of_plan plan) outcome
+    → calls_after ≡ calls_now + 1 → faults_after ≡ faults_now + faults_in outcome → refusal ≡ OutOfMemory
+    → IsPlanStopped tells calls calls_after faults faults_after refusal
+told-lost tells calls calls_now calls_after faults faults_now faults_after first plan outcome refusal so_far told call fault is =
+    let part = part_with plan outcome false in
+    let called = so_far.counted.called in
+    let faulted = so_far.counted.faulted in
+    let long = length-append so_far.parts (part ∷ []) in
+    let many = faults-append so_far.parts (part ∷ []) in
+    record {
+      parts = so_far.parts ++ part ∷ [];
+      told = told-append tells so_far.parts (part ∷ []) so_far.told (told, tt);
+      steady = All-append (λ one. one.unsteady ≡ false) so_far.parts (part ∷ []) so_far.steady
+          (All-cons (λ one. one.unsteady ≡ false) part [] refl (All-nil (λ one. one.unsteady ≡ false)));
+      counted = record { called = omega arith; faulted = omega arith };
+      spent = λ spent. absurd (cc);
+    }
+
+pub told-lost_if : {T : Type 0} (tells : List (List ℕ) → List File → Outcome → Type 0) (calls calls_now calls_after faults faults_now faults_after : ℕ) (first plan : Plan) (outcome : Outcome) (result : Result T RunRefusal)
+    → ToldSoFar tells calls calls_now faults faults_now first plan → tells (words_of plan) (seen_of_plan plan) outcome
+    → calls_after ≡ calls_now + 1 → faults_after ≡ faults_now + faults_in outcome → IsErrAnd result (λ refusal. refusal ≡ OutOfMemory)
+    → IfErr result (IsPlanStopped tells calls calls_after faults faults_after)
+told-lost_if tells calls calls_now calls_after faults faults_now faults_after first plan outcome (Ok out) so_far told call fault is = absurd is
+told-lost_if tells calls calls_now calls_after faults faults_now faults_after first plan outcome (Err refusal) so_far told call fault is =
+    told-lost tells calls calls_now calls_after faults faults_now faults_after first plan outcome refusal so_far told call fault is
+
+-- ---- a run over children and a book that isn't changed
+
+run-over : (tells : List (List ℕ) → List File → Outcome → Type 0) (calls calls_after faults faults_after : ℕ) (before after : Contents) (config : Config) (ask : RunAsk) (tree : List File) (plan : Plan) (out : RunOut)
+    → IsPlanOf config ask tree plan → after ≡ before → IsPlanRun tells calls calls_after faults faults_after plan out
+    → IsRunOver tells calls calls_after faults faults_after before after config ask tree out
+run-over tells calls calls_after faults faults_after before after config ask tree plan out of kept on =
     let run = of on.parts out on.completes in
     record {
       trace = run.0;
       run = run.2;
       told = subst (AllTold tells) (sym run.1) on.told;
-      steady = subst (λ (parts : List Part). All (λ part. part.unsteady ≡ false) parts) (sym run.1) on.steady;
+      starts = subst (Starts ask.fresh before after) (sym run.1) (record { kept = kept; steady = on.steady });
       counted = subst (IsCounted calls calls_after faults faults_after) (sym run.1) on.counted;
     }
 
-pub run-over_if : {E : Type 0} (tells : List (List ℕ) → List File → Outcome → Type 0) (calls calls_after faults faults_after : ℕ) (config : Config) (ask : RunAsk) (tree : List File) (plan : Plan)
-    (result : Result RunOut E) → IsPlanOf config ask tree plan → IfOk result (IsPlanRun tells calls calls_after faults faults_after plan)
-    → IfOk result (IsRunOver tells calls calls_after faults faults_after config ask tree)
-run-over_if tells calls calls_after faults faults_after config ask tree plan (Ok out) of on = run-over tells calls calls_after faults faults_after config ask tree plan out of on
-run-over_if tells calls calls_after faults faults_after config ask tree plan (Err refusal) of on = tt
+pub run-over_if : {E : Type 0} (tells : List (List ℕ) → List File → Outcome → Type 0) (calls calls_after faults faults_after : ℕ) (before after : Contents) (config : Config) (ask : RunAsk) (tree : List File) (plan : Plan)
+    (result : Result RunOut E) → IsPlanOf config ask tree plan → after ≡ before → IfOk result (IsPlanRun tells calls calls_after faults faults_after plan)
+    → IfOk result (IsRunOver tells calls calls_after faults faults_after before after config ask tree)
+run-over_if tells calls calls_after faults faults_after before after config ask tree plan (Ok out) of kept on =
+    run-over tells calls calls_after faults faults_after before after config ask tree plan out of kept on
+run-over_if tells calls calls_after faults faults_after before after config ask tree plan (Err refusal) of kept on = tt
+
+pub stopped_if : {T : Type 0} (tells : List (List ℕ) → List File → Outcome → Type 0) (calls calls_after faults faults_after : ℕ) (before after : Contents) (config : Config) (ask : RunAsk) (tree : List File)
+    (result : Result T RunRefusal) → after ≡ before → IfErr result (λ refusal. refusal ≢ NoSuchHook) → IfErr result (IsPlanStopped tells calls calls_after faults faults_after)
+    → IfErr result (IsStoppedRun tells calls calls_after faults faults_after before after config ask tree)
+stopped_if tells calls calls_after faults faults_after before after config ask tree (Ok out) kept asked on = tt
+stopped_if tells calls calls_after faults faults_after before after config ask tree (Err refusal) kept asked on =
+    record {
+      parts = on.parts;
+      told = on.told;
+      starts = record { kept = kept; steady = on.steady };
+      counted = on.counted;
+      no_hook = λ is. absurd (asked is);
+      spent = on.spent;
+    }
+
+-- a run of which there is no plan
+pub stopped-at-once : (tells : List (List ℕ) → List File → Outcome → Type 0) (calls faults : ℕ) (contents : Contents) (config : Config) (ask : RunAsk) (tree : List File) (refusal : RunRefusal)
+    → refusal ≢ Spent → IsStoppedRun tells calls calls faults faults contents contents config ask tree refusal
+stopped-at-once tells calls faults contents config ask tree refusal countable =
+    record {
+      parts = [];
+      told = tt;
+      starts = record { kept = refl; steady = All-nil (λ part. part.unsteady ≡ false) };
+      counted = record { called = omega arith; faulted = omega arith };
+      no_hook = λ is. refl;
+      spent = λ is. absurd (countable is);
+    }
 
 -- ---- what the child of a plan sees is a part of the tree that it runs on
 

@@ -1,6 +1,6 @@
 -- The command of a hook: the words of its entry and arguments as they are, or those that start the file of the tree that
 -- the first of them names.
-use Rattle.std.specs.Prelude.{ℕ, Bool, true, false, ◌||◌, if◌then◌else◌, List, [], ◌∷◌, ◌++◌, Option, None, Some, codes}
+use Rattle.std.specs.Prelude.{ℕ, Bool, ◌||◌, if◌then◌else◌, List, [], ◌∷◌, ◌++◌, Option, None, Some, codes}
 use Rattle.std.specs.List.{list_any}
 use Rattle.child_port.specs.Seen.{plain_word}
 use Rattle.file_tags.specs.Shebangs.{shebang_of}

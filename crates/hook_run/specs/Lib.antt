@@ -1,5 +1,6 @@
 pub mod Asks
 pub mod Commands
+pub mod CountLemmas
 pub mod HookRun
 pub mod Limits
 pub mod Parts
@@ -11,3 +12,4 @@ pub mod Standing
 pub mod RunOuts
 pub mod SameRuns
 pub mod StageRun
+pub mod Starts

@@ -2,7 +2,6 @@
 -- gathered, so that no outcome is kept.
 use Rattle.std.specs.Prelude.{◌≡◌, ℕ, Bool, false, ◌||◌, max, if◌then◌else◌, List, [], ◌∷◌, ◌++◌, Option, None, Some}
 use Rattle.hook_base.specs.declared.file.File.{File}
-use Rattle.child_port.specs.Outcomes.{after_outcome}
 use Rattle.child_port.specs.Seen.{seen_of}
 use Rattle.child_port.specs.declared.answer.Outcome.{Outcome}
 use Rattle.hook_config.specs.declared.configuration.Config.{Config}
@@ -10,7 +9,6 @@ use Rattle.hook_config.specs.declared.configuration.Hook.{Hook}
 use Rattle.report_text.specs.declared.hook_result.Ending.{Ending}
 use Rattle.report_text.specs.declared.hook_result.Ending.TheVariants.{Ran}
 use Rattle.report_text.specs.declared.hook_result.HookResult.{HookResult}
-use Rattle.report_text.specs.declared.hook_result.LineFault.{LineFault}
 use Rattle.hook_run.specs.declared.gathered.Gathered.{Gathered}
 use Rattle.hook_run.specs.declared.need.Need.{Need}
 use Rattle.hook_run.specs.declared.need.Need.TheVariants.{Child, Over}
@@ -19,7 +17,7 @@ use Rattle.hook_run.specs.declared.run_ask.RunAsk.{RunAsk}
 use Rattle.hook_run.specs.declared.run_out.RunOut.{RunOut}
 use Rattle.hook_run.specs.HookRun.{further_of, sees_whole}
 use Rattle.hook_run.specs.Parts.{ArePartsOf, Part, after_parts, all_parts, tree_after}
-use Rattle.hook_run.specs.PartsEnding.{is_modified, is_unsteady, line_faults_in, output_in, status_in}
+use Rattle.hook_run.specs.PartsEnding.{is_modified, line_faults_in, output_in, status_in}
 use Rattle.hook_run.specs.RunOuts.{IsRunOut, out_of, unsteady_ids}
 use Rattle.hook_run.specs.StageRun.{IsRun, is_last}
 

@@ -1,17 +1,21 @@
 -- What a run gives, and a run over children and remembered answers.
-use Rattle.std.specs.Prelude.{◌≡◌, ◌+◌, ◌-◌, ◌^◌, ℕ, Bool, false, if◌then◌else◌, List, [], ◌∷◌, ◌++◌, length, All}
+use Rattle.std.specs.Prelude.{◌≡◌, ◌+◌, ◌-◌, ◌^◌, ℕ, if◌then◌else◌, List, [], ◌∷◌, ◌++◌, length}
 use Rattle.hook_base.specs.declared.file.File.{File}
 use Rattle.child_port.specs.declared.answer.Outcome.{Outcome}
 use Rattle.hook_config.specs.declared.configuration.Config.{Config}
 use Rattle.hook_config.specs.declared.configuration.Hook.{Hook}
 use Rattle.report_text.specs.Report.{report_text}
 use Rattle.report_text.specs.declared.hook_result.HookResult.{HookResult}
+use Rattle.result_book.specs.Contents.{Contents}
 use Rattle.hook_run.specs.declared.run_ask.RunAsk.{RunAsk}
 use Rattle.hook_run.specs.declared.run_out.RunOut.{RunOut}
+use Rattle.hook_run.specs.declared.run_refusal.RunRefusal.{RunRefusal}
+use Rattle.hook_run.specs.declared.run_refusal.RunRefusal.TheVariants.{NoSuchHook, Spent}
 use Rattle.hook_run.specs.Asks.{hooks_of_run, names_of_run}
 use Rattle.hook_run.specs.Parts.{AllTold, Part, all_parts, faults_of, tree_after}
 use Rattle.hook_run.specs.PartsEnding.{is_unsteady}
 use Rattle.hook_run.specs.StageRun.{IsStageRun, has_passed}
+use Rattle.hook_run.specs.Starts.{Starts}
 
 -- the id of a hook with these parts, where it is unsteady
 abbrev pub unsteady_id : Hook → List Part → List (List ℕ)
@@ -44,12 +48,22 @@ pub record IsCounted (calls calls_after faults faults_after : ℕ) (parts : List
   pub called : calls_after ≡ calls + length parts
   pub faulted : faults_after ≡ faults + faults_of parts
 
--- a run with parts that the children told, each by a child that was started: no answer is remembered, so none is another
--- than the remembered one
-pub record IsRunOver (tells : List (List ℕ) → List File → Outcome → Type 0) (calls calls_after faults faults_after : ℕ)
+-- a run with parts that the children told, where `before` and `after` are remembered before it and after it
+pub record IsRunOver (tells : List (List ℕ) → List File → Outcome → Type 0) (calls calls_after faults faults_after : ℕ) (before after : Contents)
     (config : Config) (ask : RunAsk) (tree : List File) (out : RunOut) : Type 0 where
   pub trace : List (List Part)
   pub run : IsRunOut config ask tree trace out
   pub told : AllTold tells (all_parts trace)
-  pub steady : All (λ part. part.unsteady ≡ false) (all_parts trace)
+  pub starts : Starts ask.fresh before after (all_parts trace)
   pub counted : IsCounted calls calls_after faults faults_after (all_parts trace)
+
+-- a run that is refused, with the parts that the children told before that: none where no hook has the name, and as many as
+-- can be counted where it is spent
+pub record IsStoppedRun (tells : List (List ℕ) → List File → Outcome → Type 0) (calls calls_after faults faults_after : ℕ) (before after : Contents)
+    (config : Config) (ask : RunAsk) (tree : List File) (refusal : RunRefusal) : Type 0 where
+  pub parts : List Part
+  pub told : AllTold tells parts
+  pub starts : Starts ask.fresh before after parts
+  pub counted : IsCounted calls calls_after faults faults_after parts
+  pub no_hook : refusal ≡ NoSuchHook → parts ≡ []
+  pub spent : refusal ≡ Spent → calls_after ≡ 2 ^ 64 - 1

@@ -21,7 +21,7 @@ use Rattle.hook_run.specs.declared.work.Work.{Work}
 use Rattle.hook_run.specs.declared.standing.Standing.{Standing}
 use Rattle.hook_run.specs.declared.standing.Standing.TheVariants.{Waits, Over}
 use Rattle.hook_run.specs.Asks.{hooks_of_run, names_of_run}
-use Rattle.hook_run.specs.HookRun.{IsEnding, commands_of, further_of, sees_whole}
+use Rattle.hook_run.specs.HookRun.{commands_of, further_of, sees_whole}
 use Rattle.hook_run.specs.Parts.{ArePartsOf, Part}
 use Rattle.hook_run.specs.PartsEnding.{ending_of_parts}
 use Rattle.hook_run.specs.Plans.{AtHook, Completes, GoesOn, GoesOnAt, Plan, ending_of_gathered, nothing_gathered}

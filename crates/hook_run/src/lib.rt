@@ -3,14 +3,15 @@
 //! A [`RunAsk`] says what is asked of a run. [`RunPlan::begin`] makes the plan of it, or says by a [`RunRefusal`] why there
 //! is none; [`RunPlan::next`] says whether the plan needs a child, [`RunPlan::words`], [`RunPlan::seen`] and
 //! [`RunPlan::tree`] which one, [`RunPlan::tell`] takes its outcome, and [`RunPlan::finish`] gives the [`RunOut`].
-//! [`run_hooks`] does all that with children.
+//! [`run_hooks`] does all that with children, beside a book that is to remember their answers.
 //!
-//! The contracts cite `Completes` and what stands on it in `specs/Plans.antt`, and `IsRunOver` of `specs/RunOuts.antt`. Both
-//! stand on `specs/StageRun.antt` (the hooks of a run one after another), `specs/HookRun.antt` (one of them),
-//! `specs/Commands.antt` (its command), `specs/Parts.antt` and `specs/PartsEnding.antt` (its children, and what they come
-//! to), `specs/Asks.antt` (which hooks a run goes through, and `names_no_hook`) and `specs/Limits.antt`; `specs/Refusals.antt`
-//! has the numbers. `specs/Standing.antt` and `specs/PlanRuns.antt` serve private functions alone. [`laws`] says that the
-//! outcomes decide all else of a run.
+//! The contracts cite `Completes` and what stands on it in `specs/Plans.antt`, and `IsRunOver` and `IsStoppedRun` of
+//! `specs/RunOuts.antt`, with `Starts` of `specs/Starts.antt`. They stand on `specs/StageRun.antt` (the hooks of a run one
+//! after another), `specs/HookRun.antt` (one of them), `specs/Commands.antt` (its command), `specs/Parts.antt` and
+//! `specs/PartsEnding.antt` (its children, and what they come to), `specs/Asks.antt` (which hooks a run goes through, and
+//! `names_no_hook`) and `specs/Limits.antt`; `specs/Refusals.antt` has the numbers, and `specs/CountLemmas.antt` what follows
+//! for the children's counts. `specs/Standing.antt` and `specs/PlanRuns.antt` serve private functions alone. [`laws`] says
+//! that the outcomes decide all else of a run.
 #![tactic(auto)]
 
 mod advance;

@@ -3,6 +3,7 @@
 ghost use Rattle.std.specs.Prelude.{◌≡◌, ◌≢◌, ◌↔◌, IfOk, IfErr, true, false};
 ghost use Rattle.hook_run.specs.Asks.{names_no_hook};
 ghost use Rattle.hook_run.specs.Plans.{IsPlanAfter, IsPlanOf, need_of, out_of_plan, seen_of_plan, tree_of_plan, words_of};
+ghost use Rattle.hook_run.specs.Refusals.{is_of_book};
 ghost use Rattle.hook_run.specs.Standing.{FitsName, FitsResults, IsCourse, IsToldFrom};
 
 use crate::advance::{advance, place_behind};
@@ -51,7 +52,7 @@ impl<'a> RunPlan<'a> {
     /// or that hook has `fail_fast`.
     ///
     /// `NoSuchHook` exactly where `only` has a name that no hook of the stage has (a hook in `skip` counts too); else `OutOfMemory`
-    /// where memory is refused. `Spent` is never answered here.
+    /// where memory is refused. `Book` and `Spent` are never answered here.
     pub fn begin(
         alloc: Global,
         config: &'a Config,
@@ -61,6 +62,7 @@ impl<'a> RunPlan<'a> {
         ensures plan { IfOk result (IsPlanOf config.now ask.now tree.now) }
         ensures no_hook { (result ≡ Err RunRefusal.NoSuchHook) ↔ (names_no_hook config.now ask.now ≡ true) }
         ensures not_spent { IfErr result (λ refusal. refusal ≢ RunRefusal.Spent) }
+        ensures not_book { IfErr result (λ refusal. is_of_book refusal ≡ false) }
     {
         if names_no_hook(config, ask) {
             return Err(RunRefusal::NoSuchHook);

@@ -1,36 +1,42 @@
 //! A run over children.
 
-ghost use Rattle.std.specs.Prelude.{◌≡◌, ◌≢◌, ◌↔◌, ◌+◌, ◌-◌, ◌^◌, ◌<◌, IfOk, IfErr, OnOk, OnErr, true};
+ghost use Rattle.std.specs.Prelude.{◌≡◌, ◌≢◌, ◌↔◌, ◌+◌, ◌-◌, ◌^◌, ◌<◌, IfOk, IfErr, OnOk, OnErr, true, false};
 ghost use Rattle.child_port.specs.Outcomes.{faults_in};
 ghost use Rattle.child_port.specs.Telling.{SameTells};
 ghost use Rattle.hook_run.specs.Asks.{names_no_hook};
-ghost use Rattle.hook_run.specs.PlanRuns.{IsPlanRun};
+ghost use Rattle.hook_run.specs.PlanRuns.{IsPlanRun, IsPlanStopped};
 ghost use Rattle.hook_run.specs.Plans.{need_of, seen_of_plan, words_of};
-ghost use Rattle.hook_run.specs.RunOuts.{IsRunOver};
+ghost use Rattle.hook_run.specs.Refusals.{is_of_book};
+ghost use Rattle.hook_run.specs.RunOuts.{IsRunOver, IsStoppedRun};
 
 use crate::{Need, RunAsk, RunOut, RunPlan, RunRefusal};
 use child_port::{Children, Outcome};
 use hook_base::Tree;
 use hook_config::Config;
+use result_book::Book;
 use std::alloc::Global;
 
 /// Runs the configuration's hooks on the files of the tree, as [`RunPlan::begin`] says, with the children's outcomes. Each
-/// part starts a child: no answer is remembered, `fresh` changes nothing, and no hook is unsteady.
+/// part starts a child: no answer is remembered yet, so the book is neither read nor changed, `fresh` changes nothing, and no
+/// hook is unsteady.
 ///
 /// `NoSuchHook` exactly where `only` has a name that no hook of the stage has; then `OutOfMemory` where memory is refused, and
-/// `Spent` where a child is needed and the children have told as many outcomes as can be counted. A refusal leaves the
-/// children with the outcomes that they have told.
-pub fn run_hooks<C: Children>(
+/// `Spent` where a child is needed and the children have told as many outcomes as can be counted. `Book` is never answered
+/// yet. A refusal leaves the children with the outcomes that they have told.
+pub fn run_hooks<C: Children, B: Book>(
     alloc: Global,
     children: &mut C,
+    book: &mut B,
     config: &Config,
     ask: &RunAsk,
     tree: &Tree,
 ) -> Result<RunOut, RunRefusal>
-    ensures run { IfOk result (IsRunOver (C.tells children.old) (C.call_count children.old) (C.call_count children.new) (C.fault_count children.old) (C.fault_count children.new) config.now ask.now tree.now) }
+    ensures run { IfOk result (IsRunOver (C.tells children.old) (C.call_count children.old) (C.call_count children.new) (C.fault_count children.old) (C.fault_count children.new) (B.contents book.old) (B.contents book.new) config.now ask.now tree.now) }
+    ensures stopped { IfErr result (IsStoppedRun (C.tells children.old) (C.call_count children.old) (C.call_count children.new) (C.fault_count children.old) (C.fault_count children.new) (B.contents book.old) (B.contents book.new) config.now ask.now tree.now) }
     ensures no_hook { (result ≡ Err RunRefusal.NoSuchHook) ↔ (names_no_hook config.now ask.now ≡ true) }
-    ensures spent { IfErr result (λ refusal. refusal ≡ RunRefusal.Spent → C.call_count children.new ≡ 2 ^ 64 - 1) }
+    ensures not_book { IfErr result (λ refusal. is_of_book refusal ≡ false) }
     ensures same { SameTells (C.tells children.old) (C.tells children.new) }
+    ensures book { book.new ≡ book.old }
 {
     let plan = RunPlan::begin(alloc, config, ask, tree)?;
     run_plan(children, plan)
@@ -39,8 +45,9 @@ pub fn run_hooks<C: Children>(
 // Completes the plan with the children's outcomes.
 fn run_plan<C: Children>(children: &mut C, plan: RunPlan) -> Result<RunOut, RunRefusal>
     ensures run { IfOk result (IsPlanRun (C.tells children.old) (C.call_count children.old) (C.call_count children.new) (C.fault_count children.old) (C.fault_count children.new) plan.entry) }
+    ensures stopped { IfErr result (IsPlanStopped (C.tells children.old) (C.call_count children.old) (C.call_count children.new) (C.fault_count children.old) (C.fault_count children.new)) }
     ensures not_asked { IfErr result (λ refusal. refusal ≢ RunRefusal.NoSuchHook) }
-    ensures spent { IfErr result (λ refusal. refusal ≡ RunRefusal.Spent → C.call_count children.new ≡ 2 ^ 64 - 1) }
+    ensures not_book { IfErr result (λ refusal. is_of_book refusal ≡ false) }
     ensures same { SameTells (C.tells children.old) (C.tells children.new) }
 {
     let mut plan = plan;
@@ -58,7 +65,10 @@ fn outcome_of<C: Children>(children: &mut C, plan: &RunPlan) -> Result<Outcome, 
     ensures countable { OnOk result (C.call_count children.old < 2 ^ 64 - 1) }
     ensures calls { OnOk result (C.call_count children.new ≡ C.call_count children.old + 1) }
     ensures faults { IfOk result (λ outcome. C.fault_count children.new ≡ C.fault_count children.old + faults_in outcome) }
+    ensures refused_calls { OnErr result (C.call_count children.new ≡ C.call_count children.old) }
+    ensures refused_faults { OnErr result (C.fault_count children.new ≡ C.fault_count children.old) }
     ensures not_asked { IfErr result (λ refusal. refusal ≢ RunRefusal.NoSuchHook) }
+    ensures not_book { IfErr result (λ refusal. is_of_book refusal ≡ false) }
     ensures spent { IfErr result (λ refusal. refusal ≡ RunRefusal.Spent → C.call_count children.new ≡ 2 ^ 64 - 1) }
     ensures same { SameTells (C.tells children.old) (C.tells children.new) }
 {

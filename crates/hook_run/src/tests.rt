@@ -4,6 +4,7 @@ use crate::{Need, RunAsk, RunOut, RunPlan, RunRefusal, run_hooks};
 use child_port::{Answer, Children, Fault, FuseChildren, Outcome, TableChildren, TableRow};
 use hook_base::{Bytes, Change, Changes, FileEntry, Items, Mode, RepoPath, Text, Tree};
 use hook_config::{Config, Stage, read_config};
+use result_book::{Book, ListBook};
 use std::alloc::Global;
 use std::process::Abort;
 use std::test::Fail;
@@ -98,14 +99,39 @@ const T: &str = "{id: t, name: T, language: system, entry: c, files: '\\.txt$'}"
 #[test]
 fn starts_a_child_and_reports_its_answer(rt: HostRuntime) -> Result<(), Fail> {
     let alloc = rt.alloc();
+    let mut book = ListBook::new(alloc);
     for (status, output, changes, report, passed) in [
         (0, "", "", "", true),
         (0, "unseen", "", "", true),
         (3, "", "", "- hook id: t\n- exit code: 3\n", false),
-        (3, "one\n", "", "- hook id: t\n- exit code: 3\n\none\n\n", false),
-        (0, "", "a.txt=y", "- hook id: t\n- files were modified by this hook\n", false),
-        (0, "", "a.txt", "- hook id: t\n- files were modified by this hook\n", false),
-        (0, "", "b.md=y", "- hook id: t\n- files were modified by this hook\n", false),
+        (
+            3,
+            "one\n",
+            "",
+            "- hook id: t\n- exit code: 3\n\none\n\n",
+            false,
+        ),
+        (
+            0,
+            "",
+            "a.txt=y",
+            "- hook id: t\n- files were modified by this hook\n",
+            false,
+        ),
+        (
+            0,
+            "",
+            "a.txt",
+            "- hook id: t\n- files were modified by this hook\n",
+            false,
+        ),
+        (
+            0,
+            "",
+            "b.md=y",
+            "- hook id: t\n- files were modified by this hook\n",
+            false,
+        ),
         (0, "", "a.txt=x", "", true),
         (0, "", "new=y", "", true),
     ] {
@@ -114,13 +140,17 @@ fn starts_a_child_and_reports_its_answer(rt: HostRuntime) -> Result<(), Fail> {
         let ask = ask_of(alloc, &tree)?;
         let answer = answer_of(alloc, status, output, changes)?;
         let mut children = one_row(alloc, row_of(alloc, "c a.txt", "a.txt=x", answer)?)?;
-        let out = run_hooks(alloc, &mut children, &config, &ask, &tree)?;
+        let out = run_hooks(alloc, &mut children, &mut book, &config, &ask, &tree)?;
         let word = if passed { "Passed" } else { "Failed" };
         let mut wanted = line_of(alloc, "T", 72, word)?;
         wanted.push_str(report)?;
         assert_eq!(rt; out.report.as_slice(), wanted.as_bytes());
-        assert_eq!(rt; (out.passed, children.calls(), children.faults()), (passed, 1, 0));
+        assert_eq!(rt;
+            (out.passed, children.calls(), children.faults()),
+            (passed, 1, 0)
+        );
     }
+    assert_eq!(rt; book.len(), 0);
     Ok(())
 }
 
@@ -143,7 +173,13 @@ fn long_names(alloc: Global) -> Result<Tree, Fail> {
 }
 
 // The row of a part of these names.
-fn part_row(alloc: Global, all: &Tree, first: usize, end: usize, answer: Answer) -> Result<TableRow, Fail> {
+fn part_row(
+    alloc: Global,
+    all: &Tree,
+    first: usize,
+    end: usize,
+    answer: Answer,
+) -> Result<TableRow, Fail> {
     let mut words = Vec::new(alloc);
     words.push(Text::copy_of(alloc, "c")?)?;
     let mut seen = Tree::new(alloc);
@@ -171,29 +207,35 @@ fn two_parts(alloc: Global, all: &Tree) -> Result<TableChildren, Fail> {
 #[test]
 fn joins_the_parts_of_a_hook(rt: HostRuntime) -> Result<(), Fail> {
     let alloc = rt.alloc();
+    let mut book = ListBook::new(alloc);
     let config = config_of(alloc, T)?;
     let tree = long_names(alloc)?;
     let ask = ask_of(alloc, &tree)?;
     let mut children = two_parts(alloc, &tree)?;
-    let out = run_hooks(alloc, &mut children, &config, &ask, &tree)?;
+    let out = run_hooks(alloc, &mut children, &mut book, &config, &ask, &tree)?;
     let mut wanted = line_of(alloc, "T", 72, "Failed")?;
     wanted.push_str("- hook id: t\n- exit code: 3\n\none\ntwo\n\n")?;
     assert_eq!(rt; out.report.as_slice(), wanted.as_bytes());
     assert_eq!(rt; (children.calls(), children.faults()), (2, 0));
 
     let mut children = FuseChildren::new(two_parts(alloc, &tree)?, 1, Fault::Signal);
-    let out = run_hooks(alloc, &mut children, &config, &ask, &tree)?;
+    let out = run_hooks(alloc, &mut children, &mut book, &config, &ask, &tree)?;
     let mut wanted = line_of(alloc, "T", 72, "Failed")?;
     wanted.push_str("- hook id: t\n- exit code: 3\n- fault: ended by a signal\n\ntwo\n\n")?;
     assert_eq!(rt; out.report.as_slice(), wanted.as_bytes());
     assert_eq!(rt; (children.calls(), children.faults()), (2, 1));
+    assert_eq!(rt; book.len(), 0);
     Ok(())
 }
 
 #[test]
 fn starts_no_child_where_a_name_does_not_fit(rt: HostRuntime) -> Result<(), Fail> {
     let alloc = rt.alloc();
-    let mut hook = String::from_str(alloc, "{id: t, name: T, language: system, files: '\\.txt$', entry: ")?;
+    let mut book = ListBook::new(alloc);
+    let mut hook = String::from_str(
+        alloc,
+        "{id: t, name: T, language: system, files: '\\.txt$', entry: ",
+    )?;
     for _ in 0..131_072 {
         hook.push('c')?;
     }
@@ -202,23 +244,25 @@ fn starts_no_child_where_a_name_does_not_fit(rt: HostRuntime) -> Result<(), Fail
     let tree = tree_of(alloc, "a.txt=x")?;
     let ask = ask_of(alloc, &tree)?;
     let mut children = TableChildren::new(Items::new(alloc));
-    let out = run_hooks(alloc, &mut children, &config, &ask, &tree)?;
+    let out = run_hooks(alloc, &mut children, &mut book, &config, &ask, &tree)?;
     let mut wanted = line_of(alloc, "T", 72, "Failed")?;
     wanted.push_str("- hook id: t\n- fault: a name does not fit the command\n")?;
     assert_eq!(rt; out.report.as_slice(), wanted.as_bytes());
     assert_eq!(rt; children.calls(), 0);
+    assert_eq!(rt; book.len(), 0);
     Ok(())
 }
 
 #[test]
 fn is_spent_where_no_more_can_be_counted(rt: HostRuntime) -> Result<(), Fail> {
     let alloc = rt.alloc();
+    let mut book = ListBook::new(alloc);
     let config = config_of(alloc, T)?;
     for (files, spent) in [("a.txt=x", true), ("a.md=x", false)] {
         let tree = tree_of(alloc, files)?;
         let ask = ask_of(alloc, &tree)?;
         let mut children = TableChildren::with_calls(Items::new(alloc), u64::MAX);
-        let refused = match run_hooks(alloc, &mut children, &config, &ask, &tree) {
+        let refused = match run_hooks(alloc, &mut children, &mut book, &config, &ask, &tree) {
             Ok(_) => false,
             Err(refusal) => {
                 assert_eq!(rt; refusal, RunRefusal::Spent);
@@ -227,6 +271,7 @@ fn is_spent_where_no_more_can_be_counted(rt: HostRuntime) -> Result<(), Fail> {
         };
         assert_eq!(rt; refused, spent, "{files}");
     }
+    assert_eq!(rt; book.len(), 0);
     Ok(())
 }
 
@@ -234,16 +279,54 @@ fn is_spent_where_no_more_can_be_counted(rt: HostRuntime) -> Result<(), Fail> {
 fn starts_what_the_entry_names(rt: HostRuntime) -> Result<(), Fail> {
     let alloc = rt.alloc();
     for (language, entry, files, command, seen) in [
-        ("system", "sh tools/lint.sh", "tools/lint.sh=x", "sh tools/lint.sh a.txt", "tools/lint.sh=x"),
-        ("system", "tools/lint.sh", "tools/lint.sh=x", "sh tools/lint.sh a.txt", "tools/lint.sh=x"),
-        ("system", "./lint.sh", "lint.sh=#!/bin/dash", "/bin/dash lint.sh a.txt", "lint.sh=#!/bin/dash"),
+        (
+            "system",
+            "sh tools/lint.sh",
+            "tools/lint.sh=x",
+            "sh tools/lint.sh a.txt",
+            "tools/lint.sh=x",
+        ),
+        (
+            "system",
+            "tools/lint.sh",
+            "tools/lint.sh=x",
+            "sh tools/lint.sh a.txt",
+            "tools/lint.sh=x",
+        ),
+        (
+            "system",
+            "./lint.sh",
+            "lint.sh=#!/bin/dash",
+            "/bin/dash lint.sh a.txt",
+            "lint.sh=#!/bin/dash",
+        ),
         ("system", "./lint.sh", "", "./lint.sh a.txt", ""),
-        ("system", "lint.sh", "lint.sh=x", "lint.sh a.txt", "lint.sh=x"),
-        ("script", "lint.sh", "lint.sh=x", "sh lint.sh a.txt", "lint.sh=x"),
-        ("script", "tools/lint.sh -q", "tools/lint.sh=x", "sh tools/lint.sh -q a.txt", "tools/lint.sh=x"),
+        (
+            "system",
+            "lint.sh",
+            "lint.sh=x",
+            "lint.sh a.txt",
+            "lint.sh=x",
+        ),
+        (
+            "script",
+            "lint.sh",
+            "lint.sh=x",
+            "sh lint.sh a.txt",
+            "lint.sh=x",
+        ),
+        (
+            "script",
+            "tools/lint.sh -q",
+            "tools/lint.sh=x",
+            "sh tools/lint.sh -q a.txt",
+            "tools/lint.sh=x",
+        ),
         ("script", "tools/lint.sh", "", "./tools/lint.sh a.txt", ""),
     ] {
-        let hook = format!(in alloc; "{{id: t, name: T, language: {language}, entry: {entry}, files: '\\.txt$'}}")?;
+        let hook = format!(in alloc;
+            "{{id: t, name: T, language: {language}, entry: {entry}, files: '\\.txt$'}}"
+        )?;
         let config = config_of(alloc, hook.as_str())?;
         let files = format!(in alloc; "a.txt=x {files}")?;
         let tree = tree_of(alloc, files.as_str())?;
@@ -253,7 +336,11 @@ fn starts_what_the_entry_names(rt: HostRuntime) -> Result<(), Fail> {
         if plan.next() != Need::Child {
             return Err(Fail::from("no child"));
         }
-        assert_eq!(rt; plan.words(), words_of(alloc, command)?.as_slice(), "{entry}");
+        assert_eq!(rt;
+            plan.words(),
+            words_of(alloc, command)?.as_slice(),
+            "{entry}"
+        );
         let seen = format!(in alloc; "a.txt=x {seen}")?;
         assert_eq!(rt; plan.seen(), &tree_of(alloc, seen.as_str())?, "{entry}");
         assert_eq!(rt; plan.tree(), &tree, "{entry}");

@@ -74,7 +74,9 @@ fn ended<'a>(work: Work<'a>, tree: &Tree) -> Begun<'a>
     ensures { HasGoneOn (at_work work.entry) tree.now result }
 {
     let Work {
-        before, gathered, ..
+        before,
+        gathered,
+        ..
     } = work;
     let Gathered {
         status,

@@ -1,4 +1,4 @@
-use Rattle.std.proofs.Common.{◌≡◌, ap, sym, subst, arith, List, ℕ}
+use Rattle.std.proofs.Common.{sym, subst, arith}
 use Rattle.hook_run.specs.HookRun.{IsEnding}
 use Rattle.hook_run.specs.Standing.{FitsName}
 use Rattle.hook_config.specs.declared.configuration.Hook.{Hook}

@@ -1,4 +1,4 @@
-use Rattle.std.proofs.Common.{◌≡◌, ap, sym, subst, List}
+use Rattle.std.proofs.Common.{sym, subst}
 use Rattle.hook_run.specs.declared.progress.Progress.{Progress}
 use Rattle.hook_run.specs.Standing.{FitsResults, id_if}
 use Rattle.hook_run.proofs.AdvanceLemmas.{progress-fits, told-ended_if, told-waits}

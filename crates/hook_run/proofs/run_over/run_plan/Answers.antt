@@ -2,7 +2,7 @@ use Rattle.std.proofs.Common.{◌≡◌, rules}
 use Rattle.child_port.specs.TellingLemmas.{SameTells-trans}
 use Rattle.hook_run.specs.declared.need.Need.TheVariants.{Over}
 use Rattle.hook_run.specs.Plans.{need_of, seen_of_plan, words_of}
-use Rattle.hook_run.proofs.RunLemmas.{told-all, told-more}
+use Rattle.hook_run.proofs.RunLemmas.{told-all, told-lost_if, told-more}
 use Rattle.hook_run.proofs.run_over.run_plan.Goals as goal
 
 pub parts-preserved : goal.parts-preserved
@@ -25,3 +25,12 @@ returns-clause-run g c =
     told-all (children.tells c.args.children.now) (children.call_count c.args.children.now) (children.call_count c.parts.children)
     (children.fault_count c.args.children.now) (children.fault_count c.parts.children) c.args.plan c.parts.plan c.finish.result
     c.parts.invariant.so_far over c.finish.ensures
+
+pub returns-in_err-plan-clause-stopped : goal.returns-in_err-plan-clause-stopped
+returns-in_err-plan-clause-stopped g c =
+    let children = g.C.Children in
+    told-lost_if (children.tells c.args.children.now) (children.call_count c.args.children.now) (children.call_count c.parts.children)
+    (children.call_count c.outcome_of.new.children) (children.fault_count c.args.children.now) (children.fault_count c.parts.children)
+    (children.fault_count c.outcome_of.new.children) c.args.plan c.parts.plan c.in_ok-outcome.outcome c.from_residual-in_err-plan.result c.parts.invariant.so_far
+    (c.parts.invariant.same.added (words_of c.parts.plan) (seen_of_plan c.parts.plan) c.in_ok-outcome.outcome c.in_ok-outcome.ensures.told)
+    c.in_ok-outcome.ensures.calls c.in_ok-outcome.ensures.faults c.from_residual-in_err-plan.ensures.1

@@ -1,4 +1,3 @@
-use Rattle.std.proofs.Common.{ℕ, List}
 use Rattle.std.specs.Prelude.{◌-◌, ◌^◌}
 use Rattle.child_port.specs.Telling.{SameTells}
 use Rattle.hook_run.proofs.RunLemmas.{ToldSoFar}
