@@ -12,6 +12,7 @@
 
 mod command;
 mod host;
+mod host_ask;
 mod host_refusal;
 pub mod laws;
 mod message;
@@ -21,5 +22,6 @@ mod tests;
 
 pub use command::Command;
 pub use host::Host;
+pub use host_ask::{AskStage, HostAsk, Which};
 pub use host_refusal::HostRefusal;
-pub use reply::Reply;
+pub use reply::{PostCommit, Reply};
