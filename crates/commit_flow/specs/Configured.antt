@@ -7,6 +7,7 @@ use Rattle.hook_config.specs.declared.config_fault.ConfigFault.{ConfigFault}
 use Rattle.hook_config.specs.declared.config_fault.ConfigKind.TheVariants as kind
 use Rattle.hook_config.specs.Configuration.{configuration_of}
 use Rattle.hook_config.specs.Gives.{UnlessLeftOpen}
+use Rattle.hook_config.specs.Refusals.{TellsTooLarge}
 use Rattle.repo_store.specs.Repository.{Repository}
 
 abbrev pub config_path : List ℕ
@@ -33,11 +34,8 @@ pub record IsMisconfigured (repo : Repository) (fault : ConfigFault) : Type 0 wh
   pub bytes : List ℕ
   pub staged : HasConfigBytes repo bytes
   pub none : UnlessLeftOpen fault.kind (configuration_of bytes ≡ None)
+  pub large : TellsTooLarge bytes fault
   pub not_memory : fault.kind ≢ kind.OutOfMemory
-
--- a configuration is staged
-abbrev pub HasConfig : Repository → Type 0
-HasConfig repo = (bytes : List ℕ) × HasConfigBytes repo bytes
 
 -- a configuration is staged that can be read
 abbrev pub HasReadableConfig : Repository → Type 0

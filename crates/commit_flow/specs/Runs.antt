@@ -92,6 +92,12 @@ names_in which = []
 
 -- ---- what it answers
 
+-- the staged configuration can be read, the named files are staged, and there is a hook of the name that is asked for
+pub record IsRunnable (before : Repository) (ask : HostAsk) (config : Config) : Type 0 where
+  pub configured : IsConfigured before config
+  pub named : AreStagedPaths before (names_in ask.which)
+  pub known : names_no_hook config (run_ask_of ask before) ≡ false
+
 -- the repository with these fixes
 abbrev pub fixing : List Change → Repository → Repository
 fixing changes repo = record repo { fixes = changes }
@@ -101,9 +107,7 @@ pub record IsRan (before : Repository) (ask : HostAsk) (passed : Bool) (report :
   pub config : Config
   pub trace : List (List Part)
   pub out : RunOut
-  pub configured : IsConfigured before config
-  pub named : AreStagedPaths before (names_in ask.which)
-  pub known : names_no_hook config (run_ask_of ask before) ≡ false
+  pub runnable : IsRunnable before ask config
   pub run : IsRunOut config (run_ask_of ask before) before.staged trace out
   pub traced : parts ≡ all_parts trace
   pub verdict : passed ≡ out.passed

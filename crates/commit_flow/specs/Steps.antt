@@ -21,9 +21,9 @@ use Rattle.commit_flow.specs.declared.reply.Reply.TheVariants.{Added, Removed, A
 use Rattle.child_port.specs.declared.answer.Outcome.{Outcome}
 use Rattle.hook_run.specs.Parts.{AllTold, Part, faults_of}
 use Rattle.commit_flow.specs.Commits.{HaveHooksFailed, IsCommitted, IsCommitRefusal}
-use Rattle.commit_flow.specs.RunRefusals.{IsForgetRefusal, IsRunRefusal}
+use Rattle.commit_flow.specs.RunRefusals.{IsRunRefusal}
 use Rattle.commit_flow.specs.Runs.{IsRan}
-use Rattle.commit_flow.specs.StagedPaths.{IsLegal, IsStaged}
+pub use Rattle.commit_flow.specs.StagedPaths.{IsLegal, IsStaged}
 
 -- the refusal is the database's own
 abbrev pub IsOfDatabase : StoreFault → Type 0
@@ -107,6 +107,14 @@ IsAcceptRefusal before NoFixes = before.fixes ≡ []
 IsAcceptRefusal before OutOfMemory = HasFixes before
 IsAcceptRefusal before (Store fault) = HasFixes before × IsOfDatabase fault
 IsAcceptRefusal before refusal = ⊥
+
+-- ---- the remembered answers are forgotten
+
+-- why they aren't: memory or the database refuses
+abbrev pub IsForgetRefusal : HostRefusal → Type 0
+IsForgetRefusal OutOfMemory = Unit {0}
+IsForgetRefusal (Store fault) = IsOfDatabase fault
+IsForgetRefusal refusal = ⊥
 
 -- ---- the steps
 
