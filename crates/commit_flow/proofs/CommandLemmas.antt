@@ -73,7 +73,7 @@ remove_reached kept path legal staged trees leaves = record {
   leaves = leaves;
 }
 
-pub accept_reached : (kept : Kept) → HasFixes kept.repo → (trees : Trees) → Leaves (accepting kept) trees → LeavesDone kept.repo Accept trees
+accept_reached : (kept : Kept) → HasFixes kept.repo → (trees : Trees) → Leaves (accepting kept) trees → LeavesDone kept.repo Accept trees
 accept_reached kept some trees leaves = record {
   kept = accepting kept;
   reply = Accepted (length kept.repo.fixes);
@@ -82,3 +82,18 @@ accept_reached kept some trees leaves = record {
   step = (record { some = some; counted = refl; made = refl }, refl);
   leaves = leaves;
 }
+
+-- the fixes are accepted, whatever number is answered
+module _ {S : Type 0} (g : Ghosts S) (host : Hosted S) (old new : Shown S) (is : record { store = old } ≡ host) (some : HasFixes host.store.kept.repo) where
+  kept_fixes : HasFixes old.kept.repo
+  kept_fixes = subst (λ (at : Hosted S). HasFixes at.store.kept.repo) (sym is) some
+
+  pub accept_refused : {A B E : Type 0} (fault : E) (refusal : HostRefusal) → IsOneTransaction {A = A} g old new (Err fault) (accepting old.kept) → IsOneCommand {A = B} g host (record { store = new }) Accept (Err refusal)
+  accept_refused {B = B} fault refusal one =
+      subst (λ (at : Hosted S). IsOneCommand {A = B} g at (record { store = new }) Accept (Err refusal)) is
+      (refused_command g old new Accept (accepting old.kept) (accepting old.kept) refl (accept_reached old.kept kept_fixes) fault refusal one)
+
+  pub accept_done : {A B E : Type 0} (x : A) → new.kept ≡ accepting old.kept → IsOneTransaction {E = E} g old new (Ok x) (accepting old.kept) → (y : B) → IsOneCommand {A = B} g host (record { store = new }) Accept (Ok y)
+  accept_done {B = B} x same one y =
+      subst (λ (at : Hosted S). IsOneCommand {A = B} g at (record { store = new }) Accept (Ok y)) is
+      (done_command g old new Accept (accepting old.kept) (accepting old.kept) refl (accept_reached old.kept kept_fixes) x y same one)
