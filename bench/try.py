@@ -1,19 +1,27 @@
 #!/usr/bin/env python3
 """Times `hookhost try` beside /bin/true and `cat` of the same files, in one run, and prints ratios.
 
-Usage: bench/try.py [PROGRAM]   (default: crates/hookhost/out/hookhost)
+Usage: bench/try.py [--children] [PROGRAM]   (default: crates/hookhost/out/hookhost)
 
-Each figure is the least of several runs, in milliseconds of wall time, so that a busy machine matters little.
+Each figure is the least of several runs, in milliseconds of wall time, so that a busy machine matters little. --children
+times hooks that start children, and nothing else: beside /bin/true started as often, `cat` of the files, and, where it is
+installed, pre-commit on the same configuration and files, whose report has to be the same. The scratch folder is as an
+earlier run left it; what the first run takes, which writes it, is told too.
 """
 import os
 import shutil
+import subprocess
 import sys
 import tempfile
 
+CHILDREN = "--children" in sys.argv
+sys.argv = [it for it in sys.argv if it != "--children"]
 sys.path.insert(0, os.path.dirname(os.path.abspath(__file__)))
-from timing import least, program, show
+from timing import HERE, least, least_in_turn, once, program, show
 
 PROGRAM = program()
+PRE_COMMIT = shutil.which("pre-commit")
+CONFIGURATION = ".pre-commit-config.yaml"
 HEAD = "repos:\n- repo: local\n  hooks:\n"
 
 
@@ -44,6 +52,95 @@ def comments_of(size):
 def write(name, text):
     with open(name, "w", encoding="utf-8") as file:
         file.write(text)
+
+
+# ---- hooks that start children
+
+# With these, a command of at most 131,072 bytes has room for 34 names of 7 bytes: 295 parts for 10,000.
+LONG_ARGUMENTS = "[" + ", ".join(["x" * 13_078] * 10) + "]"
+
+
+def command(number, entry, **keys):
+    more = "".join(f"    {key.replace('-', '_')}: {value}\n" for key, value in keys.items())
+    return f"  - id: hook{number}\n    name: Hook {number}\n    language: system\n    entry: {entry}\n{more}"
+
+
+def names_of(count):
+    """So many files of 400 bytes in the repository, and their names, which are short, so that a command takes 10,000."""
+    os.makedirs("f", exist_ok=True)
+    names = [f"f/{number:05}" for number in range(count)]
+    for name in names:
+        if not os.path.exists(name):
+            write(name, "x" * 399 + "\n")
+    return names
+
+
+def in_git(names):
+    """The repository's files are these, and the configuration."""
+    subprocess.run(["git", "rm", "-r", "--cached", "--force", "--quiet", "--ignore-unmatch", "."], check=True)
+    subprocess.run(["git", "add", "--pathspec-from-file=-"], input="\n".join([CONFIGURATION, *names]), text=True, check=True)
+
+
+def report_of(words):
+    return subprocess.run(words, capture_output=True, text=True).stdout
+
+
+def time_hooks(what, hooks, names, started, aim="", changes=False):
+    """One configuration of hooks over these files, each part of which starts one child: `started` in all."""
+    write(CONFIGURATION, HEAD + "".join(hooks))
+    paths = [CONFIGURATION, *names]
+    shutil.rmtree(".hookhost", ignore_errors=True)
+    ours = [PROGRAM, "try", CONFIGURATION, *paths]
+    first = once(ours)
+    true = ["sh", "-c", "for at in $(seq $1); do /bin/true; done", "sh", str(started)]
+    here = os.getcwd()
+    mine, trues, cat = least_in_turn([(here, ours), (here, true), (here, ["cat", *paths])], 7)
+    show(f"{what}", mine, trues, f"true {started} times")
+    show("", mine, cat, "cat")
+    if PRE_COMMIT:
+        in_git(names)
+        theirs = [PRE_COMMIT, "run", "--all-files", "--color", "never"]
+        if report_of(theirs) != report_of(ours):
+            sys.exit(f"bench/try.py: {what}: pre-commit reports something else")
+        slow = min(once(theirs) for _ in range(1 if changes else 3))
+        print(f"{'':44} {mine:9.2f} ms  pre-commit {slow:8.2f} ms  ratio {mine / slow:6.2f}{aim}")
+    size = sum(os.path.getsize(name) for name in paths)
+    print(f"{'':44} the first run, which writes the folder, {first:.2f} ms; peak memory {peak(ours) / size:.1f} times the tree of {size / 1e6:.1f} MB", flush=True)
+    return mine
+
+
+def peak(words):
+    """The peak memory of the command in bytes."""
+    done = subprocess.run([os.path.abspath("../peak"), *words], stdin=subprocess.DEVNULL, stdout=subprocess.DEVNULL, stderr=subprocess.PIPE, text=True)
+    return int(done.stderr.split()[-1]) * 1024
+
+
+def time_children():
+    folder = tempfile.mkdtemp()
+    subprocess.run(["cc", "-O1", "-o", os.path.join(folder, "peak"), os.path.join(HERE, "peak.c")], check=True)
+    os.mkdir(os.path.join(folder, "repository"))
+    os.chdir(os.path.join(folder, "repository"))
+    try:
+        subprocess.run(["git", "init", "--quiet", "."], check=True)
+        one = [command(0, '"true"', require_serial="true")]
+        ten = [command(number, '"true"', require_serial="true") for number in range(10)]
+        alone = [command(0, '"true"', pass_filenames="false")]
+        twice = {}
+        for count in (1, 1000, 5000, 10000):
+            names = names_of(count)
+            if count != 5000:
+                time_hooks(f"`true`, {count} files", one, names, 1)
+                time_hooks(f"`true` without names, {count} files", alone, names, 1)
+            twice[count] = time_hooks(f"ten hooks `true`, {count} files", ten, names, 10, {1000: "  aim 0.5", 10000: "  aim 2"}.get(count, ""))
+        print(f"{'twice the files (5,000 to 10,000), ten hooks':44} {twice[10000] / twice[5000]:.2f} times the time  aim 2.2")
+        names = names_of(10000)
+        time_hooks("`true`, 10,000 files in 295 parts", [command(0, '"true"', require_serial="true", args=LONG_ARGUMENTS)], names, 295)
+        names = names_of(1000)
+        time_hooks("a child that changes 1 of 1,000 files", [command(0, "sh -c 'echo x >> f/00000'", pass_filenames="false")], names, 1, changes=True)
+        time_hooks("a child that changes all of 1,000 files", [command(0, "sed -i s/x/y/", require_serial="true")], names, 1, changes=True)
+    finally:
+        os.chdir("/")
+        shutil.rmtree(folder)
 
 
 def main():
@@ -77,4 +174,4 @@ def main():
         shutil.rmtree(folder)
 
 
-main()
+time_children() if CHILDREN else main()

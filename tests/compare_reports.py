@@ -6,14 +6,15 @@ Usage: tests/compare_reports.py [PROGRAM [COUNT [SEED]]]   (default: crates/hook
 pre-commit (Debian's package of that name) must be there, for the Python that runs this or for /usr/bin/python3, which
 Debian's packages serve; where it is missing, nothing can be compared, and that is a failure. So must `git` be.
 
-Each tree is laid and staged in a repository of its own, and each configuration, of `fail` and `pygrep` hooks, is run on
+Each tree is laid and staged in a repository of its own, and each configuration, of `fail`, `pygrep` and `system` hooks, is run on
 it: by `hookhost try CONFIG PATH..` with all staged files, and by pre-commit in this process. pre-commit's `pygrep` is
 called here too, but for some configurations, where it starts its own process, as it always would. Patterns are of what
 both languages of patterns share, texts of what both readers of YAML do.
 
-The verdict and each byte of the report must be the same. Where they differ, a reason has to hold, which is tested: the two
-must agree once one side answers as the reason says. Another difference is a failure, and so is a reason that no
-configuration needed.
+The verdict and each byte of the report must be the same. Where they differ, reasons have to hold, one or several, which is
+tested: each has a cause that the configuration or the tree must show, the two sides must agree once they answer as the
+reasons say, and none of these may be left out. Another difference is a failure, and so is a reason that no configuration
+needed. Each answer begins with the tree as it was staged, since the commands of hooks change it.
 """
 import collections
 import contextlib
@@ -36,11 +37,12 @@ PROGRAM = os.path.abspath(sys.argv[1] if len(sys.argv) > 1 else os.path.join(HER
 
 try:
     from identify import extensions, identify, interpreters
+    from pre_commit import logging_handler
     from pre_commit import main as pre_commit
     from pre_commit import output as printed
     from pre_commit.commands import run as running
     from pre_commit.languages import pygrep
-    from pre_commit.xargs import partition
+    from pre_commit.xargs import partition, xargs
 except ImportError:
     try_again("pre-commit (Debian's package)")
 
@@ -91,6 +93,12 @@ ARGUMENTS = ["-i", "--ignore-case", "--multiline", "--negate"]
 NAMES = ["Check", "a", "A name of more than fifty columns, so that each line is wider than eighty", "\u65e5\u672c", "\u65e5" * 30, "caf\u00e9: 'x'", ""]
 ACCENT = "e\u0301 accent"
 ENTRIES = ["no such names", "", "one\ntwo", "  blanks around\n\n", "caf\u00e9 \u65e5", "it's \"quoted\" \\ {x} #y"]
+# pre-commit counts a blank behind each word of a command, the last one too, and leaves room for the environment.
+LONGEST = 131_072 + 1
+# Commands that pass, fail, print, and modify files. The last leaves room for a few names, so it runs in several parts.
+COMMANDS = ["true", "false", "cat", "grep -n TODO", "wc -c", "sed -i s/a/b/", "sed -i s/c/c/", "sh -c 'echo out; echo err >&2; exit 7' --",
+            "sh -c 'test $# = 1 || printf \"%s|\" \"$@\"; exit $#' --", "sh -c 'printf \"x\" >> \"$1\"' --",
+            "/bin/sh -c 'shift; echo $# \"$1\"; exit $#' -- " + 130_960 * "c"]
 STAGES = [["commit"], ["commit", "push"], ["push"], ["manual"], []]
 
 
@@ -118,15 +126,18 @@ def truth(rng):
 
 
 def hook(rng, number):
-    language = rng.choice(["fail", "pygrep", "pygrep"])
+    language = rng.choice(["fail", "pygrep", "pygrep", "system"])
     made = {"id": rng.choice(["same", f"h{number}"]), "name": rng.choice(NAMES) if rng.random() < 0.97 else ACCENT, "language": language}
-    made["entry"] = rng.choice(ENTRIES) if language == "fail" else line_pattern(rng)
+    made["entry"] = line_pattern(rng) if language == "pygrep" else rng.choice(COMMANDS if language == "system" else ENTRIES)
     tags = lambda: rng.sample(TAGS, rng.randint(0, 2))
     made |= maybe(rng, 0.25, files=lambda: path_pattern(rng), exclude=lambda: path_pattern(rng), args=lambda: [it for it in ARGUMENTS if rng.random() < 0.4])
     made |= maybe(rng, 0.15, types=tags, types_or=tags, exclude_types=tags, alias=lambda: "other")
     made |= maybe(rng, 0.15, pass_filenames=truth(rng), always_run=truth(rng), verbose=truth(rng), fail_fast=truth(rng), require_serial=truth(rng))
     made |= maybe(rng, 0.05, stages=lambda: rng.choice(STAGES), description=lambda: "of no use")
     made |= maybe(rng, 0.02, color=lambda: "unknown to both")
+    if language == "system":
+        # pre-commit would hand the names in another order to several commands at once.
+        made |= {"require_serial": True, "args": []}
     return made
 
 
@@ -149,17 +160,20 @@ def configuration(top, hooks):
 # ---- the two answers: the verdict and the report
 
 
-def lay(case, rng):
-    """Lays the tree in the current folder, with its configuration, and stages it: the staged paths."""
-    subprocess.run(["git", "init", "--quiet", "--template="], check=True)
-    for path, file in case.tree.items():
+def lay_files(case, plain=False):
+    """Lays the tree and its configuration in the current folder, anew where the commands of hooks have changed them."""
+    for path, file in [*case.tree.items(), (CONFIGURATION, File(False, configuration(case.top, case.hooks).encode()))]:
         if os.path.dirname(path):
             os.makedirs(os.path.dirname(path), exist_ok=True)
         with open(path, "wb") as made:
             made.write(file.contents)
-        os.chmod(path, 0o755 if file.executable else 0o644)
-    with open(CONFIGURATION, "w", encoding="utf-8") as made:
-        made.write(configuration(case.top, case.hooks))
+        os.chmod(path, 0o755 if file.executable and not plain else 0o644)
+
+
+def lay(case, rng):
+    """Lays the tree in the current folder, with its configuration, and stages it: the staged paths."""
+    subprocess.run(["git", "init", "--quiet", "--template="], check=True)
+    lay_files(case)
     paths = list(case.tree) + ([CONFIGURATION] if rng.random() < 0.5 else [])
     subprocess.run(["git", "add", "--force", "--", *paths], check=True)
     rng.shuffle(paths)
@@ -168,6 +182,7 @@ def lay(case, rng):
 
 def ours(case, paths, hooks):
     """The exit status and the report of the program, where the configuration has these hooks."""
+    lay_files(case)
     with tempfile.NamedTemporaryFile("w", encoding="utf-8", suffix=".yaml") as made:
         made.write(configuration(case.top, hooks))
         made.flush()
@@ -175,12 +190,15 @@ def ours(case, paths, hooks):
     return ran.returncode, ran.stdout + ran.stderr
 
 
-def theirs(patches, own_process=False):
-    """pre-commit's, in the current folder and with these patches of it."""
+def theirs(case, reasons, own_process=False):
+    """pre-commit's, in the current folder, where it answers as these reasons say."""
+    lay_files(case, plain=PLAIN in reasons)
+    patches = [mock.patch.object(*each) for reason in reasons for each in REASONS[reason].patches]
     taken = io.BytesIO()
     with contextlib.ExitStack() as stack:
         for patch in patches if own_process else [*patches, mock.patch.object(pygrep, "xargs", pygrep_here)]:
             stack.enter_context(patch)
+        stack.enter_context(mock.patch.dict(xargs.__kwdefaults__, _max_length=LONGEST))
         stack.enter_context(writing_to(taken))
         stack.enter_context(contextlib.redirect_stderr(io.StringIO()))
         status = pre_commit.main(["run", "--all-files", "--color", "never"])
@@ -210,7 +228,7 @@ def writing_to(stream):
             function.__defaults__ = defaults
 
 
-# ---- why two answers may differ. Each reason changes how one side answers; it holds where the two then agree.
+# ---- why two answers may differ. Each reason changes one thing in how one side answers, and nothing where its cause isn't.
 
 DURATION = "how long a hook took isn't told"
 WARNING = "what is dubious in a configuration isn't told"
@@ -221,9 +239,17 @@ PLAIN = "`try` sees each file as a plain one"
 FEEDS = "`pygrep` searches a line without its line feed"
 BYTES = "`pygrep` has characters for classes, `.`, `-i` and signs beyond ASCII, and there bytes"
 
-# These two are told by lines of their own, and are looked for first.
-OF_LINES = {DURATION: rb"(?m)(?<=\n)- duration: [0-9.]+s\n", WARNING: rb"(?m)^\[WARNING\] .*\n"}
-OTHERS = [STOP, WIDTH, TABLES, PLAIN, FEEDS, BYTES]
+
+def told_lines(line, use_color, tell=running._subtle_line):
+    """A hook's lines but that of its time."""
+    if not re.fullmatch(r"- duration: [0-9.]+s", line):
+        tell(line, use_color)
+
+
+def told_record(handler, record, tell=logging_handler.LoggingHandler.emit):
+    """What pre-commit warns of but the key that random hooks have and nothing knows."""
+    if not re.fullmatch(r"Unexpected key\(s\) present on local => \w+: color", record.getMessage()):
+        tell(handler, record)
 
 
 def run_hooks(config, hooks, skips, args):
@@ -239,8 +265,12 @@ def run_hooks(config, hooks, skips, args):
     return int(any_failed)
 
 
+def is_accent(sign):
+    return unicodedata.category(sign) == "Mn"
+
+
 def width(text, with_accents=running._len_cjk):
-    return with_accents("".join(sign for sign in text if unicodedata.category(sign) != "Mn"))
+    return with_accents("".join(sign for sign in text if not is_accent(sign)))
 
 
 def our_tables():
@@ -279,20 +309,6 @@ def by_line_negated(pattern, name):
 WITHOUT_FEED = {pygrep.Choice(multiline=False, negate=False): by_line, pygrep.Choice(multiline=False, negate=True): by_line_negated}
 
 
-def patches_for(reasons):
-    """What the reasons change in pre-commit."""
-    changed = []
-    if STOP in reasons:
-        changed.append((running, "_run_hooks", run_hooks))
-    if WIDTH in reasons:
-        changed.append((running, "_len_cjk", width))
-    if TABLES in reasons:
-        changed += our_tables()
-    if FEEDS in reasons:
-        changed.append((pygrep, "FNS", pygrep.FNS | WITHOUT_FEED))
-    return [mock.patch.object(*each) for each in changed]
-
-
 def of_bytes(made):
     """The hook whose pattern `regex` reads as Python reads a pattern of bytes."""
     if made["language"] != "pygrep":
@@ -301,36 +317,59 @@ def of_bytes(made):
     return made | {"entry": "(?-u)" + "".join(signs)}
 
 
-def agree_but_for(reasons, case, paths):
-    """Whether the two answers are the same, these reasons and those of lines apart."""
-    executable = [path for path, file in case.tree.items() if file.executable and PLAIN in reasons]
-    for path in executable:
-        os.chmod(path, 0o644)
-    status, report = theirs(patches_for(reasons))
-    for path in executable:
-        os.chmod(path, 0o755)
-    for lines in OF_LINES.values():
-        report = re.sub(lines, b"", report)
-    return (status, report) == ours(case, paths, [of_bytes(each) for each in case.hooks] if BYTES in reasons else case.hooks)
+def any_hook(holds):
+    return lambda case: any(holds(each) for each in case.hooks)
 
 
-def reasons_of(case, paths, mine, other):
+def picks_by_tags(made):
+    return any(made.get(key) for key in ("types", "types_or", "exclude_types"))
+
+
+def searches(made):
+    return made["language"] == "pygrep"
+
+
+def searches_lines(made):
+    return searches(made) and "--multiline" not in made.get("args", [])
+
+
+def has_executable(case):
+    return any(file.executable for file in case.tree.values())
+
+
+def is_beyond_ascii(case):
+    return not configuration(case.top, case.hooks).isascii() or not all(file.contents.isascii() for file in case.tree.values())
+
+
+# Its cause, as a question about a case, and what it changes in pre-commit. PLAIN changes the tree there, and BYTES the
+# configuration here.
+Reason = collections.namedtuple("Reason", "has_cause patches")
+REASONS = {
+    DURATION: Reason(any_hook(lambda made: made.get("verbose")), [(running, "_subtle_line", told_lines)]),
+    WARNING: Reason(any_hook(lambda made: "color" in made), [(logging_handler.LoggingHandler, "emit", told_record)]),
+    STOP: Reason(lambda case: case.top.get("fail_fast") or any_hook(lambda made: made.get("fail_fast"))(case), [(running, "_run_hooks", run_hooks)]),
+    WIDTH: Reason(any_hook(lambda made: any(map(is_accent, made["name"]))), [(running, "_len_cjk", width)]),
+    TABLES: Reason(any_hook(picks_by_tags), our_tables()),
+    PLAIN: Reason(lambda case: has_executable(case) and any_hook(picks_by_tags)(case), []),
+    FEEDS: Reason(any_hook(searches_lines), [(pygrep, "FNS", pygrep.FNS | WITHOUT_FEED)]),
+    BYTES: Reason(lambda case: any_hook(searches)(case) and is_beyond_ascii(case), []),
+}
+
+
+def reasons_of(case, paths, mine):
     """The reasons for which the two answers differ, none of which can be left out, or None."""
-    status, report = other
-    reasons = []
-    for reason, lines in OF_LINES.items():
-        shorter = re.sub(lines, b"", report)
-        reasons += [reason] if shorter != report else []
-        report = shorter
-    if mine == (status, report):
-        return reasons
-    needed = list(OTHERS)
-    if not agree_but_for(needed, case, paths):
+    by_bytes = ours(case, paths, [of_bytes(each) for each in case.hooks])
+
+    def agree_but_for(reasons):
+        return theirs(case, reasons) == (by_bytes if BYTES in reasons else mine)
+
+    needed = [reason for reason in REASONS if REASONS[reason].has_cause(case)]
+    if not agree_but_for(needed):
         return None
-    for reason in OTHERS:
+    for reason in REASONS:
         fewer = [each for each in needed if each != reason]
-        needed = fewer if agree_but_for(fewer, case, paths) else needed
-    return reasons + needed
+        needed = fewer if fewer != needed and agree_but_for(fewer) else needed
+    return needed
 
 
 def compared(case, rng):
@@ -338,8 +377,8 @@ def compared(case, rng):
     with tempfile.TemporaryDirectory() as folder:
         os.chdir(folder)
         paths = lay(case, rng)
-        mine, other = ours(case, paths, case.hooks), theirs([], case.own_process)
-        answer = None if mine == other else (reasons_of(case, paths, mine, other), mine, other)
+        mine, other = ours(case, paths, case.hooks), theirs(case, [], case.own_process)
+        answer = None if mine == other else (reasons_of(case, paths, mine), mine, other)
         os.chdir("/")
     return answer
 
@@ -359,7 +398,7 @@ def main():
         sys.exit(f"tests/compare_reports.py: there is no {PROGRAM}: build it with `rt run` in crates/hookhost")
     rng = random.Random(seed)
     agreed, excused, wrong = 0, 0, 0
-    used = dict.fromkeys([*OF_LINES, *OTHERS], 0)
+    used = dict.fromkeys(REASONS, 0)
     with tempfile.TemporaryDirectory(dir=IN_MEMORY if os.access(IN_MEMORY, os.W_OK) else None) as home:
         set_environment(home)
         tempfile.tempdir = home

@@ -1,10 +1,12 @@
 #!/usr/bin/env python3
-"""Runs the parts of the gate in turn, up to the first that fails, and prints what each said last and where the processor
-minutes went.
+"""Runs the parts of the gate, up to the first that fails, and prints what each said last and where the time went.
 
-Usage: tests/gate_time.py PART..   Each PART is a command in one word, as 'rt ci'.
+Usage: tests/gate_time.py PART.. [-- PART..]
 
-A part's whole time is what the system counts for it and for all that it started. Where it runs the checker, the processes
+Each PART is a command in one word, as 'rt ci'. Those before `--` run in turn; those behind it side by side, one a processor,
+begun in this order, and what each prints is shown once it has ended.
+
+A part's processor time is what the system counts for it and for all that it started. Where it is the checker's, the processes
 below it are looked at twice a second, and their time goes to the crate that their command line or folder names: to its
 proofs, to its must-fail edits, or to its program (built and run). What a process took after the last look at it, and what
 names no crate, is the part's own.
@@ -18,13 +20,15 @@ import sys
 import threading
 import time
 from collections import defaultdict
+from concurrent.futures import ThreadPoolExecutor
 
 # What the whole gate may take, in processor minutes: 130, 8 for each of file_tags, path_select, builtin_hooks and report_text,
-# 12 for hook_run, 8 for what hook_config, hook_cli and the scripts grew with it, 15 for commit_flow, 8 for what the
+# 20 for hook_run, 8 for what hook_config, hook_cli and the scripts grew with it, 15 for commit_flow, 8 for what the
 # store's crates grew for it, 5 for its commands in the program and their scripts, and 8 for each of arg_partition,
-# result_book and process_children. Who adds a crate says what it adds.
-BUDGET = 130 + 4 * 8 + 12 + 8 + 15 + 8 + 5 + 3 * 8
+# result_book, process_children and child_display. Who adds a crate says what it adds.
+BUDGET = 130 + 4 * 8 + 20 + 8 + 15 + 8 + 5 + 4 * 8
 PAUSE = 0.5
+START = time.monotonic()
 TICKS = os.sysconf("SC_CLK_TCK")
 PHASES = ["proofs", "edits", "program"]
 
@@ -106,27 +110,71 @@ class Watch:
 
 
 class Part:
-    """A part of the gate: its command, and once it ran its status, its last line, and its seconds of processor time."""
+    """A part of the gate: its command, and once it ran its status, its last line, its seconds, and those of processors."""
 
     def __init__(self, name):
-        self.name, self.status, self.said, self.seconds, self.by_work = name, None, "", 0.0, {}
+        self.name, self.status, self.said, self.took, self.seconds, self.by_work = name, None, "", 0.0, 0.0, {}
 
-    def run(self):
-        print(f"gate: {self.name}", flush=True)
+    def run(self, show):
+        """Runs the part, and shows its lines as they come."""
+        start = time.monotonic()
         with subprocess.Popen(shlex.split(self.name), stdin=subprocess.DEVNULL, stdout=subprocess.PIPE, stderr=subprocess.STDOUT) as command:
-            watch = Watch(command.pid)
+            watch = Watch(command.pid) if self.name.startswith("rt ") else None
             try:
                 for line in command.stdout:
-                    sys.stdout.buffer.write(line)
-                    sys.stdout.flush()
+                    show(line)
                     self.said = line.decode(errors="replace").strip() or self.said
                 _, status, used = os.wait4(command.pid, 0)
                 command.returncode = os.waitstatus_to_exitcode(status)
             finally:
                 if command.returncode is None:
                     command.terminate()
-                self.by_work = watch.end()
-        self.status, self.seconds = command.returncode, used.ru_utime + used.ru_stime
+                self.by_work = watch.end() if watch else {}
+        self.status, self.took, self.seconds = command.returncode, time.monotonic() - start, used.ru_utime + used.ru_stime
+
+
+def show(line):
+    sys.stdout.buffer.write(line)
+    sys.stdout.flush()
+
+
+def minutes():
+    """How long the gate has been running, so that a run that was cut off tells how far it came by when."""
+    return f"{(time.monotonic() - START) / 60:.1f} minutes"
+
+
+def show_with_time(line):
+    """Shows a line of the checker, which begins what it says of a crate by two signs."""
+    show(b"gate: after " + minutes().encode() + b": " + line if line.startswith(b"== ") else line)
+
+
+def run_in_turn(parts):
+    """Runs the parts up to the first that fails, and says whether all passed."""
+    for part in parts:
+        print(f"gate: after {minutes()}: {part.name}", flush=True)
+        part.run(show_with_time)
+        if part.status:
+            return False
+    return True
+
+
+def run_side_by_side(parts):
+    """Runs the parts, one a processor. Once one has failed, none is begun any more."""
+    printing, failed = threading.Lock(), threading.Event()
+
+    def run(part):
+        if failed.is_set():
+            return
+        lines = []
+        part.run(lines.append)
+        if part.status:
+            failed.set()
+        with printing:
+            print(f"gate: after {minutes()}: {part.name}, within {part.took / 60:.1f} minutes", flush=True)
+            show(b"".join(lines))
+
+    with ThreadPoolExecutor(len(os.sched_getaffinity(0))) as pool:
+        list(pool.map(run, parts))
 
 
 def show_times(parts):
@@ -143,26 +191,28 @@ def show_times(parts):
     print(f"gate:   {'all crates':26}" + "".join(f"{each:9.1f}" for each in [*row, sum(row)]))
     for part in parts:
         own = max(part.seconds - sum(part.by_work.values()), 0) / 60
-        print(f"gate:   {part.name + (', the rest' if part.by_work else ''):53}{own:9.1f}")
+        print(f"gate:   {part.name + (', the rest' if part.by_work else ''):53}{own:9.1f}, within {part.took / 60:.1f} minutes")
 
 
 def main():
     signal.signal(signal.SIGTERM, lambda number, _: sys.exit(128 + number))
-    parts, start = [Part(name) for name in sys.argv[1:]], time.monotonic()
-    for part in parts:
-        part.run()
-        if part.status:
-            break
+    names = sys.argv[1:]
+    cut = names.index("--") if "--" in names else len(names)
+    first, rest = ([Part(name) for name in some] for some in (names[:cut], names[cut + 1:]))
+    if run_in_turn(first):
+        run_side_by_side(rest)
+    parts = first + rest
     ran = [part for part in parts if part.status is not None]
     show_times(ran)
     for part in ran:
         print(f"gate: {part.name}: {'FAILED with status ' + str(part.status) if part.status else 'passed'}: {part.said}")
-    for part in parts[len(ran):]:
-        print(f"gate: {part.name}: not run")
+    for part in parts:
+        if part.status is None:
+            print(f"gate: {part.name}: not run")
     took = sum(part.seconds for part in ran) / 60
     is_well = bool(parts) and all(part.status == 0 for part in parts)
     print(f"gate: {'passed' if is_well else 'FAILED'}: {took:.1f} processor minutes of at most {BUDGET}{', OVER THE BUDGET' if took > BUDGET else ''}, "
-          f"in {(time.monotonic() - start) / 60:.1f} minutes on {len(os.sched_getaffinity(0))} processors")
+          f"in {minutes()} on {len(os.sched_getaffinity(0))} processors")
     sys.exit(0 if is_well else 1)
 
 

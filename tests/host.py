@@ -302,7 +302,7 @@ class Killed:
 
 def state(folder):
     """All that a repository shows, to the program and then to sqlite3."""
-    shown, files = [do(folder, word) for word in ("status", "log")], staged_rows(folder)
+    shown, files = [do(folder, word) for word in ("status", "fixes", "log")], staged_rows(folder)
     check(rows(folder, "PRAGMA integrity_check; PRAGMA foreign_key_check") == ["ok"], "sqlite3 finds the file broken")
     for path, (_, held) in files.items():
         check(do(folder, "cat", "--", path) == held, f"cat of {path!r} gives other bytes than sqlite3")
@@ -323,10 +323,10 @@ def filled(folder):
     return base
 
 
-def is_left_whole_by_kills_of_add_and_rm(folder):
+def is_left_whole_by_kills_of_add_rm_and_accept(folder):
     killed = Killed(folder, filled(folder))
     before = state(killed.copy())
-    for words in (["add", "b"], ["add", "new"], ["rm", "a"]):
+    for words in (["add", "b"], ["add", "new"], ["rm", "a"], ["accept"]):
         work = killed.copy()
         do(work, *words)
         after = state(work)
@@ -364,7 +364,7 @@ def is_left_whole_by_kills_of_commits(folder):
 
 CASES = [keeps_files_of_hard_names, keeps_the_longest_path_that_the_system_opens, refuses_control_bytes, takes_no_mode_from_the_working_file,
          refuses_what_may_not_be_read_or_written, refuses_fifos_and_waits_for_none, lets_one_program_work_at_a_time,
-         loses_nothing_of_programs_at_once, is_left_whole_by_kills_of_init, is_left_whole_by_kills_of_add_and_rm,
+         loses_nothing_of_programs_at_once, is_left_whole_by_kills_of_init, is_left_whole_by_kills_of_add_rm_and_accept,
          is_left_whole_by_kills_of_commits]
 
 

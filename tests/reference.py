@@ -43,6 +43,8 @@ REPOSITORY_HELP = {
     "add": "ADD_HELP",
     "rm": "REMOVE_HELP",
     "status": "STATUS_HELP",
+    "fixes": "FIXES_HELP",
+    "accept": "ACCEPT_HELP",
     "cat": "CAT_HELP",
     "log": "LOG_HELP",
     "show": "SHOW_HELP",

@@ -1,5 +1,6 @@
 /* Preloaded before a program, refuses the allocation whose number, counted from 1, stands in REFUSE_ALLOCATION, and
-   says so by making the file that REFUSED_FILE names. */
+   says so by making the file that REFUSED_FILE names. It takes itself and both names out of the environment before the
+   program begins, so what the program starts has all its memory, and the environment that it would have. */
 #define _GNU_SOURCE
 #include <dlfcn.h>
 #include <errno.h>
@@ -7,13 +8,25 @@
 #include <stdlib.h>
 #include <unistd.h>
 
-static unsigned long count;
+static unsigned long count, refused;
+static const char *refused_file;
+static int has_begun;
+
+__attribute__((constructor)) static void begin(void) {
+    if (has_begun) return;
+    has_begun = 1;
+    const char *number = getenv("REFUSE_ALLOCATION");
+    refused = number == NULL ? 0 : strtoul(number, NULL, 10);
+    refused_file = getenv("REFUSED_FILE");
+    unsetenv("LD_PRELOAD");
+    unsetenv("REFUSE_ALLOCATION");
+    unsetenv("REFUSED_FILE");
+}
 
 static int is_refused(void) {
-    const char *number = getenv("REFUSE_ALLOCATION");
-    if (number == NULL || ++count != strtoul(number, NULL, 10)) return 0;
-    const char *name = getenv("REFUSED_FILE");
-    if (name != NULL) close(open(name, O_WRONLY | O_CREAT, 0600));
+    begin();
+    if (++count != refused) return 0;
+    if (refused_file != NULL) close(open(refused_file, O_WRONLY | O_CREAT, 0600));
     errno = ENOMEM;
     return 1;
 }

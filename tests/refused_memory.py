@@ -1,7 +1,7 @@
 #!/usr/bin/env python3
 """Runs the built program with each of its allocations refused in turn, until a run ends with none refused.
 
-Usage: tests/refused_memory.py [PROGRAM [STORE_TRIAL]]   (default: the built programs)
+Usage: tests/refused_memory.py [--each] [PROGRAM [STORE_TRIAL]]   (default: the built programs)
 
 Each refused run has to say `hookhost: refused: NUMBER OutOfMemory`, write nothing to standard output and end with
 status 3, or else to answer just as with ample memory (a growth that was refused may be tried again with less). Each play
@@ -9,9 +9,15 @@ names its numbers in the order in which they have to come as later allocations a
 words are read and then 12. The allocator is stood in for by tests/refuse_allocation.c. Beside some plays of its own,
 each text of the tables `yaml_profile` and `yaml_profile_refused` in tests/rows/ is checked as a configuration.
 
+Where a play starts children, these have all their memory, so that whatever is refused, no line of the report may tell of
+it; nor may a file of the folder change. The folder in which they run is made anew for each run, or left as the run before
+it left it, one that gave up among them.
+
 A command on a repository is played on a new copy of one each time. After a refusal it has to show what it showed before,
-and else what it shows after the command with ample memory. Of its allocations, most of which open the store, the first
-and the last hundreds are refused, and of those between one in so many.
+and else what it shows after the command with ample memory.
+
+Of the allocations of these two the first and the last are refused, and of those between one in so many; with --each, which
+takes long, each is refused in turn.
 """
 import os
 import shutil
@@ -25,8 +31,10 @@ from yaml_texts import read_rows, refused_rows
 
 HERE = os.path.dirname(os.path.abspath(__file__))
 CRATES = os.path.join(HERE, "..", "crates")
-PROGRAM = os.path.abspath(sys.argv[1] if len(sys.argv) > 1 else os.path.join(CRATES, "hookhost/out/hookhost"))
-STORE_TRIAL = os.path.abspath(sys.argv[2] if len(sys.argv) > 2 else os.path.join(CRATES, "store_trial/out/store_trial"))
+EACH = "--each" in sys.argv
+WORDS = [word for word in sys.argv[1:] if word != "--each"]
+PROGRAM = os.path.abspath(WORDS[0] if WORDS else os.path.join(CRATES, "hookhost/out/hookhost"))
+STORE_TRIAL = os.path.abspath(WORDS[1] if len(WORDS) > 1 else os.path.join(CRATES, "store_trial/out/store_trial"))
 CONFIGURATION = b"""# Three hooks in all forms of YAML that are read, and a key that nothing knows.
 shade: blue
 default_stages: [pre-commit, "push"]
@@ -67,6 +75,48 @@ repos:
   - {id: b, name: B, language: pygrep, entry: 'c{3}$', args: [--negate]}
   - {id: c, name: C, language: pygrep, entry: a., args: [-i, --multiline]}
 """
+# Whether the commands of hooks are handed anything of what stands in for the allocator, and a command whose output is long.
+COMMAND = b"""repos:
+- repo: local
+  hooks:
+  - {id: a, name: A, language: system, entry: "sh -c 'cat \\"$@\\"; test -z \\"$LD_PRELOAD$REFUSE_ALLOCATION$REFUSED_FILE\\"' --", verbose: true}
+"""
+# Commands that pass, fail, print on both outputs, modify files, and find them modified.
+COMMANDS = b"""repos:
+- repo: local
+  hooks:
+  - {id: pass, name: Pass, language: system, entry: 'true', files: ^a}
+  - {id: fail, name: Fail, language: system, entry: "sh -c 'cat \\"$@\\"; echo to stderr >&2; exit 3' --", files: ^a}
+  - {id: change, name: Change, language: system, entry: "sh -c 'echo more >> a.txt; rm dir/c.txt'", pass_filenames: false}
+  - {id: find, name: Find, language: system, entry: cat, verbose: true}
+"""
+# Scripts: one of the files by its first line, by a command that names it, and one that isn't among the files.
+SCRIPT = b"#!/bin/sh -e\nprintf '<%s>' \"$0\" \"$@\"\nfalse\n"
+SCRIPTS = b"""repos:
+- repo: local
+  hooks:
+  - {id: first, name: First line, language: script, entry: ./run.sh one, files: ^a}
+  - {id: slash, name: System, language: system, entry: ./run.sh, args: ['two words'], files: ^a}
+  - {id: none, name: Not there, language: script, entry: none.sh, files: ^a}
+"""
+# A command with room for two of the three names, the first of whose parts modifies the file that the second is handed.
+LONGEST = 131_072
+PART = b"""/bin/sh -c 'shift; echo $# "$@"; wc -c < dir/c.txt; echo more >> dir/c.txt; exit $#' -- """
+PARTS = b"""repos:
+- repo: local
+  hooks:
+  - {id: parts, name: Parts, language: system, entry: %s%s}
+""" % (PART, b"c" * (LONGEST - len(PART.replace(b"'", b"") + b" a.txt b.txt")))
+# Each fault of a child but one: a wait that the system refuses can't be had.
+FAULTS = b"""repos:
+- repo: local
+  hooks:
+  - {id: start, name: Start, language: system, entry: no-such-program, files: ^a}
+  - {id: signal, name: Signal, language: system, entry: "sh -c 'kill -9 $$'", files: ^a}
+  - {id: output, name: Output, language: system, entry: head -c 1048577 /dev/zero, pass_filenames: false}
+  - {id: folder, name: Folder, language: system, entry: "sh -c 'rm a.txt; mkdir a.txt'", pass_filenames: false}
+  - {id: long, name: Long, language: system, entry: 'true', args: [%s], files: ^a}
+""" % (b"c" * LONGEST)
 # The numbers of want of memory: a run's, and those of `check`, whose words are read as a run's are. A command on a
 # repository says 4 while its words are read, as a run does, and while the store is opened or made, as the store does. It
 # says 1, as the host does, of anything else: the working file of `add`, before the store, and the command itself.
@@ -75,14 +125,16 @@ OF_CHECK = (4, 12)
 OF_INIT = (4,)
 OF_ADD = (4, 1, 4, 1)
 OF_COMMAND = (4, 1)
-# Of the allocations of a command on a repository, how many at its beginning and its end are refused, and how many between.
-AT_ENDS, BETWEEN = 150, 300
+# How many allocations at the beginning and the end are refused, and how many between, of a command on a repository, most of
+# whose allocations open the store, and of a run that starts children.
+OF_STORE, OF_CHILDREN = (150, 300), (40, 160)
 
 
 @dataclass
 class Play:
     """The words and the standard input of a run, the numbers of its want of memory, its configuration, the status that
-    it has to end with (None: any), and whether it is on a repository: a new one is made, or one is there."""
+    it has to end with (None: any), whether it is on a repository (a new one is made, or one is there), and the folder of
+    its children, if any: new for each run, or left."""
     name: str
     words: list
     numbers: tuple = OF_RUN
@@ -90,12 +142,20 @@ class Play:
     configuration: bytes = CONFIGURATION
     status: int = None
     repository: str = None
+    children: str = None
 
 
+OVER_FILES = ["try", ".pre-commit-config.yaml", "a.txt", "b.txt", "dir/c.txt"]
 PLAYS = [
     Play("the run without words", [], stdin=CONFIGURATION, status=0),
     Play("a run over files", ["try", ".pre-commit-config.yaml", "b.txt", "a.txt", "dir/c.txt"], status=1),
     Play("a run of patterns, tags and pygrep", ["try", ".pre-commit-config.yaml", "a.txt", "b.txt", "dir/c.txt"], configuration=SELECTION, status=1),
+    Play("a run of one command", OVER_FILES, configuration=COMMAND, status=0, children="new"),
+    Play("a run of commands", OVER_FILES, configuration=COMMANDS, status=1, children="left"),
+    Play("a run of commands in a new folder", OVER_FILES, configuration=COMMANDS, status=1, children="new"),
+    Play("a run of scripts", [*OVER_FILES, "run.sh"], configuration=SCRIPTS, status=1, children="left"),
+    Play("a run of a command in parts", OVER_FILES, configuration=PARTS, status=1, children="left"),
+    Play("a run with faults", OVER_FILES, configuration=FAULTS, status=1, children="left"),
     Play("the check of a refused pattern", ["check"], OF_CHECK, configuration=b"repos: []\nfiles: (a|b{2}\n", status=3),
     Play("a refused configuration", [], stdin=b"a: 1\na: 2\n", status=3),
     Play("words that name no command", ["try", "config.yaml"], status=2),
@@ -105,16 +165,18 @@ PLAYS = [
     Play("the add of a staged file", ["add", "--chmod=+x", "a.txt"], OF_ADD, status=0, repository="there"),
     Play("the removal of a staged file", ["rm", "a.txt"], OF_COMMAND, status=0, repository="there"),
     Play("the status", ["status"], OF_COMMAND, status=0, repository="there"),
+    Play("the fixes", ["fixes"], OF_COMMAND, status=0, repository="there"),
+    Play("accepted fixes", ["accept"], OF_COMMAND, status=0, repository="there"),
     Play("the bytes of a staged file", ["cat", "a.txt"], OF_COMMAND, status=0, repository="there"),
     Play("the log", ["log"], OF_COMMAND, status=0, repository="there"),
     Play("a commit", ["show", "1"], OF_COMMAND, status=0, repository="there"),
 ]
-FILES = (("a.txt", b"a\n"), ("b.txt", b""), ("dir/c.txt", b"c" * 9000))
+FILES = (("a.txt", b"a\n"), ("b.txt", b""), ("dir/c.txt", b"c" * 9000), ("run.sh", SCRIPT))
 
 
 @dataclass
 class Answer:
-    """How a run ended: its status and outputs, whether an allocation was refused, and what the repository then shows."""
+    """How a run ended: its status and outputs, whether an allocation was refused, and what the folder then shows."""
     said: tuple
     refused: bool
     shown: tuple = None
@@ -125,25 +187,41 @@ def run(play, refused, shared, folder):
     mark, work = os.path.join(folder, "refused"), os.path.join(folder, "work")
     if os.path.exists(mark):
         os.remove(mark)
-    if play.repository:
+    if play.repository or play.children == "new":
         lay_repository(play, shared, work)
     env = dict(os.environ, LD_PRELOAD=os.path.join(shared, "refuse.so"), REFUSE_ALLOCATION=str(refused), REFUSED_FILE=mark)
     said = end_of([PROGRAM, *play.words], work, play.stdin, env)
-    return Answer(said, os.path.exists(mark), shown_in(work) if play.repository else None)
+    return Answer(said, os.path.exists(mark), shown_after(play, work))
 
 
 def lay_repository(play, shared, work):
-    """Puts the repository as it stands before the play, or none."""
+    """Puts the repository as it stands before the play, or none, and no folder of children."""
     shutil.rmtree(os.path.join(work, ".hookhost"), ignore_errors=True)
     if play.repository == "there":
         shutil.copytree(os.path.join(shared, ".hookhost"), os.path.join(work, ".hookhost"))
 
 
 def shown_before(play, shared, folder):
-    """What the repository shows before the play."""
+    """What the folder shows before the play."""
     work = os.path.join(folder, "work")
     lay_repository(play, shared, work)
-    return shown_in(work)
+    return shown_after(play, work)
+
+
+def shown_after(play, work):
+    """What the folder of a play shows: what its repository does, or the files that the children got copies of."""
+    return shown_in(work) if play.repository else files_in(work) if play.children else None
+
+
+def files_in(work):
+    """The folder's files with their bytes, but for those of the program."""
+    found = {}
+    for folder, folders, names in os.walk(work):
+        folders[:] = [name for name in folders if name != ".hookhost"]
+        for name in names:
+            with open(os.path.join(folder, name), "rb") as file:
+                found[os.path.join(folder, name)] = file.read()
+    return found
 
 
 def end_of(words, work, given=b"", env=None):
@@ -178,19 +256,22 @@ def count_allocations(play, shared, folder):
 
 def allocations(play, shared, folder):
     """The numbers of the allocations that are refused in turn, the last of which is one past them all."""
-    if not play.repository:
+    if EACH or not (play.repository or play.children):
         return range(1, sys.maxsize)
+    at_ends, between = OF_STORE if play.repository else OF_CHILDREN
     count = count_allocations(play, shared, folder)
-    step = max(1, (count - 2 * AT_ENDS) // BETWEEN)
-    return [at for at in range(1, count + 2) if at <= AT_ENDS or at > count - AT_ENDS or at % step == 0]
+    step = max(1, (count - 2 * at_ends) // between)
+    return [at for at in range(1, count + 2) if at <= at_ends or at > count - at_ends or at % step == 0]
 
 
 def refuse_each(play, shared, folder):
     """How many allocations were refused in turn, at how many the program gave up, and what was wrong, if anything."""
-    before = shown_before(play, shared, folder) if play.repository else None
+    before = shown_before(play, shared, folder)
     plain = run(play, 0, shared, folder)
     if play.status not in (None, plain.said[0]):
-        return 0, 0, f"status {plain.said[0]} with nothing refused, wanted {play.status}"
+        return 0, 0, f"status {plain.said[0]} with nothing refused, wanted {play.status}: {plain.said}"
+    if play.children and plain.shown != before:
+        return 0, 0, f"left {plain.shown} with nothing refused"
     count, gave_up, came = 0, 0, []
     for allocation in allocations(play, shared, folder):
         answer = run(play, allocation, shared, folder)
@@ -220,13 +301,14 @@ def play_alone(play, shared):
 
 
 def make_repository(folder):
-    """Makes a repository with a commit, whose files are those of the plays."""
+    """Makes a repository with a commit, whose files are those of the plays, and a fix."""
     for name, text in FILES[:2]:
         with open(os.path.join(folder, name), "wb") as file:
             file.write(text)
     made = [end_of([PROGRAM, *words], folder) for words in (["init"], ["add", "a.txt"], ["add", "b.txt"])]
-    made.append(end_of([STORE_TRIAL, ".hookhost/store.db"], folder, b"open\ncommit first\\n\\nbody\nfix a.txt 2\nset\nclose\n"))
+    made.append(end_of([STORE_TRIAL, ".hookhost/store.db"], folder, b"open\ncommit first\\n\\nbody\nclose\n"))
     made.append(end_of([PROGRAM, "rm", "b.txt"], folder))
+    made.append(end_of([STORE_TRIAL, ".hookhost/store.db"], folder, b"open\nfix a.txt 2\nset\nclose\n"))
     if any(status for status, _, _ in made):
         sys.exit(f"refused_memory: no repository is made: {made!r}")
 

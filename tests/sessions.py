@@ -26,8 +26,10 @@ A session file holds cases. `== NAME` begins a case, in an empty folder. Within 
   -- sql TEXT       sqlite3 answers this to SQL on the store: the lines that follow, and nothing else
   -- files          the lines that follow are the folder's files, all of them, in order
 
-After each command but an `init`, `add` or `rm` that is done, every file has to be as it was. Two may change, since every
-command that opens a store does that to them: the lock, and the log that the database begins anew.
+After each command but an `init`, `add`, `rm` or `accept` that is done, every file has to be as it was; `accept` is done also
+where its output takes no more. Two may change, since every command that opens a store does that to them: the lock, and the
+log that the database begins anew. What lies in the scratch folder of the commands of hooks isn't looked at, nor is the folder
+that holds it.
 """
 import fcntl
 import os
@@ -43,6 +45,7 @@ PROGRAM = os.path.abspath(sys.argv[1] if len(sys.argv) > 1 else os.path.join(TOP
 CASE = sys.argv[2] if len(sys.argv) > 2 else ""
 STORE_TRIAL = os.path.join(TOP, "crates/store_trial/out/store_trial")
 STORE, LOCK = ".hookhost/store.db", ".hookhost/lock"
+FOLDER, SCRATCH = "./.hookhost", "./.hookhost/scratch"
 LAID = ("file", "bytes", "fill", "repeat", "folder", "remove", "demo")
 LOOKED_AT = ("play", "sql", "files")
 
@@ -108,12 +111,13 @@ def content(path):
 
 
 def files_that_stay():
-    """The folders and the files below this folder with their contents, but for the two that commands may change."""
+    """The folders and the files below this folder with their contents, but for those that commands may change."""
     found = {}
     for folder, folders, names in os.walk("."):
+        folders[:] = [name for name in folders if os.path.join(folder, name) != SCRATCH]
         found.update((os.path.join(folder, name), None) for name in folders)
         found.update((os.path.join(folder, name), content(os.path.join(folder, name))) for name in names)
-    return {path: held for path, held in found.items() if path not in ("./" + LOCK, "./" + STORE + "-wal")}
+    return {path: held for path, held in found.items() if path not in (FOLDER, "./" + LOCK, "./" + STORE + "-wal")}
 
 
 def run_alone(command):
@@ -125,7 +129,8 @@ def run_alone(command):
     wrong = run(command)
     if held:
         held.close()
-    may_change = command["status"] == 0 and command["words"][:1] in (["init"], ["add"], ["rm"])
+    is_done = command["status"] == 0 or command["output"] is not None
+    may_change = is_done and command["words"][:1] in (["init"], ["add"], ["rm"], ["accept"])
     return wrong or (None if may_change or files_that_stay() == before else "it changed the folder's files")
 
 
@@ -176,7 +181,7 @@ def lay(kind, what, body):
     elif kind == "remove":
         shutil.rmtree(what) if os.path.isdir(what) else os.remove(what)
     elif kind == "demo":
-        shutil.copytree(os.path.join(TOP, "demo"), ".", dirs_exist_ok=True)
+        shutil.copytree(os.path.join(TOP, "demo"), ".", dirs_exist_ok=True, ignore=shutil.ignore_patterns(".*"))
     elif kind == "repeat":
         count, path = what.split(" ", 1)
         with open(path, "ab") as file:

@@ -60,6 +60,8 @@ def kept(staged=(), head=(), fixes=0, commits=0):
 EMPTY = [
     (*line("rm", "a"), *STORE, refused("4 NotStaged") + kept()),
     (*line("status"), *STORE, done() + kept()),
+    (*line("fixes"), *STORE, done() + kept()),
+    (*line("accept"), *STORE, refused("11 NoFixes") + kept()),
     (*line("log"), *STORE, done() + kept()),
     (*line("show", "0"), *STORE, ended(3, err="hookhost: no commit 0\n") + kept()),
     (*line("show", "1"), *STORE, ended(3, err="hookhost: no commit 1\n") + kept()),
@@ -211,6 +213,36 @@ FIXES = [
     (*WITH_FIXES, *line("cat", "c"), *STORE, refused("4 NotStaged") + kept(A_AND_B, fixes=2)),
     (*WITH_FIXES, *line("log"), *STORE, done() + kept(A_AND_B, fixes=2)),
     (*WITH_FIXES, *line("show", "1"), *STORE, ended(3, err="hookhost: no commit 1\n") + kept(A_AND_B, fixes=2)),
+    (*WITH_FIXES, *line("fixes"), *STORE, done("D a\nD b\n") + kept(A_AND_B, fixes=2)),
+    (*WITH_FIXES, *line("accept"), *STORE, done("accepted: 2\n") + kept()),
+    # A fix has other bytes or takes the file out. It says M also where the bytes are those that are staged, or none.
+    (*stage("a", "x"), *stage("b", "y"), *stage("c", "z"), "fixes", "a\tnew\nb\nc\t", *line("fixes"), done("M a\nD b\nM c\n")),
+    (*stage("a", "x"), "fixes", "a\tx", *line("fixes"), done("M a\n")),
+    # The order is that of the paths' bytes.
+    (
+        *stage("a/b"), *stage("a.txt"), *stage("B"), *stage("é"), "fixes", "B\na.txt\t1\na/b\né\t2", *line("fixes"),
+        done("D B\nM a.txt\nD a/b\nM é\n"),
+    ),
+    # A fix of a path that isn't staged is none.
+    (*stage("b", "x"), "fixes", "a\nb\nc\tnew", *line("fixes"), *line("accept"), *STORE, done("D b\n") + done("accepted: 1\n") + kept()),
+    (*stage("b", "x"), "fixes", "a", *line("fixes"), *line("accept"), *STORE, done() + refused("11 NoFixes") + kept([("b", "x")])),
+    # Accepted, a file keeps its mode, those without a fix stay, and the fixes are forgotten.
+    (
+        *stage("a", "1", "executable"), *stage("b", "2"), *stage("c", "3"), *stage("d", "4"), "commit", "m", "fixes", "a\tone\nb\nc\t",
+        *line("accept"), *line("fixes"), *line("accept"), *line("status"), *STORE,
+        done("accepted: 3\n") + done() + refused("11 NoFixes") + done("M a\nD b\nM c\n")
+        + kept([("a", "one", "executable"), ("c", ""), ("d", "4")], [("a", "1", "executable"), ("b", "2"), ("c", "3"), ("d", "4")], commits=1),
+    ),
+    (*stage("a", "x"), "fixes", "a\tx", *line("accept"), *STORE, done("accepted: 1\n") + kept([("a", "x")])),
+    # Those of the last run alone stand, and a commit forgets them.
+    (*stage("a", "x"), *stage("b", "y"), "fixes", "a", "fixes", "b\tz", *line("fixes"), done("M b\n")),
+    (*stage("a", "x"), "fixes", "a", "commit", "m", *line("fixes"), *line("accept"), done() + refused("11 NoFixes")),
+    (*stage("a", "x"), "fixes", "a", "unstage", "b", *line("fixes"), done()),
+    # Their number is written in full.
+    (
+        *(word for at in range(12) for word in stage(f"{at:02}")), "fixes", "\n".join(f"{at:02}" for at in range(12)), *line("accept"), *STORE,
+        done("accepted: 12\n") + kept(),
+    ),
 ]
 
 STATUS = [
@@ -325,10 +357,15 @@ SET_UP = (*stage("a", "one\n"), *stage("b", "y"), "commit", "first\nmore", *stag
 STANDS = kept([("a", "two\n"), ("c", "z")], [("a", "one\n"), ("b", "y")], fixes=1, commits=1)
 SAYING = [
     (("status",), "M a\nD b\nA c\n"),
+    (("fixes",), "D a\n"),
     (("cat", "a"), "two\n"),
     (("log",), "1 first\n"),
     (("show", "1"), "first\nmore\n\na\nb\n"),
 ]
+
+# What `accept` says and leaves there.
+ACCEPTED = "accepted: 1\n"
+ACCEPTS = kept([("c", "z")], [("a", "one\n"), ("b", "y")], commits=1)
 
 # The commands that are refused there, with what each says on `err`.
 REFUSED = [
@@ -385,9 +422,17 @@ WRITERS = [
         (*SET_UP, *line(*command, err="flushed"), *STORE, ended(3, err=said, flushes=("", "flushed 1 times ")) + STANDS)
         for command, said in REFUSED
     ),
+    # Fixes that are accepted stay so, whatever becomes of the line.
+    *((*SET_UP, *line("accept", out=habit), *STORE, done(ACCEPTED) + ACCEPTS) for habit in PATIENT),
+    *((*SET_UP, *line("accept", err=habit), *STORE, done(ACCEPTED) + ACCEPTS) for habit in HABITS),
+    *((*SET_UP, *line("accept", out=str(count)), *STORE, ended(3, out=ACCEPTED[:count]) + ACCEPTS) for count in [0, 1, 9, 10, 11]),
+    (*SET_UP, *line("accept", out=str(len(ACCEPTED))), *STORE, done(ACCEPTED) + ACCEPTS),
+    (*SET_UP, *line("accept", out="nothing"), *STORE, ended(3) + ACCEPTS),
+    (*SET_UP, *line("accept", out="unflushed"), *STORE, ended(3, out=ACCEPTED) + ACCEPTS),
+    (*SET_UP, *line("accept", out="flushed"), *STORE, ended(0, out=ACCEPTED, flushes=("flushed 1 times ", "")) + ACCEPTS),
     # An empty text takes no call but the flush.
-    *((*line(*command, out="nothing"), done()) for command in [("status",), ("log",)]),
-    *((*line(*command, out="unflushed"), ended(3)) for command in [("status",), ("log",)]),
+    *((*line(*command, out="nothing"), done()) for command in [("status",), ("fixes",), ("log",)]),
+    *((*line(*command, out="unflushed"), ended(3)) for command in [("status",), ("fixes",), ("log",)]),
     (*stage("a"), *line("cat", "a", out="nothing"), done()),
     (*stage("a"), *line("cat", "a", out="unflushed"), ended(3)),
     # The writer that a command has nothing to say on may be as it likes.

@@ -189,7 +189,7 @@ LINES = [
         [],
         "refused MissingSubcommand\n"
         "error: 'hookhost' requires a subcommand but one was not provided\n"
-        "  [subcommands: init, try, check, add, rm, status, cat, log, show]\n\n"
+        "  [subcommands: init, try, check, add, rm, status, fixes, accept, cat, log, show]\n\n"
         f"Usage: hookhost <COMMAND>\n\n{MORE}",
     ),
     (
@@ -239,6 +239,8 @@ LINES = [
         "  add     Stages a file of the current folder\n"
         "  rm      Takes a path out of the staged files\n"
         "  status  Prints which staged files differ from those of the last commit\n"
+        "  fixes   Prints the fixes, which accept applies to the staged files\n"
+        "  accept  Applies the fixes to the staged files, and prints how many there were\n"
         "  cat     Prints the bytes of a staged file\n"
         "  log     Prints the commits, the newest first\n"
         "  show    Prints a commit's message and its paths\n\n"
@@ -268,6 +270,8 @@ USAGES = {
     "add": "add [--chmod=+x] <PATH>",
     "rm": "rm <PATH>",
     "status": "status",
+    "fixes": "fixes",
+    "accept": "accept",
     "cat": "cat <PATH>",
     "log": "log",
     "show": "show <N>",
@@ -311,6 +315,8 @@ REPOSITORY_LINES = [
     (["add", "--", "--chmod=+x"], "add\n--chmod=+x\n"),
     (["rm", "a"], "remove\na\n"),
     (["status"], "status\n"),
+    (["fixes"], "fixes\n"),
+    (["accept"], "accept\n"),
     (["cat", "a"], "cat\na\n"),
     (["log"], "log\n"),
     (["show", "0"], "show\n0\n"),
@@ -327,7 +333,7 @@ REPOSITORY_LINES = [
     ),
     *(
         ([command, "b"], refused(command, "UnknownArgument", "unexpected argument 'b' found"))
-        for command in ["init", "status", "log"]
+        for command in ["init", "status", "fixes", "accept", "log"]
     ),
     # `--chmod` takes `+x` alone, and once.
     *((["add", f"--chmod={mode}", "a"], refused("add", "InvalidValue", no_mode(mode))) for mode in ["-x", "+X", "x", "755", ""]),
@@ -349,6 +355,9 @@ REPOSITORY_LINES = [
     (["stat"], no_command("stat", "  tip: a similar subcommand exists: 'status'\n\n")),
     (["remove"], no_command("remove", "  tip: a similar subcommand exists: 'rm'\n\n")),
     (["ADD", "a"], no_command("ADD")),
+    (["fix"], no_command("fix", "  tip: a similar subcommand exists: 'fixes'\n\n")),
+    # A command that takes no value has none to be told of.
+    (["accept", "--all"], refused("accept", "UnknownArgument", "unexpected argument '--all' found")),
     (
         ["add", "--ch=+x", "a"],
         refused("add", "UnknownArgument", "unexpected argument '--ch' found\n\n  tip: a similar argument exists: '--chmod'"),

@@ -53,6 +53,11 @@ def with_pygrep(keys):
     return f"repos: [{{repo: local, hooks: [{{id: a, name: A, language: pygrep, {keys}}}]}}]\n"
 
 
+def with_command(language, keys):
+    """A configuration whose only hook is of this language, with an entry among these keys."""
+    return f"repos: [{{repo: local, hooks: [{{id: a, name: A, language: {language}, {keys}}}]}}]\n"
+
+
 # The fields of the hook of `in_a_hook` without further keys, but its stages, in the order of the type.
 FIELDS_OF_A_HOOK = {
     "id": "a",
@@ -195,6 +200,34 @@ PYGREP_KEYS = [
     ("entry: '(?-u)\\xff'", "1 hooks, false"),
 ]
 
+# Entries, and arguments, of hooks that start a program.
+STARTED = ["system", "script"]
+COMMANDS = [
+    ("entry: e", "1 hooks, false"),
+    ("entry: ' e '", "1 hooks, false"),
+    ("entry: ./e", "1 hooks, false"),
+    ("entry: bash -c 'a b'", "1 hooks, false"),
+    ("entry: e, args: ['', \"'\", '\\']", "1 hooks, false"),
+    ("entry: ''", "8 BadEntry at 1"),
+    ('entry: " \\t\\r\\n "', "8 BadEntry at 1"),
+    # The arguments don't stand in for the entry.
+    ("entry: '', args: [e]", "8 BadEntry at 1"),
+    # The first word is empty, however it is quoted.
+    ("entry: \"''\"", "8 BadEntry at 1"),
+    ("entry: \"'' e\"", "8 BadEntry at 1"),
+    ("entry: '\"\"'", "8 BadEntry at 1"),
+    ("entry: \"''e\"", "1 hooks, false"),
+    ("entry: \"e ''\"", "1 hooks, false"),
+    # Quotes that are open at the end, and a backslash with nothing behind it.
+    ("entry: it's", "8 BadEntry at 1"),
+    ("entry: 'say \"a'", "8 BadEntry at 1"),
+    ("entry: 'e\\'", "8 BadEntry at 1"),
+    ("entry: 'e \"\\'", "8 BadEntry at 1"),
+    ("entry: 'e\\ '", "1 hooks, false"),
+    ("entry: e, args: a", "2 Shape at 1"),
+    ("args: [a]", "3 MissingKey at 1"),
+]
+
 # Patterns at the top.
 TOP_PATTERNS = [
     ("", "|^$"),
@@ -255,7 +288,13 @@ FIRST_IN_HOOKS = [
     ("{id: a, name: A, language: node, alias: []}", "2 Shape at 1"),
     ("{id: a, name: A, entry: e, language: node, alias: b}", "5 BadLanguage at 1"),
     ("{id: a, name: A, language: node}", "5 BadLanguage at 1"),
-    ("{id: a, name: A, language: script}", "10 Unsupported at 1"),
+    ("{id: a, name: A, language: script}", "3 MissingKey at 1"),
+    ("{id: a, name: A, language: script, entry: [e]}", "2 Shape at 1"),
+    ("{id: a, name: A, language: script, entry: '', args: b}", "2 Shape at 1"),
+    ("{id: a, name: A, language: system, entry: '', alias: []}", "2 Shape at 1"),
+    ("{id: a, name: A, language: system, entry: '', files: '('}", "8 BadEntry at 1"),
+    ("{}, {id: a, name: A, language: system, entry: ''}", "3 MissingKey at 1"),
+    ("{id: a, name: A, language: system, entry: e}, {id: a, name: A, language: system, entry: ''}", "8 BadEntry at 2"),
     ("{id: a, name: A, language: fail, args: b}", "3 MissingKey at 1"),
     ("{id: a, name: A, language: pygrep, entry: '(', args: b}", "2 Shape at 1"),
     ("{id: a, name: A, language: pygrep, entry: '(', args: [b]}", "9 BadArgs at 1"),
@@ -274,14 +313,14 @@ FIRST_IN_HOOKS = [
 # A fault has its hook's number over all repositories.
 THIRD_HOOK = f"{START}{PLAIN_HOOK}- repo: local\n  hooks:\n{PLAIN_HOOK}{PLAIN_HOOK}    verbose: maybe\n"
 
-# Languages that are not served yet, quoted or not.
-LATER_LANGUAGES = ["system", "script", '"system"']
+# The four languages, quoted or not.
+FOUR_LANGUAGES = ["fail", "pygrep", "system", "script", '"system"']
 
 # Languages of pre-commit that no configuration of this profile has, and other words.
 OTHER_LANGUAGES = ["node", "python", "docker", "Fail", "fails", "Pygrep", "grep", "''", '"system "']
 
-LATER = [
-    *((with_language(word), "10 Unsupported at 1") for word in LATER_LANGUAGES),
+LANGUAGES = [
+    *((with_language(word), "1 hooks, false") for word in FOUR_LANGUAGES),
     *((with_language(word), "5 BadLanguage at 1") for word in OTHER_LANGUAGES),
 ]
 
@@ -327,7 +366,7 @@ KINDS = [
     ("bad pattern", "7 BadPattern: a pattern cannot be read"),
     ("bad entry", "8 BadEntry: an entry cannot be read"),
     ("bad arguments", "9 BadArgs: an argument is not known"),
-    ("unsupported", "10 Unsupported: a key or a language is not supported"),
+    ("unsupported", "10 Unsupported: a key is not supported"),
     ("too many", "11 TooMany: there are more than 500 hooks"),
     ("out of memory", "12 OutOfMemory: out of memory"),
 ]
@@ -510,7 +549,8 @@ ROWS = [
     *both(FIRST_AT_THE_TOP),
     *both((in_hooks(hooks), said) for hooks, said in FIRST_IN_HOOKS),
     *both([(THIRD_HOOK, "2 Shape at 3")]),
-    *both(LATER),
+    *both(LANGUAGES),
+    *both((with_command(language, keys), said) for language in STARTED for keys, said in COMMANDS),
     *both(prefixes(PIECES)),
     *(("config_kind", kind, f"{said}\n{said}\n") for kind, said in KINDS),
     *both((with_pygrep(keys), said) for keys, said in PYGREP_KEYS),

@@ -3,7 +3,12 @@ stops. The call is
 
 run CONFIGURATION STAGE CANDIDATES ONLY SKIP FILE..
 
-and its answer the refusal, or a line on the whole run, a line for each result, and the report. No contract says what a
+and its answer the refusal, or a line on the whole run, a line for each result, and the report. Runs whose hooks have children
+are played over a table of answers:
+
+run_hooks CONFIGURATION STAGE CANDIDATES ONLY SKIP CALLS KTH FAULT COUNT ROW.. FILE..
+
+The first line then tells the children's outcomes and faults, and lines on the files that were changed follow. No contract says what a
 refusal is shown as; the other rows are those of users, beside the definitions that the contracts cite."""
 
 PROGRAM = "hook_trial"
@@ -180,7 +185,140 @@ FILES = [
      said("passed", "one: skipped, no files\ntwo: skipped, no files\n", line("One", NO_FILES), line("Two", NO_FILES))),
 ]
 
+
+
+def answered(*words, seen, status=0, changes="", output=""):
+    """A row of the table: once a child of these words has seen these files, it answers so."""
+    return "\n".join([f"answer {status}", "\t".join(words), "\t".join(seen), changes, output])
+
+
+def told(verdict, calls, faults, *lines):
+    """What is said of a run over the table."""
+    return f"{verdict}, {calls} calls, {faults} faults, 0 unsteady\n{''.join(lines)}"
+
+
+def over(configuration, answers, files, answer, candidates="a.txt", calls="0", kth="0", fault="signal", skip=""):
+    """A run of all hooks of the stage `pre-commit` over the table."""
+    return ("run_hooks", configuration, "pre-commit", candidates, "all", skip, calls, kth, fault, str(len(answers)), *answers, *files, answer)
+
+
+def details(name, *lines, output=""):
+    """What a report says of a hook that failed so."""
+    block = f"\n{output}\n" if output else ""
+    told_lines = "".join(f"- {each}\n" for each in [f"hook id: {name.lower()}", *lines])
+    return f"{line(name, 'Failed')}{told_lines}{block}"
+
+
+T = hooks(hook("T", r"files: '\.txt$'", "system", "c"))
+X = file("a.txt", "x\n")
+SEEN = ["a.txt=x"]
+
+# Names of 4,095 bytes, of which 31 fit one command of `c`, and not the next.
+LONG = [f"{'/'.join(['d' * 255] * 15)}/{number:02}{'f' * 249}.txt" for number in range(32)]
+LONG_FILES = [file(path, "x\n") for path in LONG]
+TWO_PARTS = [
+    answered("c", *LONG[:31], seen=[f"{path}=x" for path in LONG[:31]], output="one\n"),
+    answered("c", LONG[31], seen=[f"{LONG[31]}=x"], status=3, output="two\n"),
+]
+
+# The lines of a child that failed.
+FAULTS = {
+    "not started": "could not be started",
+    "wait failed": "could not be waited for",
+    "signal": "ended by a signal",
+    "output too long": "output is longer than 1048576 bytes",
+    "scratch failed": "files could not be written or read back",
+}
+
+SCRIPT = hooks(hook("T", "files: a", "script", "tools/lint.sh"))
+LINT = {"env": "#!/bin/sh -e\n", "plain": "x\n"}
+CHILDREN = [
+    # A child passes, fails by its status, and prints.
+    over(T, [answered("c", "a.txt", seen=SEEN)], [X], told("passed", 1, 0, "t: ran, status 0\n", line("T", "Passed"))),
+    over(T, [answered("c", "a.txt", seen=SEEN, status=255)], [X], told("failed", 1, 0, "t: ran, status 255\n", details("T", "exit code: 255"))),
+    over(T, [answered("c", "a.txt", seen=SEEN, status=1, output="\n bad \n\n")], [X], told("failed", 1, 0, "t: ran, status 1\n", details("T", "exit code: 1", output="bad\n"))),
+    # What a hook prints is shown where it passed and is verbose.
+    over(hooks(hook("T", "files: txt, verbose: true", "system", "c")), [answered("c", "a.txt", seen=SEEN, output="said\n")], [X],
+         told("passed", 1, 0, "t: ran, status 0\n", line("T", "Passed"), "- hook id: t\n\nsaid\n\n")),
+    # A child that isn't in the table isn't started: the files that it sees are others.
+    over(T, [answered("c", "a.txt", seen=["a.txt=y"])], [X], told("failed", 1, 1, "t: ran, status 0\n", details("T", "fault: could not be started"))),
+    # Each fault has its line.
+    *(over(T, [answered("c", "a.txt", seen=SEEN)], [X], told("failed", 1, 1, "t: ran, status 0\n", details("T", f"fault: {text}")), kth="1", fault=fault)
+      for fault, text in FAULTS.items()),
+    # Two parts: all outputs, and the greatest status.
+    over(T, TWO_PARTS, LONG_FILES, told("failed", 2, 0, "t: ran, status 3\n", details("T", "exit code: 3", output="one\ntwo\n")), "\n".join(LONG)),
+    # The first ends by a signal, and the second runs all the same.
+    over(T, TWO_PARTS, LONG_FILES, told("failed", 2, 1, "t: ran, status 3\n", details("T", "exit code: 3", "fault: ended by a signal", output="two\n")), "\n".join(LONG), kth="1"),
+    # A name doesn't fit, and no child is started; nor is one whose words don't fit without names.
+    *(over(hooks(hook("T", more, "system", "c" * count)), [], [X], told("failed", 0, 0, "t: ran, status 0\n", details("T", "fault: a name does not fit the command")))
+      for more, count in [("files: txt", 131_072), ("files: txt", 131_067), ("pass_filenames: false", 131_073)]),
+    over(hooks(hook("T", "files: txt", "system", "c" * 131_066)), [answered("c" * 131_066, "a.txt", seen=SEEN)], [X], told("passed", 1, 0, "t: ran, status 0\n", line("T", "Passed"))),
+    # All outcomes that can be counted are told: refused where a child is needed, and only there.
+    over(T, [], [X], "4 Spent: no more children can be counted", calls="all"),
+    over(T, [], [X], told("passed", 0, 0, "t: skipped, no files\n", line("T", NO_FILES)), candidates="", calls="all"),
+    over(T, [], [X], told("passed", 0, 0, "t: skipped as asked\n", line("T", "Skipped")), skip="t", calls="all"),
+    over(ONE, [], [X], told("failed", 0, 0, "one: ran, status 1\n", failed("One", "a.txt")), calls="all"),
+    # A hook changes a file, which the next one finds changed; the second leaves it.
+    over(hooks(hook("Trim", "files: txt", "system", "trim"), hook("Look", "files: txt", "system", "look")),
+         [answered("trim", "a.txt", seen=["a.txt=x "], changes="a.txt=x"), answered("look", "a.txt", seen=SEEN)], [file("a.txt", "x \n")],
+         told("failed", 2, 0, "changed a.txt\n", "trim: ran, status 0\nlook: ran, status 0\n", details("Trim", "files were modified by this hook"), line("Look", "Passed"))),
+    # A change to the same bytes is none, and one that is taken back by a later hook was a change of each.
+    over(T, [answered("c", "a.txt", seen=SEEN, changes="a.txt=x")], [X], told("passed", 1, 0, "t: ran, status 0\n", line("T", "Passed"))),
+    over(hooks(hook("To", "files: a", "system", "to"), hook("From", "files: a", "system", "from")),
+         [answered("to", "a.txt", seen=SEEN, changes="a.txt=y"), answered("from", "a.txt", seen=["a.txt=y"], changes="a.txt=x")], [X],
+         told("failed", 2, 0, "to: ran, status 0\nfrom: ran, status 0\n", *(details(name, "files were modified by this hook") for name in ["To", "From"]))),
+    # A hook removes its file: a later one has none.
+    over(hooks(hook("Gone", "files: txt", "system", "gone"), hook("Look", "files: txt", "system", "look")),
+         [answered("gone", "a.txt", seen=SEEN, changes="a.txt")], [X],
+         told("failed", 1, 0, "gone a.txt\n", "gone: ran, status 0\nlook: skipped, no files\n", details("Gone", "files were modified by this hook"), line("Look", NO_FILES))),
+    # A child changes one file and removes another.
+    over(T, [answered("c", "a.txt", seen=SEEN, changes="a.txt=y\tb.md")], [X, file("b.md", "x\n")],
+         told("failed", 1, 0, "changed a.txt\n", "gone b.md\n", "t: ran, status 0\n", details("T", "files were modified by this hook"))),
+    # What a child changed before it failed is dropped.
+    over(T, [answered("c", "a.txt", seen=SEEN, changes="a.txt=y")], [X], told("failed", 1, 1, "t: ran, status 0\n", details("T", "fault: files could not be written or read back")),
+         kth="1", fault="scratch failed"),
+    # A child changes a file that it hasn't seen: that counts as well. New files don't.
+    over(hooks(hook("T", "files: ^a", "system", "c")), [answered("c", "a.txt", seen=SEEN, changes="b.txt=z")], [X, file("b.txt", "y\n")],
+         told("failed", 1, 0, "changed b.txt\n", "t: ran, status 0\n", details("T", "files were modified by this hook"))),
+    over(T, [answered("c", "a.txt", seen=SEEN, changes="new.txt=z")], [X], told("passed", 1, 0, "t: ran, status 0\n", line("T", "Passed"))),
+    # A child whose hook takes no names sees all files; one that has names sees those, and the files among its words.
+    over(hooks(hook("T", "pass_filenames: false", "system", "c")), [answered("c", seen=["a.txt=x", "b.txt=y"])], [X, file("b.txt", "y\n")],
+         told("passed", 1, 0, "t: ran, status 0\n", line("T", "Passed"))),
+    over(hooks(hook("T", "files: a, args: [./b.txt]", "system", "c -x")), [answered("c", "-x", "./b.txt", "a.txt", seen=["a.txt=x", "b.txt=y"])], [X, file("b.txt", "y\n"), file("d.txt", "z\n")],
+         told("passed", 1, 0, "t: ran, status 0\n", line("T", "Passed"))),
+    # It always runs: without selected files once, without names.
+    over(hooks(hook("T", "files: zz, always_run: true", "system", "c")), [answered("c", seen=[])], [X], told("passed", 1, 0, "t: ran, status 0\n", line("T", "Passed"))),
+    # No hook runs behind one whose child failed, where it stops.
+    over(hooks(hook("T", "files: txt, fail_fast: true", "system", "c"), hook("Two", "", "system", "d")), [answered("c", "a.txt", seen=SEEN, status=1)], [X],
+         told("failed", 1, 0, "t: ran, status 1\n", details("T", "exit code: 1"))),
+    over(hooks(hook("T", "files: txt", "system", "c"), hook("Two", "", "system", "d"), top="fail_fast: true\n"), [answered("c", "a.txt", seen=SEEN)], [X],
+         told("failed", 1, 1, "t: ran, status 0\n", details("T", "fault: ended by a signal")), kth="1"),
+    # The commands of a script: by what its first line names, by `sh`, and as it stands where it isn't among the files.
+    over(SCRIPT, [answered("/bin/sh", "-e", "tools/lint.sh", "a.txt", seen=["a.txt=x", "tools/lint.sh=#!/bin/sh -e"])], [X, file("tools/lint.sh", LINT["env"])],
+         told("passed", 1, 0, "t: ran, status 0\n", line("T", "Passed"))),
+    over(SCRIPT, [answered("sh", "tools/lint.sh", "a.txt", seen=["a.txt=x", "tools/lint.sh=x"])], [X, file("tools/lint.sh", LINT["plain"])],
+         told("passed", 1, 0, "t: ran, status 0\n", line("T", "Passed"))),
+    over(SCRIPT, [answered("./tools/lint.sh", "a.txt", seen=SEEN)], [X], told("passed", 1, 0, "t: ran, status 0\n", line("T", "Passed"))),
+    over(hooks(hook("T", "files: a", "script", "lint.sh")), [answered("sh", "lint.sh", "a.txt", seen=["a.txt=x", "lint.sh=x"])], [X, file("lint.sh", LINT["plain"])],
+         told("passed", 1, 0, "t: ran, status 0\n", line("T", "Passed"))),
+    over(hooks(hook("T", "files: a", "script", "tools/lint.sh -q")), [answered("sh", "tools/lint.sh", "-q", "a.txt", seen=["a.txt=x", "tools/lint.sh=x"])],
+         [X, file("tools/lint.sh", LINT["plain"])], told("passed", 1, 0, "t: ran, status 0\n", line("T", "Passed"))),
+    # A system hook: the file of a first word with a slash, else its words as they are.
+    over(hooks(hook("T", "files: a", "system", "./lint -q")), [answered("/bin/sh", "-e", "lint", "-q", "a.txt", seen=["a.txt=x", "lint=#!/bin/sh -e"])], [X, file("lint", LINT["env"])],
+         told("passed", 1, 0, "t: ran, status 0\n", line("T", "Passed"))),
+    over(hooks(hook("T", "files: a", "system", "lint -q")), [answered("lint", "-q", "a.txt", seen=["a.txt=x", "lint=#!/bin/sh -e"])], [X, file("lint", LINT["env"])],
+         told("passed", 1, 0, "t: ran, status 0\n", line("T", "Passed"))),
+    over(hooks(hook("T", "files: a", "system", "tools/lint.sh")), [answered("sh", "tools/lint.sh", "a.txt", seen=["a.txt=x", "tools/lint.sh=x"])], [X, file("tools/lint.sh", LINT["plain"])],
+         told("passed", 1, 0, "t: ran, status 0\n", line("T", "Passed"))),
+    over(hooks(hook("T", "files: a", "system", "./lint -q")), [answered("./lint", "-q", "a.txt", seen=SEEN)], [X], told("passed", 1, 0, "t: ran, status 0\n", line("T", "Passed"))),
+    over(hooks(hook("T", "files: a", "system", "sh tools/lint.sh")), [answered("sh", "tools/lint.sh", "a.txt", seen=["a.txt=x", "tools/lint.sh=x"])], [X, file("tools/lint.sh", LINT["plain"])],
+         told("passed", 1, 0, "t: ran, status 0\n", line("T", "Passed"))),
+]
+
 ROWS = [
+    *CHILDREN,
+    # A plan that needs a child says so.
+    ("run", T, "pre-commit", "a.txt", "all", "", X, "Child"),
     *(("run", configuration, stage, "a.txt", only, skip, A, answer) for configuration, stage, only, skip, answer in ASKED),
     *(("run", configuration, "pre-commit", "a.txt", "all", skip, A, answer) for configuration, skip, answer in STOPS),
     *(("run", configuration, "pre-commit", candidates, "all", "", *files) for configuration, candidates, *files in FILES),

@@ -1,5 +1,5 @@
 -- What a command leaves, from what the store's call leaves.
-use Rattle.std.proofs.Common.{◌≡◌, ℕ, List, Option, Ok, Err, inl, refl, sym, subst, arith}
+use Rattle.std.proofs.Common.{◌≡◌, ℕ, List, length, Option, Ok, Err, inl, refl, sym, subst, arith}
 use Rattle.sqlite_trees.specs.declared.store.Store.{Ghosts}
 use Rattle.sqlite_trees.specs.Tree.{Trees}
 use Rattle.sqlite.specs.Held.{state}
@@ -7,15 +7,15 @@ use Rattle.sqlite.specs.State.{State, Survives}
 use Rattle.sqlite.proofs.StateLemmas.{survives_weaker}
 use Rattle.hook_base.specs.declared.file.Mode.{Mode}
 use Rattle.hook_base.specs.Trees.{entry_of}
-use Rattle.repo_store.specs.Kept.{Kept, staging, unstaging}
+use Rattle.repo_store.specs.Kept.{Kept, accepting, staging, unstaging}
 use Rattle.repo_store.specs.Shown.{IsOneTransaction, Leaves, LeavesOnly, Shown}
 use Rattle.commit_flow.specs.declared.command.Command.{Command}
-use Rattle.commit_flow.specs.declared.command.Command.TheVariants.{Add, Remove}
+use Rattle.commit_flow.specs.declared.command.Command.TheVariants.{Add, Remove, Accept}
 use Rattle.commit_flow.specs.declared.host_refusal.HostRefusal.{HostRefusal}
-use Rattle.commit_flow.specs.declared.reply.Reply.TheVariants.{Added, Removed}
+use Rattle.commit_flow.specs.declared.reply.Reply.TheVariants.{Added, Removed, Accepted}
 use Rattle.commit_flow.specs.Crashes.{IsOneCommand, LeavesDone}
 use Rattle.commit_flow.specs.Hosts.{Hosted}
-use Rattle.commit_flow.specs.Steps.{IsAddable, IsLegal, IsStaged, entry_to_add, mode_to_add}
+use Rattle.commit_flow.specs.Steps.{HasFixes, IsAddable, IsLegal, IsStaged, entry_to_add, mode_to_add}
 
 survives_itself : (s : State) (P : Trees → Type 0) → Survives s s P
 survives_itself s P = record {
@@ -71,3 +71,28 @@ remove_reached kept path legal staged trees leaves = record {
   step = (record { legal = legal; staged = staged; made = refl }, refl);
   leaves = leaves;
 }
+
+accept_reached : (kept : Kept) → HasFixes kept.repo → (trees : Trees) → Leaves (accepting kept) trees → LeavesDone kept.repo Accept trees
+accept_reached kept some trees leaves = record {
+  kept = accepting kept;
+  reply = Accepted (length kept.repo.fixes);
+  done = tt;
+  faults = 0;
+  step = (record { some = some; counted = refl; made = refl }, refl);
+  leaves = leaves;
+}
+
+-- the fixes are accepted, whatever number is answered
+module _ {S : Type 0} (g : Ghosts S) (host : Hosted S) (old new : Shown S) (is : record { store = old } ≡ host) (some : HasFixes host.store.kept.repo) where
+  kept_fixes : HasFixes old.kept.repo
+  kept_fixes = subst (λ (at : Hosted S). HasFixes at.store.kept.repo) (sym is) some
+
+  pub accept_refused : {A B E : Type 0} (fault : E) (refusal : HostRefusal) → IsOneTransaction {A = A} g old new (Err fault) (accepting old.kept) → IsOneCommand {A = B} g host (record { store = new }) Accept (Err refusal)
+  accept_refused {B = B} fault refusal one =
+      subst (λ (at : Hosted S). IsOneCommand {A = B} g at (record { store = new }) Accept (Err refusal)) is
+      (refused_command g old new Accept (accepting old.kept) (accepting old.kept) refl (accept_reached old.kept kept_fixes) fault refusal one)
+
+  pub accept_done : {A B E : Type 0} (x : A) → new.kept ≡ accepting old.kept → IsOneTransaction {E = E} g old new (Ok x) (accepting old.kept) → (y : B) → IsOneCommand {A = B} g host (record { store = new }) Accept (Ok y)
+  accept_done {B = B} x same one y =
+      subst (λ (at : Hosted S). IsOneCommand {A = B} g at (record { store = new }) Accept (Ok y)) is
+      (done_command g old new Accept (accepting old.kept) (accepting old.kept) refl (accept_reached old.kept kept_fixes) x y same one)

@@ -1,3 +1,4 @@
 pub mod CommandLemmas
+pub mod MessageLemmas
 pub mod PathLemmas
 pub mod StepLemmas

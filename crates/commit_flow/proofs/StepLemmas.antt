@@ -1,5 +1,5 @@
 -- A command has one answer.
-use Rattle.std.proofs.Common.{◌≡◌, ◌⊎◌, ℕ, List, Option, Some, inl, inr, refl, sym, ap, ◌∙◌}
+use Rattle.std.proofs.Common.{◌≡◌, ◌⊎◌, ℕ, List, [], Option, Some, inl, inr, refl, sym, ap, ◌∙◌}
 use Rattle.hook_base.specs.declared.file.Mode.{Mode}
 use Rattle.hook_base.specs.declared.path_fault.PathFault.{PathFault}
 use Rattle.hook_base.specs.Paths.{path_fault}
@@ -7,13 +7,13 @@ use Rattle.repo_store.specs.Clashes.{Clashes}
 use Rattle.repo_store.specs.Limits.{Fits, IsSmall}
 use Rattle.repo_store.specs.Repository.{Repository}
 use Rattle.commit_flow.specs.declared.command.Command.{Command}
-use Rattle.commit_flow.specs.declared.command.Command.TheVariants.{Add, Remove}
+use Rattle.commit_flow.specs.declared.command.Command.TheVariants.{Add, Remove, Accept}
 use Rattle.commit_flow.specs.declared.host_refusal.HostRefusal.{HostRefusal}
-use Rattle.commit_flow.specs.declared.host_refusal.HostRefusal.TheVariants.{OutOfMemory, Store, BadPath, NotStaged, TooLarge, TooMany, Collision, Clash}
+use Rattle.commit_flow.specs.declared.host_refusal.HostRefusal.TheVariants.{OutOfMemory, Store, BadPath, NotStaged, TooLarge, TooMany, NoFixes, Collision, Clash}
 use Rattle.commit_flow.specs.declared.reply.Reply.{Reply}
-use Rattle.commit_flow.specs.declared.reply.Reply.TheVariants.{Added, Removed, Refused}
+use Rattle.commit_flow.specs.declared.reply.Reply.TheVariants.{Added, Removed, Accepted, Refused}
 use Rattle.commit_flow.specs.StepLaws.{IsDecided}
-use Rattle.commit_flow.specs.Steps.{IsAddable, IsAddRefusal, IsLegal, IsRemoveRefusal, IsStaged, Step, tree_with}
+use Rattle.commit_flow.specs.Steps.{HasFixes, IsAcceptRefusal, IsAddable, IsAddRefusal, IsLegal, IsRemoveRefusal, IsStaged, Step, tree_with}
 
 module _ (path : List ℕ) (fault : PathFault) (is : path_fault path ≡ Some fault) where
   not_legal : IsLegal path → ⊥
@@ -83,6 +83,18 @@ module _ (before : Repository) (path : List ℕ) where
   not_removed r legal staged (inl p) = not_legal path p.0 p.1 legal
   not_removed r legal staged (inr p) = p.1 staged
 
+no_fixes : (before : Repository) (r : HostRefusal) → IsAcceptRefusal before r → IsDecided (Refused r) → (before.fixes ≡ []) × (r ≡ NoFixes)
+no_fixes before NoFixes why own = (why, refl)
+no_fixes before OutOfMemory why own = absurd own
+no_fixes before (Store fault) why own = absurd own
+no_fixes before r why own = absurd why
+
+same_accept : (before : Repository) (r s : HostRefusal) → IsAcceptRefusal before r → IsAcceptRefusal before s → IsDecided (Refused r) → IsDecided (Refused s) → r ≡ s
+same_accept before r s why also own other = (no_fixes before r why own).1 ∙ sym ((no_fixes before s also other).1)
+
+not_accepted : (before : Repository) (r : HostRefusal) → HasFixes before → IsAcceptRefusal before r → IsDecided (Refused r) → ⊥
+not_accepted before r some why own = some ((no_fixes before r why own).0)
+
 abbrev pub AreOne : Reply → Reply → ℕ → ℕ → Repository → Repository → Type 0
 AreOne reply second faults more after other = (reply ≡ second) × (faults ≡ more) × (after ≡ other)
 
@@ -94,6 +106,8 @@ one_answer before after other (Add path bytes asked) (Refused r) (Refused s) fau
     (ap Refused (same_add before path bytes asked r s (add_way before path bytes asked r p.0 own) (add_way before path bytes asked s q.0 also)), p.2 ∙ sym q.2, p.1 ∙ sym q.1)
 one_answer before after other (Add path bytes asked) Removed second faults more p q own also = absurd p
 one_answer before after other (Add path bytes asked) reply Removed faults more p q own also = absurd q
+one_answer before after other (Add path bytes asked) (Accepted number) second faults more p q own also = absurd p
+one_answer before after other (Add path bytes asked) reply (Accepted number) faults more p q own also = absurd q
 one_answer before after other (Remove path) Removed Removed faults more p q own also = (refl, p.1 ∙ sym q.1, p.0.made ∙ sym q.0.made)
 one_answer before after other (Remove path) Removed (Refused s) faults more p q own also = absurd (not_removed before path s p.0.legal p.0.staged (remove_way before path s q.0 also))
 one_answer before after other (Remove path) (Refused r) Removed faults more p q own also = absurd (not_removed before path r q.0.legal q.0.staged (remove_way before path r p.0 own))
@@ -101,3 +115,13 @@ one_answer before after other (Remove path) (Refused r) (Refused s) faults more 
     (ap Refused (same_remove before path r s (remove_way before path r p.0 own) (remove_way before path s q.0 also)), p.2 ∙ sym q.2, p.1 ∙ sym q.1)
 one_answer before after other (Remove path) Added second faults more p q own also = absurd p
 one_answer before after other (Remove path) reply Added faults more p q own also = absurd q
+one_answer before after other (Remove path) (Accepted number) second faults more p q own also = absurd p
+one_answer before after other (Remove path) reply (Accepted number) faults more p q own also = absurd q
+one_answer before after other Accept (Accepted n) (Accepted m) faults more p q own also = (ap Accepted (p.0.counted ∙ sym q.0.counted), p.1 ∙ sym q.1, p.0.made ∙ sym q.0.made)
+one_answer before after other Accept (Accepted n) (Refused s) faults more p q own also = absurd (not_accepted before s p.0.some q.0 also)
+one_answer before after other Accept (Refused r) (Accepted m) faults more p q own also = absurd (not_accepted before r q.0.some p.0 own)
+one_answer before after other Accept (Refused r) (Refused s) faults more p q own also = (ap Refused (same_accept before r s p.0 q.0 own also), p.2 ∙ sym q.2, p.1 ∙ sym q.1)
+one_answer before after other Accept Added second faults more p q own also = absurd p
+one_answer before after other Accept reply Added faults more p q own also = absurd q
+one_answer before after other Accept Removed second faults more p q own also = absurd p
+one_answer before after other Accept reply Removed faults more p q own also = absurd q

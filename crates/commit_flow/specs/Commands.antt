@@ -2,7 +2,7 @@
 use Rattle.std.specs.Prelude.{Result, Ok, Err}
 use Rattle.commit_flow.specs.declared.host_refusal.HostRefusal.{HostRefusal}
 use Rattle.commit_flow.specs.declared.reply.Reply.{Reply}
-use Rattle.commit_flow.specs.declared.reply.Reply.TheVariants.{Added, Removed, Refused}
+use Rattle.commit_flow.specs.declared.reply.Reply.TheVariants.{Added, Removed, Accepted, Refused}
 
 -- the reply that a call's answer is
 abbrev pub reply_of : {A : Type 0} → (A → Reply) → Result A HostRefusal → Reply
@@ -13,4 +13,5 @@ reply_of done (Err refusal) = Refused refusal
 abbrev pub IsDone : Reply → Type 0
 IsDone Added = Unit {0}
 IsDone Removed = Unit {0}
+IsDone (Accepted number) = Unit {0}
 IsDone (Refused refusal) = ⊥

@@ -1,6 +1,6 @@
 -- The host as a machine: what each command may answer, and what it makes of the repository. A command that is added gets its
 -- cases in Step, for what it does, and in IsRefused, and its reply one in IsDone of Commands.
-use Rattle.std.specs.Prelude.{◌≡◌, ℕ, List, Option, None, Some, IsSome, option_map, unwrap_or}
+use Rattle.std.specs.Prelude.{◌≡◌, ◌≢◌, ℕ, List, [], length, Option, None, Some, IsSome, option_map, unwrap_or}
 use Rattle.hook_base.specs.declared.file.File.{File}
 use Rattle.hook_base.specs.declared.file.FileEntry.{FileEntry}
 use Rattle.hook_base.specs.declared.file.Mode.{Mode}
@@ -11,13 +11,13 @@ use Rattle.repo_store.specs.declared.fault.StoreFault.{StoreFault}
 use Rattle.repo_store.specs.declared.fault.StoreFault.TheVariants.{Sql}
 use Rattle.repo_store.specs.Clashes.{Clashes}
 use Rattle.repo_store.specs.Limits.{Fits, IsSmall}
-use Rattle.repo_store.specs.Repository.{Repository, with_staged, without_staged}
+use Rattle.repo_store.specs.Repository.{Repository, accepted, with_staged, without_staged}
 use Rattle.commit_flow.specs.declared.command.Command.{Command}
-use Rattle.commit_flow.specs.declared.command.Command.TheVariants.{Add, Remove}
+use Rattle.commit_flow.specs.declared.command.Command.TheVariants.{Add, Remove, Accept}
 use Rattle.commit_flow.specs.declared.host_refusal.HostRefusal.{HostRefusal}
-use Rattle.commit_flow.specs.declared.host_refusal.HostRefusal.TheVariants.{OutOfMemory, Store, BadPath, NotStaged, TooLarge, TooMany, Collision, Clash}
+use Rattle.commit_flow.specs.declared.host_refusal.HostRefusal.TheVariants.{OutOfMemory, Store, BadPath, NotStaged, TooLarge, TooMany, NoFixes, Collision, Clash}
 use Rattle.commit_flow.specs.declared.reply.Reply.{Reply}
-use Rattle.commit_flow.specs.declared.reply.Reply.TheVariants.{Added, Removed, Refused}
+use Rattle.commit_flow.specs.declared.reply.Reply.TheVariants.{Added, Removed, Accepted, Refused}
 
 -- the text is a path inside a repository
 abbrev pub IsLegal : List ℕ → Type 0
@@ -90,17 +90,38 @@ IsRemoveRefusal before path (Store fault) = IsLegal path × IsStaged path before
 IsRemoveRefusal before path OutOfMemory = IsLegal path
 IsRemoveRefusal before path refusal = ⊥
 
+-- ---- the fixes are accepted
+
+-- there are fixes
+abbrev pub HasFixes : Repository → Type 0
+HasFixes repo = repo.fixes ≢ []
+
+-- the fixes, of which there are so many, are applied to the staged files and forgotten
+pub record IsAccepted (before : Repository) (number : ℕ) (after : Repository) : Type 0 where
+  pub some : HasFixes before
+  pub counted : number ≡ length before.fixes
+  pub made : after ≡ accepted before
+
+-- why fixes aren't accepted: there are none, or else memory or the database refuses
+abbrev pub IsAcceptRefusal : Repository → HostRefusal → Type 0
+IsAcceptRefusal before NoFixes = before.fixes ≡ []
+IsAcceptRefusal before OutOfMemory = HasFixes before
+IsAcceptRefusal before (Store fault) = HasFixes before × IsOfDatabase fault
+IsAcceptRefusal before refusal = ⊥
+
 -- ---- the steps
 
 -- the refusal may answer the command
 abbrev pub IsRefused : Repository → Command → HostRefusal → Type 0
 IsRefused before (Add path bytes asked) refusal = IsAddRefusal before path bytes asked refusal
 IsRefused before (Remove path) refusal = IsRemoveRefusal before path refusal
+IsRefused before Accept refusal = IsAcceptRefusal before refusal
 
 -- The command may answer so, and then leaves this repository: any refusal leaves the one before. The number counts the
 -- children that failed in the runs of which the reply reports; no command of today runs any.
 abbrev pub Step : Repository → Command → Reply → ℕ → Repository → Type 0
 Step before (Add path bytes asked) Added faults after = IsAdded before path bytes asked after × (faults ≡ 0)
 Step before (Remove path) Removed faults after = IsRemoved before path after × (faults ≡ 0)
+Step before Accept (Accepted number) faults after = IsAccepted before number after × (faults ≡ 0)
 Step before command (Refused refusal) faults after = IsRefused before command refusal × (after ≡ before) × (faults ≡ 0)
 Step before command reply faults after = ⊥

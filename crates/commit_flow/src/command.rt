@@ -19,4 +19,6 @@ pub enum Command {
         /// The path, as a text that needn't be one.
         path: Text,
     },
+    /// [`Host::accept`](crate::Host::accept).
+    Accept,
 }

@@ -1,15 +1,15 @@
 //! The commands of a host. Each looks for what the host itself refuses, in a fixed order, and then makes at most one call
 //! that changes the store.
 
-ghost use Rattle.std.specs.Prelude.{◌≡◌, IfOk, IfErr, IfSome, OnOk, option_map};
+ghost use Rattle.std.specs.Prelude.{◌≡◌, ◌↔◌, [], IsTrue, IfOk, IfErr, IfSome, OnOk, option_map};
 ghost use Rattle.hook_base.specs.Trees.{IsRising, IsRisingChanges, entry_of};
 ghost use Rattle.repo_store.specs.AllOrNothing.{IsAllOrNothing};
 ghost use Rattle.repo_store.specs.Contents.{Collides};
-ghost use Rattle.repo_store.specs.Kept.{staging, unstaging};
+ghost use Rattle.repo_store.specs.Kept.{accepting, staging, unstaging};
 ghost use Rattle.repo_store.specs.Log.{log_from};
 ghost use Rattle.repo_store.specs.Repository.{Commit, commit_at, last_tree};
-ghost use Rattle.commit_flow.specs.declared.command.Command.TheVariants.{Add, Remove};
-ghost use Rattle.commit_flow.specs.declared.reply.Reply.TheVariants.{Added, Removed};
+ghost use Rattle.commit_flow.specs.declared.command.Command.TheVariants.{Add, Remove, Accept};
+ghost use Rattle.commit_flow.specs.declared.reply.Reply.TheVariants.{Added, Removed, Accepted};
 ghost use Rattle.commit_flow.specs.Commands.{reply_of};
 ghost use Rattle.commit_flow.specs.Crashes.{IsOneCommand};
 ghost use Rattle.commit_flow.specs.Steps.{IsAddable, IsLegal, IsRemoveRefusal, IsStaged, IsUnaddable, Step, entry_to_add, mode_to_add};
@@ -104,6 +104,21 @@ impl<S: Alter> Host<S> {
         Ok(())
     }
 
+    /// Applies the fixes to the staged files, forgets them, and answers how many there were. `NoFixes` is refused where there
+    /// are none; else `OutOfMemory` and `Store` come where memory or the database refuses. A refusal leaves the repository as
+    /// it was.
+    pub fn accept(&mut self) -> Result<u32, HostRefusal>
+        ensures step { Step self.old.store.kept.repo Accept (reply_of Accepted result) 0 self.new.store.kept.repo }
+        ensures change { IsAllOrNothing self.old.store.kept self.new.store.kept result (accepting self.old.store.kept) }
+        ensures command { IsOneCommand S.Store self.old self.new Accept result }
+    {
+        if self.has_no_fixes() {
+            return Err(HostRefusal::NoFixes);
+        }
+        let number = self.store.accept()?;
+        Ok(number)
+    }
+
     /// The staged files. It fails for want of memory alone.
     pub fn staged(&self) -> Result<Tree, OutOfMemory>
         ensures tree { IfOk result (λ tree. tree ≡ self.now.store.kept.repo.staged) }
@@ -141,6 +156,12 @@ impl<S: Alter> Host<S> {
         ensures rising { IfOk result (λ tree. IfSome tree IsRising) }
     {
         self.store.tree_of(number)
+    }
+
+    fn has_no_fixes(&self) -> bool
+        ensures { IsTrue result ↔ (self.now.store.kept.repo.fixes ≡ []) }
+    {
+        self.store.count_fixes() == 0
     }
 
     // The path of a file that may be added, the limits of the staged files aside.

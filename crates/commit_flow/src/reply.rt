@@ -9,6 +9,8 @@ pub enum Reply {
     Added,
     /// The path was removed.
     Removed,
+    /// The fixes were accepted, and there were so many.
+    Accepted(u32),
     /// The command was refused. The repository is as it was.
     Refused(HostRefusal),
 }

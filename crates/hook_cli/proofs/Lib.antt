@@ -6,7 +6,6 @@ pub mod OverHostLemmas
 pub mod PathLemmas
 pub mod PrintingLemmas
 pub mod ReadingLemmas
-pub mod RunLemmas
 pub mod StatusLemmas
 pub mod TextLemmas
 pub mod ValueLemmas

@@ -1,23 +1,19 @@
 -- How the commands over a repository end.
-use Rattle.std.proofs.Common.{◌≡◌, subst, refl, inl, inr, ℕ, List, Option, Result, Ok, Err}
-use Rattle.std.specs.Prelude.{IfErr, OnOk}
+use Rattle.std.proofs.Common.{subst, refl, inl, inr, ℕ, List, Option, Ok, Err}
 use Rattle.sqlite_trees.specs.declared.store.Store.{Ghosts}
 use Rattle.repo_store.specs.AllOrNothing.{IsAllOrNothing}
-use Rattle.repo_store.specs.Contents.{Collides}
+use Rattle.repo_store.specs.Kept.{accepting}
 use Rattle.repo_store.specs.Repository.{Repository}
 use Rattle.commit_flow.specs.declared.command.Command.TheVariants as command
-use Rattle.hook_base.specs.declared.file.Mode.{Mode}
 use Rattle.commit_flow.specs.declared.host_refusal.HostRefusal.{HostRefusal}
-use Rattle.commit_flow.specs.declared.host_refusal.HostRefusal.TheVariants.{Collision}
-use Rattle.commit_flow.specs.declared.reply.Reply.TheVariants.{Added, Removed}
-use Rattle.commit_flow.specs.Commands.{reply_of}
+use Rattle.commit_flow.specs.declared.reply.Reply.TheVariants.{Accepted, Refused}
 use Rattle.commit_flow.specs.Crashes.{IsOneCommand}
 use Rattle.commit_flow.specs.Hosts.{Hosted}
-use Rattle.commit_flow.specs.Steps.{IsRemoveRefusal, Step}
+use Rattle.commit_flow.specs.Steps.{IsAcceptRefusal, Step}
 use Rattle.hook_cli.specs.declared.line.Line.{Line}
 use Rattle.hook_cli.specs.declared.command_ending.CommandEnding.{CommandEnding}
-use Rattle.hook_cli.specs.declared.command_ending.CommandEnding.TheVariants.{Done}
-use Rattle.hook_cli.specs.CommandOver.{IsAnswer, IsChanged, IsLookUp, IsRefusalText, IsReplied, kept_after}
+use Rattle.hook_cli.specs.CommandOver.{IsAnswer, IsChanged, IsLookUp, IsRefusalText}
+use Rattle.hook_cli.specs.FixesText.{accepted_text}
 use Rattle.hook_cli.specs.Printing.{IsSaid, IsSilent, IsTold, Output}
 use Rattle.hook_cli.specs.RefusalText.{refusal_text}
 use Rattle.hook_cli.proofs.KnownBytesLemmas.{keeps-itself}
@@ -35,56 +31,34 @@ look-up-refused repo line out err ending text refusal told silent = inr (record 
 pub silent-itself : (held : Option (List ℕ)) → IsSilent (record { held = held; holds = held })
 silent-itself held = keeps-itself held
 
--- ---- changes
+-- ---- the fixes are accepted
 
-pub replied-done : {A : Type 0} (out err : Output) (answer : Result A HostRefusal) (nothing : A) → answer ≡ Ok nothing → IsSilent out → IsSilent err
-    → IsReplied out err answer Done
-replied-done out err answer nothing is out_silent err_silent = rw is (out_silent, err_silent, refl)
-
-pub replied-refused : {A : Type 0} (out err : Output) (answer : Result A HostRefusal) (refusal : HostRefusal) (ending : CommandEnding)
-    → answer ≡ Err refusal → IsSilent out → IsTold err (refusal_text refusal) ending → IsReplied out err answer ending
-replied-refused out err answer refusal ending is out_silent told = rw is (out_silent, told)
-
-not_refused : {A : Type 0} (before after : Repository) (path : List ℕ) (answer : Result A HostRefusal)
-    → Step before (command.Remove path) (reply_of (λ _. Removed) answer) 0 after → IfErr answer (λ refusal. refusal ≡ Collision → ⊥)
-not_refused before after path (Ok answer) step = tt
-not_refused before after path (Err refusal) step =
-    λ is. subst (λ (r : HostRefusal). IsRemoveRefusal before path r) is step.0
-
-no_collision : {A : Type 0} (answer : Result A HostRefusal) → OnOk answer (⊥ → ⊥)
-no_collision (Ok answer) = λ h. h
-no_collision (Err refusal) = tt
-
-pub added : {S : Type 0} (g : Ghosts S) (old new : Hosted S) (path bytes : List ℕ) (mode : Option Mode) (out err : Output)
-    (ending : CommandEnding) (answer : Result (Unit {0}) HostRefusal)
-    → Step old.store.kept.repo (command.Add path bytes mode) (reply_of (λ _. Added) answer) 0 new.store.kept.repo
-    → IsAllOrNothing old.store.kept new.store.kept answer (kept_after (command.Add path bytes mode) old.store.kept)
-    → IsOneCommand g old new (command.Add path bytes mode) answer
-    → OnOk answer (¬ Collides bytes old.store.kept.contents)
-    → IfErr answer (λ refusal. refusal ≡ Collision → Collides bytes old.store.kept.contents)
-    → IsReplied out err answer ending → IsChanged g old new (command.Add path bytes mode) out err ending
-added g old new path bytes mode out err ending answer step change one apart collides replied = record {
-  answer = answer;
-  step = step;
-  change = change;
-  one = one;
-  apart = apart;
-  collides = collides;
-  replied = replied;
+pub accepted-said : {S : Type 0} (g : Ghosts S) (old new : Hosted S) (out err : Output) (ending : CommandEnding) (number : ℕ)
+    → Step old.store.kept.repo command.Accept (Accepted number) 0 new.store.kept.repo
+    → IsAllOrNothing {E = HostRefusal} old.store.kept new.store.kept (Ok number) (accepting old.store.kept)
+    → IsOneCommand g old new command.Accept (Ok number)
+    → IsSaid out (accepted_text number) ending → IsSilent err → IsChanged g old new command.Accept out err ending
+accepted-said g old new out err ending number step change one said silent = record {
+  answer = Ok tt;
+  step = (record { some = step.0.some; counted = refl; made = step.0.made }, refl);
+  change = record { done = change.done; same = tt };
+  one = record { stands = one.stands; crash = one.crash; durable = one.durable };
+  apart = λ h. h;
+  collides = tt;
+  replied = (subst (λ (number : ℕ). IsSaid out (accepted_text number) ending) step.0.counted said, silent);
 }
 
-pub removed : {S : Type 0} (g : Ghosts S) (old new : Hosted S) (path : List ℕ) (out err : Output) (ending : CommandEnding)
-    (answer : Result (Unit {0}) HostRefusal)
-    → Step old.store.kept.repo (command.Remove path) (reply_of (λ _. Removed) answer) 0 new.store.kept.repo
-    → IsAllOrNothing old.store.kept new.store.kept answer (kept_after (command.Remove path) old.store.kept)
-    → IsOneCommand g old new (command.Remove path) answer
-    → IsReplied out err answer ending → IsChanged g old new (command.Remove path) out err ending
-removed g old new path out err ending answer step change one replied = record {
-  answer = answer;
+pub accept-refused : {S : Type 0} (g : Ghosts S) (old new : Hosted S) (out err : Output) (ending : CommandEnding) (refusal : HostRefusal)
+    → Step old.store.kept.repo command.Accept (Refused refusal) 0 new.store.kept.repo
+    → IsAllOrNothing {A = ℕ} old.store.kept new.store.kept (Err refusal) (accepting old.store.kept)
+    → IsOneCommand {A = ℕ} g old new command.Accept (Err refusal)
+    → IsTold err (refusal_text refusal) ending → IsSilent out → IsChanged g old new command.Accept out err ending
+accept-refused g old new out err ending refusal step change one told silent = record {
+  answer = Err refusal;
   step = step;
-  change = change;
-  one = one;
-  apart = no_collision answer;
-  collides = not_refused old.store.kept.repo new.store.kept.repo path answer step;
-  replied = replied;
+  change = record { done = tt; same = change.same };
+  one = record { stands = one.stands; crash = one.crash; durable = tt };
+  apart = tt;
+  collides = λ is. subst (λ (r : HostRefusal). IsAcceptRefusal old.store.kept.repo r) is step.0;
+  replied = (silent, told);
 }

@@ -10,7 +10,8 @@ use Rattle.report_text.specs.Report.{line}
 use Rattle.commit_flow.specs.declared.host_refusal.HostRefusal.{HostRefusal}
 use Rattle.commit_flow.specs.Refusals.{inner_number_of, name_of, number_of}
 use Rattle.hook_cli.specs.declared.command_ending.CommandEnding.{CommandEnding}
-use Rattle.hook_cli.specs.Printing.{HasBeginning, IsTold, Output}
+use Rattle.hook_cli.specs.FixesText.{accepted_text}
+use Rattle.hook_cli.specs.Printing.{HasBeginning, IsSaid, IsTold, Output}
 use Rattle.hook_cli.specs.RefusalText.{inner_text, no_commit_text, refusal_text}
 use Rattle.hook_cli.proofs.KnownBytesLemmas.{appends-kept, appends-more}
 
@@ -136,3 +137,14 @@ pub told-no-commit : (err : Output) (ending : CommandEnding) (digits : List ℕ)
 told-no-commit err ending digits number is told =
     subst (λ (text : List ℕ). IsTold err text ending)
     (sym (append_assoc no_commit_head digits (10 ∷ [])) ∙ ap (λ digits. line (no_commit_head ++ digits)) is) told
+
+-- ---- the text of what is done
+
+abbrev accepted_head : List ℕ
+accepted_head = codes "accepted: "
+
+pub said-accepted : (out : Output) (ending : CommandEnding) (digits : List ℕ) (number : ℕ) → digits ≡ decimal number
+    → IsSaid out (accepted_head ++ (digits ++ (10 ∷ []))) ending → IsSaid out (accepted_text number) ending
+said-accepted out ending digits number is said =
+    subst (λ (text : List ℕ). IsSaid out text ending)
+    (sym (append_assoc accepted_head digits (10 ∷ [])) ∙ ap (λ digits. line (accepted_head ++ digits)) is) said

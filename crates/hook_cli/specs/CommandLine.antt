@@ -13,7 +13,7 @@ use Rattle.clap.specs.declared.error.kind.ErrorKind.TheVariants.{InvalidValue}
 use Rattle.hook_base.specs.declared.file.Mode.{Mode}
 use Rattle.hook_base.specs.declared.file.Mode.TheVariants.{Executable}
 use Rattle.hook_cli.specs.declared.line.Line.{Line}
-use Rattle.hook_cli.specs.declared.line.Line.TheVariants.{Init, Try, Check, Add, Remove, Status, Cat, Log, Show}
+use Rattle.hook_cli.specs.declared.line.Line.TheVariants.{Init, Try, Check, Add, Remove, Status, Fixes, Accept, Cat, Log, Show}
 
 -- ---- the commands and their values, as `clap` takes them
 
@@ -52,6 +52,12 @@ remove_app = with_rule (new_app (codes "rm")) (word_rule (codes "PATH"))
 abbrev pub status_app : App
 status_app = new_app (codes "status")
 
+abbrev pub fixes_app : App
+fixes_app = new_app (codes "fixes")
+
+abbrev pub accept_app : App
+accept_app = new_app (codes "accept")
+
 -- `cat PATH`
 abbrev pub cat_app : App
 cat_app = with_rule (new_app (codes "cat")) (word_rule (codes "PATH"))
@@ -76,7 +82,7 @@ hookhost_base = on_top (λ s. record s {
 
 abbrev pub all_commands : List App
 all_commands =
-    init_app ∷ try_app ∷ check_app ∷ add_app ∷ remove_app ∷ status_app ∷ cat_app ∷ log_app ∷ show_app ∷ []
+    init_app ∷ try_app ∷ check_app ∷ add_app ∷ remove_app ∷ status_app ∷ fixes_app ∷ accept_app ∷ cat_app ∷ log_app ∷ show_app ∷ []
 
 abbrev pub hookhost_app : App
 hookhost_app = with_commands hookhost_base all_commands
@@ -125,9 +131,11 @@ line_by name rows =
     else (if bytes_eq name (codes "add") then add_line rows
     else (if bytes_eq name (codes "rm") then Some (Remove (word_in (codes "PATH") rows))
     else (if bytes_eq name (codes "status") then Some Status
+    else (if bytes_eq name (codes "fixes") then Some Fixes
+    else (if bytes_eq name (codes "accept") then Some Accept
     else (if bytes_eq name (codes "cat") then Some (Cat (word_in (codes "PATH") rows))
     else (if bytes_eq name (codes "log") then Some Log
-    else (if bytes_eq name (codes "show") then show_line rows else None))))))))
+    else (if bytes_eq name (codes "show") then show_line rows else None))))))))))
 
 -- what the words ask for: a command with its values, as `clap` finds them
 abbrev pub line_asked : List Text → Option Line

@@ -1,28 +1,29 @@
 -- The commands over a repository: what each makes of it, what it prints, and the exit status.
-use Rattle.std.specs.Prelude.{◌≡◌, ◌⊎◌, ℕ, List, None, Some, IsSome, option_map, Result, Ok, Err, IfErr, OnOk}
+use Rattle.std.specs.Prelude.{◌≡◌, ◌⊎◌, ℕ, List, length, None, Some, IsSome, option_map, Result, IfErr, OnOk}
 use Rattle.sqlite_trees.specs.declared.store.Store.{Ghosts}
 use Rattle.hook_base.specs.declared.file.FileEntry.{FileEntry}
 use Rattle.hook_base.specs.Paths.{path_fault}
 use Rattle.hook_base.specs.Trees.{entry_of}
 use Rattle.repo_store.specs.AllOrNothing.{IsAllOrNothing}
 use Rattle.repo_store.specs.Contents.{Collides}
-use Rattle.repo_store.specs.Kept.{Kept, staging, unstaging}
+use Rattle.repo_store.specs.Kept.{Kept, accepting, staging, unstaging}
 use Rattle.repo_store.specs.Repository.{Repository, commit_at, last_tree}
 use Rattle.commit_flow.specs.declared.command.Command.{Command}
 use Rattle.commit_flow.specs.declared.command.Command.TheVariants as command
 use Rattle.commit_flow.specs.declared.host_refusal.HostRefusal.{HostRefusal}
 use Rattle.commit_flow.specs.declared.host_refusal.HostRefusal.TheVariants.{OutOfMemory, BadPath, NotStaged, Collision}
 use Rattle.commit_flow.specs.declared.reply.Reply.{Reply}
-use Rattle.commit_flow.specs.declared.reply.Reply.TheVariants.{Added, Removed}
+use Rattle.commit_flow.specs.declared.reply.Reply.TheVariants.{Added, Removed, Accepted, Refused}
 use Rattle.commit_flow.specs.Commands.{reply_of}
 use Rattle.commit_flow.specs.Crashes.{IsOneCommand}
 use Rattle.commit_flow.specs.Hosts.{Hosted}
 use Rattle.commit_flow.specs.Steps.{IsLegal, IsStaged, Step, entry_to_add}
 use Rattle.hook_cli.specs.declared.line.Line.{Line}
-use Rattle.hook_cli.specs.declared.line.Line.TheVariants.{Init, Try, Check, Add, Remove, Status, Cat, Log, Show}
+use Rattle.hook_cli.specs.declared.line.Line.TheVariants.{Init, Try, Check, Add, Remove, Status, Fixes, Accept, Cat, Log, Show}
 use Rattle.hook_cli.specs.declared.command_ending.CommandEnding.{CommandEnding}
 use Rattle.hook_cli.specs.declared.command_ending.CommandEnding.TheVariants.{Done}
 use Rattle.hook_cli.specs.Printing.{IsSaid, IsSilent, IsTold, Output, status_of}
+use Rattle.hook_cli.specs.FixesText.{accepted_text, fixes_text}
 use Rattle.hook_cli.specs.LogText.{log_text}
 use Rattle.hook_cli.specs.RefusalText.{no_commit_text, refusal_text}
 use Rattle.hook_cli.specs.ShowText.{show_text}
@@ -36,48 +37,57 @@ IsOverHost Check = ⊥
 IsOverHost (Add path mode) = Unit {0}
 IsOverHost (Remove path) = Unit {0}
 IsOverHost Status = Unit {0}
+IsOverHost Fixes = Unit {0}
+IsOverHost Accept = Unit {0}
 IsOverHost (Cat path) = Unit {0}
 IsOverHost Log = Unit {0}
 IsOverHost (Show number) = Unit {0}
 
 -- ---- the commands that change the repository
 
--- the reply of the command that is done
-abbrev pub reply_to : Command → Reply
-reply_to (command.Add path bytes mode) = Added
-reply_to (command.Remove path) = Removed
+-- the reply of the command that is done, where this was kept
+abbrev pub reply_to : Command → Kept → Reply
+reply_to (command.Add path bytes mode) kept = Added
+reply_to (command.Remove path) kept = Removed
+reply_to command.Accept kept = Accepted (length kept.repo.fixes)
 
 -- what is kept once the command is done
 abbrev pub kept_after : Command → Kept → Kept
 kept_after (command.Add path bytes mode) kept = staging path (entry_to_add kept.repo path bytes mode) kept
 kept_after (command.Remove path) kept = unstaging path kept
+kept_after command.Accept kept = accepting kept
 
 -- the command brings contents that have the digest of others that are kept
 abbrev pub BringsCollision : Command → Kept → Type 0
 BringsCollision (command.Add path bytes mode) kept = Collides bytes kept.contents
 BringsCollision (command.Remove path) kept = ⊥
+BringsCollision command.Accept kept = ⊥
 
--- done, the command prints nothing; refused, it tells why
-abbrev pub IsReplied : {A : Type 0} → Output → Output → Result A HostRefusal → CommandEnding → Type 0
-IsReplied out err (Ok answer) ending = IsSilent out × IsSilent err × (ending ≡ Done)
-IsReplied out err (Err refusal) ending = IsSilent out × IsTold err (refusal_text refusal) ending
+-- what each reply prints: a file that was added or removed nothing, fixes that were accepted how many there were, and a
+-- refusal why
+abbrev pub IsReplied : Output → Output → Reply → CommandEnding → Type 0
+IsReplied out err Added ending = IsSilent out × IsSilent err × (ending ≡ Done)
+IsReplied out err Removed ending = IsSilent out × IsSilent err × (ending ≡ Done)
+IsReplied out err (Accepted number) ending = IsSaid out (accepted_text number) ending × IsSilent err
+IsReplied out err (Refused refusal) ending = IsSilent out × IsTold err (refusal_text refusal) ending
 
 -- One call of the host, whose answer is printed. The repository takes a step of the host's machine, as a whole or not at all,
 -- whatever stops it, and a writer's error undoes none of it.
 pub record IsChanged {S : Type 0} (g : Ghosts S) (old new : Hosted S) (command : Command) (out err : Output) (ending : CommandEnding) : Type 0 where
   pub answer : Result (Unit {0}) HostRefusal
-  pub step : Step old.store.kept.repo command (reply_of (λ _. reply_to command) answer) 0 new.store.kept.repo
+  pub step : Step old.store.kept.repo command (reply_of (λ _. reply_to command old.store.kept) answer) 0 new.store.kept.repo
   pub change : IsAllOrNothing old.store.kept new.store.kept answer (kept_after command old.store.kept)
   pub one : IsOneCommand g old new command answer
   pub apart : OnOk answer (¬ BringsCollision command old.store.kept)
   pub collides : IfErr answer (λ refusal. refusal ≡ Collision → BringsCollision command old.store.kept)
-  pub replied : IsReplied out err answer ending
+  pub replied : IsReplied out err (reply_of (λ _. reply_to command old.store.kept) answer) ending
 
 -- ---- the commands that look something up
 
 -- the text that a look-up prints
 abbrev pub IsAnswer : Repository → Line → List ℕ → Type 0
 IsAnswer repo Status text = text ≡ status_text repo.staged (last_tree repo.history)
+IsAnswer repo Fixes text = text ≡ fixes_text repo.fixes
 IsAnswer repo (Cat path) text = IsLegal path × (option_map (λ (entry : FileEntry). entry.bytes) (entry_of path repo.staged) ≡ Some text)
 IsAnswer repo Log text = text ≡ log_text repo.history
 IsAnswer repo (Show number) text = option_map show_text (commit_at number repo.history) ≡ Some text
@@ -86,6 +96,7 @@ IsAnswer repo (Try config paths) text = ⊥
 IsAnswer repo Check text = ⊥
 IsAnswer repo (Add path mode) text = ⊥
 IsAnswer repo (Remove path) text = ⊥
+IsAnswer repo Accept text = ⊥
 
 -- why a staged file's bytes aren't given, in this order: the path is none, or it isn't staged. Want of memory comes after a
 -- fault of the path.
@@ -98,6 +109,7 @@ IsCatRefusal repo path refusal = ⊥
 -- the text that a refused look-up tells
 abbrev pub IsRefusalText : Repository → Line → List ℕ → Type 0
 IsRefusalText repo Status text = text ≡ refusal_text OutOfMemory
+IsRefusalText repo Fixes text = text ≡ refusal_text OutOfMemory
 IsRefusalText repo (Cat path) text = (refusal : HostRefusal) × IsCatRefusal repo path refusal × (text ≡ refusal_text refusal)
 IsRefusalText repo Log text = text ≡ refusal_text OutOfMemory
 IsRefusalText repo (Show number) text =
@@ -108,6 +120,7 @@ IsRefusalText repo (Try config paths) text = ⊥
 IsRefusalText repo Check text = ⊥
 IsRefusalText repo (Add path mode) text = ⊥
 IsRefusalText repo (Remove path) text = ⊥
+IsRefusalText repo Accept text = ⊥
 
 -- the look-up's text is printed, and nothing on standard error
 pub record Answers (repo : Repository) (line : Line) (out err : Output) (ending : CommandEnding) : Type 0 where
@@ -138,6 +151,8 @@ abbrev pub IsEnded : {S : Type 0} → Ghosts S → Hosted S → Hosted S → Lin
 IsEnded g old new (Add path mode) bytes out err ending = IsChanged g old new (command.Add path bytes mode) out err ending
 IsEnded g old new (Remove path) bytes out err ending = IsChanged g old new (command.Remove path) out err ending
 IsEnded g old new Status bytes out err ending = IsLookedUp old new Status out err ending
+IsEnded g old new Fixes bytes out err ending = IsLookedUp old new Fixes out err ending
+IsEnded g old new Accept bytes out err ending = IsChanged g old new command.Accept out err ending
 IsEnded g old new (Cat path) bytes out err ending = IsLookedUp old new (Cat path) out err ending
 IsEnded g old new Log bytes out err ending = IsLookedUp old new Log out err ending
 IsEnded g old new (Show number) bytes out err ending = IsLookedUp old new (Show number) out err ending

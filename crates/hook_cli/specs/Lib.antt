@@ -1,6 +1,7 @@
 pub mod CheckText
 pub mod CommandLine
 pub mod CommandOver
+pub mod FixesText
 pub mod LogText
 pub mod Printing
 pub mod Reading

@@ -58,6 +58,8 @@ fn line_by(alloc: Global, name: &str, values: &ArgMatches<'_>) -> Result<Line, E
             path: text_of(alloc, values, "PATH")?,
         }),
         "status" => Ok(Line::Status),
+        "fixes" => Ok(Line::Fixes),
+        "accept" => Ok(Line::Accept),
         "cat" => Ok(Line::Cat {
             path: text_of(alloc, values, "PATH")?,
         }),

@@ -5,11 +5,12 @@
 ghost use Rattle.std.specs.Prelude.{◌≡◌, ◌∷◌, IfOk, [], false};
 ghost use Rattle.clap.specs.Words.{app_of, rule_of};
 ghost use Rattle.clap.specs.declared.builder.Command.TheViews.{out-Command as fields_of};
-ghost use Rattle.hook_cli.specs.CommandLine.{add_app, cat_app, check_app, chmod_rule, hookhost_app, hookhost_base, init_app, log_app, remove_app, show_app, status_app, try_app, with_commands, word_rule, words_rule};
+ghost use Rattle.hook_cli.specs.CommandLine.{accept_app, add_app, cat_app, check_app, chmod_rule, fixes_app, hookhost_app, hookhost_base, init_app, log_app, remove_app, show_app, status_app, try_app, with_commands, word_rule, words_rule};
 
 use crate::help::{CHECK_HELP, PROGRAM_HELP, TRY_HELP};
 use crate::repository_help::{
-    ADD_HELP, CAT_HELP, INIT_HELP, LOG_HELP, REMOVE_HELP, SHOW_HELP, STATUS_HELP,
+    ACCEPT_HELP, ADD_HELP, CAT_HELP, FIXES_HELP, INIT_HELP, LOG_HELP, REMOVE_HELP, SHOW_HELP,
+    STATUS_HELP,
 };
 use clap::{Arg, Command};
 use std::alloc::{AllocError, Global};
@@ -20,6 +21,7 @@ pub(crate) fn hookhost<'a>(alloc: Global) -> Result<Command<'a>, AllocError>
 {
     let program = with_configurations(alloc, program(alloc))?;
     let program = with_staging(alloc, program)?;
+    let program = with_fixes(alloc, program)?;
     with_commits(alloc, program)
 }
 
@@ -50,6 +52,14 @@ fn with_staging<'a>(alloc: Global, program: Command<'a>) -> Result<Command<'a>, 
         .subcommand(add_command(alloc)?)?
         .subcommand(remove_command(alloc)?)?
         .subcommand(status_command(alloc))
+}
+
+fn with_fixes<'a>(alloc: Global, program: Command<'a>) -> Result<Command<'a>, AllocError>
+    ensures { IfOk result (λ command. app_of command ≡ with_commands (app_of program.entry) (fixes_app ∷ accept_app ∷ [])) }
+{
+    program
+        .subcommand(fixes_command(alloc))?
+        .subcommand(accept_command(alloc))
 }
 
 fn with_commits<'a>(alloc: Global, program: Command<'a>) -> Result<Command<'a>, AllocError>
@@ -129,6 +139,26 @@ fn status_command<'a>(alloc: Global) -> Command<'a>
         .about("Prints which staged files differ from those of the last commit")
         .override_usage("hookhost status")
         .after_help(STATUS_HELP)
+}
+
+fn fixes_command<'a>(alloc: Global) -> Command<'a>
+    ensures app { app_of result ≡ fixes_app }
+    ensures local { (fields_of result).has_globals ≡ false }
+{
+    Command::new(alloc, "fixes")
+        .about("Prints the fixes, which accept applies to the staged files")
+        .override_usage("hookhost fixes")
+        .after_help(FIXES_HELP)
+}
+
+fn accept_command<'a>(alloc: Global) -> Command<'a>
+    ensures app { app_of result ≡ accept_app }
+    ensures local { (fields_of result).has_globals ≡ false }
+{
+    Command::new(alloc, "accept")
+        .about("Applies the fixes to the staged files, and prints how many there were")
+        .override_usage("hookhost accept")
+        .after_help(ACCEPT_HELP)
 }
 
 fn cat_command<'a>(alloc: Global) -> Result<Command<'a>, AllocError>

@@ -2,20 +2,22 @@
 //!
 //! The contract of [`try_over`] cites `specs/TryOver.antt`.
 
-ghost use Rattle.std.specs.Prelude.{◌≡◌, ◌≢◌, ◌≤◌, ◌+◌, IfOk, IfErr, OnOk};
-ghost use Rattle.std.specs.Io.KnownBytes.{Appends};
+ghost use Rattle.std.specs.Prelude.{◌≡◌, ◌≢◌, ◌≤◌, ◌+◌, IfOk, IfErr, OnOk, OnErr};
 ghost use Rattle.child_port.specs.Telling.{SameTells};
-ghost use Rattle.hook_run.specs.RunOuts.{IsRunOut};
-ghost use Rattle.hook_cli.specs.TryOver.{IsRefusedBy, IsTriedOver, ReadsWithin, ask_for_all, most_bytes};
+ghost use Rattle.hook_run.specs.RunOuts.{IsRunOver};
+ghost use Rattle.hook_cli.specs.Printing.{Has, HasBeginning};
+ghost use Rattle.hook_cli.specs.TryOver.{IsRefusedBy, IsRefusedRun, IsTriedOver, ReadsWithin, ask_for_all, most_bytes, nothing};
 ghost use Rattle.hook_cli.specs.declared.try_fault.TryFault.TheVariants as fault;
 
 use crate::TryFault;
 use crate::configuration_bytes::read_bytes;
+use crate::printing::{Unwritten, write_out};
 use crate::run_ask::ask_for_all;
 use child_port::Children;
-use hook_base::{OutOfMemory, Tree};
+use hook_base::Tree;
 use hook_config::{Config, read_config};
-use hook_run::{Need, RunOut, RunPlan, RunRefusal};
+use hook_run::{RunOut, RunRefusal, run_hooks};
+use result_book::ListBook;
 use std::alloc::Global;
 use std::io::{Read, Write};
 
@@ -27,11 +29,12 @@ use std::io::{Read, Write};
 ///
 /// - `Read` where the reader gives an error, and `Config` where the bytes are no configuration, or where `regex` refuses one of
 ///   its patterns: no child was called;
-/// - `Spent` where a child is needed and the children have told as many outcomes as can be counted;
-/// - `Write` where the writer gives an error: any part of the report may be out;
-/// - `OutOfMemory` at any time.
+/// - `Spent` where a further child is needed and the children have told as many outcomes as can be counted;
+/// - `Write` where the writer gives an error: the run has ended, and the report is out up to some byte, maybe to its last;
+/// - `OutOfMemory` at any time before the report is written.
 ///
-/// After a refusal other than `Write` nothing was written. What the children told by then stays counted.
+/// After a refusal other than `Write` nothing was written. What the children told by then stays counted: after `Spent`, and
+/// after `OutOfMemory` where a child was called, a run of the configuration begins with it.
 pub fn try_over<R: Read, W: Write, C: Children>(
     alloc: Global,
     reader: &mut R,
@@ -40,11 +43,13 @@ pub fn try_over<R: Read, W: Write, C: Children>(
     children: &mut C,
 ) -> Result<bool, TryFault>
     ensures tried { IfOk result (IsTriedOver (R.remaining reader.old) (R.remaining reader.new)
-        (W.contents writer.old) (W.contents writer.new) (C.tells children.old)
+        (record { held = W.contents writer.old; holds = W.contents writer.new }) (C.tells children.old)
         (C.call_count children.old) (C.call_count children.new)
         (C.fault_count children.old) (C.fault_count children.new) tree.now) }
     ensures refused { IfErr result (IsRefusedBy (R.remaining reader.old) (R.remaining reader.new)
-        (C.call_count children.old) (C.call_count children.new)) }
+        (record { held = W.contents writer.old; holds = W.contents writer.new }) (C.tells children.old)
+        (C.call_count children.old) (C.call_count children.new)
+        (C.fault_count children.old) (C.fault_count children.new) tree.now) }
     ensures unwritten { IfErr result (λ e. e ≢ fault.Write → writer.new ≡ writer.old) }
     ensures within { ReadsWithin (most_bytes + 1) (R.remaining reader.old) (R.remaining reader.new) }
     ensures same { SameTells (C.tells children.old) (C.tells children.new) }
@@ -57,38 +62,46 @@ pub fn try_over<R: Read, W: Write, C: Children>(
 {
     let bytes = read_bytes(alloc, reader)?;
     let config = read_config(alloc, bytes.as_slice())?;
-    let out = run_on_all(alloc, &config, tree)?;
+    let out = run_on_all(alloc, children, &config, tree)?;
     write_report(writer, out.report.as_slice())?;
     Ok(out.passed)
 }
 
-// The run of the stage `pre-commit` with all files of the tree as candidates. Its hooks need no children yet.
-fn run_on_all(alloc: Global, config: &Config, tree: &Tree) -> Result<RunOut, OutOfMemory>
-    ensures { IfOk result (IsRunOut config.now (ask_for_all tree.now) tree.now) }
-{
-    let plan = plan_on_all(alloc, config, tree)?;
-    match plan.next() {
-        Need::Over => Ok(plan.finish()),
-        Need::Child => unreachable!(),
-    }
-}
-
-fn plan_on_all(alloc: Global, config: &Config, tree: &Tree) -> Result<RunPlan, OutOfMemory>
-    ensures { IfOk result (IsRunOut config.now (ask_for_all tree.now) tree.now) }
+// The run of the stage `pre-commit` with all files of the tree as candidates, over a book of its own.
+fn run_on_all<C: Children>(
+    alloc: Global,
+    children: &mut C,
+    config: &Config,
+    tree: &Tree,
+) -> Result<RunOut, TryFault>
+    ensures run { IfOk result (IsRunOver (C.tells children.old) (C.call_count children.old) (C.call_count children.new)
+        (C.fault_count children.old) (C.fault_count children.new) nothing nothing config.now (ask_for_all tree.now) tree.now) }
+    ensures refused { IfErr result (IsRefusedRun (C.tells children.old) (C.call_count children.old) (C.call_count children.new)
+        (C.fault_count children.old) (C.fault_count children.new) config.now tree.now) }
+    ensures same { SameTells (C.tells children.old) (C.tells children.new) }
+    ensures calls { C.call_count children.old ≤ C.call_count children.new }
+    ensures faults { C.fault_count children.old ≤ C.fault_count children.new }
+    ensures faults_are_calls { C.fault_count children.new + C.call_count children.old
+        ≤ C.fault_count children.old + C.call_count children.new }
 {
     let ask = ask_for_all(alloc, tree)?;
-    match RunPlan::begin(alloc, config, &ask, tree) {
-        Ok(plan) => Ok(plan),
-        Err(RunRefusal::OutOfMemory) => Err(OutOfMemory),
-        // No hook is asked for by its name, and no child was needed.
-        Err(RunRefusal::NoSuchHook | RunRefusal::Spent) => unreachable!(),
+    let mut book = ListBook::new(alloc);
+    match run_hooks(alloc, children, &mut book, config, &ask, tree) {
+        Ok(out) => Ok(out),
+        Err(RunRefusal::OutOfMemory) => Err(TryFault::OutOfMemory),
+        Err(RunRefusal::Spent) => Err(TryFault::Spent),
+        // No hook is asked for by its name, and the book isn't asked at all.
+        Err(RunRefusal::NoSuchHook | RunRefusal::Book(_)) => unreachable!(),
     }
 }
 
 fn write_report<W: Write>(writer: &mut W, report: &[u8]) -> Result<(), TryFault>
-    ensures ok { OnOk result (Appends (W.contents writer.old) (W.contents writer.new) report.now) }
+    ensures ok { OnOk result (Has (record { held = W.contents writer.old; holds = W.contents writer.new }) report.now) }
     ensures err { IfErr result (λ e. e ≡ fault.Write) }
+    ensures begun { OnErr result (HasBeginning (record { held = W.contents writer.old; holds = W.contents writer.new }) report.now) }
 {
-    writer.write_all(report).map_err(|_| TryFault::Write)?;
-    writer.flush().map_err(|_| TryFault::Write)
+    match write_out(writer, report) {
+        Ok(()) => Ok(()),
+        Err(Unwritten) => Err(TryFault::Write),
+    }
 }

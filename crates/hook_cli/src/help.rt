@@ -27,7 +27,9 @@ hookhost COMMAND --help explains what that command refuses.";
 /// Behind the help of `try`.
 pub(crate) const TRY_HELP: &str = "\
 Hooks of the stage pre-commit are run on the files that each selects, one after
-another. The report goes to standard output, and no file is written.
+another. The commands of system and script hooks run in .hookhost/scratch of the
+current folder, each over copies of all named files: no other file is written. The
+report goes to standard output.
 
 Example:
   hookhost try .pre-commit-config.yaml README.md src/main.c
@@ -51,7 +53,7 @@ parts and . or .., and not below .git. Everything else is told as
    4 OutOfMemory  memory was refused
                   free some memory, and run it again
    5 Spent        no more children can be counted
-                  nothing today: no hook has children yet";
+                  run it again: each run counts anew";
 
 /// Behind the help of `check`.
 pub(crate) const CHECK_HELP: &str = "\
@@ -85,11 +87,11 @@ the file is read as '4 OutOfMemory', and everything else as
    7 BadPattern   regex doesn't take a pattern, or the entry of a pygrep hook
                   do without lookaround and back references, or make it shorter
    8 BadEntry     the entry of a system or script hook can't be cut into words
-                  nothing today: these languages aren't taken yet
+                  close its quotes, and end it with no backslash
    9 BadArgs      a pygrep hook has an argument that isn't known
                   give it -i, --ignore-case, --multiline or --negate
-  10 Unsupported  a language isn't taken yet, or a value must be empty
-                  use fail or pygrep; empty log_file and additional_dependencies
+  10 Unsupported  a log_file or additional_dependencies isn't empty
+                  empty it: no output is kept, and nothing is installed
   11 TooMany      there are more than 500 hooks
                   leave some out
   12 OutOfMemory  memory was refused

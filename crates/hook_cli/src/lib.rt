@@ -3,11 +3,12 @@
 //! over a repository with what they print (`command_over`).
 //!
 //! Their contracts cite `specs/CommandLine.antt`, `specs/TryOver.antt`, which stands on the definitions of `hook_run` (what a
-//! run is) and of `report_text` (its report), `specs/TryFaults.antt` (the refusals of a run), `specs/CheckText.antt`, and
-//! `specs/CommandOver.antt` (what each command changes, prints and exits with), which stands on the definitions of
-//! `commit_flow` and on `specs/Printing.antt` (how much of a text a writer took), `specs/StatusText.antt`,
-//! `specs/LogText.antt`, `specs/ShowText.antt` and `specs/RefusalText.antt` (the texts). `specs/Reading.antt` and
-//! `specs/StatusWalk.antt` serve private functions only. [`laws`] says which paths `status` looks at.
+//! run is, its report, and where it is refused) and on `specs/Printing.antt` (how much of a text a writer took),
+//! `specs/TryFaults.antt` (the refusals of a run), `specs/CheckText.antt`, and `specs/CommandOver.antt` (what each command
+//! changes, prints and exits with), which stands on the definitions of `commit_flow` and on Printing too, and on
+//! `specs/StatusText.antt`, `specs/FixesText.antt`, `specs/LogText.antt`, `specs/ShowText.antt` and
+//! `specs/RefusalText.antt` (the texts).
+//! `specs/Reading.antt` and `specs/StatusWalk.antt` serve private functions only. [`laws`] says which paths `status` looks at.
 #![tactic(auto)]
 
 mod check;
@@ -16,6 +17,7 @@ mod command_line;
 mod commands;
 mod configuration_bytes;
 mod configuration_run;
+mod fixes_text;
 mod help;
 pub mod laws;
 mod line;

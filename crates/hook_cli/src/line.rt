@@ -30,6 +30,10 @@ pub enum Line {
     },
     /// The staged files that differ from those of the last commit.
     Status,
+    /// What the last run of hooks would change of the staged files.
+    Fixes,
+    /// The fixes are applied to the staged files.
+    Accept,
     /// The bytes of a staged file.
     Cat {
         /// The path, as a text that needn't be one.

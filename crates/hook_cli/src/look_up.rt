@@ -10,6 +10,7 @@ ghost use Rattle.hook_cli.specs.declared.line.Line.TheVariants as line;
 ghost use Rattle.hook_cli.specs.CommandOver.{IsCatRefusal, IsLookUp};
 
 use crate::CommandEnding;
+use crate::fixes_text::fixes_text;
 use crate::log_text::log_text;
 use crate::printing::{say, tell, tell_no_commit};
 use crate::show_text::show_text;
@@ -31,6 +32,21 @@ pub(crate) fn status<S: Alter, O: Write, E: Write>(
     ensures { IsLookUp store.now.kept.repo line.Status (record { held = O.contents out.old; holds = O.contents out.new }) (record { held = E.contents err.old; holds = E.contents err.new }) result }
 {
     match status_text(alloc, store) {
+        Ok(text) => say(out, text.as_slice()),
+        Err(OutOfMemory) => tell(err, &HostRefusal::OutOfMemory),
+    }
+}
+
+/// `fixes`: what accepting the fixes would change.
+pub(crate) fn fixes<S: Alter, O: Write, E: Write>(
+    alloc: Global,
+    store: &Store<S>,
+    out: &mut O,
+    err: &mut E,
+) -> CommandEnding
+    ensures { IsLookUp store.now.kept.repo line.Fixes (record { held = O.contents out.old; holds = O.contents out.new }) (record { held = E.contents err.old; holds = E.contents err.new }) result }
+{
+    match fixes_text(alloc, store) {
         Ok(text) => say(out, text.as_slice()),
         Err(OutOfMemory) => tell(err, &HostRefusal::OutOfMemory),
     }

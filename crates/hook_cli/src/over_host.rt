@@ -8,8 +8,8 @@ ghost use Rattle.hook_cli.specs.Printing.{IsSilent, Output};
 ghost use Rattle.commit_flow.specs.declared.command.Command.TheVariants as command;
 
 use crate::command_ending::status_of;
-use crate::look_up::{cat, log, show, status};
-use crate::printing::tell;
+use crate::look_up::{cat, fixes, log, show, status};
+use crate::printing::{say_accepted, tell};
 use crate::{CommandEnding, Line};
 use commit_flow::Host;
 use hook_base::Mode;
@@ -20,12 +20,14 @@ use std::io::Write;
 /// Makes the call of a line that is a command over a repository, prints what it answers, and answers the exit status. The
 /// bytes are those of the file that `add` stages; another command doesn't look at them.
 ///
-/// Done, it is 0: what the command looks up stands on `out` and nothing else; `add` and `rm` print nothing. Refused, it is 3:
-/// `hookhost: refused: NUMBER NAME` stands on `err`, with the inner number where the refusal has one, or for `show` of a
-/// number that no commit has `hookhost: no commit N`; nothing is on `out`. Want of memory is refused as `OutOfMemory`. A
-/// writer's error gives 3 too: what it took before is out, and what the command changed stays.
+/// Done, it is 0: what the command looks up stands on `out` and nothing else, and for `accept` how many fixes there were;
+/// `add` and `rm` print nothing. Refused, it is 3: `hookhost: refused: NUMBER NAME` stands on `err`, with the inner number
+/// where the refusal has one, or for `show` of a number that no commit has `hookhost: no commit N`; nothing is on `out`. Want
+/// of memory is refused as `OutOfMemory`. A writer's error gives 3 too: what it took before is out, and what the command
+/// changed stays.
 ///
-/// `add` and `rm` change the repository as the host's calls do, and a refusal leaves it as it was; the others change nothing.
+/// `add`, `rm` and `accept` change the repository as the host's calls do, and a refusal leaves it as it was; the others change
+/// nothing.
 pub fn command_over<S: Alter, O: Write, E: Write>(
     alloc: Global,
     line: &Line,
@@ -56,6 +58,8 @@ fn end_of<S: Alter, O: Write, E: Write>(
         Line::Add { path, mode } => add(alloc, path.as_str(), bytes, *mode, host, err),
         Line::Remove { path } => remove(alloc, path.as_str(), host, err),
         Line::Status => status(alloc, host.store(), out, err),
+        Line::Fixes => fixes(alloc, host.store(), out, err),
+        Line::Accept => accept(host, out, err),
         Line::Cat { path } => cat(alloc, path.as_str(), host.store(), out, err),
         Line::Log => log(alloc, host.store(), out, err),
         Line::Show { number } => show(alloc, *number, host.store(), out, err),
@@ -92,6 +96,20 @@ fn remove<S: Alter, E: Write>(
 {
     match host.remove(alloc, path) {
         Ok(()) => CommandEnding::Done,
+        Err(refusal) => tell(err, &refusal),
+    }
+}
+
+// `accept`: applies the fixes to the staged files. It prints how many there were.
+fn accept<S: Alter, O: Write, E: Write>(
+    host: &mut Host<S>,
+    out: &mut O,
+    err: &mut E,
+) -> CommandEnding
+    ensures { IsChanged S.Store host.old host.new command.Accept (record { held = O.contents out.old; holds = O.contents out.new }) (record { held = E.contents err.old; holds = E.contents err.new }) result }
+{
+    match host.accept() {
+        Ok(number) => say_accepted(out, number),
         Err(refusal) => tell(err, &refusal),
     }
 }

@@ -1,10 +1,11 @@
-//! What a command says, on the writer that it is for.
+//! What a command or a run says, on the writer that it is for.
 //!
-//! The contracts cite `specs/Printing.antt` and `specs/RefusalText.antt`.
+//! The contracts cite `specs/Printing.antt`, `specs/RefusalText.antt` and `specs/FixesText.antt`.
 
 ghost use Rattle.std.specs.Prelude.{◌++◌, ◌≤◌, IfOk, OnOk, OnErr, Some, codes, length, map, take};
 ghost use Rattle.std.specs.List.{concat};
 ghost use Rattle.report_text.specs.Report.{line};
+ghost use Rattle.hook_cli.specs.FixesText.{accepted_text};
 ghost use Rattle.hook_cli.specs.Printing.{Has, HasBeginning, IsSaid, IsSilent, IsTold};
 ghost use Rattle.hook_cli.specs.RefusalText.{inner_text, no_commit_text, refusal_text};
 
@@ -15,13 +16,31 @@ use std::io::{ErrorKind, Write};
 
 /// A writer gave an error. What it had taken before is out.
 #[derive(Clone, Copy, Debug)]
-struct Unwritten;
+pub(crate) struct Unwritten;
 
 /// Says the text of a command that is done.
 pub(crate) fn say<O: Write>(out: &mut O, text: &[u8]) -> CommandEnding
     ensures { IsSaid (record { held = O.contents out.old; holds = O.contents out.new }) text.now result }
 {
     match write_out(out, text) {
+        Ok(()) => CommandEnding::Done,
+        Err(Unwritten) => CommandEnding::CutOff,
+    }
+}
+
+/// Says how many fixes were accepted. It takes no memory, since they are accepted already.
+pub(crate) fn say_accepted<O: Write>(out: &mut O, number: u32) -> CommandEnding
+    ensures { IsSaid (record { held = O.contents out.old; holds = O.contents out.new }) (accepted_text number) result }
+{
+    let mut digits = Buffer::new();
+    say_pieces(out, &["accepted: ", digits.format(number), "\n"])
+}
+
+// Says the text of a command that is done, piece by piece.
+fn say_pieces<'a, O: Write>(out: &mut O, pieces: &'a [&'a str]) -> CommandEnding
+    ensures { IsSaid (record { held = O.contents out.old; holds = O.contents out.new }) (concat (map (λ s. s.now) pieces.entry.now)) result }
+{
+    match write_pieces(out, pieces) {
         Ok(()) => CommandEnding::Done,
         Err(Unwritten) => CommandEnding::CutOff,
     }
@@ -82,8 +101,8 @@ fn write_pieces<'a, W: Write>(writer: &mut W, pieces: &'a [&'a str]) -> Result<(
     flush(writer)
 }
 
-// Writes a text and flushes the writer.
-fn write_out<W: Write>(writer: &mut W, text: &[u8]) -> Result<(), Unwritten>
+/// Writes a text and flushes the writer.
+pub(crate) fn write_out<W: Write>(writer: &mut W, text: &[u8]) -> Result<(), Unwritten>
     ensures ok { OnOk result (Has (record { held = W.contents writer.old; holds = W.contents writer.new }) text.now) }
     ensures err { OnErr result (HasBeginning (record { held = W.contents writer.old; holds = W.contents writer.new }) text.now) }
 {

@@ -111,6 +111,33 @@ Example:
     ""
 );
 
+/// Behind the help of `fixes`.
+pub(crate) const FIXES_HELP: &str = opening_help!(
+    "\
+A line is M PATH for a staged file that would get other bytes, and D PATH for one
+that would be taken out, in the order of the paths. Nothing is printed where there
+are no fixes. They are forgotten once a file is staged or taken out, or a commit is
+made.
+
+Example:
+  hookhost fixes",
+    ""
+);
+
+/// Behind the help of `accept`.
+pub(crate) const ACCEPT_HELP: &str = opening_help!(
+    "\
+Each staged file that hookhost fixes lists gets its other bytes and keeps its mode,
+or is taken out. Then the fixes are forgotten. The line is accepted: N, the number
+of the fixes. The folder's files aren't touched.
+
+Example:
+  hookhost accept",
+    "
+  11 NoFixes      there are no fixes to accept
+                  hookhost fixes lists what could be accepted"
+);
+
 /// Behind the help of `cat`.
 pub(crate) const CAT_HELP: &str = opening_help!(
     "\

@@ -135,9 +135,11 @@ fail_word = codes "fail"
 abbrev pub pygrep_word : List ℕ
 pygrep_word = codes "pygrep"
 
--- those that are known and not served yet
-abbrev pub later_languages : List (List ℕ)
-later_languages = codes "system" ∷ codes "script" ∷ []
+abbrev pub system_word : List ℕ
+system_word = codes "system"
+
+abbrev pub script_word : List ℕ
+script_word = codes "script"
 
 -- ---- truths: in lower case, with a capital first letter, and in upper case (YAML 1.1, "Boolean Language-Independent
 -- Type")

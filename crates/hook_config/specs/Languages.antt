@@ -1,14 +1,13 @@
--- The languages that are served, and how each runs a hook's entry (pre-commit.com, "Supported languages": "fail",
--- "pygrep").
+-- The languages, and how each runs a hook's entry (pre-commit.com, "Supported languages": "fail", "pygrep", "script",
+-- "system").
 use Rattle.std.specs.Prelude.{ℕ, List, ◌&&◌, bytes_eq, if◌then◌else◌, is_some, Option, Some, None, option_map}
 use Rattle.builtin_hooks.specs.Search.{Search, are_known, pattern_of, search_of}
-use Rattle.hook_config.specs.Rows.{Row, is_among}
+use Rattle.hook_config.specs.Rows.{Row}
+use Rattle.hook_config.specs.CommandWords.{command_words_of}
 use Rattle.hook_config.specs.Kinds.{text_of, required, given}
-use Rattle.hook_config.specs.KnownKeys.{language_key, fail_word, pygrep_word, later_languages}
-use Rattle.hook_config.specs.declared.config_fault.ConfigKind.{ConfigKind}
-use Rattle.hook_config.specs.declared.config_fault.ConfigKind.TheVariants.{BadLanguage, Unsupported}
+use Rattle.hook_config.specs.KnownKeys.{language_key, fail_word, pygrep_word, system_word, script_word}
 use Rattle.hook_config.specs.declared.configuration.Language.{Language}
-use Rattle.hook_config.specs.declared.configuration.Language.TheVariants.{Fail, Pygrep}
+use Rattle.hook_config.specs.declared.configuration.Language.TheVariants.{Fail, Pygrep, System, Script}
 use Rattle.hook_config.specs.declared.languages.LanguageName.{LanguageName}
 use Rattle.hook_config.specs.declared.languages.LanguageName.TheVariants as name
 
@@ -22,7 +21,9 @@ grep_of entry args =
 abbrev pub language_of : List ℕ → List ℕ → List (List ℕ) → Option Language
 language_of word entry args =
     if bytes_eq word fail_word then Some Fail
-    else (if bytes_eq word pygrep_word then option_map (λ search. Pygrep search) (grep_of entry args) else None)
+    else (if bytes_eq word pygrep_word then option_map (λ search. Pygrep search) (grep_of entry args)
+    else (if bytes_eq word system_word then option_map (λ words. System words) (command_words_of entry args)
+    else (if bytes_eq word script_word then option_map (λ words. Script words) (command_words_of entry args) else None)))
 
 -- the language of a hook's table, for its entry and its arguments
 unfoldable pub language_at : List ℕ → List (List ℕ) → List Row → Option Language
@@ -30,10 +31,8 @@ language_at entry args rows = given (required text_of language_key rows) (λ wor
 
 -- ---- for contracts of private functions alone
 
--- why a word names no language that is served
-abbrev pub refusal_of_language : List ℕ → ConfigKind
-refusal_of_language word = if is_among later_languages word then Unsupported else BadLanguage
-
 abbrev pub word_of : LanguageName → List ℕ
 word_of name.Fail = fail_word
 word_of name.Pygrep = pygrep_word
+word_of name.System = system_word
+word_of name.Script = script_word

@@ -1,3 +1,4 @@
+pub mod CommandWords
 pub mod Configuration
 pub mod Gives
 pub mod HookParts

@@ -10,6 +10,8 @@ use Rattle.builtin_hooks.specs.declared.grep_fault.GrepFault.{GrepFault}
 use Rattle.builtin_hooks.specs.declared.grep_fault.GrepFault.TheVariants as grep
 use Rattle.path_select.specs.declared.pattern_fault.PatternFault.{PatternFault}
 use Rattle.path_select.specs.declared.pattern_fault.PatternFault.TheVariants.{NotAPattern, OutOfMemory as PatternOutOfMemory}
+use Rattle.arg_partition.specs.declared.words_fault.WordsFault.{WordsFault}
+use Rattle.arg_partition.specs.declared.words_fault.WordsFault.TheVariants as words
 use Rattle.hook_config.specs.declared.config_fault.ConfigFault.{ConfigFault}
 use Rattle.hook_config.specs.declared.config_fault.ConfigKind.{ConfigKind}
 use Rattle.hook_config.specs.declared.config_fault.ConfigKind.TheVariants.{Yaml, Shape, MissingKey, BadStage, BadLanguage, RemoteRepo, BadPattern, BadEntry, BadArgs, Unsupported, TooMany, OutOfMemory}
@@ -72,6 +74,12 @@ abbrev pub of_grep : GrepFault → ConfigKind
 of_grep grep.NotAPattern = BadPattern
 of_grep grep.BadArg = BadArgs
 of_grep grep.OutOfMemory = OutOfMemory
+
+-- what a fault of an entry's words is as a refusal of the configuration
+abbrev pub of_words : WordsFault → ConfigKind
+of_words words.OpenQuote = BadEntry
+of_words words.NothingEscaped = BadEntry
+of_words words.OutOfMemory = OutOfMemory
 
 -- a text of more bytes than a text may have
 abbrev pub too_large : ConfigFault

@@ -4,6 +4,7 @@ ghost use Rattle.std.specs.Prelude.{◌≡◌};
 ghost use Rattle.hook_config.specs.Refusals.{number_of, name_of};
 
 use crate::limits::MOST_HOOKS;
+use arg_partition::WordsFault;
 use builtin_hooks::GrepFault;
 use hook_base::OutOfMemory;
 use path_select::PatternFault;
@@ -26,7 +27,7 @@ pub enum ConfigKind {
     /// A text in a list of stages names no stage.
     #[error("a stage is not known")]
     BadStage,
-    /// A language isn't one of the four that are known.
+    /// A language isn't one of the four that are served.
     #[error("a language is not known")]
     BadLanguage,
     /// A repository is another than `local`.
@@ -35,14 +36,14 @@ pub enum ConfigKind {
     /// `regex` doesn't take a text as a pattern: it is none, nests too deep, or is too big once it is built.
     #[error("a pattern cannot be read")]
     BadPattern,
-    /// An entry can't be cut into words.
+    /// An entry can't be cut into words, has no word, or its first word is empty.
     #[error("an entry cannot be read")]
     BadEntry,
     /// An argument isn't one that the language takes.
     #[error("an argument is not known")]
     BadArgs,
-    /// A language is known and not served, or a key is served only where its value is empty.
-    #[error("a key or a language is not supported")]
+    /// A key is served only where its value is empty.
+    #[error("a key is not supported")]
     Unsupported,
     /// There are more than `MOST_HOOKS` hooks.
     #[error("there are more than {most} hooks", most = MOST_HOOKS)]
@@ -99,6 +100,20 @@ impl From<GrepFault> for ConfigKind {
             GrepFault::NotAPattern => ConfigKind::BadPattern,
             GrepFault::BadArg => ConfigKind::BadArgs,
             GrepFault::OutOfMemory => ConfigKind::OutOfMemory,
+        }
+    }
+}
+
+impl From<WordsFault> for ConfigKind {
+    ghost use Rattle.std.specs.Prelude.{◌≡◌};
+    ghost use Rattle.hook_config.specs.Refusals.{of_words};
+
+    ghost from_gives = { λ fault kind. kind ≡ of_words fault };
+
+    fn from(fault: WordsFault) -> Self {
+        match fault {
+            WordsFault::OpenQuote | WordsFault::NothingEscaped => ConfigKind::BadEntry,
+            WordsFault::OutOfMemory => ConfigKind::OutOfMemory,
         }
     }
 }

@@ -1,5 +1,6 @@
 //! What a configuration is read to.
 
+use crate::command_words::CommandWords;
 use crate::config_text::ConfigText;
 use crate::shared_pattern::SharedPattern;
 use crate::stage::Stages;
@@ -33,7 +34,8 @@ pub struct Hook {
     pub alias: ConfigText,
     /// How the hook's entry is run.
     pub language: Language,
-    /// What the hook says where its language is `fail`, and the text of its pattern where that is `pygrep`.
+    /// What the hook says where its language is `fail`, the text of its pattern where that is `pygrep`, and else the text of
+    /// the first words of its command.
     pub entry: ConfigText,
     /// The words that follow those of the entry. With `pygrep` they say how its pattern is looked for.
     pub args: Items<ConfigText>,
@@ -70,4 +72,8 @@ pub enum Language {
     Fail,
     /// The hook looks for its entry in files, as its arguments say, and fails where it prints anything.
     Pygrep(Grep),
+    /// The hook starts the program that the first of these words names, as it is.
+    System(CommandWords),
+    /// The hook starts the file of the repository that the first of these words names.
+    Script(CommandWords),
 }

@@ -118,7 +118,9 @@ pub(crate) const FAIL: &str = "fail";
 
 pub(crate) const PYGREP: &str = "pygrep";
 
-pub(crate) const LATER_LANGUAGES: [&str; 2] = ["system", "script"];
+pub(crate) const SYSTEM: &str = "system";
+
+pub(crate) const SCRIPT: &str = "script";
 
 // Truths (YAML 1.1, "Boolean Language-Independent Type").
 

@@ -1,32 +1,34 @@
-//! The languages that are served.
+//! The languages.
 
 ghost use Rattle.std.specs.Prelude.{◌≡◌, ℕ, List, IfOk, IfErr, None, Some, map};
 ghost use Rattle.hook_config.specs.Gives.{GivesValue};
 ghost use Rattle.hook_config.specs.Kinds.{required, text_of};
 ghost use Rattle.hook_config.specs.KnownKeys.{language_key};
-ghost use Rattle.hook_config.specs.Languages.{grep_of, language_at, language_of, refusal_of_language, word_of};
+ghost use Rattle.hook_config.specs.Languages.{grep_of, language_at, language_of, word_of};
 ghost use Rattle.hook_config.specs.Rows.{rows_of};
-ghost use Rattle.hook_config.specs.declared.config_fault.ConfigKind.TheVariants.{OutOfMemory};
+ghost use Rattle.hook_config.specs.declared.config_fault.ConfigKind.TheVariants.{BadLanguage, OutOfMemory};
 
+use crate::command_words::CommandWords;
 use crate::config_fault::ConfigKind;
 use crate::config_text::ConfigText;
 use crate::configuration::Language;
 use crate::fields::required;
-use crate::kinds::{is_among, text_in};
-use crate::known_keys::{FAIL, LANGUAGE, LATER_LANGUAGES, PYGREP};
+use crate::kinds::text_in;
+use crate::known_keys::{FAIL, LANGUAGE, PYGREP, SCRIPT, SYSTEM};
 use builtin_hooks::Grep;
 use std::alloc::Global;
 use yaml_profile::Node;
 
-/// A language that is served.
+/// The name of a language.
 #[derive(Clone, Copy)]
 pub(crate) enum LanguageName {
     Fail,
     Pygrep,
+    System,
+    Script,
 }
 
-/// The language that must stand in a hook's table. One that is known and not served is `Unsupported`, another one
-/// `BadLanguage`.
+/// The language that must stand in a hook's table. A word that names none is `BadLanguage`.
 #[tactic(auto, unfolding(crate::specs::Languages::language_at))]
 pub(crate) fn language_name_at(rows: &[(String, Node)]) -> Result<LanguageName, ConfigKind>
     ensures named { IfOk result (λ name. required text_of language_key (rows_of rows.now) ≡ Some (word_of name)) }
@@ -38,14 +40,16 @@ pub(crate) fn language_name_at(rows: &[(String, Node)]) -> Result<LanguageName, 
 fn language_name_of(word: &str) -> Result<LanguageName, ConfigKind>
     ensures named { IfOk result (λ name. word.now ≡ word_of name) }
     ensures refused { IfErr result (λ _. (entry : List ℕ) (args : List (List ℕ)) → language_of word.now entry args ≡ None) }
-    ensures refusal { IfErr result (λ kind. kind ≡ refusal_of_language word.now) }
+    ensures refusal { IfErr result (λ kind. kind ≡ BadLanguage) }
 {
     if word == FAIL {
         Ok(LanguageName::Fail)
     } else if word == PYGREP {
         Ok(LanguageName::Pygrep)
-    } else if is_among(&LATER_LANGUAGES, word) {
-        Err(ConfigKind::Unsupported)
+    } else if word == SYSTEM {
+        Ok(LanguageName::System)
+    } else if word == SCRIPT {
+        Ok(LanguageName::Script)
     } else {
         Err(ConfigKind::BadLanguage)
     }
@@ -63,6 +67,8 @@ pub(crate) fn language_of(
     match name {
         LanguageName::Fail => Ok(Language::Fail),
         LanguageName::Pygrep => Ok(Language::Pygrep(grep_of(alloc, entry, args)?)),
+        LanguageName::System => Ok(Language::System(CommandWords::read(alloc, entry, args)?)),
+        LanguageName::Script => Ok(Language::Script(CommandWords::read(alloc, entry, args)?)),
     }
 }
 

@@ -1,14 +1,16 @@
 //! Reads the bytes of a `.pre-commit-config.yaml` to a `Config`, or says by a `ConfigFault` why they are none.
 //!
 //! `Config` holds `Hook`s, whose texts are `ConfigText`s, whose patterns are `SharedPattern`s, whose tags are `TagNames`,
-//! whose stages are `Stages` and whose language is a `Language`, with the pattern of `pygrep` in it. All patterns are
-//! built. `ConfigWithNode` has the text's `Node` beside it. A `ConfigFault` is a `ConfigKind` and its place.
+//! whose stages are `Stages` and whose language is a `Language`, with the pattern of `pygrep` and the `CommandWords` of
+//! `system` and `script` in it. All patterns are built, and all entries are cut into words. `ConfigWithNode` has the text's
+//! `Node` beside it. A `ConfigFault` is a `ConfigKind` and its place.
 //!
 //! The contracts cite `configuration_of` of `specs/Configuration.antt`, which says which `Config` a text's bytes describe,
-//! if any; `Gives`; the words of `specs/KnownKeys.antt` and `specs/Stages.antt`; the limits of `specs/Limits.antt`; and
+//! if any; `Gives`; `first_word` of `specs/CommandWords.antt`; the words of `specs/KnownKeys.antt` and `specs/Stages.antt`; the limits of `specs/Limits.antt`; and
 //! `number_of` and `name_of` of `specs/Refusals.antt`.
 #![tactic(auto)]
 
+mod command_words;
 mod config_fault;
 mod config_text;
 mod configuration;
@@ -30,6 +32,7 @@ mod tag_names;
 mod text_lists;
 mod unknown_keys;
 
+pub use command_words::CommandWords;
 pub use config_fault::{ConfigFault, ConfigKind};
 pub use config_text::ConfigText;
 pub use configuration::{Config, Hook, Language};

@@ -27,15 +27,17 @@ use yaml_profile::{Node, read};
 /// repository or a hook, is no table, or a known key's value is of another kind; `MissingKey` where a required key isn't
 /// there; `BadStage`, `BadLanguage` and `RemoteRepo` for a stage, a language or a repository that isn't known;
 /// `BadPattern` for a pattern, or an entry of `pygrep`, that `regex` doesn't take; `BadArgs` for an argument that `pygrep`
-/// doesn't know; `Unsupported` for what is known and not served; `TooMany` for more than `MOST_HOOKS` hooks; `OutOfMemory`
-/// where memory was refused. More bytes than a text may have are `Yaml` of `TooLarge` at 1. Which patterns are too big once
-/// they are built is for `regex` to say, so `BadPattern` may come for a text that describes a configuration.
+/// doesn't know; `BadEntry` for an entry of `system` or `script` that can't be cut into words, has none, or whose first word
+/// is empty; `Unsupported` for a key that is served only where its value is empty; `TooMany` for more than `MOST_HOOKS`
+/// hooks; `OutOfMemory` where memory was refused. More bytes than a text may have are `Yaml` of `TooLarge` at 1. Which
+/// patterns are too big once they are built is for `regex` to say, so `BadPattern` may come for a text that describes a
+/// configuration.
 ///
 /// Of several faults the first in this order is told. At the top: `default_stages`, `files`, `exclude`, `fail_fast`,
 /// `repos`, and then the repositories in the order of the text. In a repository: `repo`, `hooks`, and then the hooks in
 /// the order of the text. Of a hook: that there are too many; `log_file`, `additional_dependencies`; `id`, `name`,
-/// `alias`; `language`, `entry`, `args`, with `pygrep` the arguments and then the entry's pattern; `files`, `exclude`,
-/// `types`, `types_or`, `exclude_types`; `stages`, `always_run`, `verbose`, `pass_filenames`, `fail_fast`.
+/// `alias`; `language`, `entry`, `args`, with `pygrep` the arguments and then the entry's pattern, with `system` and
+/// `script` the entry's words; `files`, `exclude`, `types`, `types_or`, `exclude_types`; `stages`, `always_run`, `verbose`, `pass_filenames`, `fail_fast`.
 #[tactic(auto, unfolding(crate::specs::Configuration::configuration_of))]
 pub fn read_config(alloc: Global, bytes: &[u8]) -> Result<Config, ConfigFault>
     ensures meant { Gives (λ config. config) result (configuration_of bytes.now) }

@@ -1,4 +1,10 @@
-pub mod EndingLemmas
+pub mod AdvanceLemmas
+pub mod BeginLemmas
+pub mod CompletionLemmas
+pub mod FaultLemmas
+pub mod HookRefs
 pub mod OneRunLemmas
-pub mod ReportLemmas
+pub mod PlanLemmas
+pub mod RowLemmas
 pub mod RunLemmas
+pub mod SomeRunLemmas

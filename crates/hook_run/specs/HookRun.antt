@@ -1,7 +1,7 @@
--- What one hook of a run ends with, on the tree that the hooks before it left. No language has children yet. One
--- that has would get its case in IsLanguageRun, with what its commands need beside files and tree: further files that they
--- see, and the most names of one part; and there the tree after the parts would say whether tracked files were modified.
-use Rattle.std.specs.Prelude.{◌≡◌, ℕ, ◌&&◌, false, not, MatchBool, if◌then◌else◌, List, []}
+-- What one hook of a run ends with, on the tree that the hooks before it left, and its parts: each is a child of it.
+use Rattle.std.specs.Prelude.{◌≡◌, ℕ, Bool, ◌&&◌, true, false, not, MatchBool, MatchOption, if◌then◌else◌, List, [], ◌∷◌, ◌++◌, map}
+use Rattle.arg_partition.specs.declared.cut.Cut.{Cut}
+use Rattle.arg_partition.specs.Parts.{AreParts, fits, names_of, too_long_at}
 use Rattle.hook_base.specs.declared.file.File.{File}
 use Rattle.child_port.specs.declared.answer.Answer.{Answer}
 use Rattle.path_select.specs.Selection.{RuleTexts, selected}
@@ -10,14 +10,18 @@ use Rattle.builtin_hooks.specs.GrepAnswer.{grep_answer}
 use Rattle.hook_config.specs.declared.configuration.Config.{Config}
 use Rattle.hook_config.specs.declared.configuration.Hook.{Hook}
 use Rattle.hook_config.specs.declared.configuration.Language.{Language}
-use Rattle.hook_config.specs.declared.configuration.Language.TheVariants.{Fail, Pygrep}
+use Rattle.hook_config.specs.declared.configuration.Language.TheVariants.{Fail, Pygrep, System, Script}
 use Rattle.report_text.specs.declared.hook_result.Ending.{Ending}
 use Rattle.report_text.specs.declared.hook_result.Ending.TheVariants.{SkippedAsked, SkippedNoFiles, Ran}
 use Rattle.report_text.specs.declared.hook_result.HookResult.{HookResult}
+use Rattle.report_text.specs.declared.hook_result.LineFault.TheVariants.{Misfit}
 use Rattle.report_text.specs.Report.{is_empty}
 use Rattle.hook_run.specs.declared.run_ask.RunAsk.{RunAsk}
 use Rattle.hook_run.specs.Asks.{is_skipped}
-use Rattle.hook_run.specs.Parts.{Part}
+use Rattle.hook_run.specs.Commands.{command_of}
+use Rattle.hook_run.specs.Limits.{most_command_bytes, most_names}
+use Rattle.hook_run.specs.Parts.{ArePartsOf, Part}
+use Rattle.hook_run.specs.PartsEnding.{ending_of_parts}
 
 -- what decides which files the hook gets
 abbrev pub rules_of : Config → Hook → RuleTexts
@@ -43,10 +47,45 @@ ending_of_answer answer = Ran answer.status [] false answer.output
 abbrev pub IsAnswered : Answer → List Part → Ending → Type 0
 IsAnswered answer parts ending = (parts ≡ []) × (ending ≡ ending_of_answer answer)
 
+-- a child sees all files of the tree where its hook isn't handed their names
+abbrev pub sees_whole : Hook → Bool
+sees_whole hook = not hook.pass_filenames
+
+-- further files that the hook's children see, whatever their words name: none
+abbrev pub further_of : Hook → List File → List (List ℕ)
+further_of hook tree = []
+
+-- the most names of one part of the hook
+abbrev pub most_names_of : Hook → ℕ
+most_names_of hook = most_names
+
+-- the commands of the parts that names are cut into
+abbrev pub commands_of : List (List ℕ) → List (List ℕ) → List Cut → List (List (List ℕ))
+commands_of words names cuts = map (λ cut. words ++ names_of names cut) cuts
+
+-- the hook runs once for each part of its names, whatever the parts before it did
+pub record AreItsParts (hook : Hook) (words names : List (List ℕ)) (tree : List File) (parts : List Part) : Type 0 where
+  pub cuts : List Cut
+  pub cut : AreParts (fits words most_command_bytes) (most_names_of hook) names cuts
+  pub run : ArePartsOf (sees_whole hook) (further_of hook) (commands_of words names cuts) tree parts
+
+-- the hook starts no child, since a name doesn't fit with the words alone, or without names the words don't
+abbrev pub ending_of_misfit : Ending
+ending_of_misfit = Ran 0 (Misfit ∷ []) false []
+
+-- a hook that runs these words, with these names behind them, on the tree, ends so
+abbrev pub IsCommandRun : Hook → List (List ℕ) → List (List ℕ) → List File → List Part → Ending → Type 0
+IsCommandRun hook words names tree parts ending =
+    MatchOption (too_long_at (fits words most_command_bytes) names)
+    (AreItsParts hook words names tree parts × (ending ≡ ending_of_parts tree parts))
+    (λ _. (parts ≡ []) × (ending ≡ ending_of_misfit))
+
 -- a hook of the language, run with these names on the tree, ends so
 abbrev pub IsLanguageRun : Language → Hook → List (List ℕ) → List File → List Part → Ending → Type 0
 IsLanguageRun Fail hook names tree parts ending = IsAnswered (fail_answer hook.entry names) parts ending
 IsLanguageRun (Pygrep search) hook names tree parts ending = IsAnswered (grep_answer search names tree) parts ending
+IsLanguageRun (System words) hook names tree parts ending = IsCommandRun hook (command_of false words tree) names tree parts ending
+IsLanguageRun (Script words) hook names tree parts ending = IsCommandRun hook (command_of true words tree) names tree parts ending
 
 -- a hook with these files ends so: without any it is skipped, unless it always runs
 abbrev pub IsHookRun : Hook → List (List ℕ) → List File → List Part → Ending → Type 0

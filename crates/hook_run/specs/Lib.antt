@@ -1,7 +1,16 @@
 pub mod Asks
-pub mod Childless
+pub mod ChildFaults
+pub mod Commands
+pub mod CountLemmas
 pub mod HookRun
+pub mod Limits
 pub mod Parts
+pub mod PartsEnding
+pub mod PlanRuns
+pub mod Plans
 pub mod Refusals
+pub mod Standing
 pub mod RunOuts
+pub mod SameRuns
 pub mod StageRun
+pub mod Starts

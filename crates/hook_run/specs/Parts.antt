@@ -1,21 +1,32 @@
 -- The parts of a run: each is one child of a hook, with what became of it. A trace has, for each hook, its parts in order.
--- Which outcomes children tell is said by `AllTold` alone. That a part was remembered and not started would be a field of
--- Part.
-use Rattle.std.specs.Prelude.{ℕ, ◌+◌, List, [], ◌∷◌, ◌++◌}
+-- Which outcomes children tell is said by `AllTold` alone, and what is started and remembered by `Starts`.
+use Rattle.std.specs.Prelude.{◌≡◌, ℕ, ◌+◌, Bool, List, [], ◌∷◌, ◌++◌}
 use Rattle.hook_base.specs.declared.file.File.{File}
 use Rattle.child_port.specs.declared.answer.Outcome.{Outcome}
 use Rattle.child_port.specs.Outcomes.{after_outcome, faults_in}
+use Rattle.child_port.specs.Seen.{seen_of}
 
--- the words of a command, the files that its child sees, and what became of it
+-- the words of a command, the files that its child sees, and what became of it; and whether that is another answer than
+-- the one that was remembered
 pub record Part : Type 0 where
   pub words : List (List ℕ)
   pub seen : List File
   pub outcome : Outcome
+  pub unsteady : Bool
 
 -- the tree after these parts, in order
 abbrev pub after_parts : List File → List Part → List File
 after_parts tree [] = tree
 after_parts tree (part ∷ parts) = after_parts (after_outcome tree part.outcome) parts
+
+-- The parts are those of these commands, in order. The child of each sees files of the tree that the part before it left:
+-- all where `whole`, else those that its words name, and those that `further` says of that tree. Its outcome is any
+abbrev pub ArePartsOf : Bool → (List File → List (List ℕ)) → List (List (List ℕ)) → List File → List Part → Type 0
+ArePartsOf whole further [] tree [] = Unit {0}
+ArePartsOf whole further (words ∷ commands) tree (part ∷ parts) =
+    (part.words ≡ words) × (part.seen ≡ seen_of words (further tree) whole tree)
+    × ArePartsOf whole further commands (after_outcome tree part.outcome) parts
+ArePartsOf whole further _ tree _ = ⊥
 
 -- the parts of all hooks of a trace, in order
 abbrev pub all_parts : List (List Part) → List Part

@@ -1,14 +1,28 @@
--- The refusals of a run, with their numbers and names. The number 2 is kept for a refusal of remembered answers.
-use Rattle.std.specs.Prelude.{ℕ, List, codes}
+-- The refusals of a run, with their numbers and names, and which one a fault of the remembered answers is.
+use Rattle.std.specs.Prelude.{ℕ, Bool, true, false, List, codes}
+use Rattle.result_book.specs.declared.book_fault.BookFault.{BookFault}
+use Rattle.result_book.specs.declared.book_fault.BookFault.TheVariants as book
 use Rattle.hook_run.specs.declared.run_refusal.RunRefusal.{RunRefusal}
-use Rattle.hook_run.specs.declared.run_refusal.RunRefusal.TheVariants.{OutOfMemory, NoSuchHook, Spent}
+use Rattle.hook_run.specs.declared.run_refusal.RunRefusal.TheVariants.{OutOfMemory, Book, NoSuchHook, Spent}
 
 abbrev pub number_of : RunRefusal → ℕ
 number_of OutOfMemory = 1
+number_of (Book fault) = 2
 number_of NoSuchHook = 3
 number_of Spent = 4
 
 abbrev pub name_of : RunRefusal → List ℕ
 name_of OutOfMemory = codes "OutOfMemory"
+name_of (Book fault) = codes "Book"
 name_of NoSuchHook = codes "NoSuchHook"
 name_of Spent = codes "Spent"
+
+-- want of memory is told from every other fault of the remembered answers
+abbrev pub of_book : BookFault → RunRefusal
+of_book book.OutOfMemory = OutOfMemory
+of_book fault = Book fault
+
+-- the remembered answers refuse, for another reason than want of memory
+abbrev pub is_of_book : RunRefusal → Bool
+is_of_book (Book fault) = true
+is_of_book refusal = false

@@ -1,28 +1,84 @@
--- What a run gives, and what a plan of one needs. IsRunOut alone says that no child is started and that no hook is unsteady;
--- what would be started, remembered or unsteady belongs there.
-use Rattle.std.specs.Prelude.{◌≡◌, List, []}
+-- What a run gives, and a run over children and remembered answers.
+use Rattle.std.specs.Prelude.{◌≡◌, ◌≢◌, ◌+◌, ◌-◌, ◌^◌, ℕ, if◌then◌else◌, List, [], ◌∷◌, ◌++◌, length}
 use Rattle.hook_base.specs.declared.file.File.{File}
+use Rattle.child_port.specs.declared.answer.Outcome.{Outcome}
 use Rattle.hook_config.specs.declared.configuration.Config.{Config}
+use Rattle.hook_config.specs.declared.configuration.Hook.{Hook}
 use Rattle.report_text.specs.Report.{report_text}
-use Rattle.hook_run.specs.declared.need.Need.{Need}
-use Rattle.hook_run.specs.declared.need.Need.TheVariants.{Over}
+use Rattle.report_text.specs.declared.hook_result.HookResult.{HookResult}
+use Rattle.result_book.specs.Contents.{Contents}
 use Rattle.hook_run.specs.declared.run_ask.RunAsk.{RunAsk}
 use Rattle.hook_run.specs.declared.run_out.RunOut.{RunOut}
-use Rattle.hook_run.specs.Asks.{names_of_run}
-use Rattle.hook_run.specs.Parts.{Part, all_parts, tree_after}
+use Rattle.hook_run.specs.declared.run_refusal.RunRefusal.{RunRefusal}
+use Rattle.hook_run.specs.declared.run_refusal.RunRefusal.TheVariants.{NoSuchHook, Spent}
+use Rattle.hook_run.specs.Asks.{hooks_of_run, names_of_run}
+use Rattle.hook_run.specs.Parts.{AllTold, Part, all_parts, faults_of, tree_after}
+use Rattle.hook_run.specs.PartsEnding.{is_unsteady}
 use Rattle.hook_run.specs.StageRun.{IsStageRun, has_passed}
+use Rattle.hook_run.specs.Starts.{Starts}
 
--- there is a run of the hooks that are asked for, without children, with these results: whether it passed, its report, and
--- the tree that it left are given
-pub record IsRunOut (config : Config) (ask : RunAsk) (tree : List File) (out : RunOut) : Type 0 where
+-- the id of a hook with these parts, where it is unsteady
+abbrev pub unsteady_id : Hook → List Part → List (List ℕ)
+unsteady_id hook parts = if is_unsteady parts then hook.id ∷ [] else []
+
+-- the ids of the hooks that are unsteady, in the order of the hooks, which a trace may end before
+abbrev pub unsteady_ids : List Hook → List (List Part) → List (List ℕ)
+unsteady_ids [] trace = []
+unsteady_ids (hook ∷ hooks) [] = []
+unsteady_ids (hook ∷ hooks) (parts ∷ trace) = unsteady_id hook parts ++ unsteady_ids hooks trace
+
+-- what is given of these results, of the tree that is left, and of the ids of the unsteady hooks
+abbrev pub out_of : Config → RunAsk → List HookResult → List File → List (List ℕ) → RunOut
+out_of config ask results tree unsteady = record {
+  passed = has_passed results;
+  report = report_text (names_of_run config ask) results;
+  results = results;
+  tree = tree;
+  unsteady = unsteady;
+}
+
+-- a run of the hooks that are asked for, with these parts, gives this
+pub record IsRunOut (config : Config) (ask : RunAsk) (tree : List File) (trace : List (List Part)) (out : RunOut) : Type 0 where
+  pub results : List HookResult
+  pub run : IsStageRun config ask tree trace results
+  pub is : out ≡ out_of config ask results (tree_after tree trace) (unsteady_ids (hooks_of_run config ask) trace)
+
+-- the counts of the children before a run and after it, which told these parts
+pub record IsCounted (calls calls_after faults faults_after : ℕ) (parts : List Part) : Type 0 where
+  pub called : calls_after ≡ calls + length parts
+  pub faulted : faults_after ≡ faults + faults_of parts
+
+-- a run of the hooks that are asked for begins with these parts
+pub record IsBegun (config : Config) (ask : RunAsk) (tree : List File) (front : List Part) : Type 0 where
   pub trace : List (List Part)
-  pub run : IsStageRun config ask tree trace out.results
-  pub childless : all_parts trace ≡ []
-  pub verdict : out.passed ≡ has_passed out.results
-  pub report : out.report ≡ report_text (names_of_run config ask) out.results
-  pub after : out.tree ≡ tree_after tree trace
-  pub steady : out.unsteady ≡ []
+  pub rest : List Part
+  pub out : RunOut
+  pub joined : all_parts trace ≡ front ++ rest
+  pub run : IsRunOut config ask tree trace out
 
--- a plan needs no child today, so it is over from the start
-abbrev pub need_of : RunOut → Need
-need_of out = Over
+-- it has a further part behind these
+pub record NeedsPart (config : Config) (ask : RunAsk) (tree : List File) (front : List Part) : Type 0 where
+  pub part : Part
+  pub begun : IsBegun config ask tree (front ++ part ∷ [])
+
+-- a run with parts that the children told, where `before` and `after` are remembered before it and after it
+pub record IsRunOver (tells : List (List ℕ) → List File → Outcome → Type 0) (calls calls_after faults faults_after : ℕ) (before after : Contents)
+    (config : Config) (ask : RunAsk) (tree : List File) (out : RunOut) : Type 0 where
+  pub trace : List (List Part)
+  pub run : IsRunOut config ask tree trace out
+  pub told : AllTold tells (all_parts trace)
+  pub starts : Starts ask.fresh before after (all_parts trace)
+  pub counted : IsCounted calls calls_after faults faults_after (all_parts trace)
+
+-- a run that is refused, with the parts that the children told before that: none where no hook has the name, else those that
+-- a run begins with. Where it is spent, a run has a further part, and the children have told as many as can be counted
+pub record IsStoppedRun (tells : List (List ℕ) → List File → Outcome → Type 0) (calls calls_after faults faults_after : ℕ) (before after : Contents)
+    (config : Config) (ask : RunAsk) (tree : List File) (refusal : RunRefusal) : Type 0 where
+  pub parts : List Part
+  pub told : AllTold tells parts
+  pub starts : Starts ask.fresh before after parts
+  pub counted : IsCounted calls calls_after faults faults_after parts
+  pub no_hook : refusal ≡ NoSuchHook → parts ≡ []
+  pub begins : refusal ≢ NoSuchHook → IsBegun config ask tree parts
+  pub needs : refusal ≡ Spent → NeedsPart config ask tree parts
+  pub spent : refusal ≡ Spent → calls_after ≡ 2 ^ 64 - 1

@@ -1,26 +1,46 @@
 //! The plan of a run: which hooks of a configuration are run on the files of a tree, what each ends with, and the report.
 //!
 //! A [`RunAsk`] says what is asked of a run. [`RunPlan::begin`] makes the plan of it, or says by a [`RunRefusal`] why there
-//! is none; [`RunPlan::next`] says what the plan needs, and [`RunPlan::finish`] gives the [`RunOut`].
+//! is none; [`RunPlan::next`] says whether the plan needs a child, [`RunPlan::words`], [`RunPlan::seen`] and
+//! [`RunPlan::tree`] which one, [`RunPlan::tell`] takes its outcome, and [`RunPlan::finish`] gives the [`RunOut`].
+//! [`run_hooks`] does all that with children, beside a book that is to remember their answers.
 //!
-//! The contracts cite `IsRunOut` and `need_of` of `specs/RunOuts.antt`, which stands on `specs/StageRun.antt` (the hooks of
-//! a run one after another), `specs/HookRun.antt` (one of them), `specs/Asks.antt` (which they are, and `names_no_hook`) and
-//! `specs/Parts.antt` (their children); and `specs/Refusals.antt`. [`laws`] says that they leave nothing of a run open.
+//! The contracts cite `Completes` and what stands on it in `specs/Plans.antt`, and `IsRunOver` and `IsStoppedRun` of
+//! `specs/RunOuts.antt`, with `Starts` of `specs/Starts.antt`. They stand on `specs/StageRun.antt` (the hooks of a run one
+//! after another), `specs/HookRun.antt` (one of them), `specs/Commands.antt` (its command), `specs/Parts.antt` and
+//! `specs/PartsEnding.antt` (its children, and what they come to), `specs/Asks.antt` (which hooks a run goes through, and
+//! `names_no_hook`) and `specs/Limits.antt`; `specs/Refusals.antt` has the numbers, and `specs/CountLemmas.antt` what follows
+//! for the children's counts. `specs/Standing.antt` and `specs/PlanRuns.antt` serve private functions alone. [`laws`] says
+//! that the outcomes decide all else of a run, and [`plan_laws`] that each plan can be completed.
 #![tactic(auto)]
 
+mod advance;
 mod asked;
-mod ending;
+mod begin;
+mod begun;
+mod command;
+mod course;
+mod gathered;
 pub mod laws;
+mod limits;
+mod modified;
 mod need;
 mod plan;
+pub mod plan_laws;
+mod progress;
 mod report;
 mod run_ask;
-mod run_hooks;
 mod run_out;
+mod run_over;
 mod run_refusal;
+mod standing;
+mod waiting;
+mod work;
 
+pub use limits::{MOST_COMMAND_BYTES, MOST_NAMES};
 pub use need::Need;
 pub use plan::RunPlan;
 pub use run_ask::RunAsk;
 pub use run_out::RunOut;
+pub use run_over::run_hooks;
 pub use run_refusal::RunRefusal;

@@ -1,92 +1,231 @@
 //! The plan of a run.
 
-ghost use Rattle.std.specs.Prelude.{◌≡◌, ◌≢◌, ◌↔◌, IfOk, IfErr, true};
+ghost use Rattle.std.specs.Prelude.{◌≡◌, ◌≢◌, ◌↔◌, IfOk, IfErr, true, false};
 ghost use Rattle.hook_run.specs.Asks.{names_no_hook};
-ghost use Rattle.hook_run.specs.RunOuts.{IsRunOut, need_of};
+ghost use Rattle.hook_run.specs.Plans.{IsPlanAfter, IsPlanOf, need_of, out_of_plan, seen_of_plan, tree_of_plan, words_of};
+ghost use Rattle.hook_run.specs.Refusals.{is_of_book};
+ghost use Rattle.hook_run.specs.Standing.{FitsName, FitsResults, IsCourse, IsToldFrom};
 
+use crate::advance::{advance, place_behind};
 use crate::asked::{hooks_of_run, names_no_hook};
-use crate::report::{has_passed, report_of};
-use crate::run_hooks::run_hooks;
+use crate::begun::Begun;
+use crate::course::Course;
+use crate::progress::{Progress, progress_after, progress_with};
+use crate::report::has_passed;
+use crate::standing::Standing;
+use crate::waiting::Waiting;
+use crate::work::{go_on, work_with};
 use crate::{Need, RunAsk, RunOut, RunRefusal};
-use hook_base::{Bytes, Items, OutOfMemory, Tree};
+use child_port::Outcome;
+use hook_base::{Items, OutOfMemory, Text, Tree};
 use hook_config::Config;
 use path_select::Candidates;
 use std::alloc::Global;
 use std::marker::Model;
 
-/// The plan of a run: what it needs, and in the end what it gives. It holds all that it hands out, so that only
-/// [`begin`](RunPlan::begin) takes memory. No language that is served has children, so a plan is over from the start.
-/// Contracts see what it gives.
-#[derive(Debug, Drop)]
-pub struct RunPlan {
-    out: RunOut,
+/// The plan of a run: which child it needs next, and in the end what the run gives. It holds all that it hands out, so that
+/// only [`begin`](RunPlan::begin) and [`tell`](RunPlan::tell) take memory. Contracts see what is done, and what is left of
+/// the hook that it stands at and behind it.
+#[derive(Drop)]
+pub struct RunPlan<'a> {
+    pub(crate) course: Course<'a>,
+    pub(crate) done: Progress,
+    pub(crate) place: usize,
+    pub(crate) standing: Standing<'a>,
 }
 
-impl Model for RunPlan {
-    ghost use Rattle.hook_run.specs.declared.run_out.RunOut.{RunOut};
+impl<'a> Model for RunPlan<'a> {
+    ghost use Rattle.hook_run.specs.Plans.{Plan};
+    ghost use Rattle.hook_run.specs.Standing.{IsPlanned, hooks_from, waiting_at};
 
-    ghost Value = { RunOut };
+    ghost Value = { Plan };
 
-    ghost view = { λ plan. plan.out };
+    ghost view = { λ plan. record { config = plan.course.config.now; ask = plan.course.ask.now; done = plan.done; waiting = waiting_at plan.standing; hooks = hooks_from plan.course plan.place } };
+
+    ghost invariant = { λ plan. IsPlanned plan.course plan.done plan.standing };
 }
 
-impl RunPlan {
+impl<'a> RunPlan<'a> {
     /// The plan of a run of the configuration's hooks on the files of the tree. It goes through the hooks of the stage, those
     /// of one name where `only` has one, in the order of the configuration. A hook with a name in `skip` is skipped, and so
     /// is one without selected files, unless it always runs. After a hook that failed no other is run where the configuration
     /// or that hook has `fail_fast`.
     ///
     /// `NoSuchHook` exactly where `only` has a name that no hook of the stage has (a hook in `skip` counts too); else `OutOfMemory`
-    /// where memory is refused. `Spent` is never answered here.
+    /// where memory is refused. `Book` and `Spent` are never answered here.
     pub fn begin(
         alloc: Global,
-        config: &Config,
-        ask: &RunAsk,
+        config: &'a Config,
+        ask: &'a RunAsk,
         tree: &Tree,
-    ) -> Result<RunPlan, RunRefusal>
-        ensures run { IfOk result (IsRunOut config.now ask.now tree.now) }
+    ) -> Result<RunPlan<'a>, RunRefusal>
+        ensures plan { IfOk result (IsPlanOf config.now ask.now tree.now) }
         ensures no_hook { (result ≡ Err RunRefusal.NoSuchHook) ↔ (names_no_hook config.now ask.now ≡ true) }
         ensures not_spent { IfErr result (λ refusal. refusal ≢ RunRefusal.Spent) }
+        ensures not_book { IfErr result (λ refusal. is_of_book refusal ≡ false) }
     {
         if names_no_hook(config, ask) {
             return Err(RunRefusal::NoSuchHook);
         }
-        let out = run(alloc, config, ask, tree)?;
-        Ok(RunPlan { out })
+        let plan = plan_of(alloc, config, ask, tree)?;
+        Ok(plan)
     }
 
     /// What the plan needs now. It takes no memory.
     pub fn next(&self) -> Need
         ensures { result ≡ need_of self.now }
     {
-        Need::Over
+        match &self.standing {
+            Standing::Waits(_) => Need::Child,
+            Standing::Over(_) => Need::Over,
+        }
+    }
+
+    /// The command of the child that the plan needs, with its names. It takes no memory.
+    pub fn words(&self) -> &[Text]
+        requires { need_of self.now ≡ Need.Child }
+        ensures { result.now ≡ words_of self.now }
+    {
+        match &self.standing {
+            Standing::Waits(waiting) => waiting.command.as_slice(),
+            Standing::Over(_) => unreachable!(),
+        }
+    }
+
+    /// The files that the child sees which the plan needs. It takes no memory.
+    pub fn seen(&self) -> &Tree
+        requires { need_of self.now ≡ Need.Child }
+        ensures { result.now ≡ seen_of_plan self.now }
+    {
+        match &self.standing {
+            Standing::Waits(waiting) => &waiting.seen,
+            Standing::Over(_) => unreachable!(),
+        }
+    }
+
+    /// The tree that the child runs on which the plan needs. It takes no memory.
+    pub fn tree(&self) -> &Tree
+        requires { need_of self.now ≡ Need.Child }
+        ensures { result.now ≡ tree_of_plan self.now }
+    {
+        &self.done.tree
+    }
+
+    /// The plan behind the child that it needs, of which this is the outcome. `OutOfMemory` where memory is refused, and the
+    /// plan is gone then.
+    pub fn tell(self, outcome: Outcome) -> Result<RunPlan<'a>, OutOfMemory>
+        requires { need_of self ≡ Need.Child }
+        ensures { IfOk result (IsPlanAfter self.entry outcome false) }
+    {
+        plan_after(self, &outcome, false)
     }
 
     /// What the run gives. It takes no memory.
     pub fn finish(self) -> RunOut
-        ensures { result ≡ self }
+        requires { need_of self ≡ Need.Over }
+        ensures { result ≡ out_of_plan self.entry }
     {
-        let RunPlan { out } = self;
-        out
+        let RunPlan { done, standing, .. } = self;
+        let report = match standing {
+            Standing::Waits(_) => unreachable!(),
+            Standing::Over(report) => report,
+        };
+        let Progress {
+            results,
+            unsteady,
+            tree,
+        } = done;
+        RunOut {
+            passed: has_passed(results.as_slice()),
+            report,
+            results,
+            tree,
+            unsteady,
+        }
     }
 }
 
-// What a run of the hooks that are asked for gives.
-fn run(alloc: Global, config: &Config, ask: &RunAsk, tree: &Tree) -> Result<RunOut, OutOfMemory>
-    ensures { IfOk result (IsRunOut config.now ask.now tree.now) }
+// The plan of a run of the hooks that are asked for.
+fn plan_of<'a>(
+    alloc: Global,
+    config: &'a Config,
+    ask: &'a RunAsk,
+    tree: &Tree,
+) -> Result<RunPlan<'a>, OutOfMemory>
+    ensures { IfOk result (IsPlanOf config.now ask.now tree.now) }
 {
     let hooks = hooks_of_run(alloc, config, ask)?;
-    let hooks = hooks.as_slice();
     let files = config.files.as_pattern();
     let exclude = config.exclude.as_pattern();
     let among = Candidates::passing(alloc, files, exclude, ask.candidates.as_slice())?;
-    let results = run_hooks(alloc, config, ask, hooks, &among, tree)?;
-    let report = report_of(alloc, hooks, results.as_slice())?;
-    Ok(RunOut {
-        passed: has_passed(results.as_slice()),
-        report: Bytes::from(report),
-        results: Items::from(results),
-        tree: tree.copy()?,
+    let tree = tree.copy()?;
+    let course = Course {
+        config,
+        ask,
+        hooks,
+        among,
+    };
+    let done = Progress {
+        results: Items::new(alloc),
         unsteady: Items::new(alloc),
-    })
+        tree,
+    };
+    advance(alloc, course, done, 0)
+}
+
+// The plan behind the child that it needs, of which this is the outcome. `unsteady` says whether that is another answer than
+// the remembered one.
+fn plan_after<'a>(
+    plan: RunPlan<'a>,
+    outcome: &Outcome,
+    unsteady: bool,
+) -> Result<RunPlan<'a>, OutOfMemory>
+    requires { need_of plan ≡ Need.Child }
+    ensures { IfOk result (IsPlanAfter plan.entry outcome.now unsteady) }
+{
+    let RunPlan {
+        course,
+        done,
+        place,
+        standing,
+    } = plan;
+    let waiting = match standing {
+        Standing::Waits(waiting) => waiting,
+        Standing::Over(_) => unreachable!(),
+    };
+    told(course, done, place, waiting, outcome, unsteady)
+}
+
+// The plan behind an outcome for the hook that waits.
+fn told<'a>(
+    course: Course<'a>,
+    done: Progress,
+    place: usize,
+    waiting: Waiting<'a>,
+    outcome: &Outcome,
+    unsteady: bool,
+) -> Result<RunPlan<'a>, OutOfMemory>
+    requires course { IsCourse course }
+    requires fits { FitsResults course done.results }
+    requires fits_at { FitsName course waiting.work.hook.now.name }
+    ensures { IfOk result (IsToldFrom course.entry done place waiting.entry outcome.now unsteady) }
+{
+    let alloc = *course.hooks.allocator();
+    let done = progress_after(done, outcome)?;
+    let Waiting { work, .. } = waiting;
+    let hook = work.hook;
+    let work = work_with(work, outcome, unsteady)?;
+    match go_on(alloc, work, &done.tree)? {
+        Begun::Waits(waiting) => Ok(RunPlan {
+            course,
+            done,
+            place,
+            standing: Standing::Waits(waiting),
+        }),
+        Begun::Ended(ending, unsteady) => {
+            let place = place_behind(&course, hook, &ending, place);
+            let done = progress_with(alloc, done, hook, ending, unsteady)?;
+            advance(alloc, course, done, place)
+        }
+    }
 }

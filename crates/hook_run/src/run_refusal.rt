@@ -1,10 +1,11 @@
-//! Why there is no plan of a run.
+//! Why a run is refused.
 
 ghost use Rattle.std.specs.Prelude.{◌≡◌};
 ghost use Rattle.hook_run.specs.Refusals.{name_of, number_of};
 ghost use Rattle.hook_run.specs.declared.run_refusal.RunRefusal.TheVariants.{OutOfMemory};
 
 use hook_base::OutOfMemory;
+use result_book::BookFault;
 use std::alloc::{AllocError, AllocFailed};
 use thiserror::Error;
 
@@ -14,6 +15,9 @@ pub enum RunRefusal {
     /// Memory was refused.
     #[error("out of memory")]
     OutOfMemory,
+    /// The remembered answers refuse, for another reason than want of memory.
+    #[error("the remembered answers: {0}")]
+    Book(BookFault),
     /// Hooks are asked for by a name that no hook of the stage has.
     #[error("no hook of the stage has that id or alias")]
     NoSuchHook,
@@ -23,12 +27,13 @@ pub enum RunRefusal {
 }
 
 impl RunRefusal {
-    /// The refusal's number: 1, 3 or 4.
+    /// The refusal's number: 1, 2, 3 or 4.
     pub fn number(&self) -> u8
         ensures { result ≡ number_of self.now }
     {
         match self {
             RunRefusal::OutOfMemory => 1,
+            RunRefusal::Book(_) => 2,
             RunRefusal::NoSuchHook => 3,
             RunRefusal::Spent => 4,
         }
@@ -40,6 +45,7 @@ impl RunRefusal {
     {
         match self {
             RunRefusal::OutOfMemory => "OutOfMemory",
+            RunRefusal::Book(_) => "Book",
             RunRefusal::NoSuchHook => "NoSuchHook",
             RunRefusal::Spent => "Spent",
         }
@@ -51,6 +57,20 @@ impl From<OutOfMemory> for RunRefusal {
 
     fn from(_refused: OutOfMemory) -> Self {
         RunRefusal::OutOfMemory
+    }
+}
+
+impl From<BookFault> for RunRefusal {
+    ghost use Rattle.hook_run.specs.Refusals.{of_book};
+
+    ghost from_gives = { λ fault refusal. refusal ≡ of_book fault };
+
+    /// Want of memory is `OutOfMemory`, and every other fault `Book`.
+    fn from(fault: BookFault) -> Self {
+        match fault {
+            BookFault::OutOfMemory => RunRefusal::OutOfMemory,
+            other => RunRefusal::Book(other),
+        }
     }
 }
 

@@ -1,8 +1,8 @@
 //! The calls by their names. Each library has a function of its own here.
 
 use crate::{
-    checks, command_lines, config_kinds, config_texts, configurations, host_commands, plans,
-    report_texts, runs, stages, try_faults,
+    checks, child_runs, command_lines, config_kinds, config_texts, configurations, host_commands,
+    messages, plans, report_texts, runs, stages, try_faults,
 };
 use std::alloc::Global;
 use trial_rows::{Row, Stop};
@@ -16,7 +16,7 @@ pub(crate) fn answer_of(alloc: Global, row: &Row) -> Result<Vec<u8>, Stop> {
     if let Some(answer) = of_hook_cli(alloc, call, arguments) {
         return answer;
     }
-    Err(Stop::NoCall)
+    of_commit_flow(alloc, call, arguments).unwrap_or(Err(Stop::NoCall))
 }
 
 fn of_hook_config(
@@ -57,6 +57,19 @@ fn of_hook_cli(alloc: Global, call: &str, arguments: &[Vec<u8>]) -> Option<Resul
         "hook_text" => report_texts::of_hook(alloc, arguments),
         "columns" => report_texts::for_names(alloc, arguments),
         "run" => plans::played(alloc, arguments),
+        "run_hooks" => child_runs::played(alloc, arguments),
+        _ => return None,
+    })
+}
+
+fn of_commit_flow(
+    alloc: Global,
+    call: &str,
+    arguments: &[Vec<u8>],
+) -> Option<Result<Vec<u8>, Stop>> {
+    Some(match call {
+        "begun_message" => messages::begun(alloc, arguments),
+        "cleaned_message" => messages::cleaned(alloc, arguments),
         _ => return None,
     })
 }

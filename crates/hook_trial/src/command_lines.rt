@@ -27,6 +27,8 @@ fn told(alloc: Global, line: &Line) -> Result<String, AllocError> {
         Line::Add { path, mode } => of_path(alloc, word_of_add(*mode), path),
         Line::Remove { path } => of_path(alloc, "remove", path),
         Line::Status => String::from_str(alloc, "status\n"),
+        Line::Fixes => String::from_str(alloc, "fixes\n"),
+        Line::Accept => String::from_str(alloc, "accept\n"),
         Line::Cat { path } => of_path(alloc, "cat", path),
         Line::Log => String::from_str(alloc, "log\n"),
         Line::Show { number } => format!(in alloc; "show\n{number}\n"),

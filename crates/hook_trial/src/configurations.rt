@@ -124,6 +124,8 @@ fn word_of(language: &Language) -> &'static str {
     match language {
         Language::Fail => "Fail",
         Language::Pygrep(_) => "Pygrep",
+        Language::System(_) => "System",
+        Language::Script(_) => "Script",
     }
 }
 

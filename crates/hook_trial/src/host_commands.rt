@@ -1,10 +1,10 @@
 //! Commands over a repository that is kept in memory.
 //!
 //! A row's arguments are steps, each a word and what it needs. `stage MODE PATH CONTENTS`, `unstage PATH`,
-//! `commit MESSAGE` and `fixes PATH..` (one text, a path a line, each a file that is gone) set the store up, which is empty at
-//! first. `line OUT ERR COMMAND ..` plays a command over writers of two habits (`host_writers.rt`): `add MODE PATH CONTENTS`,
-//! `add_zeros MODE PATH COUNT`, `rm PATH`, `status`, `cat PATH`, `log` or `show NUMBER`, where MODE is `plain`, `executable` or
-//! `none`. It is answered by the exit status and how many bytes stand on each writer, and after a line end by these bytes.
+//! `commit MESSAGE` and `fixes FIX..` (one text, a fix a line: a path alone is a file that is gone, and behind a path and a tab
+//! stand its other bytes) set the store up, which is empty at first. `line OUT ERR COMMAND ..` plays a command over writers of
+//! two habits (`host_writers.rt`): `add MODE PATH CONTENTS`, `add_zeros MODE PATH COUNT`, `rm PATH`, `status`, `fixes`,
+//! `accept`, `cat PATH`, `log` or `show NUMBER`, where MODE is `plain`, `executable` or `none`. It is answered by the exit status and how many bytes stand on each writer, and after a line end by these bytes.
 //! `store` is answered by the staged files, those of HEAD, and how many fixes and commits there are.
 
 ghost use Rattle.std.specs.Prelude.{◌≢◌, IfOk};
@@ -13,7 +13,7 @@ ghost use Rattle.hook_cli.specs.CommandOver.{IsOverHost};
 
 use crate::host_writers::HabitWriter;
 use commit_flow::Host;
-use hook_base::{Change, Changes, Mode, RepoPath, Text};
+use hook_base::{Bytes, Change, Changes, Mode, RepoPath, Text};
 use hook_cli::{Line, command_over};
 use repo_store::{FileRef, Store, StoreFault};
 use sqlite::{Connection, MemStore};
@@ -130,12 +130,24 @@ fn commit(words: &mut Words<'_>, store: &mut Kept) -> Result<(), Stop> {
 fn set_fixes(alloc: Global, words: &mut Words<'_>, store: &mut Kept) -> Result<(), Stop> {
     let mut fixes = Vec::new(alloc);
     for line in words.text()?.lines() {
-        let path = RepoPath::read(alloc, line)?;
-        fixes.push(Change { path, now: None })?;
+        fixes.push(fix_of(alloc, line)?)?;
     }
     match Changes::from_rising(fixes) {
         Ok(fixes) => store.set_fixes(fixes.as_slice()).map_err(stop_of),
         Err(_) => Err(Stop::BadLine),
+    }
+}
+
+fn fix_of(alloc: Global, line: &str) -> Result<Change, Stop> {
+    match line.split_once('\t') {
+        Some((path, text)) => Ok(Change {
+            path: RepoPath::read(alloc, path)?,
+            now: Some(Bytes::from(text.as_bytes().to_vec(alloc)?)),
+        }),
+        None => Ok(Change {
+            path: RepoPath::read(alloc, line)?,
+            now: None,
+        }),
     }
 }
 
@@ -178,6 +190,8 @@ fn line_of(alloc: Global, command: &str, words: &mut Words<'_>) -> Result<Line, 
             path: asked_path(alloc, words)?,
         }),
         "status" => Ok(Line::Status),
+        "fixes" => Ok(Line::Fixes),
+        "accept" => Ok(Line::Accept),
         "cat" => Ok(Line::Cat {
             path: asked_path(alloc, words)?,
         }),

@@ -7,12 +7,15 @@
 mod asks;
 mod calls;
 mod checks;
+mod child_rows;
+mod child_runs;
 mod command_lines;
 mod config_kinds;
 mod config_texts;
 mod configurations;
 mod host_commands;
 mod host_writers;
+mod messages;
 mod plans;
 mod readers;
 mod report_texts;

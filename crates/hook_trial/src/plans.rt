@@ -1,17 +1,17 @@
-//! Runs that are asked for in full.
+//! Runs that are asked for in full, and need no child.
 
 use crate::asks::{ask_of, tree_of};
 use crate::configurations::refusal;
 use hook_base::Tree;
 use hook_config::{Config, read_config};
-use hook_run::{RunAsk, RunPlan, RunRefusal};
+use hook_run::{Need, RunAsk, RunOut, RunPlan, RunRefusal};
 use report_text::{Ending, HookResult};
 use std::alloc::{AllocError, Global};
 use trial_rows::Stop;
 
 /// `run CONFIGURATION STAGE CANDIDATES ONLY SKIP FILE..`: the run's refusal with its number, name and text; or a line that
-/// says what the plan needs, whether every hook passed, what became of the tree, and how many hooks are unsteady; then a
-/// line for each result, and the report.
+/// says that the plan is over, whether every hook passed, what became of the tree, and how many hooks are unsteady; then a
+/// line for each result, and the report. `Child` where the plan needs a child.
 pub(crate) fn played(alloc: Global, arguments: &[Vec<u8>]) -> Result<Vec<u8>, Stop> {
     let [configuration, rest @ ..] = arguments else {
         return Err(Stop::BadLine);
@@ -32,18 +32,28 @@ pub(crate) fn played(alloc: Global, arguments: &[Vec<u8>]) -> Result<Vec<u8>, St
 
 fn planned(alloc: Global, config: &Config, ask: &RunAsk, tree: &Tree) -> Result<Vec<u8>, Stop> {
     match RunPlan::begin(alloc, config, ask, tree) {
-        Ok(plan) => told(alloc, plan, tree),
-        Err(RunRefusal::OutOfMemory) => Err(Stop::OutOfMemory),
-        Err(refused) => {
-            let (number, name) = (refused.number(), refused.name());
-            Ok(format!(in alloc; "{number} {name}: {refused}")?.into_bytes())
-        }
+        Ok(plan) => ended(alloc, plan, tree),
+        Err(refused) => refused_run(alloc, refused),
     }
 }
 
-fn told(alloc: Global, plan: RunPlan, tree: &Tree) -> Result<Vec<u8>, Stop> {
-    let need = plan.next();
-    let out = plan.finish();
+/// A run's refusal, with its number, name and text.
+pub(crate) fn refused_run(alloc: Global, refused: RunRefusal) -> Result<Vec<u8>, Stop> {
+    if refused == RunRefusal::OutOfMemory {
+        return Err(Stop::OutOfMemory);
+    }
+    let (number, name) = (refused.number(), refused.name());
+    Ok(format!(in alloc; "{number} {name}: {refused}")?.into_bytes())
+}
+
+fn ended(alloc: Global, plan: RunPlan, tree: &Tree) -> Result<Vec<u8>, Stop> {
+    match plan.next() {
+        Need::Over => told(alloc, &plan.finish(), tree),
+        Need::Child => Ok(b"Child".to_vec(alloc)?),
+    }
+}
+
+fn told(alloc: Global, out: &RunOut, tree: &Tree) -> Result<Vec<u8>, Stop> {
     let verdict = if out.passed { "passed" } else { "failed" };
     let after = if out.tree == *tree {
         "the same"
@@ -51,7 +61,13 @@ fn told(alloc: Global, plan: RunPlan, tree: &Tree) -> Result<Vec<u8>, Stop> {
         "another"
     };
     let unsteady = out.unsteady.len();
-    let mut text = format!(in alloc; "{need:?}, {verdict}, {after} tree, {unsteady} unsteady\n")?;
+    let head = format!(in alloc; "Over, {verdict}, {after} tree, {unsteady} unsteady\n")?;
+    with_results(alloc, head, out)
+}
+
+/// The head, then a line for each result, and the report.
+pub(crate) fn with_results(alloc: Global, head: String, out: &RunOut) -> Result<Vec<u8>, Stop> {
+    let mut text = head;
     for hook in out.results.as_slice() {
         push_hook(alloc, &mut text, hook)?;
     }

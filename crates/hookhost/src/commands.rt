@@ -46,7 +46,7 @@ fn answer(rt: &HostRuntime, line: &Line, bytes: &[u8], host: &mut Host<FileStore
 // Whether a line asks for a change.
 fn changes(line: &Line) -> bool {
     match line {
-        Line::Add { .. } | Line::Remove { .. } => true,
+        Line::Add { .. } | Line::Remove { .. } | Line::Accept => true,
         _ => false,
     }
 }

@@ -13,19 +13,23 @@ mod files;
 mod new_repository;
 mod repository;
 mod stop;
+mod terminal;
 
-use child_port::TableChildren;
+use child_display::ShownChildren;
 use commands::host_command;
 use files::{read_configuration, read_tree};
 use hook_base::{Items, Text, Tree};
 use hook_cli::{Line, TryFault, check_text, line_of, try_over};
 use hook_config::read_config_with_node;
 use new_repository::init;
+use process_children::ProcessChildren;
+use repository::SCRATCH;
 use std::io::{Read, Write};
 use std::process::ExitCode;
 use std::rt::Files;
 use std::{env, io, mem};
 use stop::{Stop, tell};
+use terminal::terminal_of;
 
 // The file that `check` reads, in the working folder.
 const CONFIGURATION: &str = ".pre-commit-config.yaml";
@@ -100,11 +104,7 @@ fn print<R: Print>(rt: &R, text: &[u8]) -> io::Result<()> {
 }
 
 // `try CONFIG PATH..`: the first word whose file can't be used decides, and the run comes last.
-fn try_files<R: Files + Print + AllocGlobal>(
-    rt: &R,
-    config: Text,
-    paths: Items<Text>,
-) -> Result<bool, Stop> {
+fn try_files(rt: &HostRuntime, config: Text, paths: Items<Text>) -> Result<bool, Stop> {
     let bytes = read_configuration(rt, config)?;
     let tree = read_tree(rt, paths)?;
     let passed = report(rt, &mut bytes.as_slice(), &tree)?;
@@ -113,13 +113,13 @@ fn try_files<R: Files + Print + AllocGlobal>(
     Ok(passed)
 }
 
-// Runs the configuration over the tree and prints the report.
-fn report<R: Print + AllocGlobal>(
-    rt: &R,
-    reader: &mut impl Read,
-    tree: &Tree,
-) -> Result<bool, Stop> {
-    let mut children = TableChildren::new(Items::from(Vec::new(rt.alloc())));
+// Runs the configuration over the tree, with children that are processes, which a terminal shows, and prints the report.
+fn report(rt: &HostRuntime, reader: &mut impl Read, tree: &Tree) -> Result<bool, Stop> {
+    let folder = String::from_str(rt.alloc(), SCRATCH)?;
+    let mut children = ShownChildren::new(
+        ProcessChildren::new(rt.clone()?, folder),
+        terminal_of(rt),
+    );
     let passed = try_over(rt.alloc(), reader, &mut io::writer(rt), tree, &mut children)?;
     Ok(passed)
 }

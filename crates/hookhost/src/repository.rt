@@ -1,5 +1,5 @@
-//! The folder of the repository, which lies in the working folder: its store's file, and the lock that keeps other commands
-//! out.
+//! The folder of the repository, which lies in the working folder: its store's file, the lock that keeps other commands out,
+//! and the folder in which children run.
 
 ghost use Rattle.std.specs.Prelude.{◌≡◌, IfErr};
 ghost use Rattle.hookhost.specs.declared.stop.Stop.TheVariants.{CannotUseLock, CannotUseStore};
@@ -16,7 +16,10 @@ pub(crate) const STORE: &str = ".hookhost/store.db";
 /// The file whose lock a command holds.
 pub(crate) const LOCK: &str = ".hookhost/lock";
 
-// The folder that holds both.
+/// The folder in which children run. It is made for the first of them, with the folder that holds it.
+pub(crate) const SCRATCH: &str = ".hookhost/scratch";
+
+// The folder that holds them.
 const FOLDER: &str = ".hookhost";
 
 // The last descriptor of a standard stream.

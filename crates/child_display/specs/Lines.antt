@@ -1,0 +1,54 @@
+-- What a terminal shows while a child runs: one line with its command, cut to the terminal's width.
+use Rattle.std.specs.Prelude.{ℕ, ◌-◌, ◌<◌, ◌^◌, nat_le, false, unwrap_or, is_some, if◌then◌else◌, List, [], ◌∷◌, ◌++◌, codes, chars, encode_utf8_all}
+use Rattle.std.specs.List.{flat_map}
+use Rattle.std.specs.Fmt.{decimal}
+use Rattle.std.specs.Str.Parse.{IsNumeral, digits_value, without_leading_plus}
+use Rattle.unicode_width.specs.Width.{char_width}
+
+-- a character as it is shown: a control character, as a line feed or an escape, is a question mark
+abbrev pub shown_char : ℕ → ℕ
+shown_char c = if is_some (char_width false c) then c else 63
+
+-- the columns that a character takes as it is shown
+abbrev pub columns_of_char : ℕ → ℕ
+columns_of_char c = unwrap_or (char_width false c) 1
+
+-- the characters as they are shown, up to the first that no longer fits into the columns
+abbrev pub cut_to : ℕ → List ℕ → List ℕ
+cut_to columns [] = []
+cut_to columns (c ∷ cs) =
+    if nat_le (columns_of_char c) columns then shown_char c ∷ cut_to (columns - columns_of_char c) cs else []
+
+-- how many children were started before, in brackets, and each word of the command behind a blank
+abbrev pub command_text : List (List ℕ) → ℕ → List ℕ
+command_text words before = codes "[" ++ decimal before ++ codes "]" ++ flat_map (λ word. 32 ∷ word) words
+
+-- ECMA-48 and DEC's private modes: a terminal doesn't go on in the next line, where the text is wider than it is
+abbrev pub wrapping_off : List ℕ
+wrapping_off = 27 ∷ codes "[?7l"
+
+abbrev pub wrapping_on : List ℕ
+wrapping_on = 27 ∷ codes "[?7h"
+
+-- the line of a child: as many columns of its text as the terminal has, and nothing that would begin another line
+abbrev pub line_of_child : List (List ℕ) → ℕ → ℕ → List ℕ
+line_of_child words before columns =
+    wrapping_off ++ encode_utf8_all (cut_to columns (chars (command_text words before))) ++ wrapping_on
+
+-- the cursor goes to the line's beginning, and what stands from there on is erased
+abbrev pub clearing : List ℕ
+clearing = 13 ∷ 27 ∷ codes "[K"
+
+-- the number that a text says, with or without a plus
+abbrev pub number_said : List ℕ → ℕ
+number_said text = digits_value 10 (without_leading_plus text)
+
+-- a text says how many columns a terminal has: a number from 1 to 65,535, which are those that a terminal may have
+pub record SaysColumns (text : List ℕ) : Type 0 where
+  pub numeral : IsNumeral 10 (without_leading_plus text)
+  pub some : 0 < number_said text
+  pub within : number_said text < 2 ^ 16
+
+-- the columns of a terminal that doesn't say how many it has
+abbrev pub usual_columns : ℕ
+usual_columns = 80

@@ -1,0 +1,79 @@
+//! The line of a child.
+//!
+//! The contracts cite `specs/Lines.antt`.
+
+ghost use Rattle.std.specs.Prelude.{◌≡◌, ◌++◌, IfOk, OnOk, chars, encode_utf8_all, string_bytes};
+ghost use Rattle.child_display.specs.Lines.{clearing, columns_of_char, command_text, cut_to, line_of_child, shown_char};
+
+use hook_base::{OutOfMemory, Text};
+use std::alloc::Global;
+use unicode_width::UnicodeWidthChar;
+
+// A terminal doesn't go on in the next line, where the text is wider than it is, and does so again.
+const WRAPPING_OFF: &str = "\u{1b}[?7l";
+
+const WRAPPING_ON: &str = "\u{1b}[?7h";
+
+/// The line of a child with these words, before which so many were started, on a terminal with so many columns. The words
+/// are cut to the columns, as `unicode_width` gives them for single characters; a control character is shown as a question
+/// mark. Should the terminal be narrower, it cuts the line itself. `OutOfMemory` where memory is refused.
+pub fn line_of_child(
+    alloc: Global,
+    words: &[Text],
+    before: u64,
+    columns: usize,
+) -> Result<String, OutOfMemory>
+    ensures { IfOk result (λ line. string_bytes line ≡ line_of_child words.now before columns) }
+{
+    let text = command_text(alloc, words, before)?;
+    let mut line = String::from_str(alloc, WRAPPING_OFF)?;
+    push_cut(&mut line, text.as_str(), columns)?;
+    line.push_str(WRAPPING_ON)?;
+    Ok(line)
+}
+
+/// What clears the line: the cursor goes to its beginning, and what stands from there on is erased.
+pub fn clearing() -> &'static str
+    ensures { result.now ≡ clearing }
+{
+    "\r\u{1b}[K"
+}
+
+fn command_text(alloc: Global, words: &[Text], before: u64) -> Result<String, OutOfMemory>
+    ensures { IfOk result (λ text. string_bytes text ≡ command_text words.now before) }
+{
+    let mut text = format!(in alloc; "[{before}]")?;
+    for word in words {
+        text.push(' ')?;
+        text.push_str(word.as_str())?;
+    }
+    Ok(text)
+}
+
+// Puts the text's characters at the line's end as they are shown, up to the first that doesn't fit.
+fn push_cut(line: &mut String, text: &str, columns: usize) -> Result<(), OutOfMemory>
+    ensures { OnOk result (string_bytes line.new ≡ string_bytes line.old ++ encode_utf8_all (cut_to columns (chars text.now))) }
+{
+    let mut left = columns;
+    'characters: for c in text.chars() {
+        let width = columns_of_char(c);
+        if width > left {
+            break;
+        }
+        left -= width;
+        line.push(shown_char(c))?;
+    }
+    Ok(())
+}
+
+fn shown_char(c: char) -> char
+    ensures { result ≡ shown_char c }
+{
+    if c.width().is_some() { c } else { '?' }
+}
+
+fn columns_of_char(c: char) -> usize
+    ensures { result ≡ columns_of_char c }
+{
+    c.width().unwrap_or(1)
+}

@@ -1,0 +1,38 @@
+use Rattle.std.proofs.Common.{sym, subst, arith}
+use Rattle.hook_run.specs.HookRun.{IsEnding}
+use Rattle.hook_run.specs.Standing.{FitsName}
+use Rattle.hook_config.specs.declared.configuration.Hook.{Hook}
+use Rattle.hook_run.proofs.AdvanceLemmas.{begun-ended, begun-waits, leads_on-ended, leads_on-waits}
+use Rattle.hook_run.proofs.advance.advance.Goals as goal
+
+pub invariant_of-result : goal.invariant_of-result
+invariant_of-result c =
+    let hook = c.hook_at-hook.result.now in
+    let is = begun-waits (IsEnding c.args.course.config.now c.args.course.ask.now c.hooks.done.tree hook) hook c.hooks.done.tree c.in_ok-waiting.field-0
+    c.in-Waits.waiting c.in-Waits.is c.in_ok-waiting.ensures in
+    record {
+      fits = c.hooks.invariant.fits;
+      fits_at = subst (λ (h : Hook). FitsName c.args.course h.name) (sym is.0.of_hook) c.hook_at-hook.ensures.fits;
+      planned = c.requires.course;
+      stored = is.1;
+    }
+
+pub returns-in-Waits : goal.returns-in-Waits
+returns-in-Waits c =
+    let hook = c.hook_at-hook.result.now in
+    let is = begun-waits (IsEnding c.args.course.config.now c.args.course.ask.now c.hooks.done.tree hook) hook c.hooks.done.tree c.in_ok-waiting.field-0
+    c.in-Waits.waiting c.in-Waits.is c.in_ok-waiting.ensures in
+    λ parts out on. leads_on-waits c.args.course c.args.done c.args.place c.hooks.done c.hooks.place hook _ parts out c.hooks.invariant
+    c.hook_at-hook.ensures.left is.0 on
+
+pub hooks-smaller : goal.hooks-smaller
+hooks-smaller c = let later = c.place_behind-place.ensures.later in omega arith
+
+pub hooks-preserved : goal.hooks-preserved
+hooks-preserved c =
+    let hook = c.hook_at-hook.result.now in
+    let is = begun-ended (IsEnding c.args.course.config.now c.args.course.ask.now c.hooks.done.tree hook) hook c.hooks.done.tree c.in_ok-waiting.field-0
+    c.in-Ended.ending c.in-Ended.unsteady c.in-Ended.is c.in_ok-waiting.ensures in
+    leads_on-ended c.args.course c.args.done c.args.place c.hooks.done c.in_ok-done-in-Ended.done c.hooks.place c.place_behind-place.result hook
+    c.in-Ended.ending c.in-Ended.unsteady c.hooks.invariant c.hook_at-hook.ensures.left c.hook_at-hook.ensures.fits is.0 is.1
+    c.place_behind-place.ensures.left c.in_ok-done-in-Ended.ensures

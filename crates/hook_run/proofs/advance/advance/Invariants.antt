@@ -1,0 +1,9 @@
+use Rattle.std.specs.Prelude.{◌-◌, length}
+use Rattle.hook_run.proofs.AdvanceLemmas.{LeadsOn}
+use Rattle.hook_run.proofs.advance.advance.Given as goal
+
+abbrev pub invariant-hooks : goal.invariant-hooks
+invariant-hooks l = LeadsOn l.course l.fn.done l.fn.place l.done l.place
+
+abbrev pub decreases-hooks : goal.decreases-hooks
+decreases-hooks l = length l.course.hooks.items - l.place

@@ -1,0 +1,18 @@
+use Rattle.std.proofs.Common.{◌∙◌, ap, map}
+use Rattle.report_text.specs.Report.{report_text}
+use Rattle.hook_run.specs.Standing.{names_in}
+use Rattle.hook_run.proofs.AdvanceLemmas.{over-from, report-of_run}
+use Rattle.hook_run.proofs.advance.over.Goals as goal
+
+pub invariant_of-result : goal.invariant_of-result
+invariant_of-result c = record {
+  fits = c.requires.fits;
+  fits_at = tt;
+  planned = c.requires.course;
+  stored = c.from.ensures ∙ report-of_run c.args.course c.args.done.results c.in_ok-report.report.items c.requires.course
+      (c.in_ok-report.ensures ∙ ap (λ hooks. report_text (map (λ hook. hook.now.name) hooks) c.as_slice-2.result.now) c.as_slice.ensures.value
+      ∙ ap (report_text (names_in c.args.course)) c.as_slice-2.ensures);
+}
+
+pub returns : goal.returns
+returns c = λ parts out is. over-from c.args.course c.args.done c.args.place parts out c.requires.none is.0 is.1

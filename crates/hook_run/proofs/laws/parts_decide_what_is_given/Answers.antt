@@ -1,0 +1,5 @@
+use Rattle.hook_run.proofs.OneRunLemmas.{same-out}
+use Rattle.hook_run.proofs.laws.parts_decide_what_is_given.Goals as goal
+
+pub returns : goal.returns
+returns c = same-out

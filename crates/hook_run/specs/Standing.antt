@@ -1,0 +1,156 @@
+-- Where a plan stands, as the code has it. Serves private functions alone.
+use Rattle.std.specs.Prelude.{◌≡◌, ◌+◌, ◌≤◌, All, ℕ, Bool, false, if◌then◌else◌, List, [], ◌∷◌, drop, map, Option, None, Some}
+use Rattle.hook_base.specs.declared.file.File.{File}
+use Rattle.child_port.specs.declared.answer.Outcome.{Outcome}
+use Rattle.child_port.specs.Seen.{seen_of}
+use Rattle.hook_config.specs.declared.configuration.Config.{Config}
+use Rattle.report_text.specs.Report.{columns_of, report_text, width_of}
+use Rattle.report_text.specs.declared.hook_result.Ending.{Ending}
+use Rattle.hook_config.specs.declared.configuration.Hook.{Hook}
+use Rattle.path_select.specs.Candidates.{ArePassing}
+use Rattle.report_text.specs.declared.hook_result.HookResult.{HookResult}
+use Rattle.hook_run.specs.declared.course.Course.{Course}
+use Rattle.hook_run.specs.declared.gathered.Gathered.{Gathered}
+use Rattle.hook_run.specs.declared.progress.Progress.{Progress}
+use Rattle.hook_run.specs.declared.run_ask.RunAsk.{RunAsk}
+use Rattle.hook_run.specs.declared.run_out.RunOut.{RunOut}
+use Rattle.hook_run.specs.declared.begun.Begun.{Begun}
+use Rattle.hook_run.specs.declared.begun.Begun.TheVariants as begun
+use Rattle.hook_run.specs.declared.waiting.Waiting.{Waiting}
+use Rattle.hook_run.specs.declared.work.Work.{Work}
+use Rattle.hook_run.specs.declared.standing.Standing.{Standing}
+use Rattle.hook_run.specs.declared.standing.Standing.TheVariants.{Waits, Over}
+use Rattle.hook_run.specs.Asks.{hooks_of_run, names_of_run}
+use Rattle.hook_run.specs.HookRun.{commands_of, further_of, sees_whole}
+use Rattle.hook_run.specs.Parts.{ArePartsOf, Part}
+use Rattle.hook_run.specs.PartsEnding.{ending_of_parts}
+use Rattle.hook_run.specs.Plans.{AtHook, AtPart, Completes, GoesOn, GoesOnAt, Plan, ending_of_gathered, left_at, nothing_gathered}
+
+-- the hooks are those that the run goes through, and the candidates those that pass the patterns of the configuration
+pub record IsCourse (course : Course) : Type 0 where
+  pub asked : map (λ hook. hook.now) course.hooks.items ≡ hooks_of_run course.config.now course.ask.now
+  pub passing : ArePassing course.config.now.files course.config.now.exclude course.ask.now.candidates course.among
+
+-- the hooks from a place on
+abbrev pub hooks_from : Course → ℕ → List Hook
+hooks_from course place = map (λ hook. hook.now) (drop place course.hooks.items)
+
+-- a hook that has begun
+abbrev pub at_work : Work → AtHook
+at_work work = record {
+  hook = work.hook.now;
+  before = work.before;
+  commands = commands_of work.words work.names (drop work.begun work.cuts);
+  gathered = work.gathered;
+}
+
+-- a hook of which a part waits
+abbrev pub at_part : Waiting → AtPart
+at_part waiting = record {
+  hook = waiting.work.hook.now;
+  before = waiting.work.before;
+  command = waiting.command;
+  behind = commands_of waiting.work.words waiting.work.names (drop waiting.work.begun waiting.work.cuts);
+  gathered = waiting.work.gathered;
+}
+
+-- the hook, of which that part is left too
+abbrev pub at_hook : Waiting → AtHook
+at_hook waiting = left_at (at_part waiting)
+
+abbrev pub waiting_at : Standing → Option AtPart
+waiting_at (Waits waiting) = Some (at_part waiting)
+waiting_at (Over report) = None
+
+-- the same, with other things gathered
+abbrev pub with_gathered : AtHook → Gathered → AtHook
+with_gathered at all = record { hook = at.hook; before = at.before; commands = at.commands; gathered = all }
+
+-- what the child of the next part sees is made of this tree
+abbrev pub IsSeenOn : List File → Waiting → Type 0
+IsSeenOn tree waiting =
+    waiting.seen ≡ seen_of waiting.command (further_of waiting.work.hook.now tree) (sees_whole waiting.work.hook.now) tree
+
+-- the part that waits, with this outcome
+abbrev pub part_at : Waiting → List File → Outcome → Bool → Part
+part_at waiting tree outcome unsteady = record {
+  words = waiting.command;
+  seen = seen_of waiting.command (further_of waiting.work.hook.now tree) (sees_whole waiting.work.hook.now) tree;
+  outcome = outcome;
+  unsteady = unsteady;
+}
+
+-- what is stored for the outside is what is defined
+abbrev pub IsStored : Config → RunAsk → Progress → Standing → Type 0
+IsStored config ask done (Waits waiting) = IsSeenOn done.tree waiting
+IsStored config ask done (Over report) = report ≡ report_text (names_of_run config ask) done.results
+
+-- ---- the columns of the report
+
+-- the names of all hooks that the run goes through
+abbrev pub names_in : Course → List (List ℕ)
+names_in course = map (λ hook. hook.now.name) course.hooks.items
+
+-- the name is one of those that the columns are made for
+abbrev pub FitsName : Course → List ℕ → Type 0
+FitsName course name = width_of name + 30 ≤ columns_of (names_in course)
+
+abbrev pub FitsResults : Course → List HookResult → Type 0
+FitsResults course results = All (λ one. width_of one.name + 30 ≤ columns_of (names_in course)) results
+
+abbrev pub FitsAt : Course → Standing → Type 0
+FitsAt course (Waits waiting) = FitsName course waiting.work.hook.now.name
+FitsAt course (Over report) = Unit {0}
+
+-- ---- a plan
+
+-- what a plan's fields are to each other
+pub record IsPlanned (course : Course) (done : Progress) (standing : Standing) : Type 0 where
+  pub fits : FitsResults course done.results
+  pub fits_at : FitsAt course standing
+  pub planned : IsCourse course
+  pub stored : IsStored course.config.now course.ask.now done standing
+
+-- ---- how a hook goes on
+
+-- it has ended where no command is left; else the next waits
+abbrev pub HasGoneOn : AtHook → List File → Begun → Type 0
+HasGoneOn at tree (begun.Ended ending unsteady) =
+    (at.commands ≡ []) × (ending ≡ ending_of_gathered at.gathered at.before tree) × (unsteady ≡ at.gathered.unsteady)
+HasGoneOn at tree (begun.Waits waiting) = (at_hook waiting ≡ at) × IsSeenOn tree waiting
+
+-- the parts of the commands that are left, from the tree on, are those of a hook that ends with what they come to
+pub record IsFirstOf (EndsWith : List Part → Ending → Type 0) (hook : Hook) (tree : List File) (at : AtHook) : Type 0 where
+  pub of_hook : at.hook ≡ hook
+  pub before : at.before ≡ tree
+  pub gathered : at.gathered ≡ nothing_gathered
+  pub ended : (parts : List Part) → ArePartsOf (sees_whole hook) (further_of hook) at.commands tree parts → EndsWith parts (ending_of_parts tree parts)
+
+-- a hook that begins on the tree has ended without a child, or the first of its parts waits
+abbrev pub HasBegun : (List Part → Ending → Type 0) → Hook → List File → Begun → Type 0
+HasBegun EndsWith hook tree (begun.Ended ending unsteady) = EndsWith [] ending × (unsteady ≡ false)
+HasBegun EndsWith hook tree (begun.Waits waiting) = IsFirstOf EndsWith hook tree (at_hook waiting) × IsSeenOn tree waiting
+
+-- ---- what hooks that are done left
+
+abbrev pub id_if : Bool → Hook → List (List ℕ)
+id_if unsteady hook = if unsteady then hook.id ∷ [] else []
+
+-- the same on another tree
+abbrev pub on_tree : Progress → List File → Progress
+on_tree done tree = record { results = done.results; unsteady = done.unsteady; tree = tree }
+
+-- what completes the plan goes on so
+abbrev pub GoesOnSo : (List Part → RunOut → Type 0) → Plan → Type 0
+GoesOnSo Goes plan = (parts : List Part) (out : RunOut) → Completes plan parts out → Goes parts out
+
+-- whatever completes the plan, goes on from what is done with the hooks from a place on
+abbrev pub IsPlanFrom : Course → Progress → ℕ → Plan → Type 0
+IsPlanFrom course done place plan = GoesOnSo (GoesOn course.config.now course.ask.now done (hooks_from course place)) plan
+
+-- whatever completes the plan, goes on at the hook that waits, behind the part with this outcome
+abbrev pub IsToldFrom : Course → Progress → ℕ → Waiting → Outcome → Bool → Plan → Type 0
+IsToldFrom course done place waiting outcome unsteady plan =
+    (parts : List Part) (out : RunOut) → Completes plan parts out
+    → GoesOnAt course.config.now course.ask.now done (at_hook waiting) (hooks_from course place)
+    (part_at waiting done.tree outcome unsteady ∷ parts) out

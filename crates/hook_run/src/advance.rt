@@ -1,0 +1,101 @@
+//! The hooks of a run one after another, up to one that waits.
+
+ghost use Rattle.std.specs.Prelude.{◌≡◌, ◌<◌, ◌≤◌, ◌+◌, ◌-◌, ◌∷◌, IfOk, length};
+ghost use Rattle.hook_run.specs.Plans.{hooks_after};
+ghost use Rattle.hook_run.specs.StageRun.{is_last};
+ghost use Rattle.hook_run.specs.Standing.{FitsName, FitsResults, IsCourse, IsPlanFrom, hooks_from};
+
+use crate::RunPlan;
+use crate::begin::begin_hook;
+use crate::begun::Begun;
+use crate::course::Course;
+use crate::progress::{Progress, progress_with};
+use crate::report::report_of;
+use crate::standing::Standing;
+use hook_base::{Bytes, OutOfMemory};
+use hook_config::{Config, Hook};
+use report_text::Ending;
+use std::alloc::Global;
+
+/// The plan of the hooks from this place on, behind those that are done.
+pub(crate) fn advance<'a>(
+    alloc: Global,
+    course: Course<'a>,
+    done: Progress,
+    place: usize,
+) -> Result<RunPlan<'a>, OutOfMemory>
+    requires course { IsCourse course }
+    requires fits { FitsResults course done.results }
+    ensures { IfOk result (IsPlanFrom course.entry done place) }
+{
+    let mut done = done;
+    let mut place = place;
+    'hooks: while place < course.hooks.len() {
+        let hook = hook_at(&course, place);
+        place += 1;
+        match begin_hook(alloc, &course, hook, &done.tree)? {
+            Begun::Waits(waiting) => {
+                return Ok(RunPlan {
+                    course,
+                    done,
+                    place,
+                    standing: Standing::Waits(waiting),
+                });
+            }
+            Begun::Ended(ending, unsteady) => {
+                place = place_behind(&course, hook, &ending, place);
+                done = progress_with(alloc, done, hook, ending, unsteady)?;
+            }
+        }
+    }
+    over(alloc, course, done, place)
+}
+
+// The hook at a place.
+fn hook_at<'a>(course: &Course<'a>, place: usize) -> &'a Hook
+    requires { place < length course.now.hooks.items }
+    ensures left { hooks_from course.now place ≡ result.now ∷ hooks_from course.now (place + 1) }
+    ensures fits { FitsName course.now result.now.name }
+{
+    course.hooks[place]
+}
+
+/// The place that the run goes on at behind a hook that ends so: this one, or behind all where the hook is the last.
+pub(crate) fn place_behind(course: &Course, hook: &Hook, ending: &Ending, place: usize) -> usize
+    ensures later { length course.now.hooks.items - result ≤ length course.now.hooks.items - place }
+    ensures left { hooks_from course.now result ≡ hooks_after course.now.config.now hook.now ending.now (hooks_from course.now place) }
+{
+    if is_last(course.config, hook, ending) {
+        course.hooks.len()
+    } else {
+        place
+    }
+}
+
+// No hook is run after this one: it failed, and the configuration or the hook wants to stop then.
+fn is_last(config: &Config, hook: &Hook, ending: &Ending) -> bool
+    ensures { result ≡ is_last config.now hook.now ending.now }
+{
+    (config.fail_fast || hook.fail_fast) && ending.is_failed()
+}
+
+// The plan of a run that is over.
+fn over<'a>(
+    alloc: Global,
+    course: Course<'a>,
+    done: Progress,
+    place: usize,
+) -> Result<RunPlan<'a>, OutOfMemory>
+    requires course { IsCourse course }
+    requires fits { FitsResults course done.results }
+    requires none { length course.hooks.items ≤ place }
+    ensures { IfOk result (IsPlanFrom course.entry done place) }
+{
+    let report = report_of(alloc, course.hooks.as_slice(), done.results.as_slice())?;
+    Ok(RunPlan {
+        course,
+        done,
+        place,
+        standing: Standing::Over(Bytes::from(report)),
+    })
+}

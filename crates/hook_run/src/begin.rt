@@ -1,0 +1,180 @@
+//! How a hook begins.
+
+ghost use Rattle.std.specs.Prelude.{◌≡◌, IfOk, IsSome, MatchOption, None};
+ghost use Rattle.arg_partition.specs.Parts.{AreParts, fits, too_long_at};
+ghost use Rattle.path_select.specs.Selection.{texts_of_rules};
+ghost use Rattle.hook_run.specs.HookRun.{IsCommandRun, IsEnding, IsHookRun, IsLanguageRun, ending_of_answer, ending_of_misfit, names_for, rules_of};
+ghost use Rattle.hook_run.specs.Limits.{most_command_bytes, most_names};
+ghost use Rattle.hook_run.specs.Standing.{HasBegun, IsCourse};
+
+use crate::asked::is_skipped;
+use crate::begun::Begun;
+use crate::command::command_of;
+use crate::course::Course;
+use crate::gathered::nothing_gathered;
+use crate::limits::{MOST_COMMAND_BYTES, MOST_NAMES};
+use crate::work::{Work, go_on};
+use arg_partition::{Cut, PartsFault, parts};
+use builtin_hooks::fail_answer;
+use child_port::Answer;
+use hook_base::{Bytes, Items, OutOfMemory, RepoPath, Text, Tree};
+use hook_config::{Config, Hook, Language};
+use path_select::{Rules, select_among};
+use report_text::{Ending, LineFault};
+use std::alloc::Global;
+
+/// How the hook begins on the tree: it has ended where it needs no child, else the first of its parts waits. Nothing is
+/// selected for a hook that is to be skipped.
+pub(crate) fn begin_hook<'a>(
+    alloc: Global,
+    course: &Course<'a>,
+    hook: &'a Hook,
+    tree: &Tree,
+) -> Result<Begun<'a>, OutOfMemory>
+    requires { IsCourse course.now }
+    ensures { IfOk result (HasBegun (IsEnding course.now.config.now course.now.ask.now tree.now hook.now) hook.now tree.now) }
+{
+    if is_skipped(course.ask, hook) {
+        return Ok(Begun::Ended(Ending::SkippedAsked, false));
+    }
+    let rules = rules_of(course.config, hook);
+    let files = select_among(alloc, &rules, &course.among, tree)?;
+    begin_with(alloc, hook, files, tree)
+}
+
+fn rules_of<'a>(config: &'a Config, hook: &'a Hook) -> Rules<'a>
+    ensures { texts_of_rules result ≡ rules_of config.now hook.now }
+{
+    Rules {
+        top_files: config.files.as_pattern(),
+        top_exclude: config.exclude.as_pattern(),
+        files: hook.files.as_pattern(),
+        exclude: hook.exclude.as_pattern(),
+        types: hook.types.as_slice(),
+        types_or: hook.types_or.as_slice(),
+        exclude_types: hook.exclude_types.as_slice(),
+    }
+}
+
+// How the hook begins where these files are selected for it.
+fn begin_with<'a>(
+    alloc: Global,
+    hook: &'a Hook,
+    files: Items<RepoPath>,
+    tree: &Tree,
+) -> Result<Begun<'a>, OutOfMemory>
+    ensures { IfOk result (HasBegun (IsHookRun hook.now files tree.now) hook.now tree.now) }
+{
+    if files.is_empty() && !hook.always_run {
+        return Ok(Begun::Ended(Ending::SkippedNoFiles, false));
+    }
+    let names = names_for(alloc, hook, files);
+    begin_language(alloc, hook, names, tree)
+}
+
+// The names that the hook is handed where these files are selected for it.
+fn names_for(alloc: Global, hook: &Hook, files: Items<RepoPath>) -> Items<RepoPath>
+    ensures { result ≡ names_for hook.now files }
+{
+    if hook.pass_filenames {
+        files
+    } else {
+        Items::new(alloc)
+    }
+}
+
+// How the hook begins with these names.
+fn begin_language<'a>(
+    alloc: Global,
+    hook: &'a Hook,
+    names: Items<RepoPath>,
+    tree: &Tree,
+) -> Result<Begun<'a>, OutOfMemory>
+    ensures { IfOk result (HasBegun (IsLanguageRun hook.now.language hook.now names tree.now) hook.now tree.now) }
+{
+    match &hook.language {
+        Language::Fail => {
+            let answer = fail_answer(alloc, hook.entry.as_str(), names.as_slice())?;
+            Ok(Begun::Ended(ending_of_answer(alloc, answer), false))
+        }
+        Language::Pygrep(grep) => {
+            let answer = grep.answer(alloc, names.as_slice(), tree)?;
+            Ok(Begun::Ended(ending_of_answer(alloc, answer), false))
+        }
+        Language::System(words) => {
+            let command = command_of(alloc, false, words.as_slice(), tree)?;
+            begin_command(alloc, hook, command, names, tree)
+        }
+        Language::Script(words) => {
+            let command = command_of(alloc, true, words.as_slice(), tree)?;
+            begin_command(alloc, hook, command, names, tree)
+        }
+    }
+}
+
+fn ending_of_answer(alloc: Global, answer: Answer) -> Ending
+    ensures { result ≡ ending_of_answer answer }
+{
+    Ending::Ran {
+        status: answer.status,
+        faults: Items::new(alloc),
+        modified: false,
+        output: answer.output,
+    }
+}
+
+// How the hook begins whose command has these words, with these names behind them.
+fn begin_command<'a>(
+    alloc: Global,
+    hook: &'a Hook,
+    words: Items<Text>,
+    names: Items<RepoPath>,
+    tree: &Tree,
+) -> Result<Begun<'a>, OutOfMemory>
+    ensures { IfOk result (HasBegun (IsCommandRun hook.now words names tree.now) hook.now tree.now) }
+{
+    let Some(cuts) = cuts_of(alloc, &words, &names)? else {
+        return Ok(Begun::Ended(ending_of_misfit(alloc)?, false));
+    };
+    let before = tree.copy()?;
+    let gathered = nothing_gathered(alloc);
+    let work = Work {
+        hook,
+        before,
+        words,
+        names,
+        cuts,
+        begun: 0,
+        gathered,
+    };
+    go_on(alloc, work, tree)
+}
+
+// The parts of the command, or `None` where a name doesn't fit with the words alone, or without names the words don't.
+fn cuts_of(
+    alloc: Global,
+    words: &Items<Text>,
+    names: &Items<RepoPath>,
+) -> Result<Option<Items<Cut>>, OutOfMemory>
+    ensures { IfOk result (λ cuts. MatchOption cuts (IsSome (too_long_at (fits words.now most_command_bytes) names.now)) (λ cuts. (too_long_at (fits words.now most_command_bytes) names.now ≡ None) × AreParts (fits words.now most_command_bytes) most_names names.now cuts)) }
+{
+    let limit = MOST_COMMAND_BYTES;
+    match parts(alloc, words.as_slice(), names.as_slice(), limit, MOST_NAMES) {
+        Ok(cuts) => Ok(Some(cuts)),
+        Err(PartsFault::TooLong(_)) => Ok(None),
+        Err(PartsFault::OutOfMemory) => Err(OutOfMemory),
+    }
+}
+
+fn ending_of_misfit(alloc: Global) -> Result<Ending, OutOfMemory>
+    ensures { IfOk result (λ ending. ending ≡ ending_of_misfit) }
+{
+    let mut faults = Vec::new(alloc);
+    faults.push(LineFault::Misfit)?;
+    Ok(Ending::Ran {
+        status: 0,
+        faults: Items::from(faults),
+        modified: false,
+        output: Bytes::new(alloc),
+    })
+}

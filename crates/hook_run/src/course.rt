@@ -1,0 +1,15 @@
+//! What is the same all along a run.
+
+use crate::RunAsk;
+use hook_config::{Config, Hook};
+use path_select::Candidates;
+
+/// What is the same all along a run: what is asked, the hooks that it goes through, and the candidates that pass the
+/// patterns of the whole configuration.
+#[derive(Drop)]
+pub(crate) struct Course<'a> {
+    pub(crate) config: &'a Config,
+    pub(crate) ask: &'a RunAsk,
+    pub(crate) hooks: Vec<&'a Hook>,
+    pub(crate) among: Candidates<'a>,
+}

@@ -1,0 +1,80 @@
+//! What the hooks of a run that are done left.
+
+ghost use Rattle.std.specs.Prelude.{◌≡◌, IfOk};
+ghost use Rattle.child_port.specs.Outcomes.{after_outcome};
+ghost use Rattle.hook_run.specs.Plans.{progress_with, result_of};
+ghost use Rattle.hook_run.specs.Standing.{id_if, on_tree};
+
+use child_port::Outcome;
+use hook_base::{Items, OutOfMemory, Text, Tree};
+use hook_config::Hook;
+use report_text::{Ending, HookResult};
+use std::alloc::Global;
+
+/// What the hooks that are done left: their results, the ids of the unsteady ones, and the tree. While a hook has children,
+/// the tree is what its parts that are told left of it.
+#[derive(Drop)]
+pub(crate) struct Progress {
+    pub(crate) results: Items<HookResult>,
+    pub(crate) unsteady: Items<Text>,
+    pub(crate) tree: Tree,
+}
+
+/// What is left behind a hook that ends so. `unsteady` says whether one of its parts gave another answer than the remembered
+/// one.
+pub(crate) fn progress_with(
+    alloc: Global,
+    done: Progress,
+    hook: &Hook,
+    ending: Ending,
+    unsteady: bool,
+) -> Result<Progress, OutOfMemory>
+    ensures { IfOk result (λ after. after ≡ progress_with done hook.now ending (id_if unsteady hook.now) done.tree) }
+{
+    let Progress {
+        results,
+        unsteady: ids,
+        tree,
+    } = done;
+    let mut results = results.into_vec();
+    results.push(result_of(alloc, hook, ending)?)?;
+    let mut ids = ids.into_vec();
+    if unsteady {
+        ids.push(Text::copy_of(alloc, hook.id.as_str())?)?;
+    }
+    Ok(Progress {
+        results: Items::from(results),
+        unsteady: Items::from(ids),
+        tree,
+    })
+}
+
+fn result_of(alloc: Global, hook: &Hook, ending: Ending) -> Result<HookResult, OutOfMemory>
+    ensures { IfOk result (λ made. made ≡ result_of hook.now ending) }
+{
+    Ok(HookResult {
+        name: Text::copy_of(alloc, hook.name.as_str())?,
+        id: Text::copy_of(alloc, hook.id.as_str())?,
+        verbose: hook.verbose,
+        ending,
+    })
+}
+
+/// What is left behind a part with this outcome: its changes are applied.
+pub(crate) fn progress_after(done: Progress, outcome: &Outcome) -> Result<Progress, OutOfMemory>
+    ensures { IfOk result (λ after. after ≡ on_tree done (after_outcome done.tree outcome.now)) }
+{
+    let Progress {
+        results,
+        unsteady,
+        mut tree,
+    } = done;
+    if let Outcome::Done(answer) = outcome {
+        tree.apply(answer.changes.as_slice())?;
+    }
+    Ok(Progress {
+        results,
+        unsteady,
+        tree,
+    })
+}

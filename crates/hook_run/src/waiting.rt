@@ -1,0 +1,15 @@
+//! A hook whose next part waits for its outcome.
+
+use crate::work::Work;
+use hook_base::{Items, Text, Tree};
+
+/// A hook whose next part waits for its outcome.
+#[derive(Drop)]
+pub(crate) struct Waiting<'a> {
+    /// The hook, of which that part has begun.
+    pub(crate) work: Work<'a>,
+    /// The command of that part, with its names.
+    pub(crate) command: Items<Text>,
+    /// What the child of that part sees.
+    pub(crate) seen: Tree,
+}

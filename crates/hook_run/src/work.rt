@@ -1,0 +1,154 @@
+//! A hook with children that has begun.
+
+ghost use Rattle.std.specs.Prelude.{◌≡◌, ◌≤◌, ◌<◌, ◌++◌, IfOk, length};
+ghost use Rattle.arg_partition.specs.Parts.{names_of};
+ghost use Rattle.hook_run.specs.HookRun.{further_of, sees_whole};
+ghost use Rattle.hook_run.specs.Plans.{gathered_with};
+ghost use Rattle.hook_run.specs.Standing.{HasGoneOn, at_work, with_gathered};
+
+use crate::begun::Begun;
+use crate::gathered::{Gathered, gathered_with};
+use crate::modified::is_modified;
+use crate::waiting::Waiting;
+use arg_partition::Cut;
+use child_port::{Outcome, seen_of};
+use hook_base::{Items, OutOfMemory, RepoPath, Text, Tree};
+use hook_config::Hook;
+use report_text::Ending;
+use std::alloc::Global;
+
+/// A hook with children that has begun.
+#[derive(Drop)]
+pub(crate) struct Work<'a> {
+    pub(crate) hook: &'a Hook,
+    /// The tree on which the hook began.
+    pub(crate) before: Tree,
+    /// The words of its command, without names.
+    pub(crate) words: Items<Text>,
+    /// The names of all its parts.
+    pub(crate) names: Items<RepoPath>,
+    /// The cuts of those names, one for each part.
+    pub(crate) cuts: Items<Cut>,
+    /// How many of the parts have begun.
+    pub(crate) begun: usize,
+    /// What those that are told came to.
+    pub(crate) gathered: Gathered,
+}
+
+/// How the hook goes on from this tree: its next part waits, or it has ended where no part is left.
+pub(crate) fn go_on<'a>(
+    alloc: Global,
+    work: Work<'a>,
+    tree: &Tree,
+) -> Result<Begun<'a>, OutOfMemory>
+    ensures { IfOk result (HasGoneOn (at_work work.entry) tree.now) }
+{
+    if work.begun < work.cuts.len() {
+        waits(alloc, work, tree)
+    } else {
+        Ok(ended(work, tree))
+    }
+}
+
+// The next part of the hook, which isn't begun yet, waits.
+fn waits<'a>(alloc: Global, work: Work<'a>, tree: &Tree) -> Result<Begun<'a>, OutOfMemory>
+    requires { work.begun < length work.cuts }
+    ensures { IfOk result (HasGoneOn (at_work work.entry) tree.now) }
+{
+    let mut work = work;
+    let cut = work.cuts.as_slice()[work.begun];
+    let names = names_of(work.names.as_slice(), cut);
+    let command = command_with(alloc, work.words.as_slice(), names)?;
+    let seen = seen_of(alloc, command.as_slice(), !work.hook.pass_filenames, tree)?;
+    work.begun += 1;
+    Ok(Begun::Waits(Waiting {
+        work,
+        command,
+        seen,
+    }))
+}
+
+// The hook has ended, as what its parts came to says.
+fn ended<'a>(work: Work<'a>, tree: &Tree) -> Begun<'a>
+    requires { length work.cuts ≤ work.begun }
+    ensures { HasGoneOn (at_work work.entry) tree.now result }
+{
+    let Work {
+        before,
+        gathered,
+        ..
+    } = work;
+    let Gathered {
+        status,
+        faults,
+        output,
+        unsteady,
+    } = gathered;
+    let ending = Ending::Ran {
+        status,
+        faults,
+        modified: is_modified(&before, tree),
+        output,
+    };
+    Begun::Ended(ending, unsteady)
+}
+
+// The names of a part.
+fn names_of(names: &[RepoPath], cut: Cut) -> &[RepoPath]
+    ensures { result.now ≡ names_of names.now cut }
+{
+    let end = if cut.end < names.len() {
+        cut.end
+    } else {
+        names.len()
+    };
+    if cut.start < end {
+        &names[cut.start..end]
+    } else {
+        &names[..0]
+    }
+}
+
+// The words with names behind them.
+fn command_with(
+    alloc: Global,
+    words: &[Text],
+    names: &[RepoPath],
+) -> Result<Items<Text>, OutOfMemory>
+    ensures { IfOk result (λ command. command ≡ words.now ++ names.now) }
+{
+    let mut command = words.to_vec(alloc)?;
+    'names: for name in names {
+        command.push(Text::copy_of(alloc, name.as_str())?)?;
+    }
+    Ok(Items::from(command))
+}
+
+/// The hook behind a part of it with this outcome. `unsteady` says whether that is another answer than the remembered one.
+pub(crate) fn work_with<'a>(
+    work: Work<'a>,
+    outcome: &Outcome,
+    unsteady: bool,
+) -> Result<Work<'a>, OutOfMemory>
+    ensures { IfOk result (λ after. at_work after ≡ with_gathered (at_work work.entry) (gathered_with work.entry.gathered outcome.now unsteady)) }
+{
+    let Work {
+        hook,
+        before,
+        words,
+        names,
+        cuts,
+        begun,
+        gathered,
+    } = work;
+    let gathered = gathered_with(gathered, outcome, unsteady)?;
+    Ok(Work {
+        hook,
+        before,
+        words,
+        names,
+        cuts,
+        begun,
+        gathered,
+    })
+}

@@ -1,0 +1,97 @@
+//! Children that answer by the rows of a table.
+//!
+//! A row is a text of lines: `answer STATUS`; the words of the command; the files that the child has seen; what it changes;
+//! and its output. Words are parted by tabs, and so are files, each `PATH=LINE`: its bytes are the line and a line feed.
+//! `PATH` alone, of what is changed, is a file that is gone.
+
+use child_port::{Answer, Fault, TableRow};
+use hook_base::{Bytes, Change, Changes, FileEntry, Items, Mode, RepoPath, Text, Tree};
+use std::alloc::Global;
+use trial_rows::{Stop, number_of, text_of};
+
+/// The row that a text is.
+pub(crate) fn row_of(alloc: Global, text: &str) -> Result<TableRow, Stop> {
+    let (head, rest) = line_of(text)?;
+    let (words, rest) = line_of(rest)?;
+    let (seen, rest) = line_of(rest)?;
+    let (changes, output) = line_of(rest)?;
+    let status = head.strip_prefix("answer ").ok_or(Stop::BadLine)?;
+    Ok(TableRow {
+        words: Items::from(words_of(alloc, words)?),
+        seen: seen_of(alloc, seen)?,
+        answer: Answer {
+            status: status_of(status)?,
+            output: Bytes::copy_of(alloc, output.as_bytes())?,
+            changes: changes_of(alloc, changes)?,
+        },
+    })
+}
+
+fn status_of(text: &str) -> Result<u8, Stop> {
+    match number_of(text.as_bytes())? {
+        status @ 0..=255 => Ok(status as u8),
+        _ => Err(Stop::BadLine),
+    }
+}
+
+/// The fault of this name.
+pub(crate) fn fault_of(word: &[u8]) -> Result<Fault, Stop> {
+    match text_of(word)? {
+        "not started" => Ok(Fault::NotStarted),
+        "wait failed" => Ok(Fault::WaitFailed),
+        "signal" => Ok(Fault::Signal),
+        "output too long" => Ok(Fault::OutputTooLong),
+        "scratch failed" => Ok(Fault::ScratchFailed),
+        _ => Err(Stop::BadLine),
+    }
+}
+
+fn line_of(text: &str) -> Result<(&str, &str), Stop> {
+    text.split_once('\n').ok_or(Stop::BadLine)
+}
+
+fn words_of(alloc: Global, line: &str) -> Result<Vec<Text>, Stop> {
+    let mut words = Vec::new(alloc);
+    for word in line.split('\t') {
+        words.push(Text::copy_of(alloc, word)?)?;
+    }
+    Ok(words)
+}
+
+fn seen_of(alloc: Global, line: &str) -> Result<Tree, Stop> {
+    let mut tree = Tree::new(alloc);
+    if line.is_empty() {
+        return Ok(tree);
+    }
+    for file in line.split('\t') {
+        let (path, contents) = file.split_once('=').ok_or(Stop::BadLine)?;
+        let (mode, bytes) = (Mode::Plain, line_bytes(alloc, contents)?);
+        tree.put(RepoPath::read(alloc, path)?, FileEntry { mode, bytes })?;
+    }
+    Ok(tree)
+}
+
+fn changes_of(alloc: Global, line: &str) -> Result<Changes, Stop> {
+    let mut changes = Vec::new(alloc);
+    if !line.is_empty() {
+        for change in line.split('\t') {
+            changes.push(change_of(alloc, change)?)?;
+        }
+    }
+    Changes::from_rising(changes).map_err(|_| Stop::BadLine)
+}
+
+fn change_of(alloc: Global, text: &str) -> Result<Change, Stop> {
+    let (path, now) = match text.split_once('=') {
+        Some((path, contents)) => (path, Some(line_bytes(alloc, contents)?)),
+        None => (text, None),
+    };
+    let path = RepoPath::read(alloc, path)?;
+    Ok(Change { path, now })
+}
+
+fn line_bytes(alloc: Global, line: &str) -> Result<Bytes, Stop> {
+    let mut bytes = line.as_bytes().to_vec(alloc)?;
+    bytes.push(b'\n')?;
+    Ok(Bytes::from(bytes))
+}

@@ -1,0 +1,93 @@
+//! Runs over children that answer by a table, one of which may fail.
+
+use crate::asks::{ask_of, tree_of};
+use crate::child_rows::{fault_of, row_of};
+use crate::configurations::refusal;
+use crate::plans::{refused_run, with_results};
+use child_port::{Children, FuseChildren, TableChildren, TableRow};
+use hook_base::{Items, Tree};
+use hook_config::{Config, read_config};
+use hook_run::{RunAsk, RunOut, run_hooks};
+use result_book::ListBook;
+use std::alloc::{AllocError, Global};
+use trial_rows::{Stop, number_of, text_of};
+
+/// `run_hooks CONFIGURATION STAGE CANDIDATES ONLY SKIP CALLS KTH FAULT COUNT ROW.. FILE..`: children that have told so many
+/// outcomes, or `all` that can be counted, answer by the first COUNT rows, and their call of the number KTH fails. The run's
+/// refusal with its number, name and text; or a line that says whether every hook passed, how many outcomes the run added
+/// and how many of them are faults, and how many hooks are unsteady; a line for each file that is changed; then a line for
+/// each result, and the report.
+pub(crate) fn played(alloc: Global, arguments: &[Vec<u8>]) -> Result<Vec<u8>, Stop> {
+    let [configuration, rest @ ..] = arguments else {
+        return Err(Stop::BadLine);
+    };
+    let Some((asked, rest)) = rest.split_at_checked(4) else {
+        return Err(Stop::BadLine);
+    };
+    let [calls, kth, fault, count, rest @ ..] = rest else {
+        return Err(Stop::BadLine);
+    };
+    let Some((rows, files)) = rest.split_at_checked(number_of(count.as_slice())? as usize) else {
+        return Err(Stop::BadLine);
+    };
+    let table = table_of(alloc, calls.as_slice(), rows)?;
+    let kth = u64::from(number_of(kth.as_slice())?);
+    let mut children = FuseChildren::new(table, kth, fault_of(fault.as_slice())?);
+    let (ask, tree) = (ask_of(alloc, asked)?, tree_of(alloc, files)?);
+    match read_config(alloc, configuration.as_slice()) {
+        Ok(config) => run_over(alloc, &mut children, &config, &ask, &tree),
+        Err(fault) => refusal(alloc, fault),
+    }
+}
+
+fn table_of(alloc: Global, calls: &[u8], texts: &[Vec<u8>]) -> Result<TableChildren, Stop> {
+    let calls = match text_of(calls)? {
+        "all" => u64::MAX,
+        _ => u64::from(number_of(calls)?),
+    };
+    let mut rows: Vec<TableRow> = Vec::new(alloc);
+    for text in texts {
+        rows.push(row_of(alloc, text_of(text.as_slice())?)?)?;
+    }
+    Ok(TableChildren::with_calls(Items::from(rows), calls))
+}
+
+fn run_over(
+    alloc: Global,
+    children: &mut FuseChildren<TableChildren>,
+    config: &Config,
+    ask: &RunAsk,
+    tree: &Tree,
+) -> Result<Vec<u8>, Stop> {
+    let (calls, faults) = (children.calls(), children.faults());
+    let mut book = ListBook::new(alloc);
+    match run_hooks(alloc, children, &mut book, config, ask, tree) {
+        Ok(out) => {
+            let calls = children.calls().saturating_sub(calls);
+            let faults = children.faults().saturating_sub(faults);
+            let mut head = head_of(alloc, &out, calls, faults)?;
+            push_changes(alloc, &mut head, tree, &out.tree)?;
+            with_results(alloc, head, &out)
+        }
+        Err(refused) => refused_run(alloc, refused),
+    }
+}
+
+fn head_of(alloc: Global, out: &RunOut, calls: u64, faults: u64) -> Result<String, AllocError> {
+    let verdict = if out.passed { "passed" } else { "failed" };
+    let unsteady = out.unsteady.len();
+    format!(in alloc; "{verdict}, {calls} calls, {faults} faults, {unsteady} unsteady\n")
+}
+
+fn push_changes(alloc: Global, text: &mut String, tree: &Tree, after: &Tree) -> Result<(), Stop> {
+    for change in tree.changes_to(after)?.as_slice() {
+        let path = change.path.as_str();
+        let what = if change.now.is_some() {
+            "changed"
+        } else {
+            "gone"
+        };
+        text.push_str(format!(in alloc; "{what} {path}\n")?.as_str())?;
+    }
+    Ok(())
+}

@@ -1,0 +1,27 @@
+//! The terminal that shows which child is running.
+
+use child_display::{Terminal, columns_of};
+use std::env;
+use std::io::{IsTerminal, Stderr};
+
+/// Standard error, where it is a terminal on which a line can be cleared. How many columns it has is what a shell says in
+/// `COLUMNS`, since the kit's C library has no `ioctl` to ask for it, and else 80.
+pub(crate) fn terminal_of(rt: &HostRuntime) -> Option<Terminal<Stderr>> {
+    let writer = rt.stderr();
+    if !writer.is_terminal() || variable(rt, "TERM").as_str() == "dumb" {
+        return None;
+    }
+    Some(Terminal {
+        alloc: rt.alloc(),
+        writer,
+        columns: columns_of(variable(rt, "COLUMNS").as_str()),
+    })
+}
+
+// A variable of the environment, empty where it isn't there or can't be read.
+fn variable(rt: &HostRuntime, name: &str) -> String {
+    match env::var(rt, name) {
+        Ok(text) => text,
+        Err(_) => String::new(rt.alloc()),
+    }
+}

@@ -1,0 +1,4 @@
+#!/bin/sh -e
+for text in "$@"; do
+  grep --quiet '^# ' "$text" || { echo "$text has no title"; exit 1; }
+done

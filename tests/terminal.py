@@ -1,0 +1,380 @@
+#!/usr/bin/env python3
+"""Plays the built program on a pseudo terminal: what standard error shows while a child runs, and what is left of it.
+
+Usage: tests/terminal.py [PROGRAM]   (default: crates/hookhost/out/hookhost)
+
+The terminal here is a screen that keeps to ECMA-48 and to what xterm does at the right margin. Each line that is shown is
+compared as it stands there, and the screen as it is left. How wide a character is Python's unicodedata says.
+"""
+import fcntl
+import os
+import re
+import select
+import shutil
+import struct
+import subprocess
+import sys
+import tempfile
+import termios
+import time
+import unicodedata
+from pathlib import Path
+
+HERE = Path(__file__).resolve().parent
+PROGRAM = os.path.abspath(sys.argv[1] if len(sys.argv) > 1 else HERE.parent / "crates/hookhost/out/hookhost")
+LIMIT = 60
+
+
+class Wrong(Exception):
+    """What is wrong, in words."""
+
+
+def check(holds, text):
+    if not holds:
+        raise Wrong(text)
+
+
+def equal(found, wanted, text):
+    check(found == wanted, f"{text}: {found!r} in place of {wanted!r}")
+
+
+# ---- a terminal
+
+def width_of(c):
+    if unicodedata.combining(c) or unicodedata.category(c) in ("Mn", "Me", "Cf"):
+        return 0
+    return 2 if unicodedata.east_asian_width(c) in "WF" else 1
+
+
+class Screen:
+    """The rows of a terminal, each a list of cells. The second cell of a wide character is empty."""
+
+    def __init__(self, columns):
+        self.columns, self.rows, self.at = columns, [[]], [0, 0]
+        self.wraps, self.pending = True, False
+        # The row of the cursor whenever wrapping was turned on again: the lines that were shown.
+        self.shown = []
+        self.left = b""
+
+    def take(self, data):
+        data = self.left + data
+        while data:
+            if found := re.match(rb"\x1b(\[[?0-9;]*[@-~])?", data):
+                if not found[1]:
+                    check(len(data) < 2, f"an escape that a terminal may not know: {data[:8]!r}")
+                    break
+                self.obey(found[1])
+                data = data[found.end():]
+                continue
+            size = 1 if data[0] < 0x80 else 2 if data[0] < 0xE0 else 3 if data[0] < 0xF0 else 4
+            if len(data) < size:
+                break
+            self.put(data[:size].decode())
+            data = data[size:]
+        self.left = data
+
+    def obey(self, sequence):
+        if sequence == b"[?7l":
+            self.wraps = False
+        elif sequence == b"[?7h":
+            self.wraps = True
+            self.shown.append(self.text(self.at[0]))
+        elif sequence == b"[K":
+            self.rows[self.at[0]] = self.row()[:self.at[1]]
+            self.pending = False
+        else:
+            raise Wrong(f"the sequence {sequence!r} was not expected")
+
+    def row(self):
+        while len(self.rows) <= self.at[0]:
+            self.rows.append([])
+        row = self.rows[self.at[0]]
+        row.extend(" " * (self.at[1] - len(row)))
+        return row
+
+    def put(self, c):
+        if c == "\r":
+            self.at[1], self.pending = 0, False
+        elif c == "\n":
+            self.at[0], self.pending = self.at[0] + 1, False
+            self.row()
+        else:
+            check(unicodedata.category(c) != "Cc", f"the control character {c!r} came")
+            self.print(c, width_of(c))
+
+    def print(self, c, width):
+        if width == 0:
+            row = self.row()
+            if row:
+                row[-1] += c
+            return
+        if self.at[1] + width > self.columns or self.pending:
+            if self.wraps:
+                self.at, self.pending = [self.at[0] + 1, 0], False
+            else:
+                self.at[1] = self.columns - width
+        row = self.row()
+        row[self.at[1]:self.at[1] + width] = [c, *[""] * (width - 1)]
+        self.pending = self.at[1] + width == self.columns
+        self.at[1] = min(self.at[1] + width, self.columns - 1)
+
+    def text(self, number):
+        return "".join(self.rows[number]).rstrip(" ") if number < len(self.rows) else ""
+
+    def all(self):
+        return [self.text(number) for number in range(len(self.rows))]
+
+
+class Played:
+    """A program whose standard error is a terminal."""
+
+    def __init__(self, folder, words, columns=80, out_too=False, **variables):
+        self.end, near = os.openpty()
+        fcntl.ioctl(near, termios.TIOCSWINSZ, struct.pack("HHHH", 24, columns, 0, 0))
+        environment = {name: text for name, text in os.environ.items() if name not in ("COLUMNS", "TERM", "SKIP")}
+        environment.update({"TERM": "xterm", **variables})
+        self.out = None if out_too else tempfile.TemporaryFile()
+        self.child = subprocess.Popen([PROGRAM, *words], cwd=folder, stdin=subprocess.DEVNULL, stdout=near if out_too else self.out, stderr=near, env=environment)
+        os.close(near)
+        self.screen, self.bytes = Screen(columns), b""
+
+    def read(self, seconds=LIMIT):
+        """Takes what comes next, and answers whether anything did. At the end nothing does."""
+        if not select.select([self.end], [], [], seconds)[0]:
+            raise Wrong(f"nothing came on the terminal for {seconds} seconds, after {self.bytes!r}")
+        try:
+            data = os.read(self.end, 65536)
+        except OSError:
+            data = b""
+        self.bytes += data
+        self.screen.take(data)
+        return data != b""
+
+    def wait(self):
+        """The exit status, once all was read."""
+        while self.read():
+            pass
+        return self.ended()
+
+    def ended(self):
+        status = self.child.wait(LIMIT)
+        os.close(self.end)
+        return status
+
+    def printed(self):
+        self.out.seek(0)
+        return self.out.read().decode()
+
+
+def hook(entry, name="H", **keys):
+    quoted = '"' + entry.replace("\\", "\\\\").replace('"', '\\"').replace("\n", "\\n").replace("\t", "\\t").replace("\x1b", "\\x1b").replace("\r", "\\r") + '"'
+    lines = [f"  - id: {name.lower()}", f"    name: {name}", "    language: system", f"    entry: {quoted}"]
+    return "\n".join(lines + [f"    {key}: {value}" for key, value in keys.items()]) + "\n"
+
+
+def folder_of(hooks, files=()):
+    folder = tempfile.mkdtemp(dir=BASE)
+    Path(folder, "c.yaml").write_text("repos:\n- repo: local\n  hooks:\n" + "".join(hooks))
+    for name in files:
+        Path(folder, name).parent.mkdir(parents=True, exist_ok=True)
+        Path(folder, name).write_text("x\n")
+    return folder, ["try", "c.yaml", *files]
+
+
+def line(name, word):
+    return name + "." * (79 - len(name) - len(word)) + word
+
+
+def shows(hooks, files, shown, status=0, **how):
+    """The lines that are shown are these, and the screen is left empty."""
+    folder, words = folder_of(hooks, files)
+    played = Played(folder, words, **how)
+    equal(played.wait(), status, "the exit status")
+    equal(played.screen.shown, shown, "the lines that were shown")
+    equal(played.screen.all(), [""], "what is left on the screen")
+    equal((played.screen.at, played.screen.wraps), ([0, 0], True), "where the cursor is left, and whether lines wrap")
+    return played
+
+
+# ---- the cases
+
+def shows_each_child_and_how_many_came_before():
+    played = shows([hook("true", "A"), hook("no-such-program", "B"), hook("false", "C", always_run="true", pass_filenames="false"), hook("true", "D")], ["a.txt", "b.txt"], [
+        "[0] true a.txt b.txt", "[1] no-such-program a.txt b.txt", "[2] false", "[3] true a.txt b.txt"], status=1)
+    equal([it.split(".")[0] for it in played.printed().splitlines() if it.startswith(tuple("ABCD"))], ["A", "B", "C", "D"], "the report")
+
+
+def stands_while_the_child_runs():
+    folder, words = folder_of([hook(f"sh -c 'until [ -e {BASE}/go ]; do sleep 0.01; done'", pass_filenames="false")], ["a.txt"])
+    played = Played(folder, words)
+    while not played.screen.shown:
+        played.read()
+    time.sleep(0.3)
+    check(not select.select([played.end], [], [], 0)[0], "something came while the child ran")
+    equal(played.screen.all(), [f"[0] sh -c until [ -e {BASE}/go ]; do sleep 0.01; done"[:80]], "the screen")
+    Path(BASE, "go").touch()
+    equal(played.wait(), 0, "the exit status")
+    equal(played.screen.all(), [""], "what is left on the screen")
+
+
+def is_cut_to_the_columns_that_are_said():
+    for columns in (1, 3, 4, 12, 40, 79, 80):
+        shows([hook("echo " + "0123456789" * 20, pass_filenames="false")], ["a.txt"], [("[0] echo " + "0123456789" * 20)[:columns].rstrip()], columns=columns, COLUMNS=str(columns))
+
+
+def is_one_line_on_a_terminal_that_says_nothing():
+    # The terminal cuts the line itself, and shows the last of 80 columns at its margin.
+    text = ("[0] echo " + "0123456789" * 20)[:80]
+    for columns in (1, 2, 20, 79, 80, 200):
+        shows([hook("echo " + "0123456789" * 20, pass_filenames="false")], ["a.txt"], [text[:columns - 1] + text[-1] if columns < 80 else text], columns=columns)
+
+
+def what_columns_says_amiss_is_80():
+    for said in ("", "0", "-5", "wide", "65536", "80 "):
+        shows([hook("echo " + "0123456789" * 20, pass_filenames="false")], ["a.txt"], [("[0] echo " + "0123456789" * 20)[:80]], columns=300, COLUMNS=said)
+
+
+def wide_characters_take_two_columns():
+    for columns, shown in ((20, "[0] echo 日本語のな"), (19, "[0] echo 日本語のな"), (18, "[0] echo 日本語の"), (17, "[0] echo 日本語の"), (16, "[0] echo 日本語")):
+        shows([hook("echo 日本語のなまえ", pass_filenames="false")], ["a.txt"], [shown], columns=columns, COLUMNS=str(columns))
+    shows([hook("echo", pass_filenames="true")], ["é/日本.txt", "e\u0301.txt"], ["[0] echo e\u0301.txt é/日本.txt"])
+
+
+def control_characters_are_shown_as_question_marks():
+    shows([hook("echo 'a\nb\x1b[2Jc\td\x1b]0;title\re'", pass_filenames="false")], ["a.txt"], ["[0] echo a?b?[2Jc?d?]0;title?e"])
+    shows([hook("echo '\x1b[31m\n\n\n'", pass_filenames="false")], ["a.txt"], ["[0] echo ?[31m???"])
+    shows([hook("echo \u009b31m\u0085\u007f", pass_filenames="false")], ["a.txt"], ["[0] echo ?31m??"])
+
+
+def long_commands_are_one_line():
+    names = [f"files/{number:06}.txt" for number in range(3000)]
+    shows([hook("true", require_serial="true")], names, [("[0] true " + " ".join(names))[:80]])
+
+
+def parts_are_shown_one_by_one():
+    names = [f"{number:06}" + "x" * 150 + ".txt" for number in range(2000)]
+    folder, words = folder_of([hook("true")], names)
+    played = Played(folder, words)
+    equal(played.wait(), 0, "the exit status")
+    check(len(played.screen.shown) > 1, f"there is one part: {played.screen.shown!r}")
+    equal([text.split("] ")[0] for text in played.screen.shown], [f"[{number}" for number in range(len(played.screen.shown))], "how many came before")
+    equal(played.screen.all(), [""], "what is left on the screen")
+
+
+def what_a_child_prints_stays_off_the_terminal():
+    shows([hook("sh -c 'echo out; echo err >&2; printf \"\\033[2J\" >&2'", pass_filenames="false")], ["a.txt"], ["[0] sh -c echo out; echo err >&2; printf \"\\033[2J\" >&2"])
+
+
+def a_report_on_the_same_terminal_stands_alone():
+    hooks = [hook("true", "A"), hook("sh -c 'echo said; exit 3'", "B"), hook("true", "C")]
+    folder, words = folder_of(hooks, ["a.txt"])
+    wanted = subprocess.run([PROGRAM, *words], cwd=folder, stdin=subprocess.DEVNULL, capture_output=True, timeout=LIMIT)
+    equal((wanted.returncode, wanted.stderr), (1, b""), "without a terminal")
+    played = Played(folder, words, out_too=True)
+    equal(played.wait(), 1, "the exit status")
+    equal(len(played.screen.shown), 3, "how many lines were shown")
+    equal(played.screen.all(), [text.rstrip() for text in wanted.stdout.decode().split("\n")], "the screen")
+
+
+def nothing_is_shown_without_a_terminal():
+    # Standard output is a terminal, and standard error none.
+    folder, words = folder_of([hook("true", "A")], ["a.txt"])
+    end, near = os.openpty()
+    done = subprocess.run([PROGRAM, *words], cwd=folder, stdin=near, stdout=near, stderr=subprocess.PIPE, env={**os.environ, "TERM": "xterm"}, timeout=LIMIT)
+    os.close(near)
+    equal((done.returncode, done.stderr), (0, b""), "standard error")
+    equal(os.read(end, 65536).decode(), line("A", "Passed") + "\r\n", "standard output")
+    os.close(end)
+    with open("/dev/full", "wb") as full:
+        done = subprocess.run([PROGRAM, *words], cwd=folder, stdin=subprocess.DEVNULL, stdout=subprocess.PIPE, stderr=full, timeout=LIMIT)
+    equal((done.returncode, done.stdout.decode()), (0, line("A", "Passed") + "\n"), "where standard error takes nothing")
+
+
+def nothing_is_shown_on_a_dumb_terminal():
+    folder, words = folder_of([hook("true", "A")], ["a.txt"])
+    played = Played(folder, words, TERM="dumb")
+    equal((played.wait(), played.bytes), (0, b""), "a dumb terminal")
+
+
+def nothing_is_shown_of_hooks_without_children():
+    folder, words = folder_of([hook("no", "A").replace("system", "fail")], ["a.txt"])
+    played = Played(folder, words)
+    equal((played.wait(), played.bytes), (1, b""), "a hook of `fail`")
+
+
+def a_terminal_that_goes_away_changes_nothing():
+    folder, words = folder_of([hook(f"sh -c 'until [ -e {BASE}/gone ]; do sleep 0.01; done'", "A", pass_filenames="false"), hook("sh -c 'exit 7'", "B")], ["a.txt"])
+    played = Played(folder, words)
+    while not played.screen.shown:
+        played.read()
+    os.close(played.end)
+    Path(BASE, "gone").touch()
+    equal(played.child.wait(LIMIT), 1, "the exit status")
+    equal(played.printed(), "\n".join([line("A", "Passed"), line("B", "Failed"), "- hook id: b", "- exit code: 7", ""]), "the report")
+
+
+def a_killed_program_leaves_a_terminal_that_wraps():
+    folder, words = folder_of([hook("sleep 2", pass_filenames="false")], ["a.txt"])
+    played = Played(folder, words)
+    while not played.screen.shown:
+        played.read()
+    played.child.kill()
+    played.wait()
+    check(played.screen.wraps, "lines no longer wrap")
+
+
+def want_of_memory_for_the_line_loses_no_child():
+    library = os.path.join(BASE, "refuse.so")
+    subprocess.run(["cc", "-O1", "-shared", "-fPIC", "-o", library, str(HERE / "refuse_allocation.c"), "-ldl"], check=True)
+    folder, words = folder_of([hook("sh -c 'echo said; exit 3' x", "A")], ["a.txt"])
+    refused_file = os.path.join(BASE, "refused")
+    whole = Played(folder, words)
+    equal((whole.wait(), len(whole.screen.shown)), (1, 1), "with ample memory")
+    unseen = seen = 0
+    for number in range(1, 2000):
+        Path(refused_file).unlink(missing_ok=True)
+        # A run that gave up leaves what the next would clear away, which takes memory of its own.
+        shutil.rmtree(os.path.join(folder, ".hookhost"), ignore_errors=True)
+        played = Played(folder, words, LD_PRELOAD=library, REFUSE_ALLOCATION=str(number), REFUSED_FILE=refused_file)
+        status = played.wait()
+        equal([text for text in played.screen.all() if text], [] if status == 1 else ["hookhost: refused: 4 OutOfMemory"], f"the screen with allocation {number} refused")
+        check(played.screen.shown in ([], whole.screen.shown), f"a line is shown in part: {played.screen.shown!r}")
+        if status == 1:
+            equal(played.printed(), whole.printed(), f"the report with allocation {number} refused")
+            seen, unseen = (seen, unseen + 1) if not played.screen.shown else (seen + 1, unseen)
+        else:
+            equal((status, played.printed()), (3, ""), f"with allocation {number} refused")
+        if not os.path.exists(refused_file):
+            break
+    else:
+        raise Wrong("no run had all its memory")
+    check(unseen > 0 and seen > 0, f"{unseen} runs showed no line, {seen} did")
+
+
+CASES = [
+    shows_each_child_and_how_many_came_before, stands_while_the_child_runs, is_cut_to_the_columns_that_are_said, is_one_line_on_a_terminal_that_says_nothing,
+    what_columns_says_amiss_is_80, wide_characters_take_two_columns, control_characters_are_shown_as_question_marks, long_commands_are_one_line,
+    parts_are_shown_one_by_one, what_a_child_prints_stays_off_the_terminal, a_report_on_the_same_terminal_stands_alone, nothing_is_shown_without_a_terminal,
+    nothing_is_shown_on_a_dumb_terminal, nothing_is_shown_of_hooks_without_children, a_terminal_that_goes_away_changes_nothing,
+    a_killed_program_leaves_a_terminal_that_wraps, want_of_memory_for_the_line_loses_no_child,
+]
+
+
+def main():
+    failed = 0
+    for case in CASES:
+        try:
+            case()
+        except (Wrong, subprocess.TimeoutExpired, OSError) as error:
+            failed += 1
+            print(f"terminal: FAILED: {case.__name__}: {error}")
+    print(f"terminal: {len(CASES) - failed} passed, {failed} failed")
+    return 1 if failed else 0
+
+
+BASE = tempfile.mkdtemp(prefix="terminal-")
+try:
+    STATUS = main()
+finally:
+    shutil.rmtree(BASE, ignore_errors=True)
+sys.exit(STATUS)
