@@ -19,6 +19,7 @@ and else what it shows after the command with ample memory.
 Of the allocations of these two the first and the last are refused, and of those between one in so many; with --each, which
 takes long, each is refused in turn.
 """
+import itertools
 import os
 import shutil
 import subprocess
@@ -255,13 +256,14 @@ def count_allocations(play, shared, folder):
 
 
 def allocations(play, shared, folder):
-    """The numbers of the allocations that are refused in turn, the last of which is one past them all."""
+    """The numbers of the allocations that are refused in turn, without an end. A run with children makes a few more or
+    fewer from time to time, as their outputs come in one piece or in more."""
     if EACH or not (play.repository or play.children):
-        return range(1, sys.maxsize)
+        return itertools.count(1)
     at_ends, between = OF_STORE if play.repository else OF_CHILDREN
     count = count_allocations(play, shared, folder)
     step = max(1, (count - 2 * at_ends) // between)
-    return [at for at in range(1, count + 2) if at <= at_ends or at > count - at_ends or at % step == 0]
+    return (at for at in itertools.count(1) if at <= at_ends or at > count - at_ends or at % step == 0)
 
 
 def refuse_each(play, shared, folder):
@@ -287,7 +289,6 @@ def refuse_each(play, shared, folder):
             return count, gave_up, f"answered {answer.said} where allocation {allocation} was refused"
         if answer.shown != (plain.shown if number is None else before):
             return count, gave_up, f"left {answer.shown} where allocation {allocation} was refused, and said {answer.said}"
-    return count, gave_up, "a run past its last allocation was refused one"
 
 
 def play_alone(play, shared):
