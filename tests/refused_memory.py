@@ -118,6 +118,15 @@ FAULTS = b"""repos:
   - {id: folder, name: Folder, language: system, entry: "sh -c 'rm a.txt; mkdir a.txt'", pass_filenames: false}
   - {id: long, name: Long, language: system, entry: 'true', args: [%s], files: ^a}
 """ % (b"c" * LONGEST)
+# Hooks of each stage of a commit; that of the stage `manual` modifies a file.
+STAGED_HOOKS = b"""repos:
+- repo: local
+  hooks:
+  - {id: look, name: Look, language: system, entry: cat, stages: [pre-commit], verbose: true}
+  - {id: write, name: Write, language: system, entry: "sh -c 'echo a line >> $1' --", stages: [prepare-commit-msg, commit-msg]}
+  - {id: behind, name: Behind, language: system, entry: 'true', stages: [post-commit], always_run: true}
+  - {id: change, name: Change, language: system, entry: "sed -i 's/a/b/'", stages: [manual]}
+"""
 # The numbers of want of memory: a run's, and those of `check`, whose words are read as a run's are. A command on a
 # repository says 4 while its words are read, as a run does, and while the store is opened or made, as the store does. It
 # says 1, as the host does, of anything else: the working file of `add`, before the store, and the command itself.
@@ -171,6 +180,9 @@ PLAYS = [
     Play("the bytes of a staged file", ["cat", "a.txt"], OF_COMMAND, status=0, repository="there"),
     Play("the log", ["log"], OF_COMMAND, status=0, repository="there"),
     Play("a commit", ["show", "1"], OF_COMMAND, status=0, repository="there"),
+    Play("a run on the staged files", ["run", "--all-files", "--hook-stage", "manual"], OF_COMMAND, status=1, repository="there"),
+    Play("a run on named files", ["run-files", "a.txt"], OF_COMMAND, status=0, repository="there"),
+    Play("a commit through all stages", ["commit", "-m", "second"], OF_COMMAND, status=0, repository="there"),
 ]
 FILES = (("a.txt", b"a\n"), ("b.txt", b""), ("dir/c.txt", b"c" * 9000), ("run.sh", SCRIPT))
 
@@ -233,7 +245,7 @@ def end_of(words, work, given=b"", env=None):
 
 def shown_in(work):
     """What the repository in a folder shows, or how the program says that there is none."""
-    return end_of([PROGRAM, "status"], work), end_of([PROGRAM, "cat", "a.txt"], work)
+    return [end_of([PROGRAM, *words], work) for words in (["status"], ["cat", "a.txt"], ["fixes"], ["log"])]
 
 
 def number_of(said):
@@ -302,13 +314,13 @@ def play_alone(play, shared):
 
 
 def make_repository(folder):
-    """Makes a repository with a commit, whose files are those of the plays, and a fix."""
-    for name, text in FILES[:2]:
+    """Makes a repository with a commit, whose files are those of the plays, hooks that are staged, and a fix."""
+    for name, text in ((".pre-commit-config.yaml", STAGED_HOOKS), *FILES[:2]):
         with open(os.path.join(folder, name), "wb") as file:
             file.write(text)
     made = [end_of([PROGRAM, *words], folder) for words in (["init"], ["add", "a.txt"], ["add", "b.txt"])]
     made.append(end_of([STORE_TRIAL, ".hookhost/store.db"], folder, b"open\ncommit first\\n\\nbody\nclose\n"))
-    made.append(end_of([PROGRAM, "rm", "b.txt"], folder))
+    made += [end_of([PROGRAM, *words], folder) for words in (["rm", "b.txt"], ["add", ".pre-commit-config.yaml"])]
     made.append(end_of([STORE_TRIAL, ".hookhost/store.db"], folder, b"open\nfix a.txt 2\nset\nclose\n"))
     if any(status for status, _, _ in made):
         sys.exit(f"refused_memory: no repository is made: {made!r}")
