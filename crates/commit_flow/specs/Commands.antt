@@ -2,7 +2,7 @@
 use Rattle.std.specs.Prelude.{Result, Ok, Err}
 use Rattle.commit_flow.specs.declared.host_refusal.HostRefusal.{HostRefusal}
 use Rattle.commit_flow.specs.declared.reply.Reply.{Reply}
-use Rattle.commit_flow.specs.declared.reply.Reply.TheVariants.{Added, Removed, Accepted, Refused}
+use Rattle.commit_flow.specs.declared.reply.Reply.TheVariants.{Added, Removed, Accepted, Ran, Committed, HooksFailed, Forgot, Refused}
 
 -- the reply that a call's answer is
 abbrev pub reply_of : {A : Type 0} → (A → Reply) → Result A HostRefusal → Reply
@@ -14,4 +14,8 @@ abbrev pub IsDone : Reply → Type 0
 IsDone Added = Unit {0}
 IsDone Removed = Unit {0}
 IsDone (Accepted number) = Unit {0}
+IsDone (Ran passed report changes unsteady) = Unit {0}
+IsDone (Committed number reports post) = Unit {0}
+IsDone (HooksFailed stage reports) = Unit {0}
+IsDone (Forgot number) = Unit {0}
 IsDone (Refused refusal) = ⊥

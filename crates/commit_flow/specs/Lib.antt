@@ -1,7 +1,13 @@
 pub mod Commands
+pub mod CommitStages
+pub mod Commits
+pub mod Configured
 pub mod Crashes
 pub mod Hosts
 pub mod Messages
 pub mod Refusals
+pub mod RunRefusals
+pub mod Runs
+pub mod StagedPaths
 pub mod Steps
 pub mod StepLaws

@@ -5,6 +5,7 @@
 //!
 //! The contracts cite `Step` of `specs/Steps.antt` (what each command may answer, and what it makes of the repository),
 //! `specs/Commands.antt` (the reply that a call's answer is), `IsOneCommand` of `specs/Crashes.antt` (what a crash leaves),
+//! `specs/Runs.antt` and `specs/Commits.antt` (the cases of runs and commits, which no call makes yet),
 //! `specs/Hosts.antt` (what is seen of a host), `specs/Messages.antt` (how the message of a commit is cleaned) and
 //! `specs/Refusals.antt`; of the repository and its files they cite definitions of `repo_store` and `hook_base`. [`laws`]
 //! says that a step has one answer at most.
@@ -12,6 +13,7 @@
 
 mod command;
 mod host;
+mod host_ask;
 mod host_refusal;
 pub mod laws;
 mod message;
@@ -19,6 +21,7 @@ mod reply;
 
 pub use command::Command;
 pub use host::Host;
+pub use host_ask::{AskStage, HostAsk, Which};
 pub use host_refusal::HostRefusal;
 pub use message::{begun_message, cleaned_message};
-pub use reply::Reply;
+pub use reply::{PostCommit, Reply};
