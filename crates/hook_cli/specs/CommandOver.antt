@@ -1,7 +1,8 @@
 -- The commands over a repository: what each makes of it, what it prints, and the exit status.
-use Rattle.std.specs.Prelude.{◌≡◌, ◌⊎◌, ℕ, List, length, None, Some, IsSome, option_map, Result, IfErr, OnOk}
+use Rattle.std.specs.Prelude.{◌≡◌, ◌⊎◌, ℕ, List, [], length, Option, None, Some, IsSome, option_map, Result, IfErr, OnOk}
 use Rattle.sqlite_trees.specs.declared.store.Store.{Ghosts}
 use Rattle.hook_base.specs.declared.file.FileEntry.{FileEntry}
+use Rattle.hook_base.specs.declared.file.Mode.{Mode}
 use Rattle.hook_base.specs.Paths.{path_fault}
 use Rattle.hook_base.specs.Trees.{entry_of}
 use Rattle.repo_store.specs.AllOrNothing.{IsAllOrNothing}
@@ -17,7 +18,8 @@ use Rattle.commit_flow.specs.declared.reply.Reply.TheVariants.{Added, Removed, A
 use Rattle.commit_flow.specs.Commands.{reply_of}
 use Rattle.commit_flow.specs.Crashes.{IsOneCommand}
 use Rattle.commit_flow.specs.Hosts.{Hosted}
-use Rattle.commit_flow.specs.Steps.{IsLegal, IsStaged, Step, entry_to_add}
+use Rattle.commit_flow.specs.StagedPaths.{IsLegal, IsStaged}
+use Rattle.commit_flow.specs.Steps.{Step, entry_to_add}
 use Rattle.hook_cli.specs.declared.line.Line.{Line}
 use Rattle.hook_cli.specs.declared.line.Line.TheVariants.{Init, Try, Check, Add, Remove, Status, Fixes, Accept, Cat, Log, Show}
 use Rattle.hook_cli.specs.declared.command_ending.CommandEnding.{CommandEnding}
@@ -45,24 +47,6 @@ IsOverHost (Show number) = Unit {0}
 
 -- ---- the commands that change the repository
 
--- the reply of the command that is done, where this was kept
-abbrev pub reply_to : Command → Kept → Reply
-reply_to (command.Add path bytes mode) kept = Added
-reply_to (command.Remove path) kept = Removed
-reply_to command.Accept kept = Accepted (length kept.repo.fixes)
-
--- what is kept once the command is done
-abbrev pub kept_after : Command → Kept → Kept
-kept_after (command.Add path bytes mode) kept = staging path (entry_to_add kept.repo path bytes mode) kept
-kept_after (command.Remove path) kept = unstaging path kept
-kept_after command.Accept kept = accepting kept
-
--- the command brings contents that have the digest of others that are kept
-abbrev pub BringsCollision : Command → Kept → Type 0
-BringsCollision (command.Add path bytes mode) kept = Collides bytes kept.contents
-BringsCollision (command.Remove path) kept = ⊥
-BringsCollision command.Accept kept = ⊥
-
 -- what each reply prints: a file that was added or removed nothing, fixes that were accepted how many there were, and a
 -- refusal why
 abbrev pub IsReplied : Output → Output → Reply → CommandEnding → Type 0
@@ -70,17 +54,34 @@ IsReplied out err Added ending = IsSilent out × IsSilent err × (ending ≡ Don
 IsReplied out err Removed ending = IsSilent out × IsSilent err × (ending ≡ Done)
 IsReplied out err (Accepted number) ending = IsSaid out (accepted_text number) ending × IsSilent err
 IsReplied out err (Refused refusal) ending = IsSilent out × IsTold err (refusal_text refusal) ending
+IsReplied out err reply ending = ⊥
 
--- One call of the host, whose answer is printed. The repository takes a step of the host's machine, as a whole or not at all,
--- whatever stops it, and a writer's error undoes none of it.
-pub record IsChanged {S : Type 0} (g : Ghosts S) (old new : Hosted S) (command : Command) (out err : Output) (ending : CommandEnding) : Type 0 where
+-- One call of the host that runs no hooks, whose answer is printed. Done, it has this reply and leaves this kept, and it may
+-- bring contents that collide. The repository takes a step of the host's machine, as a whole or not at all, whatever stops it,
+-- and a writer's error undoes none of it.
+pub record IsChanged {S : Type 0} (g : Ghosts S) (old new : Hosted S) (command : Command) (reply : Reply) (after : Kept) (BringsCollision : Type 0) (out err : Output) (ending : CommandEnding) : Type 0 where
   pub answer : Result (Unit {0}) HostRefusal
-  pub step : Step old.store.kept.repo command (reply_of (λ _. reply_to command old.store.kept) answer) 0 new.store.kept.repo
-  pub change : IsAllOrNothing old.store.kept new.store.kept answer (kept_after command old.store.kept)
+  pub step : Step old.store.kept.repo command (reply_of (λ _. reply) answer) [] new.store.kept.repo
+  pub change : IsAllOrNothing old.store.kept new.store.kept answer after
   pub one : IsOneCommand g old new command answer
-  pub apart : OnOk answer (¬ BringsCollision command old.store.kept)
-  pub collides : IfErr answer (λ refusal. refusal ≡ Collision → BringsCollision command old.store.kept)
-  pub replied : IsReplied out err (reply_of (λ _. reply_to command old.store.kept) answer) ending
+  pub apart : OnOk answer (¬ BringsCollision)
+  pub collides : IfErr answer (λ refusal. refusal ≡ Collision → BringsCollision)
+  pub replied : IsReplied out err (reply_of (λ _. reply) answer) ending
+
+-- the bytes are staged at the path
+abbrev pub IsAddOver : {S : Type 0} → Ghosts S → Hosted S → Hosted S → List ℕ → List ℕ → Option Mode → Output → Output → CommandEnding → Type 0
+IsAddOver g old new path bytes mode out err ending =
+    IsChanged g old new (command.Add path bytes mode) Added (staging path (entry_to_add old.store.kept.repo path bytes mode) old.store.kept)
+    (Collides bytes old.store.kept.contents) out err ending
+
+-- the path is taken out of the staged files
+abbrev pub IsRemoveOver : {S : Type 0} → Ghosts S → Hosted S → Hosted S → List ℕ → Output → Output → CommandEnding → Type 0
+IsRemoveOver g old new path out err ending = IsChanged g old new (command.Remove path) Removed (unstaging path old.store.kept) ⊥ out err ending
+
+-- the fixes are accepted
+abbrev pub IsAcceptOver : {S : Type 0} → Ghosts S → Hosted S → Hosted S → Output → Output → CommandEnding → Type 0
+IsAcceptOver g old new out err ending =
+    IsChanged g old new command.Accept (Accepted (length old.store.kept.repo.fixes)) (accepting old.store.kept) ⊥ out err ending
 
 -- ---- the commands that look something up
 
@@ -148,11 +149,11 @@ pub record IsLookedUp {S : Type 0} (old new : Hosted S) (line : Line) (out err :
 
 -- the line is done so; the bytes are those of the file that is added
 abbrev pub IsEnded : {S : Type 0} → Ghosts S → Hosted S → Hosted S → Line → List ℕ → Output → Output → CommandEnding → Type 0
-IsEnded g old new (Add path mode) bytes out err ending = IsChanged g old new (command.Add path bytes mode) out err ending
-IsEnded g old new (Remove path) bytes out err ending = IsChanged g old new (command.Remove path) out err ending
+IsEnded g old new (Add path mode) bytes out err ending = IsAddOver g old new path bytes mode out err ending
+IsEnded g old new (Remove path) bytes out err ending = IsRemoveOver g old new path out err ending
 IsEnded g old new Status bytes out err ending = IsLookedUp old new Status out err ending
 IsEnded g old new Fixes bytes out err ending = IsLookedUp old new Fixes out err ending
-IsEnded g old new Accept bytes out err ending = IsChanged g old new command.Accept out err ending
+IsEnded g old new Accept bytes out err ending = IsAcceptOver g old new out err ending
 IsEnded g old new (Cat path) bytes out err ending = IsLookedUp old new (Cat path) out err ending
 IsEnded g old new Log bytes out err ending = IsLookedUp old new Log out err ending
 IsEnded g old new (Show number) bytes out err ending = IsLookedUp old new (Show number) out err ending

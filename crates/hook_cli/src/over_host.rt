@@ -3,9 +3,8 @@
 //! The contracts cite `specs/CommandOver.antt`.
 
 ghost use Rattle.std.specs.Prelude.{◌≡◌, ◌⊎◌};
-ghost use Rattle.hook_cli.specs.CommandOver.{IsCommandOver, IsChanged, IsEnded, IsOverHost};
+ghost use Rattle.hook_cli.specs.CommandOver.{IsAcceptOver, IsAddOver, IsCommandOver, IsEnded, IsOverHost, IsRemoveOver};
 ghost use Rattle.hook_cli.specs.Printing.{IsSilent, Output};
-ghost use Rattle.commit_flow.specs.declared.command.Command.TheVariants as command;
 
 use crate::command_ending::status_of;
 use crate::look_up::{cat, fixes, log, show, status};
@@ -77,7 +76,7 @@ fn add<S: Alter, E: Write>(
     host: &mut Host<S>,
     err: &mut E,
 ) -> CommandEnding
-    ensures { (out : Output) → IsSilent out → IsChanged S.Store host.old host.new (command.Add path.now bytes.now mode) out (record { held = E.contents err.old; holds = E.contents err.new }) result }
+    ensures { (out : Output) → IsSilent out → IsAddOver S.Store host.old host.new path.now bytes.now mode out (record { held = E.contents err.old; holds = E.contents err.new }) result }
 {
     match host.add(alloc, path, bytes, mode) {
         Ok(()) => CommandEnding::Done,
@@ -92,7 +91,7 @@ fn remove<S: Alter, E: Write>(
     host: &mut Host<S>,
     err: &mut E,
 ) -> CommandEnding
-    ensures { (out : Output) → IsSilent out → IsChanged S.Store host.old host.new (command.Remove path.now) out (record { held = E.contents err.old; holds = E.contents err.new }) result }
+    ensures { (out : Output) → IsSilent out → IsRemoveOver S.Store host.old host.new path.now out (record { held = E.contents err.old; holds = E.contents err.new }) result }
 {
     match host.remove(alloc, path) {
         Ok(()) => CommandEnding::Done,
@@ -106,7 +105,7 @@ fn accept<S: Alter, O: Write, E: Write>(
     out: &mut O,
     err: &mut E,
 ) -> CommandEnding
-    ensures { IsChanged S.Store host.old host.new command.Accept (record { held = O.contents out.old; holds = O.contents out.new }) (record { held = E.contents err.old; holds = E.contents err.new }) result }
+    ensures { IsAcceptOver S.Store host.old host.new (record { held = O.contents out.old; holds = O.contents out.new }) (record { held = E.contents err.old; holds = E.contents err.new }) result }
 {
     match host.accept() {
         Ok(number) => say_accepted(out, number),
