@@ -21,7 +21,7 @@ use Rattle.commit_flow.specs.Hosts.{Hosted}
 use Rattle.commit_flow.specs.StagedPaths.{IsLegal, IsStaged}
 use Rattle.commit_flow.specs.Steps.{Step, entry_to_add}
 use Rattle.hook_cli.specs.declared.line.Line.{Line}
-use Rattle.hook_cli.specs.declared.line.Line.TheVariants.{Init, Try, Check, Add, Remove, Status, Fixes, Accept, Cat, Log, Show}
+use Rattle.hook_cli.specs.declared.line.Line.TheVariants.{Init, Try, Check, Add, Remove, Status, Run, Fixes, Accept, Commit, Cat, Log, Show}
 use Rattle.hook_cli.specs.declared.command_ending.CommandEnding.{CommandEnding}
 use Rattle.hook_cli.specs.declared.command_ending.CommandEnding.TheVariants.{Done}
 use Rattle.hook_cli.specs.Printing.{IsSaid, IsSilent, IsTold, Output, status_of}
@@ -36,6 +36,8 @@ abbrev pub IsOverHost : Line → Type 0
 IsOverHost Init = ⊥
 IsOverHost (Try config paths) = ⊥
 IsOverHost Check = ⊥
+IsOverHost (Run which only stage fresh) = ⊥
+IsOverHost (Commit message no_verify) = ⊥
 IsOverHost (Add path mode) = Unit {0}
 IsOverHost (Remove path) = Unit {0}
 IsOverHost Status = Unit {0}
@@ -95,6 +97,8 @@ IsAnswer repo (Show number) text = option_map show_text (commit_at number repo.h
 IsAnswer repo Init text = ⊥
 IsAnswer repo (Try config paths) text = ⊥
 IsAnswer repo Check text = ⊥
+IsAnswer repo (Run which only stage fresh) text = ⊥
+IsAnswer repo (Commit message no_verify) text = ⊥
 IsAnswer repo (Add path mode) text = ⊥
 IsAnswer repo (Remove path) text = ⊥
 IsAnswer repo Accept text = ⊥
@@ -119,6 +123,8 @@ IsRefusalText repo (Show number) text =
 IsRefusalText repo Init text = ⊥
 IsRefusalText repo (Try config paths) text = ⊥
 IsRefusalText repo Check text = ⊥
+IsRefusalText repo (Run which only stage fresh) text = ⊥
+IsRefusalText repo (Commit message no_verify) text = ⊥
 IsRefusalText repo (Add path mode) text = ⊥
 IsRefusalText repo (Remove path) text = ⊥
 IsRefusalText repo Accept text = ⊥
@@ -160,6 +166,8 @@ IsEnded g old new (Show number) bytes out err ending = IsLookedUp old new (Show 
 IsEnded g old new Init bytes out err ending = ⊥
 IsEnded g old new (Try config paths) bytes out err ending = ⊥
 IsEnded g old new Check bytes out err ending = ⊥
+IsEnded g old new (Run which only stage fresh) bytes out err ending = ⊥
+IsEnded g old new (Commit message no_verify) bytes out err ending = ⊥
 
 -- the line ends in one of these ways, and its exit status is that ending's
 pub record IsCommandOver {S : Type 0} (g : Ghosts S) (old new : Hosted S) (line : Line) (bytes : List ℕ) (out err : Output) (status : ℕ) : Type 0 where

@@ -63,7 +63,9 @@ fn end_of<S: Alter, O: Write, E: Write>(
         Line::Log => log(alloc, host.store(), out, err),
         Line::Show { number } => show(alloc, *number, host.store(), out, err),
         // The caller has them done elsewhere.
-        Line::Init | Line::Try { .. } | Line::Check => unreachable!(),
+        Line::Init | Line::Try { .. } | Line::Check | Line::Run { .. } | Line::Commit { .. } => {
+            unreachable!()
+        }
     }
 }
 
