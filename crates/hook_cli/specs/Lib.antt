@@ -6,6 +6,7 @@ pub mod LogText
 pub mod Printing
 pub mod Reading
 pub mod RefusalText
+pub mod RunText
 pub mod ShowText
 pub mod StatusText
 pub mod StatusWalk

@@ -27,6 +27,7 @@ mod over_host;
 mod printing;
 mod repository_help;
 mod run_ask;
+mod run_printing;
 mod show_text;
 mod status_text;
 mod try_fault;

@@ -37,7 +37,7 @@ pub fn command_over<S: Alter, O: Write, E: Write>(
 ) -> u8
     requires { IsOverHost line.now }
     ensures done { IsCommandOver S.Store host.old host.new line.now bytes.now (record { held = O.contents out.old; holds = O.contents out.new }) (record { held = E.contents err.old; holds = E.contents err.new }) result }
-    ensures either { (result ≡ 0) ⊎ (result ≡ 3) }
+    ensures one_of { (result ≡ 0) ⊎ (result ≡ 1) ⊎ (result ≡ 3) }
 {
     status_of(end_of(alloc, line, bytes, host, out, err))
 }
