@@ -6,6 +6,7 @@ pub mod OverHostLemmas
 pub mod PathLemmas
 pub mod PrintingLemmas
 pub mod ReadingLemmas
+pub mod RunPrintingLemmas
 pub mod StatusLemmas
 pub mod TextLemmas
 pub mod ValueLemmas
