@@ -166,10 +166,14 @@ pub(crate) fn run_command<'a>(alloc: Global) -> Result<Command<'a>, AllocError>
             "Takes all staged files, not only those that differ from the last commit",
         ))?
         .arg(stage(alloc))?
-        .arg(flag(alloc, "fresh", "Starts every command, also where its answer is remembered"))?
-        .arg(
-            Arg::new(alloc, "ID").help("The id or alias of the hooks to run; without it all of the stage"),
-        )
+        .arg(flag(
+            alloc,
+            "fresh",
+            "Starts every command, also where its answer is remembered",
+        ))?
+        .arg(Arg::new(alloc, "ID").help(
+            "The id or alias of the hooks to run; without it all of the stage",
+        ))
 }
 
 /// `run-files [--hook-stage=STAGE] [--fresh] PATH..`.
@@ -182,7 +186,11 @@ pub(crate) fn run_files_command<'a>(alloc: Global) -> Result<Command<'a>, AllocE
         .override_usage("hookhost run-files [--hook-stage=<STAGE>] [--fresh] <PATH>...")
         .after_help(RUN_FILES_HELP)
         .arg(stage(alloc))?
-        .arg(flag(alloc, "fresh", "Starts every command, also where its answer is remembered"))?
+        .arg(flag(
+            alloc,
+            "fresh",
+            "Starts every command, also where its answer is remembered",
+        ))?
         .arg(words(alloc, "PATH", "The staged files to run the hooks on"))
 }
 
@@ -285,7 +293,10 @@ fn flag<'a>(alloc: Global, id: &'a str, help: &'a str) -> Arg<'a>
     ensures rule { rule_of result ≡ flag_rule id.entry.now }
     ensures local { result.global ≡ false }
 {
-    Arg::new(alloc, id).long(id).action(ArgAction::SetTrue).help(help)
+    Arg::new(alloc, id)
+        .long(id)
+        .action(ArgAction::SetTrue)
+        .help(help)
 }
 
 fn stage<'a>(alloc: Global) -> Arg<'a>

@@ -92,7 +92,10 @@ fn tell_pieces<'a, E: Write>(err: &mut E, pieces: &'a [&'a str]) -> CommandEndin
 }
 
 /// Writes a text, piece by piece, and flushes the writer.
-pub(crate) fn write_pieces<'a, W: Write>(writer: &mut W, pieces: &'a [&'a str]) -> Result<(), Unwritten>
+pub(crate) fn write_pieces<'a, W: Write>(
+    writer: &mut W,
+    pieces: &'a [&'a str],
+) -> Result<(), Unwritten>
     ensures ok { OnOk result (Has (record { held = W.contents writer.old; holds = W.contents writer.new }) (concat (map (λ s. s.now) pieces.entry.now))) }
     ensures err { OnErr result (HasBeginning (record { held = W.contents writer.old; holds = W.contents writer.new }) (concat (map (λ s. s.now) pieces.entry.now))) }
 {
