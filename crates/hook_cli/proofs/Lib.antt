@@ -7,6 +7,7 @@ pub mod PathLemmas
 pub mod PrintingLemmas
 pub mod ReadingLemmas
 pub mod RunPrintingLemmas
+pub mod SkipLemmas
 pub mod StatusLemmas
 pub mod TextLemmas
 pub mod ValueLemmas

@@ -1,10 +1,16 @@
 -- Texts that are written one after another.
 use Rattle.std.proofs.Common.{◌≡◌, ◌∙◌, ap, sym, subst, refl, append_assoc, ℕ, ◌+◌, ◌<◌, List, [], ◌∷◌, ◌++◌, length, take, drop, get_or, Option, Result, Ok, Err}
-use Rattle.std.specs.Prelude.{OnErr, OnOk}
+use Rattle.std.specs.Prelude.{OnErr, OnOk, codes}
+use Rattle.std.specs.Fmt.{decimal}
 use Rattle.std.specs.List.{concat, flat_map}
 use Rattle.std.specs.Io.KnownBytes.{Appends}
 use Rattle.std.proofs.lemmas.List.{append-nil, take_more, take-append-drop}
-use Rattle.hook_cli.specs.Printing.{HasBeginning, Output}
+use Rattle.report_text.specs.Report.{line}
+use Rattle.hook_run.specs.declared.run_refusal.RunRefusal.{RunRefusal}
+use Rattle.hook_run.specs.Refusals.{name_of, number_of}
+use Rattle.hook_cli.specs.declared.command_ending.CommandEnding.{CommandEnding}
+use Rattle.hook_cli.specs.Printing.{HasBeginning, IsSaid, Output}
+use Rattle.hook_cli.specs.RunText.{stopped_text}
 use Rattle.hook_cli.proofs.KnownBytesLemmas.{appends-more}
 
 -- ---- two texts
@@ -78,3 +84,40 @@ itself text = text
 pub concat-texts : (texts : List (List ℕ)) → concat texts ≡ flat_map itself texts
 concat-texts [] = refl
 concat-texts (text ∷ texts) = ap (λ more. text ++ more) (concat-texts texts)
+
+abbrev at : Option (List ℕ) → Option (List ℕ) → Output
+at held holds = record { held = held; holds = holds }
+
+pub reports-written : (held mid holds : Option (List ℕ)) (reports : List (List ℕ)) (place : ℕ) (d report : List ℕ) → place < length reports
+    → report ≡ get_or reports place d → Appends held mid (concat (take place reports)) → Appends mid holds report
+    → Appends held holds (concat (take (place + 1) reports))
+reports-written held mid holds reports place d report within is taken more =
+    subst (λ (text : List ℕ). Appends held holds text) (sym (concat-texts (take (place + 1) reports)))
+    (texts-written itself held mid holds reports place d report within is
+    (subst (λ (text : List ℕ). Appends held mid text) (concat-texts (take place reports)) taken) more)
+
+pub reports-begun : (held mid holds : Option (List ℕ)) (reports : List (List ℕ)) (place : ℕ) (d report : List ℕ) → place < length reports
+    → report ≡ get_or reports place d → Appends held mid (concat (take place reports)) → HasBeginning (at mid holds) report
+    → HasBeginning (at held holds) (concat reports)
+reports-begun held mid holds reports place d report within is taken begun =
+    subst (λ (text : List ℕ). HasBeginning (at held holds) text) (sym (concat-texts reports))
+    (texts-begun itself held mid holds reports place d report within is
+    (subst (λ (text : List ℕ). Appends held mid text) (concat-texts (take place reports)) taken) begun)
+
+-- ---- why the hooks behind a commit were stopped
+
+abbrev refusal_head : List ℕ
+refusal_head = codes "hookhost: refused: "
+
+stopped_pieces : (head number name : List ℕ) → head ++ (number ++ (32 ∷ (name ++ (10 ∷ [])))) ≡ line (head ++ number ++ codes " " ++ name)
+stopped_pieces head number name = simp append_assoc
+
+pub said-stopped : (err : Output) (ending : CommandEnding) (refusal : RunRefusal) (count : ℕ) (number name : List ℕ) → number ≡ decimal count
+    → count ≡ number_of refusal → name ≡ name_of refusal → IsSaid err (refusal_head ++ (number ++ (32 ∷ (name ++ (10 ∷ []))))) ending
+    → IsSaid err (stopped_text refusal) ending
+said-stopped err ending refusal count number name digits counted named said =
+    subst (λ (text : List ℕ). IsSaid err text ending)
+    (stopped_pieces refusal_head number name
+    ∙ ap (λ number. line (refusal_head ++ number ++ codes " " ++ name)) (digits ∙ ap decimal counted)
+    ∙ ap (λ name. line (refusal_head ++ decimal (number_of refusal) ++ codes " " ++ name)) named)
+    said

@@ -89,3 +89,14 @@ stage-refused found given held value error known same is other another kind =
     let differs : bytes_eq value.now (codes "pre-commit") ≡ false = false_from_ne_true _ (λ e. other ((bytes_eq-Decides value.now (codes "pre-commit")).0 e)) in
     let differs_too : bytes_eq value.now (codes "manual") ≡ false = false_from_ne_true _ (λ e. another ((bytes_eq-Decides value.now (codes "manual")).0 e)) in
     rw (given-is found given held (Some value) known same is, differs, differs_too) kind
+
+-- ---- a text that may be left out
+
+pub text-given : (found given : Option Text) (held : Option (Bor Text)) (value : Bor Text) (text : Text) → option_map (λ s. s.now) held ≡ found
+    → found ≡ given → held ≡ Some value → text ≡ value.now → Some text ≡ given
+text-given found given held value text known same is copied =
+    ap (λ (t : Text). Some t) copied ∙ sym (given-is found given held (Some value) known same is)
+
+pub text-left-out : (found given : Option Text) (held : Option (Bor Text)) → option_map (λ s. s.now) held ≡ found → found ≡ given → held ≡ None
+    → None ≡ given
+text-left-out found given held known same is = sym (given-is found given held None known same is)

@@ -114,8 +114,8 @@ hookhost_base = on_top (λ s. record s {
 
 abbrev pub all_commands : List App
 all_commands =
-    init_app ∷ try_app ∷ check_app ∷ add_app ∷ remove_app ∷ status_app ∷ run_app ∷ run_files_app ∷ fixes_app ∷ accept_app ∷ commit_app
-    ∷ cat_app ∷ log_app ∷ show_app ∷ []
+    init_app ∷ try_app ∷ check_app ∷ add_app ∷ remove_app ∷ status_app ∷ cat_app ∷ run_app ∷ run_files_app ∷ fixes_app ∷ accept_app
+    ∷ commit_app ∷ log_app ∷ show_app ∷ []
 
 abbrev pub hookhost_app : App
 hookhost_app = with_commands hookhost_base all_commands

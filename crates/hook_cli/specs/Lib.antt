@@ -8,6 +8,7 @@ pub mod Reading
 pub mod RefusalText
 pub mod RunText
 pub mod ShowText
+pub mod SkipList
 pub mod StatusText
 pub mod StatusWalk
 pub mod TryFaults

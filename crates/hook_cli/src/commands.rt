@@ -21,6 +21,7 @@ pub(crate) fn hookhost<'a>(alloc: Global) -> Result<Command<'a>, AllocError>
 {
     let program = with_configurations(alloc, program(alloc))?;
     let program = with_staging(alloc, program)?;
+    let program = with_staged_files(alloc, program)?;
     let program = with_runs(alloc, program)?;
     let program = with_fixes(alloc, program)?;
     with_commits(alloc, program)
@@ -47,12 +48,19 @@ fn with_configurations<'a>(alloc: Global, program: Command<'a>) -> Result<Comman
 }
 
 fn with_staging<'a>(alloc: Global, program: Command<'a>) -> Result<Command<'a>, AllocError>
-    ensures { IfOk result (λ command. app_of command ≡ with_commands (app_of program.entry) (add_app ∷ remove_app ∷ status_app ∷ [])) }
+    ensures { IfOk result (λ command. app_of command ≡ with_commands (app_of program.entry) (add_app ∷ remove_app ∷ [])) }
 {
     program
         .subcommand(add_command(alloc)?)?
-        .subcommand(remove_command(alloc)?)?
-        .subcommand(status_command(alloc))
+        .subcommand(remove_command(alloc)?)
+}
+
+fn with_staged_files<'a>(alloc: Global, program: Command<'a>) -> Result<Command<'a>, AllocError>
+    ensures { IfOk result (λ command. app_of command ≡ with_commands (app_of program.entry) (status_app ∷ cat_app ∷ [])) }
+{
+    program
+        .subcommand(status_command(alloc))?
+        .subcommand(cat_command(alloc)?)
 }
 
 fn with_runs<'a>(alloc: Global, program: Command<'a>) -> Result<Command<'a>, AllocError>
@@ -72,11 +80,10 @@ fn with_fixes<'a>(alloc: Global, program: Command<'a>) -> Result<Command<'a>, Al
 }
 
 fn with_commits<'a>(alloc: Global, program: Command<'a>) -> Result<Command<'a>, AllocError>
-    ensures { IfOk result (λ command. app_of command ≡ with_commands (app_of program.entry) (commit_app ∷ cat_app ∷ log_app ∷ show_app ∷ [])) }
+    ensures { IfOk result (λ command. app_of command ≡ with_commands (app_of program.entry) (commit_app ∷ log_app ∷ show_app ∷ [])) }
 {
     program
         .subcommand(commit_command(alloc)?)?
-        .subcommand(cat_command(alloc)?)?
         .subcommand(log_command(alloc))?
         .subcommand(show_command(alloc)?)
 }
@@ -171,7 +178,9 @@ pub(crate) fn run_command<'a>(alloc: Global) -> Result<Command<'a>, AllocError>
             "fresh",
             "Starts every command, also where its answer is remembered",
         ))?
-        .arg(Arg::new(alloc, "ID").help(
+        .arg(optional_word(
+            alloc,
+            "ID",
             "The id or alias of the hooks to run; without it all of the stage",
         ))
 }
@@ -269,6 +278,14 @@ fn word<'a>(alloc: Global, id: &'a str, help: &'a str) -> Arg<'a>
     ensures local { result.global ≡ false }
 {
     Arg::new(alloc, id).required(true).help(help)
+}
+
+// A value of one word, which may be left out.
+fn optional_word<'a>(alloc: Global, id: &'a str, help: &'a str) -> Arg<'a>
+    ensures rule { rule_of result ≡ new_rule id.entry.now }
+    ensures local { result.global ≡ false }
+{
+    Arg::new(alloc, id).help(help)
 }
 
 // A value of one word or more.

@@ -126,10 +126,10 @@ staged files that each selects: of those that differ from the last commit, or wi
 commas between them, are skipped. What the hooks change isn't staged: these are the
 fixes, which hookhost fixes lists and hookhost accept applies.
 
-A command that was run before on the same files isn't run again: its answer is
-remembered. With --fresh it is, and unsteady: ID is printed behind the report for
-each hook that answers otherwise than before. The commands of hooks run in
-.hookhost/scratch, over copies of the staged files.
+The commands of hooks run in .hookhost/scratch, over copies of the staged files. No
+answer of theirs is remembered yet: each run starts them all, with --fresh as
+without it, and no hook is told as unsteady: ID, which is that it answers otherwise
+than is remembered.
 
 Examples:
   hookhost run

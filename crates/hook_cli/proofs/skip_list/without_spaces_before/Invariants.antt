@@ -1,0 +1,6 @@
+use Rattle.std.proofs.Common.{◌≡◌}
+use Rattle.hook_cli.specs.SkipList.{without_spaces_before}
+use Rattle.hook_cli.proofs.skip_list.without_spaces_before.Given as goal
+
+abbrev pub invariant-spaces : goal.invariant-spaces
+invariant-spaces l = without_spaces_before l.rest.now ≡ without_spaces_before l.text.now
