@@ -1,4 +1,5 @@
 pub mod CommandLemmas
+pub mod ConfigLemmas
 pub mod MessageLemmas
 pub mod PathLemmas
 pub mod StepLemmas

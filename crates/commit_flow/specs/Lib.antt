@@ -5,6 +5,7 @@ pub mod Configured
 pub mod Crashes
 pub mod Hosts
 pub mod Messages
+pub mod Preparations
 pub mod Refusals
 pub mod RunRefusals
 pub mod Runs

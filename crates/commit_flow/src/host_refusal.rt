@@ -2,8 +2,9 @@
 
 ghost use Rattle.std.specs.Prelude.{◌≡◌};
 ghost use Rattle.commit_flow.specs.Refusals.{inner_number_of, name_of, number_of};
+ghost use Rattle.commit_flow.specs.declared.host_refusal.HostRefusal.TheVariants.{OutOfMemory};
 
-use hook_base::PathFault;
+use hook_base::{OutOfMemory, PathFault};
 use hook_config::{ConfigFault, ConfigKind};
 use repo_store::StoreFault;
 use thiserror::Error;
@@ -117,6 +118,14 @@ impl HostRefusal {
             HostRefusal::BadConfig(fault) => Some(fault.number()),
             _ => None,
         }
+    }
+}
+
+impl From<OutOfMemory> for HostRefusal {
+    ghost from_gives = { λ _ refusal. refusal ≡ OutOfMemory };
+
+    fn from(_refused: OutOfMemory) -> Self {
+        HostRefusal::OutOfMemory
     }
 }
 

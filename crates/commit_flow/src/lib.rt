@@ -12,6 +12,7 @@
 #![tactic(auto)]
 
 mod command;
+mod configured;
 mod host;
 mod host_ask;
 mod host_refusal;
