@@ -11,14 +11,19 @@
 //! says that a step has one answer at most.
 #![tactic(auto)]
 
+mod candidates;
 mod command;
 mod configured;
+mod hooks;
 mod host;
 mod host_ask;
 mod host_refusal;
 pub mod laws;
 mod message;
+mod prepared;
 mod reply;
+mod run;
+mod staged_run;
 
 pub use command::Command;
 pub use host::Host;
@@ -26,3 +31,4 @@ pub use host_ask::{AskStage, HostAsk, Which};
 pub use host_refusal::HostRefusal;
 pub use message::{begun_message, cleaned_message};
 pub use reply::{PostCommit, Reply};
+pub use staged_run::StagedRun;
