@@ -1,5 +1,5 @@
 -- The files that the hooks of a run may get, row by row and name by name.
-use Rattle.std.proofs.Common.{◌≡◌, ◌≢◌, ◌↔◌, ◌⊎◌, ◌∙◌, ap, sym, subst, inl, inr, refl, IsTrue, ℕ, zero, suc, ◌+◌, ◌<◌, Bool, true, false, not, List, [], ◌∷◌, ◌++◌, Option, None, Some, length, drop, map, add-one, arith}
+use Rattle.std.proofs.Common.{◌≡◌, ◌≢◌, ◌↔◌, ◌⊎◌, ◌∙◌, ap, sym, subst, inl, inr, refl, IsTrue, ℕ, zero, suc, ◌+◌, ◌<◌, Bool, true, false, not, List, [], ◌∷◌, ◌++◌, Option, None, Some, length, drop, map, add-one, rules}
 use Rattle.std.specs.Prelude.{filter, slice_get, if◌then◌else◌, ◌&&◌}
 use Rattle.std.specs.Cmp.Lexicographic.{bytes_decides}
 use Rattle.std.specs.Str.{bytes_eq}
@@ -7,7 +7,7 @@ use Rattle.hook_base.specs.declared.file.File.{File}
 use Rattle.hook_base.specs.declared.file.FileEntry.{FileEntry}
 use Rattle.hook_base.specs.declared.file.Mode.{Mode}
 use Rattle.hook_base.specs.declared.file.Mode.TheVariants.{Plain, Executable}
-use Rattle.hook_base.specs.RisingLemmas.{bytes_same, false_from_not}
+use Rattle.hook_base.specs.RisingLemmas.{bytes_same}
 use Rattle.hook_base.specs.Rising.{IsBelow, IsBelowAll}
 use Rattle.hook_base.specs.TreeLemmas.{entry_of-first, entry_of-rest}
 use Rattle.hook_base.specs.Trees.{IsRising, entry_of, path_of}
@@ -54,6 +54,10 @@ holds-same entry (Some other) is =
     let p = and-parts (same_mode entry.mode other.mode) (bytes_eq entry.bytes other.bytes) is in
     ap Some (entry_of_parts entry other (same_mode-same entry.mode other.mode p.0) ((bytes_decides entry.bytes other.bytes).0 p.1))
 
+false_from_not : (b : Bool) → ¬ (b ≡ true) → b ≡ false
+false_from_not true isnt = absurd (isnt refl)
+false_from_not false isnt = refl
+
 holds-not : (entry : FileEntry) (there : Option FileEntry) → (Some entry ≡ there → ⊥) → holds_entry entry there ≡ false
 holds-not entry there differs = false_from_not (holds_entry entry there) (λ is. differs (holds-same entry there is))
 
@@ -61,17 +65,17 @@ holds-not entry there differs = false_from_not (holds_entry entry there) (λ is.
 abbrev pub is_changed_in : Repository → File → Bool
 is_changed_in repo row = not (holds_entry row.entry (entry_of row.path (last_tree repo.history)))
 
-pub changed_file : (path : List ℕ) (entry : FileEntry) (head : List File) → (Some entry ≢ entry_of path head) → not (holds_entry entry (entry_of path head)) ≡ true
-changed_file path entry head differs = ap not (holds-not entry (entry_of path head) (λ is. differs is))
+changed_file : (entry : FileEntry) (there : Option FileEntry) → (Some entry ≢ there) → not (holds_entry entry there) ≡ true
+changed_file entry there differs = ap not (holds-not entry there (λ is. differs is))
 
 is_and_isnt : (entry : FileEntry) (there : Option FileEntry) → Some entry ≡ there → holds_entry entry there ≡ false → ⊥
-is_and_isnt entry there e is = let holds : holds_entry entry there ≡ true = rw (← e) (holds-itself entry) in cc
+is_and_isnt entry there e is = let holds : holds_entry entry there ≡ true = subst (λ (at : Option FileEntry). holds_entry entry at ≡ true) e (holds-itself entry) in cc
 
-pub same_file : (path : List ℕ) (entry : FileEntry) (head : List File) → ¬ (Some entry ≢ entry_of path head) → not (holds_entry entry (entry_of path head)) ≡ false
-same_file path entry head same =
-    elim (holds_entry entry (entry_of path head)) as (λ b. holds_entry entry (entry_of path head) ≡ b → not b ≡ false) [
+same_file : (entry : FileEntry) (there : Option FileEntry) → ¬ (Some entry ≢ there) → not (holds_entry entry there) ≡ false
+same_file entry there same =
+    elim (holds_entry entry there) as (λ b. holds_entry entry there ≡ b → not b ≡ false) [
       | true ↦ λ is. refl
-      | false ↦ λ is. absurd (same (λ e. is_and_isnt entry (entry_of path head) e is))
+      | false ↦ λ is. absurd (same (λ e. is_and_isnt entry there e is))
     ] refl
 
 below_at : (path : List ℕ) (rows : List File) (i : ℕ) (row : File) → IsBelowAll path_of path rows → slice_get rows i ≡ Some row → IsBelow path row.path
@@ -84,6 +88,18 @@ pub entry_of_row : (rows : List File) (i : ℕ) (row : File) → IsRising rows �
 entry_of_row [] i row rising at = absurd (cc)
 entry_of_row (first ∷ rows) zero row rising at = let same : first ≡ row = cc in subst (λ (r : File). entry_of r.path (first ∷ rows) ≡ Some r.entry) same (entry_of-first first.path first rows refl)
 entry_of_row (first ∷ rows) (suc i) row rising at = entry_of-rest row.path first rows (below_at first.path rows i row rising.0 at) ∙ entry_of_row rows i row rising.1 at
+
+tested : (test : Bool) (entry : FileEntry) (there : Option FileEntry) → (IsTrue test ↔ (Some entry ≢ there)) → test ≡ not (holds_entry entry there)
+tested true entry there decides = sym (changed_file entry there (decides.0 (search rules)))
+tested false entry there decides = sym (same_file entry there (λ differs. let is = decides.1 differs in absurd (search rules)))
+
+-- whether a row differs from the last commit at its path
+pub row_tested : (repo : Repository) (rows : List File) (i : ℕ) (row : File) (test : Bool) → rows ≡ repo.staged → IsRising rows → slice_get rows i ≡ Some row
+    → (IsTrue test ↔ (entry_of row.path repo.staged ≢ entry_of row.path (last_tree repo.history))) → test ≡ is_changed_in repo row
+row_tested repo rows i row test same rising at decides =
+    let here : entry_of row.path repo.staged ≡ Some row.entry = subst (λ (files : List File). entry_of row.path files ≡ Some row.entry) same (entry_of_row rows i row rising at) in
+    let there = entry_of row.path (last_tree repo.history) in
+    tested test row.entry there (subst (λ (o : Option FileEntry). IsTrue test ↔ (o ≢ there)) here decides)
 
 module _ {X Y : Type 0} (keeps : X → Bool) (f : X → Y) where
   pub kept_at : (rows : List X) (i : ℕ) (row : X) → slice_get rows i ≡ Some row → keeps row ≡ true → map f (filter keeps (drop i rows)) ≡ f row ∷ map f (filter keeps (drop (i + 1) rows))

@@ -1,6 +1,6 @@
 -- The changes of staged files are all fixes.
 use Rattle.std.proofs.Common.{◌≡◌, ◌∙◌, ap, refl, ℕ, Bool, true, false, List, [], ◌∷◌, ◌++◌, Option, None, Some}
-use Rattle.std.proofs.lemmas.List.{filter-append}
+use Rattle.std.proofs.lemmas.List.Elements.{filter-append}
 use Rattle.std.specs.Prelude.{filter, is_some, if◌then◌else◌}
 use Rattle.std.specs.Str.{bytes_eq}
 use Rattle.hook_base.specs.declared.change.Change.{Change}

@@ -15,7 +15,7 @@ use sqlite::Alter;
 use std::alloc::Global;
 
 /// What is made ready before the hooks of a run start.
-#[derive(Debug, Drop)]
+#[derive(Drop)]
 pub(crate) struct Prepared {
     /// The staged configuration.
     pub config: Config,
