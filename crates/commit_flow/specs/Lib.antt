@@ -5,8 +5,10 @@ pub mod Configured
 pub mod Crashes
 pub mod Hosts
 pub mod Messages
+pub mod Preparations
 pub mod Refusals
 pub mod RunRefusals
+pub mod RunSteps
 pub mod Runs
 pub mod StagedPaths
 pub mod Steps
