@@ -69,11 +69,14 @@ remove_app = with_rule (new_app (codes "rm")) (word_rule (codes "PATH"))
 abbrev pub status_app : App
 status_app = new_app (codes "status")
 
--- `run [--all-files] [--hook-stage=STAGE] [--fresh] [ID]`
+-- `run [--all-files] [--hook-stage=STAGE] [--fresh]`
+abbrev pub run_with_options_app : App
+run_with_options_app =
+    with_rule (with_rule (with_rule (new_app (codes "run")) (flag_rule (codes "all-files"))) stage_rule) (flag_rule (codes "fresh"))
+
+-- behind them `[ID]`
 abbrev pub run_app : App
-run_app =
-    with_rule (with_rule (with_rule (with_rule (new_app (codes "run")) (flag_rule (codes "all-files"))) stage_rule) (flag_rule (codes "fresh")))
-    (new_rule (codes "ID"))
+run_app = with_rule run_with_options_app (new_rule (codes "ID"))
 
 -- `run-files [--hook-stage=STAGE] [--fresh] PATH..`
 abbrev pub run_files_app : App

@@ -5,7 +5,7 @@
 ghost use Rattle.std.specs.Prelude.{◌≡◌, ◌∷◌, IfOk, [], false};
 ghost use Rattle.clap.specs.Words.{app_of, new_rule, rule_of};
 ghost use Rattle.clap.specs.declared.builder.Command.TheViews.{out-Command as fields_of};
-ghost use Rattle.hook_cli.specs.CommandLine.{accept_app, add_app, cat_app, check_app, chmod_rule, commit_app, fixes_app, flag_rule, hookhost_app, hookhost_base, init_app, log_app, message_rule, remove_app, run_app, run_files_app, show_app, stage_rule, status_app, try_app, with_commands, word_rule, words_rule};
+ghost use Rattle.hook_cli.specs.CommandLine.{accept_app, add_app, cat_app, check_app, chmod_rule, commit_app, fixes_app, flag_rule, hookhost_app, hookhost_base, init_app, log_app, message_rule, remove_app, run_app, run_files_app, run_with_options_app, show_app, stage_rule, status_app, try_app, with_commands, word_rule, words_rule};
 
 use crate::help::{CHECK_HELP, PROGRAM_HELP, TRY_HELP};
 use crate::repository_help::{
@@ -163,6 +163,18 @@ pub(crate) fn run_command<'a>(alloc: Global) -> Result<Command<'a>, AllocError>
     ensures app { IfOk result (λ command. app_of command ≡ run_app) }
     ensures local { IfOk result (λ command. (fields_of command).has_globals ≡ false) }
 {
+    run_with_options(alloc)?.arg(optional_word(
+        alloc,
+        "ID",
+        "The id or alias of the hooks to run; without it all of the stage",
+    ))
+}
+
+// `run` with its options alone.
+fn run_with_options<'a>(alloc: Global) -> Result<Command<'a>, AllocError>
+    ensures app { IfOk result (λ command. app_of command ≡ run_with_options_app) }
+    ensures local { IfOk result (λ command. (fields_of command).has_globals ≡ false) }
+{
     Command::new(alloc, "run")
         .about("Runs the hooks of the staged configuration on staged files, and prints the report")
         .override_usage("hookhost run [--all-files] [--hook-stage=<STAGE>] [--fresh] [ID]")
@@ -177,11 +189,6 @@ pub(crate) fn run_command<'a>(alloc: Global) -> Result<Command<'a>, AllocError>
             alloc,
             "fresh",
             "Starts every command, also where its answer is remembered",
-        ))?
-        .arg(optional_word(
-            alloc,
-            "ID",
-            "The id or alias of the hooks to run; without it all of the stage",
         ))
 }
 

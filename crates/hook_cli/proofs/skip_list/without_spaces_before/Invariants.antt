@@ -3,4 +3,4 @@ use Rattle.hook_cli.specs.SkipList.{without_spaces_before}
 use Rattle.hook_cli.proofs.skip_list.without_spaces_before.Given as goal
 
 abbrev pub invariant-spaces : goal.invariant-spaces
-invariant-spaces l = without_spaces_before l.rest.now ≡ without_spaces_before l.text.now
+invariant-spaces l = without_spaces_before l.rest ≡ without_spaces_before l.text
