@@ -3,6 +3,7 @@ pub mod CommandLemmas
 pub mod KnownBytesLemmas
 pub mod LineLemmas
 pub mod OverHostLemmas
+pub mod OverRunLemmas
 pub mod PathLemmas
 pub mod PrintingLemmas
 pub mod ReadingLemmas

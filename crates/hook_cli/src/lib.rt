@@ -24,6 +24,7 @@ mod line;
 mod log_text;
 mod look_up;
 mod over_host;
+mod over_runs;
 mod printing;
 mod repository_help;
 mod run_ask;
