@@ -1,5 +1,5 @@
 -- How a run of hooks over a repository ends.
-use Rattle.std.proofs.Common.{◌≡◌, ℕ, List, [], Ok, Err, inl, refl, subst, sym, arith}
+use Rattle.std.proofs.Common.{rules, ◌≡◌, ℕ, List, [], Ok, Err, inl, refl, subst, sym, arith}
 use Rattle.sqlite_trees.specs.declared.store.Store.{Ghosts}
 use Rattle.sqlite_trees.specs.Tree.{Trees}
 use Rattle.sqlite.specs.Held.{state}
@@ -45,19 +45,23 @@ unchanged g host command refusal = record {
 }
 
 module _ {S : Type 0} (g : Ghosts S) (tells : List (List ℕ) → List File → Outcome → Type 0) (counts : Counts) (old new : Hosted S) (ask : HostAsk) (out err : Output) (ending : CommandEnding) where
-  pub run-said : (ran : StagedRun)
+  pub run-said : (ran : StagedRun) (report : List ℕ) (unsteady : List (List ℕ)) → report ≡ ran.report → unsteady ≡ ran.unsteady
       → IsRunStep tells counts.calls counts.calls_after counts.faults counts.faults_after old.store.kept.repo ask ran new.store.kept.repo
       → IsAllOrNothing {E = HostRefusal} old.store.kept new.store.kept (Ok ran) (setting ran.changes old.store.kept)
       → IsOneCommand g old new (command.Run ask) (Ok ran)
-      → IsRunSaid ran.passed out (run_text ran.report ran.unsteady) ending → IsSilent err
+      → IsRunSaid ran.passed out (run_text report unsteady) ending → IsSilent err
       → IsRunOverHost g tells counts old new ask out err ending
-  run-said ran step change one said silent = record {
+  run-said ran report unsteady reported named step change one said silent = record {
     answer = Ok ran;
     step = step;
     stopped = tt;
     change = change;
     one = one;
-    replied = (said, silent);
+    replied = (
+      subst (λ (names : List (List ℕ)). IsRunSaid ran.passed out (run_text ran.report names) ending) named
+          (subst (λ (text : List ℕ). IsRunSaid ran.passed out (run_text text unsteady) ending) reported said),
+      silent,
+    );
   }
 
   pub run-refused : (refusal : HostRefusal)
@@ -86,7 +90,7 @@ run-unasked g tells calls faults host ask out err ending told silent = record {
     parts = [];
     step = ((tt, refl), refl);
     told = tt;
-    starts = record { kept = refl; steady = tt };
+    starts = record { kept = refl; steady = search rules };
     counted = record { called = omega arith; faulted = omega arith };
     stopped = inl refl;
   };

@@ -1,11 +1,14 @@
 -- The names in a text with commas between them.
-use Rattle.std.proofs.Common.{◌≡◌, ◌≢◌, ◌∙◌, ap, sym, refl, subst, ℕ, Bool, true, false, cond, List, [], ◌∷◌, ◌++◌, length, map}
+use Rattle.std.proofs.Common.{◌≡◌, ◌≢◌, ◌∙◌, ◌+◌, ◌<◌, ap, arith, sym, refl, subst, lit<, ℕ, Bool, true, false, cond, List, [], ◌∷◌, ◌++◌, get_or, length, length-append, map}
 use Rattle.std.specs.Prelude.{◌==◌}
 use Rattle.std.specs.List.{filter}
+use Rattle.std.specs.Str.{IsUtf8}
 use Rattle.std.proofs.Math.Dec.{eqb-suc-zero}
+use Rattle.std.proofs.Math.Seq.{get_or-append_seam, take-append_seam}
 use Rattle.std.proofs.lemmas.Bool.{eqb-true}
 use Rattle.std.proofs.lemmas.List.{map-append, append-nil}
 use Rattle.std.proofs.lemmas.List.Elements.{filter-append}
+use Rattle.std.proofs.lemmas.Str.{IsCharBoundary-after_ascii, IsCharBoundary-before_ascii, IsUtf8-drop, IsUtf8-take}
 use denote.Ref.{Bor}
 use Rattle.hook_cli.specs.SkipList.{before_rest, is_name, is_space, without_spaces, without_spaces_after, without_spaces_before}
 
@@ -69,3 +72,20 @@ name-is (byte ∷ bytes) empty is none = refl
 pub no-name-is : (name : List ℕ) (empty : Bool) → empty ≡ (length name == 0) → empty ≡ true → is_name name ≡ false
 no-name-is [] empty is none = refl
 no-name-is (byte ∷ bytes) empty is none = let some = eqb-suc-zero (length bytes) in absurd (cc)
+
+-- ---- what is left is text
+
+pub behind-is-text : (text behind : List ℕ) → text ≡ 32 ∷ behind → IsUtf8 text → IsUtf8 behind
+behind-is-text text behind is utf8 =
+    let whole : List ℕ = 32 ∷ behind in
+    let some : 0 < length whole = omega arith in
+    let taken : IsUtf8 whole = subst IsUtf8 is utf8 in
+    IsUtf8-drop whole (0 + 1) taken (IsCharBoundary-after_ascii whole 0 taken some (lit< tt))
+
+pub before-is-text : (text before : List ℕ) → text ≡ before ++ 32 ∷ [] → IsUtf8 text → IsUtf8 before
+before-is-text text before is utf8 =
+    let whole : List ℕ = before ++ 32 ∷ [] in
+    let short : length before < length whole = simp length-append (omega arith) in
+    let space : get_or whole (length before) 0 < 128 = rw (get_or-append_seam before 32 [] 0) (lit< tt) in
+    subst IsUtf8 (take-append_seam before (32 ∷ []))
+    (IsUtf8-take whole (length before) (subst IsUtf8 is utf8) (IsCharBoundary-before_ascii whole (length before) short space))

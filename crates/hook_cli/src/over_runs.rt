@@ -26,7 +26,7 @@ pub(crate) fn run<S: Alter, C: Children, O: Write, E: Write>(
     out: &mut O,
     err: &mut E,
 ) -> CommandEnding
-    ensures run { (asked : _) → IfOk ask.entry (λ ask. ask ≡ asked) → IsRunOverHost S.Store (C.tells children.old) (record { calls = C.call_count children.old; calls_after = C.call_count children.new; faults = C.fault_count children.old; faults_after = C.fault_count children.new }) host.old host.new asked (record { held = O.contents out.old; holds = O.contents out.new }) (record { held = E.contents err.old; holds = E.contents err.new }) result }
+    ensures run { (asked : _) → IfOk ask (λ ask. ask ≡ asked) → IsRunOverHost S.Store (C.tells children.old) (record { calls = C.call_count children.old; calls_after = C.call_count children.new; faults = C.fault_count children.old; faults_after = C.fault_count children.new }) host.old host.new asked (record { held = O.contents out.old; holds = O.contents out.new }) (record { held = E.contents err.old; holds = E.contents err.new }) result }
     ensures same { SameTells (C.tells children.old) (C.tells children.new) }
 {
     match ask {

@@ -8,14 +8,14 @@ use Rattle.hook_cli.proofs.skip_list.skip_list_of.Goals as goal
 
 pub pieces-preserved-in_ok-push : goal.pieces-preserved-in_ok-push
 pieces-preserved-in_ok-push c =
-    name-more c.pieces.yielded c.in-Some.piece c.pieces.names.items _ c.without_spaces.result.now c.pieces.invariant c.without_spaces.ensures
-    (name-is c.without_spaces.result.now c.is_empty.result c.is_empty.ensures (cc))
+    name-more c.pieces.yielded c.in-Some.piece c.pieces.names.items _ c.without_spaces-name.result.now c.pieces.invariant c.without_spaces-name.ensures
+    (name-is c.without_spaces-name.result.now c.is_empty.result c.is_empty.ensures (cc))
     (c.in_ok-push.ensures.items ∙ ap (λ text. c.pieces.names.items ++ text ∷ []) c.in_ok-copy_of.ensures)
 
 pub pieces-preserved : goal.pieces-preserved
 pieces-preserved c =
-    no-name-more c.pieces.yielded c.in-Some.piece c.pieces.names.items c.without_spaces.result.now c.pieces.invariant c.without_spaces.ensures
-    (no-name-is c.without_spaces.result.now c.is_empty.result c.is_empty.ensures (cc))
+    no-name-more c.pieces.yielded c.in-Some.piece c.pieces.names.items c.without_spaces-name.result.now c.pieces.invariant c.without_spaces-name.ensures
+    (no-name-is c.without_spaces-name.result.now c.is_empty.result c.is_empty.ensures (cc))
 
 pub returns : goal.returns
 returns c =
