@@ -406,6 +406,10 @@ RUN_LINES = [
     (("run", "--all-files", "--fresh", "--hook-stage", "manual", "names"), "run manual all fresh\nnames\n"),
     (("run", "names", "--hook-stage=pre-commit"), "run pre-commit changed\nnames\n"),
     (("run", "--", "--fresh"), "run pre-commit changed\n--fresh\n"),
+    (("commit", "-m", "a word"), "commit\na word\n"),
+    (("commit", "-mx"), "commit\nx\n"),
+    (("commit", "-m", ""), "commit\n\n"),
+    (("commit", "--no-verify", "-m", "x\ny"), "commit unverified\nx\ny\n"),
     (("run-files", "a"), "run pre-commit named\na\n"),
     (("run-files", "--fresh", "b", "a", "--hook-stage=manual", "a"), "run manual named fresh\nb\na\na\n"),
 ]

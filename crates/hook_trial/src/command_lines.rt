@@ -35,6 +35,14 @@ fn told(alloc: Global, line: &Line) -> Result<String, AllocError> {
             fresh,
         } => of_run(alloc, which, only, *stage, *fresh),
         Line::Fixes => String::from_str(alloc, "fixes\n"),
+        Line::Commit {
+            message,
+            no_verify: false,
+        } => of_path(alloc, "commit", message),
+        Line::Commit {
+            message,
+            no_verify: true,
+        } => of_path(alloc, "commit unverified", message),
         Line::Accept => String::from_str(alloc, "accept\n"),
         Line::Cat { path } => of_path(alloc, "cat", path),
         Line::Log => String::from_str(alloc, "log\n"),

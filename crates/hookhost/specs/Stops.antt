@@ -12,7 +12,7 @@ use Rattle.hook_config.specs.declared.config_fault.ConfigKind.TheVariants.{OutOf
 use Rattle.commit_flow.specs.declared.host_refusal.HostRefusal.TheVariants.{OutOfMemory as NoMemoryOfHost}
 use Rattle.repo_store.specs.Faults.{fault_of}
 use Rattle.hook_cli.specs.declared.line.Line.{Line}
-use Rattle.hook_cli.specs.declared.line.Line.TheVariants.{Add, Run}
+use Rattle.hook_cli.specs.declared.line.Line.TheVariants.{Add, Run, Commit}
 use Rattle.sqlite.specs.Opening.{is_open_error}
 use Rattle.sqlite.specs.declared.error.Error.{Error as DatabaseError}
 use Rattle.sqlite.specs.declared.error.Error.TheVariants.{SqliteFailure}
@@ -140,6 +140,7 @@ IsStopOfInit stop = IsStopOfOpening stop
 abbrev pub IsStopOfLine : Line → Stop → Type 0
 IsStopOfLine (Add path mode) stop = (stop ≡ CannotUse path) ⊎ (stop ≡ RefusedCommand NoMemoryOfHost)
 IsStopOfLine (Run which only stage fresh) stop = stop ≡ RefusedCommand NoMemoryOfHost
+IsStopOfLine (Commit message no_verify) stop = stop ≡ RefusedCommand NoMemoryOfHost
 IsStopOfLine line stop = ⊥
 
 -- what stops a command on the repository: its store, its lock, or what the line needs beside them

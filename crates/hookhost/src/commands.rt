@@ -82,7 +82,11 @@ fn answer(
 // Whether a line asks for a change.
 fn changes(line: &Line) -> bool {
     match line {
-        Line::Add { .. } | Line::Remove { .. } | Line::Run { .. } | Line::Accept => true,
+        Line::Add { .. }
+        | Line::Remove { .. }
+        | Line::Run { .. }
+        | Line::Accept
+        | Line::Commit { .. } => true,
         _ => false,
     }
 }

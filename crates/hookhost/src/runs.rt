@@ -32,7 +32,7 @@ pub(crate) fn runs_of(rt: &HostRuntime, line: &Line) -> Result<Option<Runs>, Sto
     ensures { IfErr result (IsStopOfLine line.now) }
 {
     match line {
-        Line::Run { .. } => Ok(Some(runs(rt).map_err(Stop::of_command)?)),
+        Line::Run { .. } | Line::Commit { .. } => Ok(Some(runs(rt).map_err(Stop::of_command)?)),
         _ => Ok(None),
     }
 }
