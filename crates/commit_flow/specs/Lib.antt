@@ -1,13 +1,16 @@
 pub mod Commands
+pub mod CommitCalls
 pub mod CommitStages
 pub mod Commits
 pub mod Configured
 pub mod Crashes
 pub mod Hosts
 pub mod Messages
+pub mod Preparations
 pub mod Refusals
 pub mod RunRefusals
 pub mod Runs
 pub mod StagedPaths
 pub mod Steps
+pub mod StepsOver
 pub mod StepLaws

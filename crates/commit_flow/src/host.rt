@@ -25,7 +25,7 @@ use std::marker::Model;
 /// The host of a repository, which stands in a store. Each command changes the repository as a whole or not at all, whatever
 /// stops it.
 pub struct Host<S: Alter> {
-    store: Store<S>,
+    pub(crate) store: Store<S>,
 }
 
 // It is written out, so that a caller doesn't prove again how each part is dropped.

@@ -11,7 +11,12 @@
 //! says that a step has one answer at most.
 #![tactic(auto)]
 
+mod candidates;
 mod command;
+mod commit_stages;
+mod configured;
+mod course;
+mod hooks;
 mod host;
 mod host_ask;
 mod host_refusal;
