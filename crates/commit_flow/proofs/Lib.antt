@@ -1,4 +1,6 @@
 pub mod CommandLemmas
+pub mod ConfigLemmas
 pub mod MessageLemmas
 pub mod PathLemmas
+pub mod StagesLemmas
 pub mod StepLemmas

@@ -5,15 +5,11 @@ use Rattle.hook_base.specs.declared.file.File.{File}
 use Rattle.child_port.specs.declared.answer.Outcome.{Outcome}
 use Rattle.hook_config.specs.declared.configuration.Config.{Config}
 use Rattle.hook_config.specs.declared.stage.Stage.{Stage}
-use Rattle.hook_run.specs.declared.run_ask.RunAsk.{RunAsk}
-use Rattle.hook_run.specs.declared.run_out.RunOut.{RunOut}
 use Rattle.hook_run.specs.declared.run_refusal.RunRefusal.{RunRefusal}
 use Rattle.hook_run.specs.declared.run_refusal.RunRefusal.TheVariants.{NoSuchHook}
 use Rattle.hook_run.specs.declared.run_refusal.RunRefusal.TheVariants as run
-use Rattle.hook_run.specs.Asks.{names_no_hook}
 use Rattle.hook_run.specs.Parts.{Part, all_parts}
 use Rattle.hook_run.specs.Refusals.{is_of_book}
-use Rattle.hook_run.specs.RunOuts.{IsRunOut}
 use Rattle.repo_store.specs.Kept.{Kept, committing, setting}
 use Rattle.repo_store.specs.Limits.{IsSmall}
 use Rattle.repo_store.specs.Repository.{Repository}
@@ -30,20 +26,6 @@ use Rattle.commit_flow.specs.RunRefusals.{IsStop}
 use Rattle.commit_flow.specs.StepsOver.{AreTold}
 
 -- ---- one run
-
--- hooks were run on a tree, and gave this
-pub record HaveRun (tells : List (List ℕ) → List File → Outcome → Type 0) (calls calls_after faults faults_after : ℕ) (config : Config) (ask : RunAsk) (tree : List File) (out : RunOut) : Type 0 where
-  pub trace : List (List Part)
-  pub run : IsRunOut config ask tree trace out
-  pub all_told : AreTold tells calls calls_after faults faults_after (all_parts trace)
-
--- no child was started, or hooks were stopped, and children had told these parts by then
-pub record HaveStopped (tells : List (List ℕ) → List File → Outcome → Type 0) (calls calls_after faults faults_after : ℕ) (config : Config) (ask : RunAsk) (refusal : RunRefusal) : Type 0 where
-  pub untold : List Part
-  pub told : AreTold tells calls calls_after faults faults_after untold
-  pub named : refusal ≡ NoSuchHook → names_no_hook config ask ≡ true
-  pub not_book : is_of_book refusal ≡ false
-  pub spent : refusal ≡ run.Spent → calls_after ≡ 2 ^ 64 - 1
 
 -- the hooks of a stage were stopped
 pub record IsRunStopped (tells : List (List ℕ) → List File → Outcome → Type 0) (calls calls_after faults faults_after : ℕ) (refusal : RunRefusal) : Type 0 where

@@ -3,8 +3,9 @@
 ghost use Rattle.std.specs.Prelude.{◌≡◌, [], ◌∷◌, ◌++◌, IfOk, IfErr, OnOk};
 ghost use Rattle.child_port.specs.Telling.{SameTells};
 ghost use Rattle.hook_base.specs.Paths.{message_path};
-ghost use Rattle.commit_flow.specs.CommitCalls.{AreRunOver, HaveRun, IsHalted, IsRunStopped, IsStageOver};
+ghost use Rattle.commit_flow.specs.CommitCalls.{AreRunOver, IsHalted, IsRunStopped, IsStageOver};
 ghost use Rattle.commit_flow.specs.CommitStages.{ask_in, candidates_in, stages_before_commit};
+ghost use Rattle.commit_flow.specs.Preparations.{HaveRun};
 
 use crate::HostRefusal;
 use crate::course::Course;

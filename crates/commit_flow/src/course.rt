@@ -2,8 +2,7 @@
 
 ghost use Rattle.std.specs.Prelude.{◌≡◌, List, IfOk};
 ghost use Rattle.hook_base.specs.declared.file.File.{File};
-ghost use Rattle.hook_base.specs.Trees.{remove_file};
-ghost use Rattle.commit_flow.specs.CommitStages.{course_after, message_in, tree_in, with_message_file};
+ghost use Rattle.commit_flow.specs.CommitStages.{course_after, tree_in, with_message_file, without_message_file};
 
 use hook_base::{Bytes, FileEntry, Mode, OutOfMemory, RepoPath, Tree};
 use hook_config::Stage;

@@ -2,7 +2,7 @@
 
 ghost use Rattle.std.specs.Prelude.{IfOk, IfErr};
 ghost use Rattle.child_port.specs.Telling.{SameTells};
-ghost use Rattle.commit_flow.specs.CommitCalls.{HaveRun, HaveStopped};
+ghost use Rattle.commit_flow.specs.Preparations.{HaveRun, HaveStopped};
 
 use child_port::Children;
 use hook_base::Tree;
@@ -21,7 +21,7 @@ pub(crate) fn run_without_book<C: Children>(
     tree: &Tree,
 ) -> Result<RunOut, RunRefusal>
     ensures run { IfOk result (HaveRun (C.tells children.old) (C.call_count children.old) (C.call_count children.new) (C.fault_count children.old) (C.fault_count children.new) config.now ask.now tree.now) }
-    ensures stopped { IfErr result (HaveStopped (C.tells children.old) (C.call_count children.old) (C.call_count children.new) (C.fault_count children.old) (C.fault_count children.new) config.now ask.now) }
+    ensures stopped { IfErr result (HaveStopped (C.tells children.old) (C.call_count children.old) (C.call_count children.new) (C.fault_count children.old) (C.fault_count children.new) config.now ask.now tree.now) }
     ensures same { SameTells (C.tells children.old) (C.tells children.new) }
 {
     let mut book = ListBook::new(alloc);
