@@ -1,5 +1,5 @@
 -- What children told within a commit, and its stages, one after another.
-use Rattle.std.proofs.Common.{◌≡◌, ◌≢◌, ◌∙◌, sym, subst, refl, ap, arith, append_assoc, ℕ, ◌+◌, ◌-◌, ◌^◌, true, false, List, [], ◌∷◌, ◌++◌, length, length-append, Result, Ok, Err, IfOk, IfErr}
+use Rattle.std.proofs.Common.{◌≡◌, ◌≢◌, ◌∙◌, sym, subst, refl, ap, arith, append_assoc, ℕ, suc, ◌+◌, ◌-◌, ◌^◌, ◌<◌, drop, drop-cons, get_or, true, false, List, [], ◌∷◌, ◌++◌, length, length-append, Result, Ok, Err, IfOk, IfErr}
 use Rattle.std.proofs.lemmas.List.{append-nil}
 use Rattle.hook_base.specs.declared.file.File.{File}
 use Rattle.child_port.specs.declared.answer.Outcome.{Outcome}
@@ -131,6 +131,11 @@ pub record AreSoFar (tells : List (List ℕ) → List File → Outcome → Type 
   pub pass : (more : List StageTold) (last : Course) → HavePassed config changed skip rest course more last → HavePassed config changed skip stages first (told ++ more) last
   pub fail : (more : List StageTold) (failed : Stage) (last : Course) → FailedAt config changed skip rest course more failed last → FailedAt config changed skip stages first (told ++ more) failed last
 
+pub rest_after : (stages : List Stage) (index : ℕ) (other : Stage) → index < length stages → drop index stages ≡ get_or stages index other ∷ drop (index + 1) stages
+rest_after stages index other within =
+    let next : suc index ≡ index + 1 = omega arith in
+    subst (λ (n : ℕ). drop index stages ≡ get_or stages index other ∷ drop n stages) next (drop-cons stages index other within)
+
 parts_of-more : (told : List StageTold) (one : StageTold) → parts_of (told ++ one ∷ []) ≡ parts_of told ++ all_parts one.trace
 parts_of-more [] one = append-nil (all_parts one.trace)
 parts_of-more (first ∷ told) one =
@@ -140,12 +145,12 @@ reports_of-more : (told : List StageTold) (one : StageTold) → reports_of (told
 reports_of-more [] one = refl
 reports_of-more (first ∷ told) one = ap (λ rest. first.out.report ∷ rest) (reports_of-more told one)
 
-pub none_so_far : (tells : List (List ℕ) → List File → Outcome → Type 0) (calls faults : ℕ) (config : Config) (changed skip : List (List ℕ)) (stages : List Stage) (course : Course)
-    → AreSoFar tells calls calls faults faults config changed skip stages course stages course []
-none_so_far tells calls faults config changed skip stages course = record {
+pub none_so_far : (tells : List (List ℕ) → List File → Outcome → Type 0) (calls faults : ℕ) (config : Config) (changed skip : List (List ℕ)) (stages : List Stage) (course : Course) (reports : List (List ℕ))
+    → reports ≡ [] → AreSoFar tells calls calls faults faults config changed skip stages course stages course reports
+none_so_far tells calls faults config changed skip stages course reports none = record {
   told = [];
   all_told = told_none tells calls faults;
-  reported = refl;
+  reported = none;
   pass = λ more last passed. passed;
   fail = λ more failed last run. run;
 }
@@ -154,7 +159,7 @@ module _ (tells next : List (List ℕ) → List File → Outcome → Type 0) (ca
     (left rest : List Stage) (stage : Stage) (course : Course) (reports reports_after : List (List ℕ)) (end : StageEnd)
     (same : SameTells tells next) (so_far : AreSoFar tells calls calls_now faults faults_now config changed skip stages first left course reports) (is : left ≡ stage ∷ rest)
     (over : IsStageOver next calls_now calls_after faults_now faults_after config changed skip stage course end) (added : reports_after ≡ reports ++ end.report ∷ []) where
-  all : List StageTold
+  abbrev all : List StageTold
   all = so_far.told ++ over.told ∷ []
 
   told_now : AreTold tells calls calls_after faults faults_after (parts_of all)

@@ -1,5 +1,6 @@
 pub mod Commands
 pub mod CommitCalls
+pub mod CommitKept
 pub mod CommitStages
 pub mod Commits
 pub mod Configured

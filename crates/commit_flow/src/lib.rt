@@ -13,6 +13,10 @@
 
 mod candidates;
 mod command;
+mod commit;
+mod commit_begun;
+mod commit_ending;
+mod commit_staged;
 mod commit_stages;
 mod configured;
 mod course;
@@ -25,6 +29,7 @@ mod message;
 mod reply;
 
 pub use command::Command;
+pub use commit_ending::CommitEnding;
 pub use host::Host;
 pub use host_ask::{AskStage, HostAsk, Which};
 pub use host_refusal::HostRefusal;
