@@ -1,4 +1,6 @@
 pub mod CommandLemmas
+pub mod CommitLemmas
+pub mod CommitStoreLemmas
 pub mod ConfigLemmas
 pub mod MessageLemmas
 pub mod PathLemmas

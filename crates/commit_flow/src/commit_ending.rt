@@ -1,6 +1,6 @@
 //! How a commit ends.
 
-ghost use Rattle.std.specs.Prelude.{[], IfOk, IfErr};
+ghost use Rattle.std.specs.Prelude.{◌≢◌, [], IfOk, IfErr};
 ghost use Rattle.child_port.specs.Telling.{SameTells};
 ghost use Rattle.hook_base.specs.Trees.{changes_between};
 ghost use Rattle.hook_config.specs.declared.stage.Stage.TheVariants.{PostCommit};
@@ -46,6 +46,7 @@ pub enum CommitEnding {
 /// refusal leaves the store as it was.
 pub(crate) fn set_fixes_to<S: Alter>(store: &mut Store<S>, tree: &Tree) -> Result<(), HostRefusal>
     ensures refused { IfErr result IsHalt }
+    ensures not_spent { IfErr result (λ refusal. refusal ≢ HostRefusal.Spent) }
     ensures change { IsAllOrNothing store.old.kept store.new.kept result (setting (changes_between store.old.kept.repo.staged tree.now) store.old.kept) }
     ensures one { IsOneChange S.Store store.old store.new result (setting (changes_between store.old.kept.repo.staged tree.now) store.old.kept) }
 {
