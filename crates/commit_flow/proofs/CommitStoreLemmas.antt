@@ -1,7 +1,8 @@
 -- What a commit leaves in the store's tables, from what the store's call leaves.
 use Rattle.std.proofs.Common.{◌≡◌, ◌≢◌, ◌∙◌, ℕ, ◌+◌, ◌<◌, ◌≤◌, Bool, true, false, if◌then◌else◌, List, [], ◌∷◌, ◌++◌, length, length-append, filter, is_some, Option, None, Some, Result, Ok, Err, inl, refl, sym, subst, ap, arith}
 use Rattle.std.specs.List.{AllByRecursion}
-use Rattle.std.specs.Str.{bytes_eq}
+use Rattle.std.specs.Bool.{Decides}
+use Rattle.std.specs.Cmp.Lexicographic.{pointwise, pointwise_decides}
 use Rattle.sqlite_trees.specs.declared.store.Store.{Ghosts}
 use Rattle.sqlite_trees.specs.Tree.{Trees}
 use Rattle.sqlite.specs.Held.{state}
@@ -9,9 +10,11 @@ use Rattle.sqlite.specs.State.{State, Survives}
 use Rattle.sqlite.proofs.StateLemmas.{survives_weaker}
 use Rattle.hook_base.specs.declared.change.Change.{Change}
 use Rattle.hook_base.specs.declared.file.File.{File}
-use Rattle.hook_base.specs.declared.file.FileEntry.{FileEntry}
-use Rattle.hook_base.specs.RisingLemmas.{bytes_same}
-use Rattle.hook_base.specs.Trees.{change_to, changes_between, entry_of}
+use Rattle.hook_base.specs.AlikeLemmas.{file_decides}
+use Rattle.hook_base.specs.contracts.file.FilePartialEq.TheImpl as file_eq
+use Rattle.hook_base.specs.Trees.{changes_between}
+use Rattle.hook_config.specs.declared.configuration.Config.{Config}
+use Rattle.hook_config.specs.declared.stage.Stage.{Stage}
 use Rattle.hook_run.specs.declared.run_refusal.RunRefusal.TheVariants as run
 use Rattle.store_tables.specs.declared.rows.CommitRow.{CommitRow}
 use Rattle.repo_store.specs.declared.fault.StoreFault.{StoreFault}
@@ -19,26 +22,25 @@ use Rattle.repo_store.specs.declared.fault.StoreFault.TheVariants as store
 use Rattle.repo_store.specs.Faults.{IsRefusal}
 use Rattle.repo_store.specs.Kept.{Kept, committing, setting}
 use Rattle.repo_store.specs.Limits.{IsSmall, most_commits}
-use Rattle.repo_store.specs.Repository.{Commit as Entry, Repository, staged_changes, with_fixes}
+use Rattle.repo_store.specs.Repository.{Commit as Entry, Repository, last_tree, with_fixes}
 use Rattle.repo_store.specs.Rows.{commit_rows}
 use Rattle.repo_store.specs.Shown.{IsOneTransaction, Leaves, LeavesOnly, Shown}
 use Rattle.commit_flow.specs.declared.command.Command.{Command}
 use Rattle.commit_flow.specs.declared.command.Command.TheVariants.{Commit}
+use Rattle.commit_flow.specs.declared.course.Course.{Course}
 use Rattle.commit_flow.specs.declared.host_refusal.HostRefusal.{HostRefusal}
 use Rattle.commit_flow.specs.declared.host_refusal.HostRefusal.TheVariants.{Spent}
 use Rattle.commit_flow.specs.declared.reply.PostCommit.TheVariants.{Stopped}
 use Rattle.commit_flow.specs.declared.reply.Reply.TheVariants.{Committed, HooksFailed}
 use Rattle.commit_flow.specs.CommitCalls.{IsHalt, IsOneChange, IsUncommitted}
 use Rattle.commit_flow.specs.CommitStages.{FailedAt, StageTold, course_of, parts_of, reports_of, stages_before_commit}
-use Rattle.commit_flow.specs.Commits.{IsCommittable, IsVerified}
+use Rattle.commit_flow.specs.Commits.{HasNothingNew, IsCommittable, IsVerified}
 use Rattle.commit_flow.specs.Configured.{IsConfigured}
 use Rattle.commit_flow.specs.Crashes.{IsOneCommand, LeavesDone}
 use Rattle.commit_flow.specs.Messages.{cleaned_message}
 use Rattle.commit_flow.specs.Refusals.{of_store}
 use Rattle.commit_flow.specs.Runs.{changed_paths, fixing}
-use Rattle.hook_config.specs.declared.configuration.Config.{Config}
-use Rattle.hook_config.specs.declared.stage.Stage.{Stage}
-use Rattle.commit_flow.specs.declared.course.Course.{Course}
+use Rattle.commit_flow.proofs.FixLemmas.{changes_are_staged}
 
 -- ---- one change of the store
 
@@ -80,47 +82,19 @@ module _ {S : Type 0} (g : Ghosts S) (old new : Shown S) (after : Kept) where
       durable = one.durable;
     }
 
--- ---- the changes of a tree are of its files
+-- ---- what is staged
 
-still_staged : (row : File) (rows : List File) (path : List ℕ) → is_some (entry_of path rows) ≡ true → is_some (entry_of path (row ∷ rows)) ≡ true
-still_staged row rows path is = elim (bytes_eq path row.path) as (λ b. is_some (if b then Some row.entry else entry_of path rows) ≡ true) [ | true ↦ refl | false ↦ is ]
+stable : {P : Type 0} (same : Bool) → Decides same P → ((P → ⊥) → ⊥) → P
+stable true decides twice = decides.0 refl
+stable false decides twice = absurd (twice (λ p. let is = decides.1 p in cc))
 
--- the paths of the changes are in the tree
-abbrev AreOf : List File → List Change → Type 0
-AreOf staged changes = AllByRecursion (λ (change : Change). is_some (entry_of change.path staged) ≡ true) changes
-
-all_kept : (staged : List File) (changes : List Change) → AreOf staged changes → staged_changes changes staged ≡ changes
-all_kept staged [] all = refl
-all_kept staged (change ∷ changes) all = rw all.0 (ap (λ (rest : List Change). change ∷ rest) (all_kept staged changes all.1))
-
-more_of : (row : File) (rows : List File) (changes : List Change) → AreOf rows changes → AreOf (row ∷ rows) changes
-more_of row rows [] all = tt
-more_of row rows (change ∷ changes) all = (still_staged row rows change.path all.0, more_of row rows changes all.1)
-
-of_append : (staged : List File) (first second : List Change) → AreOf staged first → AreOf staged second → AreOf staged (first ++ second)
-of_append staged [] second all more = more
-of_append staged (change ∷ first) second all more = (all.0, of_append staged first second all.1 more)
-
-first_staged : (row : File) (rows : List File) → is_some (entry_of row.path (row ∷ rows)) ≡ true
-first_staged row rows = rw (bytes_same row.path row.path refl) refl
-
-own_change : (row : File) (rows : List File) (now : Option FileEntry) → AreOf (row ∷ rows) (change_to row now)
-own_change row rows None = (first_staged row rows, tt)
-own_change row rows (Some entry) =
-    elim (bytes_eq row.entry.bytes entry.bytes) as (λ b. AreOf (row ∷ rows) (if b then [] else (record { path = row.path; now = Some entry.bytes } ∷ []))) [
-      | true ↦ tt
-      | false ↦ (first_staged row rows, tt)
-    ]
-
-changes_of : (staged after : List File) → AreOf staged (changes_between staged after)
-changes_of [] after = tt
-changes_of (row ∷ rows) after =
-    of_append (row ∷ rows) (change_to row (entry_of row.path after)) (changes_between rows after) (own_change row rows (entry_of row.path after))
-    (more_of row rows (changes_between rows after) (changes_of rows after))
+-- what doesn't differ is the same
+pub nothing_new : (repo : Repository) → ((repo.staged ≢ last_tree repo.history) → ⊥) → HasNothingNew repo
+nothing_new repo twice = stable (pointwise file_eq.ghosts.eq repo.staged (last_tree repo.history)) (pointwise_decides file_decides repo.staged (last_tree repo.history)) twice
 
 -- the fixes that are set are all of the changes
 pub same_fixing : (repo : Repository) (after : List File) → with_fixes (changes_between repo.staged after) repo ≡ fixing (changes_between repo.staged after) repo
-same_fixing repo after = ap (λ (fixes : List Change). record repo { fixes = fixes }) (all_kept repo.staged (changes_between repo.staged after) (changes_of repo.staged after))
+same_fixing repo after = ap (λ (fixes : List Change). record repo { fixes = fixes }) (changes_are_staged repo.staged after)
 
 -- ---- what the store is asked for is what a commit makes
 

@@ -10,6 +10,7 @@ pub mod Messages
 pub mod Preparations
 pub mod Refusals
 pub mod RunRefusals
+pub mod RunSteps
 pub mod Runs
 pub mod StagedPaths
 pub mod Steps

@@ -94,6 +94,7 @@ abbrev pub of_book : BookFault → HostRefusal
 of_book book.OutOfMemory = OutOfMemory
 of_book (book.Store fault) = of_store fault
 
+-- what stops hooks is the host's own refusal
 abbrev pub of_run : RunRefusal → HostRefusal
 of_run run.OutOfMemory = OutOfMemory
 of_run (run.Book fault) = of_book fault

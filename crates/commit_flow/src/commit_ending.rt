@@ -3,7 +3,6 @@
 ghost use Rattle.std.specs.Prelude.{◌≢◌, [], IfOk, IfErr};
 ghost use Rattle.child_port.specs.Telling.{SameTells};
 ghost use Rattle.hook_base.specs.Trees.{changes_between};
-ghost use Rattle.hook_config.specs.declared.stage.Stage.TheVariants.{PostCommit};
 ghost use Rattle.repo_store.specs.AllOrNothing.{IsAllOrNothing};
 ghost use Rattle.repo_store.specs.Kept.{setting};
 ghost use Rattle.commit_flow.specs.CommitCalls.{IsHalt, IsOneChange, IsPostOver, IsRunStopped};
@@ -80,7 +79,7 @@ fn run_on_staged<C: Children, S: Alter>(
     config: &Config,
     skip: &[Text],
 ) -> Result<RunOut, RunRefusal>
-    ensures run { IfOk result (HaveRun (C.tells children.old) (C.call_count children.old) (C.call_count children.new) (C.fault_count children.old) (C.fault_count children.new) config.now (ask_in [] skip.now PostCommit) store.now.kept.repo.staged) }
+    ensures run { IfOk result (HaveRun (C.tells children.old) (C.call_count children.old) (C.call_count children.new) (C.fault_count children.old) (C.fault_count children.new) config.now (ask_in [] skip.now Stage.PostCommit) store.now.kept.repo.staged) }
     ensures stopped { IfErr result (IsRunStopped (C.tells children.old) (C.call_count children.old) (C.call_count children.new) (C.fault_count children.old) (C.fault_count children.new)) }
     ensures same { SameTells (C.tells children.old) (C.tells children.new) }
 {

@@ -1,8 +1,8 @@
 //! A run of hooks over children, where no answer is remembered.
 
-ghost use Rattle.std.specs.Prelude.{IfOk, IfErr};
-ghost use Rattle.child_port.specs.Telling.{SameTells};
 ghost use Rattle.commit_flow.specs.Preparations.{HaveRun, HaveStopped};
+ghost use Rattle.child_port.specs.Telling.{SameTells};
+ghost use Rattle.std.specs.Prelude.{IfOk, IfErr};
 
 use child_port::Children;
 use hook_base::Tree;
