@@ -1,5 +1,6 @@
 pub mod CandidateLemmas
 pub mod CommandLemmas
+pub mod CommitEnds
 pub mod CommitLemmas
 pub mod CommitStoreLemmas
 pub mod ConfigLemmas

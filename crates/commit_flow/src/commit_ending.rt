@@ -67,7 +67,13 @@ pub(crate) fn run_post_commit<C: Children, S: Alter>(
     ensures same { SameTells (C.tells children.old) (C.tells children.new) }
 {
     match run_on_staged(alloc, children, store, config, skip) {
-        Ok(out) => PostCommit::Told(out.report),
+        Ok(RunOut {
+            passed: _,
+            report,
+            results: _,
+            tree: _,
+            unsteady: _,
+        }) => PostCommit::Told(report),
         Err(refusal) => PostCommit::Stopped(refusal),
     }
 }

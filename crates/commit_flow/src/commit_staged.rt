@@ -1,6 +1,6 @@
 //! The commit of the staged files, once the hooks before it are through.
 
-ghost use Rattle.std.specs.Prelude.{◌≡◌, ◌+◌, length, IfOk, IfErr, OnOk};
+ghost use Rattle.std.specs.Prelude.{◌≡◌, ◌+◌, [], length, IfOk, IfErr, OnOk};
 ghost use Rattle.repo_store.specs.AllOrNothing.{IsAllOrNothing};
 ghost use Rattle.repo_store.specs.Kept.{committing};
 ghost use Rattle.commit_flow.specs.CommitCalls.{IsOneChange, IsUncommitted, MayCommit};
@@ -23,6 +23,7 @@ pub(crate) fn commit_staged<S: Alter>(
     ensures number { IfOk result (λ number. number ≡ length store.old.kept.repo.history + 1) }
     ensures able { OnOk result (MayCommit store.old.kept.repo (cleaned_message message.now)) }
     ensures refused { IfErr result (IsUncommitted store.old.kept.repo (cleaned_message message.now)) }
+    ensures unasked { cleaned_message message.now ≡ [] → store.new ≡ store.old }
     ensures change { IsAllOrNothing store.old.kept store.new.kept result (committing (cleaned_message message.now) store.old.kept) }
     ensures one { IsOneChange S.Store store.old store.new result (committing (cleaned_message message.now) store.old.kept) }
 {
