@@ -85,9 +85,9 @@ returns-in-Passed-clause-step g c =
     committed_step (children.tells c.args.children.now) (children.call_count c.args.children.now) (children.call_count c.go_through.new.children)
     (children.fault_count c.args.children.now) (children.fault_count c.go_through.new.children) c.args.store.now.kept c.args.message.now c.args.no_verify c.args.skip.now
     c.in_ok-through.through c.in_ok-through.ensures.through c.in-Passed.reports c.in-Passed.course c.in-Passed.is
-    (children.tells c.go_through.new.children) (children.call_count c.run_post_commit.new.children) (children.fault_count c.run_post_commit.new.children)
-    c.in_ok-number-in-Passed.number c.commit_staged.new.store.kept c.as_slice.result.now c.run_post_commit.result c.as_slice.ensures c.go_through.ensures.same
-    c.in_ok-number-in-Passed.ensures.able c.in_ok-number-in-Passed.ensures.number c.in_ok-number-in-Passed.ensures.change.done c.run_post_commit.ensures.post
+    (children.tells c.go_through.new.children) (children.call_count c.run_post_commit-post.new.children) (children.fault_count c.run_post_commit-post.new.children)
+    c.in_ok-number-in-Passed.number c.commit_staged.new.store.kept c.as_slice.result.now c.run_post_commit-post.result c.as_slice.ensures c.go_through.ensures.same
+    c.in_ok-number-in-Passed.ensures.able c.in_ok-number-in-Passed.ensures.number c.in_ok-number-in-Passed.ensures.change.done c.run_post_commit-post.ensures.post
 
 pub returns-in-Passed-clause-command : goal.returns-in-Passed-clause-command
 returns-in-Passed-clause-command g c =

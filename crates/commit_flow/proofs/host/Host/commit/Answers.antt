@@ -5,7 +5,7 @@ use Rattle.commit_flow.specs.CommitKept.{KeepsFor}
 use Rattle.commit_flow.specs.Crashes.{IsOneCommand}
 use Rattle.commit_flow.specs.Hosts.{Hosted}
 use Rattle.commit_flow.specs.StepsOver.{IsStepOver}
-use Rattle.commit_flow.proofs.commit.Host.commit.Goals as goal
+use Rattle.commit_flow.proofs.host.Host.commit.Goals as goal
 
 pub returns-clause-step : goal.returns-clause-step
 returns-clause-step g c =
