@@ -255,3 +255,12 @@ module _ (tells : List (List ℕ) → List File → Outcome → Type 0) (calls c
 
   pub run_refused : (refusal : HostRefusal) → HasStoppedReady tells calls calls_after faults faults_after ready refusal → IsStoppedStep tells calls calls_after faults faults_after kept ask refusal
   run_refused refusal has = by_whole refusal (subst (λ (r : Prepared). HasStoppedReady tells calls calls_after faults faults_after r refusal) ready_is has)
+
+-- ---- the fixes are set
+
+module _ (kept after : Kept) (changes fixes : List Change) (made : after ≡ setting changes kept) (same : changes ≡ fixes) where
+  pub settled : after ≡ setting fixes kept
+  settled = made ∙ ap (λ (l : List Change). setting l kept) same
+
+  pub settled_fixes : staged_changes fixes kept.repo.staged ≡ fixes → after.repo.fixes ≡ fixes
+  settled_fixes staged = ap (λ (k : Kept). k.repo.fixes) settled ∙ staged

@@ -22,7 +22,7 @@ pub enum Command {
     },
     /// [`Host::accept`](crate::Host::accept).
     Accept,
-    /// A run of hooks on the staged files.
+    /// [`Host::run`](crate::Host::run).
     Run {
         /// What is asked of it.
         ask: HostAsk,

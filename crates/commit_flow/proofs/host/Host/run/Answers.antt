@@ -1,7 +1,6 @@
-use Rattle.std.proofs.Common.{◌≡◌, ◌∙◌, Ok, Err, List, ap, refl, subst, sym}
+use Rattle.std.proofs.Common.{◌∙◌, Ok, Err, List, ap, subst, sym}
 use Rattle.std.proofs.lemmas.Result.{err_from_is_err_and}
 use Rattle.hook_base.specs.declared.change.Change.{Change}
-use Rattle.repo_store.specs.AllOrNothing.{IsAllOrNothing}
 use Rattle.repo_store.specs.Faults.{IsRefusal}
 use Rattle.repo_store.specs.Kept.{FixCollides, HasLarge, Kept, setting}
 use Rattle.repo_store.specs.Repository.{staged_changes}
@@ -11,7 +10,7 @@ use Rattle.commit_flow.specs.Hosts.{Hosted}
 use Rattle.commit_flow.specs.Refusals.{of_store}
 use Rattle.commit_flow.specs.RunSteps.{IsRunStep, IsStoppedStep}
 use Rattle.commit_flow.proofs.CommandLemmas.{done_command, refused_command}
-use Rattle.commit_flow.proofs.RunLemmas.{all_staged, run_reached, run_refused, run_step, set_refused, unready}
+use Rattle.commit_flow.proofs.RunLemmas.{all_staged, run_reached, run_refused, run_step, set_refused, settled, settled_fixes, unready}
 use Rattle.commit_flow.proofs.host.Host.run.Goals as goal
 
 pub returns-in_err-prepared-clause-stopped : goal.returns-in_err-prepared-clause-stopped
@@ -82,7 +81,7 @@ returns-clause-step g c =
     let kept = c.self.inside.store.kept in
     let ask = c.args.ask.now in
     let ran = c.in_ok-ran.ran in
-    let made = c.in_ok-set_fixes.ensures.change.done ∙ ap (λ (changes : List Change). setting changes kept) c.as_slice.ensures.same in
+    let made = settled kept c.set_fixes.new.self.kept c.as_slice.result.now ran.changes c.in_ok-set_fixes.ensures.change.done c.as_slice.ensures.same in
     subst (λ (host : Hosted g.row.S.Denot). IsRunStep tells calls calls_after faults faults_after host.store.kept.repo ask ran c.set_fixes.new.self.kept.repo) c.self.view_is
     (subst (λ (after : Kept). IsRunStep tells calls calls_after faults faults_after kept.repo ask ran after.repo) (sym made)
     (run_step tells calls calls_after faults faults_after kept ask c.in_ok-prepared.prepared c.in_ok-prepared.ensures.ready ran c.in_ok-ran.ensures.run))
@@ -92,10 +91,9 @@ returns-clause-fixed g c =
     let children = g.C.Children in
     let kept = c.self.inside.store.kept in
     let ran = c.in_ok-ran.ran in
-    ap (λ (after : Kept). after.repo.fixes) c.in_ok-set_fixes.ensures.change.done
-    ∙ ap (λ (changes : List Change). staged_changes changes kept.repo.staged) c.as_slice.ensures.same
-    ∙ all_staged (children.tells c.args.children.now) (children.call_count c.args.children.now) (children.call_count c.run_prepared.new.children)
-    (children.fault_count c.args.children.now) (children.fault_count c.run_prepared.new.children) kept c.args.ask.now c.in_ok-prepared.prepared c.in_ok-prepared.ensures.ready ran c.in_ok-ran.ensures.run
+    settled_fixes kept c.set_fixes.new.self.kept c.as_slice.result.now ran.changes c.in_ok-set_fixes.ensures.change.done c.as_slice.ensures.same
+    (all_staged (children.tells c.args.children.now) (children.call_count c.args.children.now) (children.call_count c.run_prepared.new.children)
+    (children.fault_count c.args.children.now) (children.fault_count c.run_prepared.new.children) kept c.args.ask.now c.in_ok-prepared.prepared c.in_ok-prepared.ensures.ready ran c.in_ok-ran.ensures.run)
 
 pub returns-clause-command : goal.returns-clause-command
 returns-clause-command g c =
