@@ -14,72 +14,75 @@ use Rattle.hook_run.specs.declared.run_out.RunOut.{RunOut}
 use Rattle.hook_run.specs.Parts.{Part, all_parts}
 use Rattle.hook_run.specs.RunOuts.{IsRunOut}
 use Rattle.repo_store.specs.Repository.{Repository}
+use Rattle.commit_flow.specs.declared.course.Course.{Course}
 use Rattle.commit_flow.specs.Messages.{begun_message}
-use Rattle.commit_flow.specs.Runs.{changed_paths}
 
 -- the stages before the commit, in order: unverified, only that which prepares the message
 abbrev pub stages_before_commit : Bool → List Stage
 stages_before_commit no_verify = if no_verify then PrepareCommitMsg ∷ [] else PreCommit ∷ PrepareCommitMsg ∷ CommitMsg ∷ []
 
--- what passes from stage to stage
-pub record Course : Type 0 where
-  pub tree : List File
-  pub message : List ℕ
-
 abbrev pub message_entry : List ℕ → FileEntry
 message_entry message = record { mode = Plain; bytes = message }
 
+-- the files, with the message among them
+abbrev pub with_message_file : Course → List File
+with_message_file course = put_file message_path (message_entry course.message) course.tree
+
 -- the tree that the hooks of a stage begin on
 abbrev pub tree_in : Stage → Course → List File
-tree_in PrepareCommitMsg course = put_file message_path (message_entry course.message) course.tree
-tree_in CommitMsg course = put_file message_path (message_entry course.message) course.tree
+tree_in PrepareCommitMsg course = with_message_file course
+tree_in CommitMsg course = with_message_file course
 tree_in stage course = course.tree
 
--- the files that the hooks of a stage may get
-abbrev pub candidates_in : Stage → Repository → List (List ℕ)
-candidates_in PreCommit repo = changed_paths repo
-candidates_in PrepareCommitMsg repo = message_path ∷ []
-candidates_in CommitMsg repo = message_path ∷ []
-candidates_in stage repo = []
+-- the files that the hooks of a stage may get, where these are staged and not committed so
+abbrev pub candidates_in : List (List ℕ) → Stage → List (List ℕ)
+candidates_in changed PreCommit = changed
+candidates_in changed PrepareCommitMsg = message_path ∷ []
+candidates_in changed CommitMsg = message_path ∷ []
+candidates_in changed stage = []
 
 -- the bytes of the message in a tree; where a hook deleted it, it is empty
 abbrev pub message_in : List File → List ℕ
 message_in tree = unwrap_or (option_map (λ (entry : FileEntry). entry.bytes) (entry_of message_path tree)) []
 
+-- the message is taken out of the files
+abbrev pub without_message_file : List File → Course
+without_message_file tree = record { tree = remove_file message_path tree; message = message_in tree }
+
 -- what a stage that left this tree passes on
 abbrev pub course_after : Stage → Course → List File → Course
-course_after PrepareCommitMsg course tree = record { tree = remove_file message_path tree; message = message_in tree }
-course_after CommitMsg course tree = record { tree = remove_file message_path tree; message = message_in tree }
+course_after PrepareCommitMsg course tree = without_message_file tree
+course_after CommitMsg course tree = without_message_file tree
 course_after stage course tree = record { tree = tree; message = course.message }
 
-abbrev pub ask_in : Stage → Repository → List (List ℕ) → RunAsk
-ask_in stage repo skip = record { stage = stage; candidates = candidates_in stage repo; only = None; skip = skip; fresh = false }
+abbrev pub ask_in : List (List ℕ) → List (List ℕ) → Stage → RunAsk
+ask_in changed skip stage = record { stage = stage; candidates = candidates_in changed stage; only = None; skip = skip; fresh = false }
 
 -- a run of a stage: the parts of each of its hooks, and what it gave
 pub record StageTold : Type 0 where
   pub trace : List (List Part)
   pub out : RunOut
 
-abbrev pub IsStageTold : Config → Repository → List (List ℕ) → Stage → Course → StageTold → Type 0
-IsStageTold config repo skip stage course told = IsRunOut config (ask_in stage repo skip) (tree_in stage course) told.trace told.out
+abbrev pub IsStageTold : Config → List (List ℕ) → List (List ℕ) → Stage → Course → StageTold → Type 0
+IsStageTold config changed skip stage course told = IsRunOut config (ask_in changed skip stage) (tree_in stage course) told.trace told.out
 
 -- the stages were run in order, each on what the one before it passed on; each passed, and the last passes this on
-abbrev pub HavePassed : Config → Repository → List (List ℕ) → List Stage → Course → List StageTold → Course → Type 0
-HavePassed config repo skip [] course [] last = last ≡ course
-HavePassed config repo skip (stage ∷ stages) course (told ∷ more) last =
-    IsStageTold config repo skip stage course told
+abbrev pub HavePassed : Config → List (List ℕ) → List (List ℕ) → List Stage → Course → List StageTold → Course → Type 0
+HavePassed config changed skip [] course [] last = last ≡ course
+HavePassed config changed skip (stage ∷ stages) course (told ∷ more) last =
+    IsStageTold config changed skip stage course told
     × (told.out.passed ≡ true)
-    × HavePassed config repo skip stages (course_after stage course told.out.tree) more last
-HavePassed config repo skip _ course _ last = ⊥
+    × HavePassed config changed skip stages (course_after stage course told.out.tree) more last
+HavePassed config changed skip _ course _ last = ⊥
 
 -- the stages were run in order up to this one, in which a hook failed, and which leaves this
-abbrev pub FailedAt : Config → Repository → List (List ℕ) → List Stage → Course → List StageTold → Stage → Course → Type 0
-FailedAt config repo skip (stage ∷ stages) course (told ∷ more) failed last =
-    IsStageTold config repo skip stage course told
+abbrev pub FailedAt : Config → List (List ℕ) → List (List ℕ) → List Stage → Course → List StageTold → Stage → Course → Type 0
+FailedAt config changed skip (stage ∷ stages) course (told ∷ more) failed last =
+    IsStageTold config changed skip stage course told
     × MatchBool told.out.passed
-    (FailedAt config repo skip stages (course_after stage course told.out.tree) more failed last)
+    (FailedAt config changed skip stages (course_after stage course told.out.tree) more failed last)
     ((more ≡ []) × (failed ≡ stage) × (last ≡ course_after stage course told.out.tree))
-FailedAt config repo skip _ course _ failed last = ⊥
+FailedAt config changed skip _ course _ failed last = ⊥
 
 -- a commit begins with the staged files, and with its message ended by a line feed
 abbrev pub course_of : Repository → List ℕ → Course

@@ -1,11 +1,12 @@
 -- A commit through its hooks: what it makes of the repository, what it answers, and why it is refused.
-use Rattle.std.specs.Prelude.{◌≡◌, ◌≢◌, ◌+◌, ◌≤◌, ◌<◌, ℕ, Bool, List, [], ◌++◌, length}
+use Rattle.std.specs.Prelude.{◌≡◌, ◌≢◌, ◌+◌, ◌≤◌, ◌<◌, ℕ, Bool, false, List, [], ◌++◌, length}
 use Rattle.hook_base.specs.Trees.{changes_between}
 use Rattle.hook_config.specs.declared.configuration.Config.{Config}
 use Rattle.hook_config.specs.declared.stage.Stage.{Stage}
 use Rattle.hook_config.specs.declared.stage.Stage.TheVariants as stage
 use Rattle.hook_run.specs.declared.run_refusal.RunRefusal.TheVariants.{NoSuchHook}
 use Rattle.hook_run.specs.Parts.{Part, all_parts}
+use Rattle.hook_run.specs.Refusals.{is_of_book}
 use Rattle.repo_store.specs.declared.fault.StoreFault.TheVariants as store
 use Rattle.repo_store.specs.Limits.{IsSmall, most_commits}
 use Rattle.repo_store.specs.Repository.{Repository, last_tree, with_new_commit}
@@ -13,11 +14,12 @@ use Rattle.commit_flow.specs.declared.host_refusal.HostRefusal.{HostRefusal}
 use Rattle.commit_flow.specs.declared.host_refusal.HostRefusal.TheVariants.{OutOfMemory, Store, TooLarge, TooMany, NoConfig, BadConfig, NothingStaged, EmptyMessage}
 use Rattle.commit_flow.specs.declared.reply.PostCommit.{PostCommit}
 use Rattle.commit_flow.specs.declared.reply.PostCommit.TheVariants.{Told, Stopped}
-use Rattle.commit_flow.specs.CommitStages.{Course, FailedAt, HavePassed, IsStageTold, StageTold, course_of, parts_of, reports_of, stages_before_commit}
+use Rattle.commit_flow.specs.declared.course.Course.{Course}
+use Rattle.commit_flow.specs.CommitStages.{FailedAt, HavePassed, IsStageTold, StageTold, course_of, parts_of, reports_of, stages_before_commit}
 use Rattle.commit_flow.specs.Configured.{HasReadableConfig, IsConfigured, IsMisconfigured, LacksConfig}
 use Rattle.commit_flow.specs.Messages.{cleaned_message}
 use Rattle.commit_flow.specs.RunRefusals.{IsStop}
-use Rattle.commit_flow.specs.Runs.{fixing}
+use Rattle.commit_flow.specs.Runs.{changed_paths, fixing}
 
 -- the staged files are those of the last commit, or none before the first
 abbrev pub HasNothingNew : Repository → Type 0
@@ -33,16 +35,16 @@ pub record IsVerified (before : Repository) (message : List ℕ) (no_verify : Bo
   pub committable : IsCommittable before message
   pub configured : IsConfigured before config
   pub left : Course
-  pub passed : HavePassed config before skip (stages_before_commit no_verify) (course_of before message) told left
+  pub passed : HavePassed config (changed_paths before) skip (stages_before_commit no_verify) (course_of before message) told left
   pub message_left : last ≡ left.message
 
--- the hooks behind the commit ran on the committed files, without any to get, and this is reported; or their run was stopped,
--- and what they were told by then isn't among the parts
+-- the hooks behind the commit ran on the committed files, without any to get, and this is reported; or their run was stopped
+-- for want of memory or of a number for a child, and what they were told by then isn't among the parts
 abbrev pub IsPost : Config → Repository → List (List ℕ) → PostCommit → List Part → Type 0
 IsPost config before skip (Told report) parts =
-    (told : StageTold) × IsStageTold config before skip stage.PostCommit (record { tree = before.staged; message = [] }) told
+    (told : StageTold) × IsStageTold config (changed_paths before) skip stage.PostCommit (record { tree = before.staged; message = [] }) told
     × (report ≡ told.out.report) × (parts ≡ all_parts told.trace)
-IsPost config before skip (Stopped refusal) parts = (refusal ≢ NoSuchHook) × (parts ≡ [])
+IsPost config before skip (Stopped refusal) parts = (refusal ≢ NoSuchHook) × (is_of_book refusal ≡ false) × (parts ≡ [])
 
 -- A commit was made of the staged files and the cleaned message. What the hooks behind it do to files is dropped.
 pub record IsCommitted (before : Repository) (message : List ℕ) (no_verify : Bool) (skip : List (List ℕ)) (number : ℕ) (reports : List (List ℕ)) (post : PostCommit) (parts : List Part) (after : Repository) : Type 0 where
@@ -67,7 +69,7 @@ pub record HaveHooksFailed (before : Repository) (message : List ℕ) (no_verify
   pub last : Course
   pub committable : IsCommittable before message
   pub configured : IsConfigured before config
-  pub run : FailedAt config before skip (stages_before_commit no_verify) (course_of before message) told failed last
+  pub run : FailedAt config (changed_paths before) skip (stages_before_commit no_verify) (course_of before message) told failed last
   pub reported : reports ≡ reports_of told
   pub traced : parts ≡ parts_of told
   pub made : after ≡ fixing (changes_between before.staged last.tree) before

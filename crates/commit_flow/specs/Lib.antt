@@ -1,4 +1,6 @@
 pub mod Commands
+pub mod CommitCalls
+pub mod CommitKept
 pub mod CommitStages
 pub mod Commits
 pub mod Configured
@@ -12,4 +14,5 @@ pub mod RunSteps
 pub mod Runs
 pub mod StagedPaths
 pub mod Steps
+pub mod StepsOver
 pub mod StepLaws

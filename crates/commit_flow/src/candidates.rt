@@ -31,8 +31,8 @@ pub(crate) fn candidates<S: Alter>(
     }
 }
 
-// The paths of the staged files that the last commit doesn't hold so.
-fn changed_paths<S: Alter>(
+/// The paths of the staged files that the last commit doesn't hold so. It fails for want of memory alone.
+pub(crate) fn changed_paths<S: Alter>(
     alloc: Global,
     store: &Store<S>,
     staged: &Tree,

@@ -15,7 +15,13 @@
 
 mod candidates;
 mod command;
+mod commit;
+mod commit_begun;
+mod commit_ending;
+mod commit_staged;
+mod commit_stages;
 mod configured;
+mod course;
 mod hooks;
 mod host;
 mod host_ask;
@@ -28,6 +34,7 @@ mod run;
 mod staged_run;
 
 pub use command::Command;
+pub use commit_ending::CommitEnding;
 pub use host::Host;
 pub use host_ask::{AskStage, HostAsk, Which};
 pub use host_refusal::HostRefusal;
