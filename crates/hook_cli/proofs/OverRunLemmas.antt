@@ -1,5 +1,5 @@
 -- How a run of hooks over a repository ends.
-use Rattle.std.proofs.Common.{rules, ◌≡◌, ℕ, List, [], Ok, Err, inl, refl, subst, sym, arith}
+use Rattle.std.proofs.Common.{rules, ◌≡◌, ℕ, Bool, Result, List, [], Ok, Err, inl, refl, subst, sym, arith}
 use Rattle.sqlite_trees.specs.declared.store.Store.{Ghosts}
 use Rattle.sqlite_trees.specs.Tree.{Trees}
 use Rattle.sqlite.specs.Held.{state}
@@ -11,15 +11,19 @@ use Rattle.repo_store.specs.AllOrNothing.{IsAllOrNothing}
 use Rattle.repo_store.specs.Kept.{setting}
 use Rattle.commit_flow.specs.declared.command.Command.{Command}
 use Rattle.commit_flow.specs.declared.command.Command.TheVariants as command
+use Rattle.commit_flow.specs.declared.commit_ending.CommitEnding.{CommitEnding}
 use Rattle.commit_flow.specs.declared.host_ask.HostAsk.{HostAsk}
 use Rattle.commit_flow.specs.declared.host_refusal.HostRefusal.{HostRefusal}
 use Rattle.commit_flow.specs.declared.host_refusal.HostRefusal.TheVariants.{OutOfMemory}
 use Rattle.commit_flow.specs.declared.staged_run.StagedRun.{StagedRun}
+use Rattle.commit_flow.specs.Commands.{reply_of, reply_of_ending}
+use Rattle.commit_flow.specs.CommitKept.{KeepsFor}
 use Rattle.commit_flow.specs.Crashes.{IsOneCommand, LeavesDone}
 use Rattle.commit_flow.specs.Hosts.{Hosted}
 use Rattle.commit_flow.specs.RunSteps.{IsRunStep, IsStoppedStep, changes_in}
+use Rattle.commit_flow.specs.StepsOver.{IsStepOver}
 use Rattle.hook_cli.specs.declared.command_ending.CommandEnding.{CommandEnding}
-use Rattle.hook_cli.specs.CommandOver.{Counts, IsRunOverHost}
+use Rattle.hook_cli.specs.CommandOver.{Counts, IsCommitOverHost, IsReplied, IsRunOverHost}
 use Rattle.hook_cli.specs.Printing.{IsRunSaid, IsSilent, IsTold, Output}
 use Rattle.hook_cli.specs.RefusalText.{refusal_text}
 use Rattle.hook_cli.specs.RunText.{run_text}
@@ -98,3 +102,15 @@ run-unasked g tells calls faults host ask out err ending told silent = record {
   one = unchanged g host (command.Run ask) OutOfMemory;
   replied = (silent, told);
 }
+
+-- a commit whose answer is printed: the bytes that the host got are the message
+pub commit-answered : {S : Type 0} (g : Ghosts S) (tells : List (List ℕ) → List File → Outcome → Type 0) (counts : Counts) (old new : Hosted S) (bytes message : List ℕ) (no_verify : Bool) (skip : List (List ℕ)) (out err : Output) (ending : CommandEnding)
+    (answer : Result CommitEnding HostRefusal) → bytes ≡ message
+    → IsStepOver tells counts.calls counts.calls_after counts.faults counts.faults_after old.store.kept.repo (command.Commit bytes no_verify skip) (reply_of reply_of_ending answer) new.store.kept.repo
+    → KeepsFor old.store.kept new.store.kept answer
+    → IsOneCommand g old new (command.Commit bytes no_verify skip) answer
+    → IsReplied out err (reply_of reply_of_ending answer) ending
+    → IsCommitOverHost g tells counts old new message no_verify skip out err ending
+commit-answered g tells counts old new bytes message no_verify skip out err ending answer is step change one replied =
+    subst (λ (message : List ℕ). IsCommitOverHost g tells counts old new message no_verify skip out err ending) is
+    (record { answer = answer; step = step; change = change; one = one; replied = replied })

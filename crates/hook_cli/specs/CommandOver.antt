@@ -13,29 +13,32 @@ use Rattle.repo_store.specs.Kept.{Kept, accepting, setting, staging, unstaging}
 use Rattle.repo_store.specs.Repository.{Repository, commit_at, last_tree}
 use Rattle.commit_flow.specs.declared.command.Command.{Command}
 use Rattle.commit_flow.specs.declared.command.Command.TheVariants as command
+use Rattle.commit_flow.specs.declared.commit_ending.CommitEnding.{CommitEnding}
 use Rattle.commit_flow.specs.declared.host_ask.AskStage.{AskStage}
 use Rattle.commit_flow.specs.declared.host_ask.HostAsk.{HostAsk}
 use Rattle.commit_flow.specs.declared.host_ask.Which.{Which}
 use Rattle.commit_flow.specs.declared.host_refusal.HostRefusal.{HostRefusal}
 use Rattle.commit_flow.specs.declared.host_refusal.HostRefusal.TheVariants.{OutOfMemory, BadPath, NotStaged, Collision}
 use Rattle.commit_flow.specs.declared.reply.Reply.{Reply}
-use Rattle.commit_flow.specs.declared.reply.Reply.TheVariants.{Added, Removed, Accepted, Ran, Refused}
+use Rattle.commit_flow.specs.declared.reply.Reply.TheVariants.{Added, Removed, Accepted, Ran, Committed, HooksFailed, Refused}
 use Rattle.commit_flow.specs.declared.staged_run.StagedRun.{StagedRun}
-use Rattle.commit_flow.specs.Commands.{reply_of}
+use Rattle.commit_flow.specs.Commands.{reply_of, reply_of_ending}
+use Rattle.commit_flow.specs.CommitKept.{KeepsFor}
 use Rattle.commit_flow.specs.Crashes.{IsOneCommand}
 use Rattle.commit_flow.specs.Hosts.{Hosted}
 use Rattle.commit_flow.specs.RunSteps.{IsRunStep, IsStoppedStep, changes_in, reply_of_run}
 use Rattle.commit_flow.specs.StagedPaths.{IsLegal, IsStaged}
 use Rattle.commit_flow.specs.Steps.{Step, entry_to_add}
+use Rattle.commit_flow.specs.StepsOver.{IsStepOver}
 use Rattle.hook_cli.specs.declared.line.Line.{Line}
 use Rattle.hook_cli.specs.declared.line.Line.TheVariants.{Init, Try, Check, Add, Remove, Status, Run, Fixes, Accept, Commit, Cat, Log, Show}
 use Rattle.hook_cli.specs.declared.command_ending.CommandEnding.{CommandEnding}
 use Rattle.hook_cli.specs.declared.command_ending.CommandEnding.TheVariants.{Done}
-use Rattle.hook_cli.specs.Printing.{IsRunSaid, IsSaid, IsSilent, IsTold, Output, status_of}
+use Rattle.hook_cli.specs.Printing.{IsFailureSaid, IsRunSaid, IsSaid, IsSilent, IsTold, Output, status_of}
 use Rattle.hook_cli.specs.FixesText.{accepted_text, fixes_text}
 use Rattle.hook_cli.specs.LogText.{log_text}
 use Rattle.hook_cli.specs.RefusalText.{no_commit_text, refusal_text}
-use Rattle.hook_cli.specs.RunText.{run_text}
+use Rattle.hook_cli.specs.RunText.{IsCommitSaid, failure_text, run_text}
 use Rattle.hook_cli.specs.ShowText.{show_text}
 use Rattle.hook_cli.specs.StatusText.{status_text}
 use Rattle.hook_cli.specs.TryOver.{NoneCalled}
@@ -46,7 +49,7 @@ IsOverHost Init = ⊥
 IsOverHost (Try config paths) = ⊥
 IsOverHost Check = ⊥
 IsOverHost (Run which only stage fresh) = Unit {0}
-IsOverHost (Commit message no_verify) = ⊥
+IsOverHost (Commit message no_verify) = Unit {0}
 IsOverHost (Add path mode) = Unit {0}
 IsOverHost (Remove path) = Unit {0}
 IsOverHost Status = Unit {0}
@@ -59,12 +62,14 @@ IsOverHost (Show number) = Unit {0}
 -- ---- the commands that change the repository
 
 -- what each reply prints: a file that was added or removed nothing, fixes that were accepted how many there were, hooks that
--- were run what is reported of them, and a refusal why
+-- were run what is reported of them, a commit that too, with its number where it was made, and a refusal why
 abbrev pub IsReplied : Output → Output → Reply → CommandEnding → Type 0
 IsReplied out err Added ending = IsSilent out × IsSilent err × (ending ≡ Done)
 IsReplied out err Removed ending = IsSilent out × IsSilent err × (ending ≡ Done)
 IsReplied out err (Accepted number) ending = IsSaid out (accepted_text number) ending × IsSilent err
 IsReplied out err (Ran passed report changes unsteady) ending = IsRunSaid passed out (run_text report unsteady) ending × IsSilent err
+IsReplied out err (Committed number reports post) ending = IsCommitSaid number reports post out err ending
+IsReplied out err (HooksFailed stage reports) ending = IsFailureSaid out (failure_text reports) ending × IsSilent err
 IsReplied out err (Refused refusal) ending = IsSilent out × IsTold err (refusal_text refusal) ending
 IsReplied out err reply ending = ⊥
 
@@ -117,6 +122,15 @@ pub record IsRunOverHost {S : Type 0} (g : Ghosts S) (tells : List (List ℕ) �
   pub change : IsAllOrNothing old.store.kept new.store.kept answer (setting (changes_in answer) old.store.kept)
   pub one : IsOneCommand g old new (command.Run ask) answer
   pub replied : IsReplied out err (reply_of reply_of_run answer) ending
+
+-- The staged files are committed through their hooks by one call of the host, whose answer is printed. The repository takes a
+-- step of the host's machine over the children, or stays as it is, and a writer's error undoes none of it.
+pub record IsCommitOverHost {S : Type 0} (g : Ghosts S) (tells : List (List ℕ) → List File → Outcome → Type 0) (counts : Counts) (old new : Hosted S) (message : List ℕ) (no_verify : Bool) (skip : List (List ℕ)) (out err : Output) (ending : CommandEnding) : Type 0 where
+  pub answer : Result CommitEnding HostRefusal
+  pub step : IsStepOver tells counts.calls counts.calls_after counts.faults counts.faults_after old.store.kept.repo (command.Commit message no_verify skip) (reply_of reply_of_ending answer) new.store.kept.repo
+  pub change : KeepsFor old.store.kept new.store.kept answer
+  pub one : IsOneCommand g old new (command.Commit message no_verify skip) answer
+  pub replied : IsReplied out err (reply_of reply_of_ending answer) ending
 
 -- ---- the commands that look something up
 
@@ -201,11 +215,13 @@ IsEnded g tells counts old new (Try config paths) bytes skip out err ending = �
 IsEnded g tells counts old new Check bytes skip out err ending = ⊥
 IsEnded g tells counts old new (Run which only stage fresh) bytes skip out err ending =
     IsRunOverHost g tells counts old new (ask_of which only stage fresh skip) out err ending
-IsEnded g tells counts old new (Commit message no_verify) bytes skip out err ending = ⊥
+IsEnded g tells counts old new (Commit message no_verify) bytes skip out err ending =
+    IsCommitOverHost g tells counts old new message no_verify skip out err ending
 
 -- the line runs no hooks
 abbrev pub IsRunless : Line → Type 0
 IsRunless (Run which only stage fresh) = ⊥
+IsRunless (Commit message no_verify) = ⊥
 IsRunless line = Unit {0}
 
 -- children are called by a line that runs hooks alone

@@ -23,6 +23,10 @@ abbrev pub post_report : PostCommit → List ℕ
 post_report (Told report) = report
 post_report (Stopped refusal) = []
 
+-- a commit that hooks refused: what is reported of the hooks of each stage, in order
+abbrev pub failure_text : List (List ℕ) → List ℕ
+failure_text reports = concat reports
+
 -- a commit: what is reported of the hooks of each stage before it, in order, of those behind it, and then its number
 abbrev pub commit_text : ℕ → List (List ℕ) → PostCommit → List ℕ
 commit_text number reports post = concat reports ++ (post_report post ++ line (codes "commit " ++ decimal number))

@@ -9,7 +9,7 @@ ghost use Rattle.hook_cli.specs.Printing.{IsSilent, Output};
 
 use crate::command_ending::status_of;
 use crate::look_up::{cat, fixes, log, show, status};
-use crate::over_runs::{ask_of, run};
+use crate::over_runs::{ask_of, commit, run};
 use crate::printing::{say_accepted, tell};
 use crate::{CommandEnding, Line};
 use child_port::Children;
@@ -24,14 +24,15 @@ use std::io::Write;
 /// doesn't look at them.
 ///
 /// Done, it is 0: what the command looks up stands on `out` and nothing else, for `accept` how many fixes there were, and for
-/// a run the report of its hooks and a line for each that is unsteady; `add` and `rm` print nothing. It is 1 where a hook failed
-/// in a run, with the same on `out`. Refused, it is 3: `hookhost: refused: NUMBER NAME` stands on `err`, with the inner number
+/// a run the report of its hooks and a line for each that is unsteady, and for a commit the reports of its stages and its number;
+/// `add` and `rm` print nothing. It is 1 where a hook failed in a run or before a commit, with what is reported on `out`. Where
+/// the hooks behind a commit are stopped, `err` says why, and it is 0. Refused, it is 3: `hookhost: refused: NUMBER NAME` stands on `err`, with the inner number
 /// where the refusal has one, or for `show` of a number that no commit has `hookhost: no commit N`; nothing is on `out`. Want
 /// of memory is refused as `OutOfMemory`. A writer's error gives 3 too: what it took before is out, and what the command
 /// changed stays.
 ///
-/// `add`, `rm`, `accept` and runs change the repository as the host's calls do, and a refusal leaves it as it was; the others
-/// change nothing. Runs alone call children.
+/// `add`, `rm`, `accept`, runs and commits change the repository as the host's calls do, and a refusal leaves it as it was; the
+/// others change nothing. Runs and commits alone call children.
 pub fn command_over<S: Alter, C: Children, O: Write, E: Write>(
     alloc: Global,
     line: &Line,
@@ -77,6 +78,16 @@ fn end_of<S: Alter, C: Children, O: Write, E: Write>(
             let ask = ask_of(alloc, which, only, *stage, *fresh, skip);
             run(alloc, ask, host, children, out, err)
         }
+        Line::Commit { message, no_verify } => commit(
+            alloc,
+            message.as_str(),
+            *no_verify,
+            skip,
+            host,
+            children,
+            out,
+            err,
+        ),
         Line::Status => status(alloc, host.store(), out, err),
         Line::Fixes => fixes(alloc, host.store(), out, err),
         Line::Accept => accept(host, out, err),
@@ -84,7 +95,7 @@ fn end_of<S: Alter, C: Children, O: Write, E: Write>(
         Line::Log => log(alloc, host.store(), out, err),
         Line::Show { number } => show(alloc, *number, host.store(), out, err),
         // The caller has them done elsewhere.
-        Line::Init | Line::Try { .. } | Line::Check | Line::Commit { .. } => unreachable!(),
+        Line::Init | Line::Try { .. } | Line::Check => unreachable!(),
     }
 }
 

@@ -4,13 +4,14 @@
 
 ghost use Rattle.std.specs.Prelude.{◌≡◌, IfOk};
 ghost use Rattle.child_port.specs.Telling.{SameTells};
-ghost use Rattle.hook_cli.specs.CommandOver.{IsRunOverHost, ask_of};
+ghost use Rattle.commit_flow.specs.Commands.{reply_of_ending};
+ghost use Rattle.hook_cli.specs.CommandOver.{IsCommitOverHost, IsReplied, IsRunOverHost, ask_of};
 
 use crate::CommandEnding;
 use crate::printing::tell;
-use crate::run_printing::say_run;
+use crate::run_printing::{say_commit, say_failure, say_run};
 use child_port::Children;
-use commit_flow::{AskStage, Host, HostAsk, HostRefusal, Which};
+use commit_flow::{AskStage, CommitEnding, Host, HostAsk, HostRefusal, Which};
 use hook_base::{Items, OutOfMemory, Text};
 use sqlite::Alter;
 use std::alloc::Global;
@@ -54,6 +55,40 @@ fn run_asked<S: Alter, C: Children, O: Write, E: Write>(
             ran.unsteady.as_slice(),
         ),
         Err(refusal) => tell(err, &refusal),
+    }
+}
+
+/// `commit`: commits the staged files through their hooks. It prints what is reported of the hooks, and the commit's number where
+/// it was made.
+pub(crate) fn commit<S: Alter, C: Children, O: Write, E: Write>(
+    alloc: Global,
+    message: &str,
+    no_verify: bool,
+    skip: &[Text],
+    host: &mut Host<S>,
+    children: &mut C,
+    out: &mut O,
+    err: &mut E,
+) -> CommandEnding
+    ensures commit { IsCommitOverHost S.Store (C.tells children.old) (record { calls = C.call_count children.old; calls_after = C.call_count children.new; faults = C.fault_count children.old; faults_after = C.fault_count children.new }) host.old host.new message.now no_verify skip.now (record { held = O.contents out.old; holds = O.contents out.new }) (record { held = E.contents err.old; holds = E.contents err.new }) result }
+    ensures same { SameTells (C.tells children.old) (C.tells children.new) }
+{
+    match host.commit(alloc, children, message.as_bytes(), no_verify, skip) {
+        Ok(ending) => say_ending(out, err, &ending),
+        Err(refusal) => tell(err, &refusal),
+    }
+}
+
+fn say_ending<O: Write, E: Write>(out: &mut O, err: &mut E, ending: &CommitEnding) -> CommandEnding
+    ensures { IsReplied (record { held = O.contents out.old; holds = O.contents out.new }) (record { held = E.contents err.old; holds = E.contents err.new }) (reply_of_ending ending.now) result }
+{
+    match ending {
+        CommitEnding::Committed {
+            number,
+            reports,
+            post,
+        } => say_commit(out, err, *number, reports.as_slice(), post),
+        CommitEnding::HooksFailed { stage: _, reports } => say_failure(out, reports.as_slice()),
     }
 }
 
