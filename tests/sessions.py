@@ -26,8 +26,8 @@ A session file holds cases. `== NAME` begins a case, in an empty folder. Within 
   -- sql TEXT       sqlite3 answers this to SQL on the store: the lines that follow, and nothing else
   -- files          the lines that follow are the folder's files, all of them, in order
 
-After each command but an `init`, `add`, `rm` or `accept` that is done, every file has to be as it was; `accept` is done also
-where its output takes no more. Two may change, since every command that opens a store does that to them: the lock, and the
+After each command but an `init`, `add`, `rm`, `run`, `run-files`, `accept` or `commit` that is done, every file has to be as it
+was; hooks that fail are no refusal, and `accept` is done also where its output takes no more. Two may change, since every command that opens a store does that to them: the lock, and the
 log that the database begins anew. What lies in the scratch folder of the commands of hooks isn't looked at, nor is the folder
 that holds it.
 """
@@ -129,8 +129,8 @@ def run_alone(command):
     wrong = run(command)
     if held:
         held.close()
-    is_done = command["status"] == 0 or command["output"] is not None
-    may_change = is_done and command["words"][:1] in (["init"], ["add"], ["rm"], ["accept"])
+    is_done = command["status"] in (0, 1) or command["output"] is not None
+    may_change = is_done and command["words"][:1] in (["init"], ["add"], ["rm"], ["run"], ["run-files"], ["accept"], ["commit"])
     return wrong or (None if may_change or files_that_stay() == before else "it changed the folder's files")
 
 
