@@ -399,6 +399,21 @@ REPOSITORY_LINES = [
     ),
 ]
 
+# Words for runs of hooks, and what they ask for.
+RUN_LINES = [
+    (("run",), "run pre-commit changed\n"),
+    (("run", "names"), "run pre-commit changed\nnames\n"),
+    (("run", "--all-files", "--fresh", "--hook-stage", "manual", "names"), "run manual all fresh\nnames\n"),
+    (("run", "names", "--hook-stage=pre-commit"), "run pre-commit changed\nnames\n"),
+    (("run", "--", "--fresh"), "run pre-commit changed\n--fresh\n"),
+    (("commit", "-m", "a word"), "commit\na word\n"),
+    (("commit", "-mx"), "commit\nx\n"),
+    (("commit", "-m", ""), "commit\n\n"),
+    (("commit", "--no-verify", "-m", "x\ny"), "commit unverified\nx\ny\n"),
+    (("run-files", "a"), "run pre-commit named\na\n"),
+    (("run-files", "--fresh", "b", "a", "--hook-stage=manual", "a"), "run manual named fresh\nb\na\na\n"),
+]
+
 WIDE = "日" * 60
 
 # What a report says of a hook with the id `t`: the columns, the hook's name, whether it is verbose, how it ended, and its
@@ -478,7 +493,7 @@ ROWS = [
     *WRITES,
     *(("try_fault", *case) for case in FAULTS),
     *(("check_text", *case) for case in CHECKS),
-    *(("line_of", *words, said) for words, said in LINES + REPOSITORY_LINES),
+    *(("line_of", *words, said) for words, said in LINES + REPOSITORY_LINES + RUN_LINES),
     *(("hook_text", *hook, said) for hook, said in HOOK_TEXTS),
     *(("columns", *names, said) for names, said in COLUMNS),
 ]

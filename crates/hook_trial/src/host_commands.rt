@@ -4,7 +4,9 @@
 //! `commit MESSAGE` and `fixes FIX..` (one text, a fix a line: a path alone is a file that is gone, and behind a path and a tab
 //! stand its other bytes) set the store up, which is empty at first. `line OUT ERR COMMAND ..` plays a command over writers of
 //! two habits (`host_writers.rt`): `add MODE PATH CONTENTS`, `add_zeros MODE PATH COUNT`, `rm PATH`, `status`, `fixes`,
-//! `accept`, `cat PATH`, `log` or `show NUMBER`, where MODE is `plain`, `executable` or `none`. It is answered by the exit status and how many bytes stand on each writer, and after a line end by these bytes.
+//! `accept`, `cat PATH`, `log`, `show NUMBER`, or `run FILES ONLY SKIP`, where MODE is `plain`, `executable` or `none`. FILES is
+//! `changed`, `all` or the path of the one that is named; ONLY names the hooks to run, or is empty; SKIP is a list of those that
+//! are skipped, with commas between them. No child can be started. It is answered by the exit status and how many bytes stand on each writer, and after a line end by these bytes.
 //! `store` is answered by the staged files, those of HEAD, and how many fixes and commits there are.
 
 ghost use Rattle.std.specs.Prelude.{◌≢◌, IfOk};
@@ -12,9 +14,10 @@ ghost use Rattle.hook_base.specs.Paths.{message_path};
 ghost use Rattle.hook_cli.specs.CommandOver.{IsOverHost};
 
 use crate::host_writers::HabitWriter;
-use commit_flow::Host;
-use hook_base::{Bytes, Change, Changes, Mode, RepoPath, Text};
-use hook_cli::{Line, command_over};
+use child_port::TableChildren;
+use commit_flow::{AskStage, Host, Which};
+use hook_base::{Bytes, Change, Changes, Items, Mode, RepoPath, Text};
+use hook_cli::{Line, command_over, skip_list_of};
 use repo_store::{FileRef, Store, StoreFault};
 use sqlite::{Connection, MemStore};
 use std::alloc::{AllocError, Global};
@@ -163,12 +166,16 @@ fn line_played(
     let command = words.text()?;
     let line = line_of(alloc, command, words)?;
     let bytes = bytes_of(alloc, command, words)?;
+    let skip = skip_of(alloc, command, words)?;
     let mut host = Host::over(store);
+    let mut children = TableChildren::new(Items::new(alloc));
     let status = command_over(
         alloc,
         &line,
         bytes.as_slice(),
+        skip.as_slice(),
         &mut host,
+        &mut children,
         &mut out,
         &mut err,
     );
@@ -176,7 +183,7 @@ fn line_played(
     Ok(host.into_store())
 }
 
-// The line of a command, but for the bytes of `add`.
+// The line of a command, but for the bytes of `add` and what a run skips.
 fn line_of(alloc: Global, command: &str, words: &mut Words<'_>) -> Result<Line, Stop>
     ensures { IfOk result IsOverHost }
 {
@@ -190,6 +197,12 @@ fn line_of(alloc: Global, command: &str, words: &mut Words<'_>) -> Result<Line, 
             path: asked_path(alloc, words)?,
         }),
         "status" => Ok(Line::Status),
+        "run" => Ok(Line::Run {
+            which: files_of(alloc, words)?,
+            only: asked_name(alloc, words)?,
+            stage: AskStage::PreCommit,
+            fresh: false,
+        }),
         "fixes" => Ok(Line::Fixes),
         "accept" => Ok(Line::Accept),
         "cat" => Ok(Line::Cat {
@@ -205,6 +218,32 @@ fn line_of(alloc: Global, command: &str, words: &mut Words<'_>) -> Result<Line, 
 
 fn asked_path(alloc: Global, words: &mut Words<'_>) -> Result<Text, Stop> {
     Ok(Text::copy_of(alloc, words.text()?)?)
+}
+
+fn files_of(alloc: Global, words: &mut Words<'_>) -> Result<Which, Stop> {
+    match words.text()? {
+        "changed" => Ok(Which::Changed),
+        "all" => Ok(Which::All),
+        path => {
+            let mut paths = Vec::new(alloc);
+            paths.push(Text::copy_of(alloc, path)?)?;
+            Ok(Which::Named(Items::from(paths)))
+        }
+    }
+}
+
+fn asked_name(alloc: Global, words: &mut Words<'_>) -> Result<Option<Text>, Stop> {
+    match words.text()? {
+        "" => Ok(None),
+        name => Ok(Some(Text::copy_of(alloc, name)?)),
+    }
+}
+
+fn skip_of(alloc: Global, command: &str, words: &mut Words<'_>) -> Result<Items<Text>, Stop> {
+    match command {
+        "run" => Ok(skip_list_of(alloc, words.text()?)?),
+        _ => Ok(Items::new(alloc)),
+    }
 }
 
 fn mode_of(words: &mut Words<'_>) -> Result<Option<Mode>, Stop> {
