@@ -129,11 +129,12 @@ STAGED_HOOKS = b"""repos:
 """
 # The numbers of want of memory: a run's, and those of `check`, whose words are read as a run's are. A command on a
 # repository says 4 while its words are read, as a run does, and while the store is opened or made, as the store does. It
-# says 1, as the host does, of anything else: the working file of `add`, before the store, and the command itself.
+# says 1, as the host does, of anything else: what is prepared before the store, as the working file of `add` and the children
+# of a run, and the command itself.
 OF_RUN = (4,)
 OF_CHECK = (4, 12)
 OF_INIT = (4,)
-OF_ADD = (4, 1, 4, 1)
+OF_PREPARED = (4, 1, 4, 1)
 OF_COMMAND = (4, 1)
 # How many allocations at the beginning and the end are refused, and how many between, of a command on a repository, most of
 # whose allocations open the store, and of a run that starts children.
@@ -171,8 +172,8 @@ PLAYS = [
     Play("words that name no command", ["try", "config.yaml"], status=2),
     Play("the check of a configuration", ["check"], OF_CHECK, status=0),
     Play("a new repository", ["init"], OF_INIT, status=0, repository="made"),
-    Play("the add of a new file", ["add", "dir/c.txt"], OF_ADD, status=0, repository="there"),
-    Play("the add of a staged file", ["add", "--chmod=+x", "a.txt"], OF_ADD, status=0, repository="there"),
+    Play("the add of a new file", ["add", "dir/c.txt"], OF_PREPARED, status=0, repository="there"),
+    Play("the add of a staged file", ["add", "--chmod=+x", "a.txt"], OF_PREPARED, status=0, repository="there"),
     Play("the removal of a staged file", ["rm", "a.txt"], OF_COMMAND, status=0, repository="there"),
     Play("the status", ["status"], OF_COMMAND, status=0, repository="there"),
     Play("the fixes", ["fixes"], OF_COMMAND, status=0, repository="there"),
@@ -180,9 +181,9 @@ PLAYS = [
     Play("the bytes of a staged file", ["cat", "a.txt"], OF_COMMAND, status=0, repository="there"),
     Play("the log", ["log"], OF_COMMAND, status=0, repository="there"),
     Play("a commit", ["show", "1"], OF_COMMAND, status=0, repository="there"),
-    Play("a run on the staged files", ["run", "--all-files", "--hook-stage", "manual"], OF_COMMAND, status=1, repository="there"),
-    Play("a run on named files", ["run-files", "a.txt"], OF_COMMAND, status=0, repository="there"),
-    Play("a commit through all stages", ["commit", "-m", "second"], OF_COMMAND, status=0, repository="there"),
+    Play("a run on the staged files", ["run", "--all-files", "--hook-stage", "manual"], OF_PREPARED, status=1, repository="there"),
+    Play("a run on named files", ["run-files", "a.txt"], OF_PREPARED, status=0, repository="there"),
+    Play("a commit through all stages", ["commit", "-m", "second"], OF_PREPARED, status=0, repository="there"),
 ]
 FILES = (("a.txt", b"a\n"), ("b.txt", b""), ("dir/c.txt", b"c" * 9000), ("run.sh", SCRIPT))
 
