@@ -462,8 +462,8 @@ SKIPPED = "Check names" + "." * 61 + "Skipped\n"
 NOT_STARTED = "Start" + "." * 68 + "Failed\n- hook id: start\n- fault: could not be started\n"
 
 
-def run(files="changed", only="", skip="", out="all", err="all"):
-    return line("run", files, only, skip, out=out, err=err)
+def run(files="changed", only="", skip="", stage="pre-commit", out="all", err="all"):
+    return line("run", stage, files, only, skip, out=out, err=err)
 
 
 RUNS = [

@@ -1,13 +1,16 @@
 //! Children that answer by the rows of a table.
 //!
 //! A row is a text of lines: `answer STATUS`; the words of the command; the files that the child has seen; what it changes;
-//! and its output. Words are parted by tabs, and so are files, each `PATH=LINE`: its bytes are the line and a line feed.
-//! `PATH` alone, of what is changed, is a file that is gone.
+//! and its output. Words are parted by tabs, and so are files, each `PATH=LINE`: its bytes are the line and a line feed, where
+//! the byte 1 stands for a line feed too. `PATH` alone, of what is changed, is a file that is gone.
 
 use child_port::{Answer, Fault, TableRow};
 use hook_base::{Bytes, Change, Changes, FileEntry, Items, Mode, RepoPath, Text, Tree};
 use std::alloc::Global;
 use trial_rows::{Stop, number_of, text_of};
+
+// What stands for a line feed in the bytes of a file.
+const FURTHER_LINE: u8 = 1;
 
 /// The row that a text is.
 pub(crate) fn row_of(alloc: Global, text: &str) -> Result<TableRow, Stop> {
@@ -93,5 +96,10 @@ fn change_of(alloc: Global, text: &str) -> Result<Change, Stop> {
 fn line_bytes(alloc: Global, line: &str) -> Result<Bytes, Stop> {
     let mut bytes = line.as_bytes().to_vec(alloc)?;
     bytes.push(b'\n')?;
+    for byte in bytes.as_mut_slice() {
+        if *byte == FURTHER_LINE {
+            *byte = b'\n';
+        }
+    }
     Ok(Bytes::from(bytes))
 }
