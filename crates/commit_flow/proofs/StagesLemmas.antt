@@ -1,6 +1,7 @@
 -- What children told within a commit, and its stages, one after another.
 use Rattle.std.proofs.Common.{◌≡◌, ◌≢◌, ◌∙◌, sym, subst, refl, ap, arith, append_assoc, ℕ, suc, ◌+◌, ◌-◌, ◌^◌, ◌<◌, drop, drop-cons, get_or, true, false, List, [], ◌∷◌, ◌++◌, length, length-append, Result, Ok, Err, IfOk, IfErr}
 use Rattle.std.proofs.lemmas.List.{append-nil}
+use Rattle.std.proofs.lemmas.List.Elements.{All-append, All-nil}
 use Rattle.hook_base.specs.declared.file.File.{File}
 use Rattle.child_port.specs.declared.answer.Outcome.{Outcome}
 use Rattle.child_port.specs.Telling.{SameTells}
@@ -21,7 +22,7 @@ use Rattle.commit_flow.specs.CommitCalls.{AreRunOver, IsHalted, IsRunStopped, Is
 use Rattle.commit_flow.specs.CommitStages.{FailedAt, HavePassed, StageTold, ask_in, course_after, parts_of, reports_of, tree_in}
 use Rattle.commit_flow.specs.Preparations.{HaveRun, HaveStopped}
 use Rattle.commit_flow.specs.Refusals.{of_run}
-use Rattle.commit_flow.specs.StepsOver.{AreTold}
+use Rattle.commit_flow.specs.CommitSteps.{AreTold}
 
 -- ---- what is told
 
@@ -36,7 +37,7 @@ told-append tells next [] (part ∷ more) same first second =
 told-append tells next (part ∷ parts) more same first second = (first.0, told-append tells next parts more same first.1 second)
 
 pub told_none : (tells : List (List ℕ) → List File → Outcome → Type 0) (calls faults : ℕ) → AreTold tells calls calls faults faults []
-told_none tells calls faults = record { told = tt; counted = record { called = omega arith; faulted = omega arith } }
+told_none tells calls faults = record { told = tt; steady = All-nil (λ part. part.unsteady ≡ false); counted = record { called = omega arith; faulted = omega arith } }
 
 -- what is told first, and then by children that tell the same
 pub told_then : (tells next : List (List ℕ) → List File → Outcome → Type 0) (calls calls_now calls_after faults faults_now faults_after : ℕ) (parts more : List Part) → SameTells tells next
@@ -51,6 +52,7 @@ told_then tells next calls calls_now calls_after faults faults_now faults_after 
     let many = faults-append parts more in
     record {
       told = told-append tells next parts more same first.told second.told;
+      steady = All-append (λ part. part.unsteady ≡ false) parts more first.steady second.steady;
       counted = record { called = omega arith; faulted = omega arith };
     }
 
@@ -61,7 +63,7 @@ pub run_stopped : (tells : List (List ℕ) → List File → Outcome → Type 0)
     → IsRunStopped tells calls calls_after faults faults_after refusal
 run_stopped tells calls calls_after faults faults_after config changed skip stage tree refusal stopped = record {
   untold = stopped.over.parts;
-  told = record { told = stopped.over.told; counted = stopped.over.counted };
+  told = record { told = stopped.over.told; steady = stopped.over.starts.steady; counted = stopped.over.counted };
   not_named = λ is. let named = stopped.unknown is in cc;
   not_book = stopped.not_book;
   spent = stopped.over.spent;
@@ -103,7 +105,7 @@ halted_then tells next calls calls_now calls_after faults faults_now faults_afte
 
 pub told_run : (tells : List (List ℕ) → List File → Outcome → Type 0) (calls calls_after faults faults_after : ℕ) (config : Config) (ask : RunAsk) (tree : List File) (out : RunOut)
     → (ran : HaveRun tells calls calls_after faults faults_after config ask tree out) → AreTold tells calls calls_after faults faults_after (all_parts ran.over.trace)
-told_run tells calls calls_after faults faults_after config ask tree out ran = record { told = ran.over.told; counted = ran.over.counted }
+told_run tells calls calls_after faults faults_after config ask tree out ran = record { told = ran.over.told; steady = ran.over.starts.steady; counted = ran.over.counted }
 
 pub stage_over : (tells : List (List ℕ) → List File → Outcome → Type 0) (calls calls_after faults faults_after : ℕ) (config : Config) (changed skip : List (List ℕ)) (stage : Stage) (course begun left : Course) (out : RunOut)
     → begun.tree ≡ tree_in stage course → ((tree : List File) → course_after stage begun tree ≡ course_after stage course tree)
@@ -114,7 +116,7 @@ stage_over tells calls calls_after faults faults_after config changed skip stage
     record {
       told = record { trace = over.over.trace; out = out };
       run = over.over.run;
-      all_told = record { told = over.over.told; counted = over.over.counted };
+      all_told = record { told = over.over.told; steady = over.over.starts.steady; counted = over.over.counted };
       passed = refl;
       reported = refl;
       left = is ∙ same out.tree;

@@ -3,6 +3,7 @@ use Rattle.std.specs.Prelude.{◌≡◌, ◌≢◌, ◌⊎◌, ◌-◌, ◌^◌,
 use Rattle.sqlite_trees.specs.declared.store.Store.{Ghosts}
 use Rattle.sqlite.specs.Held.{state}
 use Rattle.sqlite.specs.State.{Survives}
+use Rattle.hook_base.specs.declared.change.Change.{Change}
 use Rattle.hook_base.specs.declared.file.File.{File}
 use Rattle.child_port.specs.declared.answer.Outcome.{Outcome}
 use Rattle.hook_config.specs.declared.configuration.Config.{Config}
@@ -12,7 +13,7 @@ use Rattle.hook_run.specs.declared.run_refusal.RunRefusal.{RunRefusal}
 use Rattle.hook_run.specs.declared.run_refusal.RunRefusal.TheVariants as run
 use Rattle.hook_run.specs.Parts.{Part, all_parts}
 use Rattle.hook_run.specs.Refusals.{is_of_book}
-use Rattle.repo_store.specs.Kept.{Kept}
+use Rattle.repo_store.specs.Kept.{FixCollides, Kept}
 use Rattle.repo_store.specs.Limits.{IsSmall, most_commits}
 use Rattle.repo_store.specs.Repository.{Repository}
 use Rattle.repo_store.specs.Shown.{Leaves, LeavesOnly, Shown, Stands}
@@ -23,15 +24,16 @@ use Rattle.commit_flow.specs.declared.commit_stages.StageEnd.{StageEnd}
 use Rattle.commit_flow.specs.declared.commit_stages.StagesEnd.{StagesEnd}
 use Rattle.commit_flow.specs.declared.commit_stages.StagesEnd.TheVariants.{Passed, Failed}
 use Rattle.commit_flow.specs.declared.host_refusal.HostRefusal.{HostRefusal}
-use Rattle.commit_flow.specs.declared.host_refusal.HostRefusal.TheVariants.{OutOfMemory, Store, Spent, TooLarge, TooMany, NothingStaged, NoConfig, BadConfig, EmptyMessage}
+use Rattle.commit_flow.specs.declared.host_refusal.HostRefusal.TheVariants.{OutOfMemory, Store, Spent, TooLarge, TooMany, NothingStaged, NoConfig, BadConfig, EmptyMessage, Collision}
 use Rattle.commit_flow.specs.declared.reply.PostCommit.{PostCommit}
 use Rattle.commit_flow.specs.declared.reply.PostCommit.TheVariants.{Told, Stopped}
 use Rattle.commit_flow.specs.CommitStages.{FailedAt, HavePassed, IsStageTold, StageTold, course_after, course_of, parts_of, reports_of, stages_before_commit}
 use Rattle.commit_flow.specs.Commits.{HasNothingNew, IsCommittable}
 use Rattle.commit_flow.specs.Configured.{HasReadableConfig, IsConfigured, IsMisconfigured, LacksConfig}
-use Rattle.commit_flow.specs.RunRefusals.{IsOfFixes, IsStop}
+use Rattle.commit_flow.specs.RunRefusals.{IsOfFixes}
+use Rattle.commit_flow.specs.RunSteps.{IsUnset}
 use Rattle.commit_flow.specs.Runs.{changed_paths}
-use Rattle.commit_flow.specs.StepsOver.{AreTold}
+use Rattle.commit_flow.specs.CommitSteps.{AreTold, IsUnkept}
 
 -- ---- one run
 
@@ -45,10 +47,11 @@ pub record IsRunStopped (tells : List (List ℕ) → List File → Outcome → T
 
 -- ---- the stages
 
--- what stops hooks, or the fixes that they leave, or the want of memory
+-- what stops the hooks of a stage
 abbrev pub IsHalt : HostRefusal → Type 0
 IsHalt OutOfMemory = Unit {0}
-IsHalt refusal = IsStop refusal
+IsHalt Spent = Unit {0}
+IsHalt refusal = ⊥
 
 -- the hooks were stopped, and children had told these parts by then
 pub record IsHalted (tells : List (List ℕ) → List File → Outcome → Type 0) (calls calls_after faults faults_after : ℕ) (refusal : HostRefusal) : Type 0 where
@@ -136,9 +139,16 @@ pub record MayCommit (repo : Repository) (cleaned : List ℕ) : Type 0 where
 abbrev pub IsUncommitted : Repository → List ℕ → HostRefusal → Type 0
 IsUncommitted repo cleaned EmptyMessage = cleaned ≡ []
 IsUncommitted repo cleaned TooMany = (cleaned ≢ []) × IsSmall cleaned × (most_commits ≤ length repo.history)
-IsUncommitted repo cleaned (Store fault) = IsOfFixes fault
+IsUncommitted repo cleaned (Store fault) = IsOfFixes fault × IsUnkept fault cleaned
 IsUncommitted repo cleaned OutOfMemory = Unit {0}
 IsUncommitted repo cleaned refusal = ⊥
+
+-- why these fixes aren't set
+abbrev pub IsUnfixed : Kept → List Change → HostRefusal → Type 0
+IsUnfixed kept fixes (Store fault) = IsOfFixes fault × IsUnset fault fixes
+IsUnfixed kept fixes Collision = FixCollides fixes kept.contents
+IsUnfixed kept fixes OutOfMemory = Unit {0}
+IsUnfixed kept fixes refusal = ⊥
 
 -- a call asks the store for this one change at most
 pub record IsOneChange {S A : Type 0} (g : Ghosts S) (old new : Shown S) (result : Result A HostRefusal) (after : Kept) : Type 0 where

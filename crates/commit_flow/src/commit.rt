@@ -7,7 +7,7 @@ ghost use Rattle.commit_flow.specs.Commands.{reply_of, reply_of_ending};
 ghost use Rattle.commit_flow.specs.CommitCalls.{IsThrough, IsUnthrough};
 ghost use Rattle.commit_flow.specs.CommitKept.{KeepsFor};
 ghost use Rattle.commit_flow.specs.Crashes.{IsOneCommand};
-ghost use Rattle.commit_flow.specs.StepsOver.{IsStepOver};
+ghost use Rattle.commit_flow.specs.CommitSteps.{IsCommitStep};
 
 use crate::commit_begun::{CommitBegun, begin_commit};
 use crate::commit_ending::{run_post_commit, set_fixes_to};
@@ -52,7 +52,7 @@ impl<S: Alter> Host<S> {
         no_verify: bool,
         skip: &[Text],
     ) -> Result<CommitEnding, HostRefusal>
-        ensures step { IsStepOver (C.tells children.old) (C.call_count children.old) (C.call_count children.new) (C.fault_count children.old) (C.fault_count children.new) self.old.store.kept.repo (Commit message.now no_verify skip.now) (reply_of reply_of_ending result) self.new.store.kept.repo }
+        ensures step { IsCommitStep (C.tells children.old) (C.call_count children.old) (C.call_count children.new) (C.fault_count children.old) (C.fault_count children.new) self.old.store.kept message.now no_verify skip.now (reply_of reply_of_ending result) self.new.store.kept.repo }
         ensures kept { KeepsFor self.old.store.kept self.new.store.kept result }
         ensures command { IsOneCommand S.Store self.old self.new (Commit message.now no_verify skip.now) result }
         ensures same { SameTells (C.tells children.old) (C.tells children.new) }
@@ -69,7 +69,7 @@ fn commit_in<C: Children, S: Alter>(
     no_verify: bool,
     skip: &[Text],
 ) -> Result<CommitEnding, HostRefusal>
-    ensures step { IsStepOver (C.tells children.old) (C.call_count children.old) (C.call_count children.new) (C.fault_count children.old) (C.fault_count children.new) store.old.kept.repo (Commit message.now no_verify skip.now) (reply_of reply_of_ending result) store.new.kept.repo }
+    ensures step { IsCommitStep (C.tells children.old) (C.call_count children.old) (C.call_count children.new) (C.fault_count children.old) (C.fault_count children.new) store.old.kept message.now no_verify skip.now (reply_of reply_of_ending result) store.new.kept.repo }
     ensures kept { KeepsFor store.old.kept store.new.kept result }
     ensures command { IsOneCommand S.Store (record { store = store.old }) (record { store = store.new }) (Commit message.now no_verify skip.now) result }
     ensures same { SameTells (C.tells children.old) (C.tells children.new) }

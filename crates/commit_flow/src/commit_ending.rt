@@ -1,11 +1,11 @@
 //! How a commit ends.
 
-ghost use Rattle.std.specs.Prelude.{◌≢◌, [], IfOk, IfErr};
+ghost use Rattle.std.specs.Prelude.{[], IfOk, IfErr};
 ghost use Rattle.child_port.specs.Telling.{SameTells};
 ghost use Rattle.hook_base.specs.Trees.{changes_between};
 ghost use Rattle.repo_store.specs.AllOrNothing.{IsAllOrNothing};
 ghost use Rattle.repo_store.specs.Kept.{setting};
-ghost use Rattle.commit_flow.specs.CommitCalls.{IsHalt, IsOneChange, IsPostOver, IsRunStopped};
+ghost use Rattle.commit_flow.specs.CommitCalls.{IsOneChange, IsPostOver, IsRunStopped, IsUnfixed};
 ghost use Rattle.commit_flow.specs.CommitStages.{ask_in};
 ghost use Rattle.commit_flow.specs.Preparations.{HaveRun};
 
@@ -44,8 +44,7 @@ pub enum CommitEnding {
 /// others, `Store` where the database refuses or a fix has more than 16 MiB, and `OutOfMemory` where memory is refused. A
 /// refusal leaves the store as it was.
 pub(crate) fn set_fixes_to<S: Alter>(store: &mut Store<S>, tree: &Tree) -> Result<(), HostRefusal>
-    ensures refused { IfErr result IsHalt }
-    ensures not_spent { IfErr result (λ refusal. refusal ≢ HostRefusal.Spent) }
+    ensures refused { IfErr result (IsUnfixed store.old.kept (changes_between store.old.kept.repo.staged tree.now)) }
     ensures change { IsAllOrNothing store.old.kept store.new.kept result (setting (changes_between store.old.kept.repo.staged tree.now) store.old.kept) }
     ensures one { IsOneChange S.Store store.old store.new result (setting (changes_between store.old.kept.repo.staged tree.now) store.old.kept) }
 {

@@ -13,7 +13,7 @@ pub returns-in_err-through-clause-step : goal.returns-in_err-through-clause-step
 returns-in_err-through-clause-step g c =
     let children = g.C.Children in
     let p = err_from_is_err_and c.from_residual.result c.from_residual.ensures.1 in
-    rw (p.1, p.2) (step_unthrough (children.tells c.args.children.now) c.args.store.now.kept.repo c.args.message.now c.args.no_verify c.args.skip.now
+    rw (p.1, p.2) (step_unthrough (children.tells c.args.children.now) c.args.store.now.kept c.args.message.now c.args.no_verify c.args.skip.now
     (children.call_count c.args.children.now) (children.call_count c.go_through.new.children) (children.fault_count c.args.children.now) (children.fault_count c.go_through.new.children)
     c.in_err-through.field-0.0 c.in_err-through.ensures.refused)
 
@@ -25,7 +25,7 @@ returns-in_err-set_fixes_to-in-Failed-clause-step g c =
     (children.fault_count c.args.children.now) (children.fault_count c.go_through.new.children) c.args.store.now.kept c.args.message.now c.args.no_verify c.args.skip.now
     c.in_ok-through.through c.in_ok-through.ensures.through c.in-Failed.stage c.in-Failed.reports c.in-Failed.course c.in-Failed.is
     c.in_err-set_fixes_to-in-Failed.field-0.0 c.set_fixes_to.new.store.kept c.in_err-set_fixes_to-in-Failed.ensures.refused
-    c.in_err-set_fixes_to-in-Failed.ensures.not_spent c.in_err-set_fixes_to-in-Failed.ensures.change.same)
+    c.in_err-set_fixes_to-in-Failed.ensures.change.same)
 
 pub returns-in_err-set_fixes_to-in-Failed-clause-command : goal.returns-in_err-set_fixes_to-in-Failed-clause-command
 returns-in_err-set_fixes_to-in-Failed-clause-command g c =
