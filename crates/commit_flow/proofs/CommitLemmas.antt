@@ -20,14 +20,14 @@ use Rattle.commit_flow.specs.declared.reply.PostCommit.{PostCommit}
 use Rattle.commit_flow.specs.declared.reply.PostCommit.TheVariants.{Told, Stopped}
 use Rattle.commit_flow.specs.declared.reply.Reply.TheVariants.{Committed, HooksFailed, Refused}
 use Rattle.commit_flow.specs.CommitCalls.{AreStagesOver, IsHalt, IsHalted, IsNotBegun, IsPostOver, IsStoppedIn, IsUnbegun, IsUncommitted, IsUnfixed, IsUnthrough, MayCommit}
-use Rattle.commit_flow.specs.CommitStages.{FailedAt, HavePassed, StageTold, course_of, parts_of, reports_of, stages_before_commit}
+use Rattle.commit_flow.specs.CommitStages.{FailedAt, HaveFurther, HavePassed, StageTold, course_of, parts_of, reports_of, stages_before_commit}
 use Rattle.commit_flow.specs.Commits.{IsCommitRefusal, IsCommittable, IsVerified}
 use Rattle.commit_flow.specs.Configured.{HasReadableConfig, IsConfigured}
 use Rattle.commit_flow.specs.Messages.{cleaned_message}
 use Rattle.commit_flow.specs.Preparations.{IsConfigRefusal}
 use Rattle.commit_flow.specs.Runs.{changed_paths, fixing}
 use Rattle.commit_flow.specs.RunSteps.{IsUnset}
-use Rattle.commit_flow.specs.CommitSteps.{AreLeftOut, AreTold, HasFailedBut, IsCommitStep, SaysSpent}
+use Rattle.commit_flow.specs.CommitSteps.{AreLeftOut, AreTold, HasFailedBut, HasFurtherBefore, HasFurtherBehind, IsCommitStep, SaysSpent}
 use Rattle.commit_flow.proofs.StagesLemmas.{halted_for_memory, told_none, told_then}
 
 -- ---- refusals
@@ -125,22 +125,30 @@ module _ (kept : Kept) (message : List ℕ) (no_verify : Bool) (skip : List (Lis
   unbegun_untold EmptyMessage why = absurd why
   unbegun_untold Clash why = absurd why
 
-  halt_untold : (untold : List Part) (refusal : HostRefusal) → IsHalt refusal → AreLeftOut kept message no_verify skip untold (Refused refusal)
-  halt_untold untold OutOfMemory why = tt
-  halt_untold untold (Store fault) why = absurd why
-  halt_untold untold Collision why = absurd why
-  halt_untold untold Spent why = tt
-  halt_untold untold NoConfig why = absurd why
-  halt_untold untold (BadConfig fault) why = absurd why
-  halt_untold untold (BadPath fault) why = absurd why
-  halt_untold untold NotStaged why = absurd why
-  halt_untold untold TooLarge why = absurd why
-  halt_untold untold TooMany why = absurd why
-  halt_untold untold NoSuchHook why = absurd why
-  halt_untold untold NothingStaged why = absurd why
-  halt_untold untold NoFixes why = absurd why
-  halt_untold untold EmptyMessage why = absurd why
-  halt_untold untold Clash why = absurd why
+  halt_untold : (untold : List Part) (refusal : HostRefusal) → IsHalt refusal → (refusal ≡ Spent → HasFurtherBefore kept.repo message no_verify skip untold) → AreLeftOut kept message no_verify skip untold (Refused refusal)
+  halt_untold untold OutOfMemory why needs = tt
+  halt_untold untold (Store fault) why needs = absurd why
+  halt_untold untold Collision why needs = absurd why
+  halt_untold untold Spent why needs = needs refl
+  halt_untold untold NoConfig why needs = absurd why
+  halt_untold untold (BadConfig fault) why needs = absurd why
+  halt_untold untold (BadPath fault) why needs = absurd why
+  halt_untold untold NotStaged why needs = absurd why
+  halt_untold untold TooLarge why needs = absurd why
+  halt_untold untold TooMany why needs = absurd why
+  halt_untold untold NoSuchHook why needs = absurd why
+  halt_untold untold NothingStaged why needs = absurd why
+  halt_untold untold NoFixes why needs = absurd why
+  halt_untold untold EmptyMessage why needs = absurd why
+  halt_untold untold Clash why needs = absurd why
+
+  -- the hooks behind a commit were stopped
+  post_untold : (number : ℕ) (reports : List (List ℕ)) (untold : List Part) (refusal : RunRefusal) → (refusal ≡ run.Spent → HasFurtherBehind kept.repo skip untold)
+      → AreLeftOut kept message no_verify skip untold (Committed number reports (Stopped refusal))
+  post_untold number reports untold run.Spent needs = needs refl
+  post_untold number reports untold run.OutOfMemory needs = tt
+  post_untold number reports untold (run.Book fault) needs = tt
+  post_untold number reports untold run.NoSuchHook needs = tt
 
 -- ---- the ends
 
@@ -164,24 +172,24 @@ module _ (tells : List (List ℕ) → List File → Outcome → Type 0) (kept : 
       (step_unbegun calls faults refusal why.unbegun))
 
   module _ (calls calls_after faults faults_after : ℕ) where
-    pub step_halted : (refusal : HostRefusal) → IsCommittable kept.repo message → HasReadableConfig kept.repo → IsHalted tells calls calls_after faults faults_after refusal
+    pub step_halted : (refusal : HostRefusal) → IsCommittable kept.repo message → (config : Config) → IsConfigured kept.repo config → IsHalted tells calls calls_after faults faults_after (HaveFurther config (changed_paths kept.repo) skip (stages_before_commit no_verify) (course_of kept.repo message)) refusal
         → IsCommitStep tells calls calls_after faults faults_after kept message no_verify skip (Refused refusal) kept.repo
-    step_halted refusal committable readable halted =
+    step_halted refusal committable config configured halted =
         record {
           parts = [];
           untold = halted.untold;
-          step = (halt_refusal kept.repo message no_verify skip committable readable refusal halted.why, refl);
-          left_out = halt_untold kept message no_verify skip halted.untold refusal halted.why;
+          step = (halt_refusal kept.repo message no_verify skip committable (config, configured) refusal halted.why, refl);
+          left_out = halt_untold kept message no_verify skip halted.untold refusal halted.why (λ is. record { config = config; configured = configured; further = halted.needs is });
           told = halted.told;
           spent = λ says. halted.spent (says_spent refusal says);
         }
 
-    pub step_unthrough : (refusal : HostRefusal) → IsUnthrough tells calls calls_after faults faults_after kept.repo message refusal
+    pub step_unthrough : (refusal : HostRefusal) → IsUnthrough tells calls calls_after faults faults_after kept.repo message no_verify skip refusal
         → IsCommitStep tells calls calls_after faults faults_after kept message no_verify skip (Refused refusal) kept.repo
     step_unthrough refusal why =
         elim why [
           | inl early ↦ step_not_begun calls calls_after faults faults_after refusal early
-          | inr late ↦ step_halted refusal late.committable late.readable late.halted
+          | inr late ↦ step_halted refusal late.committable late.config late.configured late.halted
         ]
 
     module _ (committable : IsCommittable kept.repo message) (config : Config) (configured : IsConfigured kept.repo config) (reports : List (List ℕ)) where
@@ -192,7 +200,8 @@ module _ (tells : List (List ℕ) → List File → Outcome → Type 0) (kept : 
 
         pub step_unfixed : (refusal : HostRefusal) → IsUnfixed kept (changes_between kept.repo.staged left.tree) refusal
             → IsCommitStep tells calls calls_after faults faults_after kept message no_verify skip (Refused refusal) kept.repo
-        step_unfixed OutOfMemory why = step_halted OutOfMemory committable (config, configured) (halted_for_memory tells calls calls_after faults faults_after (parts_of over.told) over.all_told)
+        step_unfixed OutOfMemory why = step_halted OutOfMemory committable config configured
+            (halted_for_memory tells calls calls_after faults faults_after (HaveFurther config (changed_paths kept.repo) skip (stages_before_commit no_verify) (course_of kept.repo message)) (parts_of over.told) over.all_told)
         step_unfixed (Store fault) why = record {
           parts = []; untold = parts_of over.told; step = ((committable, (config, configured), why.0, refl), refl);
           left_out = inl (failed_but (IsUnset fault) why.1); told = over.all_told; spent = λ says. absurd says;
@@ -262,7 +271,8 @@ module _ (tells : List (List ℕ) → List File → Outcome → Type 0) (kept : 
           told = over.all_told;
           spent = λ says. absurd says;
         }
-        step_uncommitted OutOfMemory why = step_halted OutOfMemory committable (config, configured) (halted_for_memory tells calls calls_after faults faults_after (parts_of over.told) over.all_told)
+        step_uncommitted OutOfMemory why = step_halted OutOfMemory committable config configured
+            (halted_for_memory tells calls calls_after faults faults_after (HaveFurther config (changed_paths kept.repo) skip (stages_before_commit no_verify) (course_of kept.repo message)) (parts_of over.told) over.all_told)
         step_uncommitted NoConfig why = absurd why
         step_uncommitted (BadConfig fault) why = absurd why
         step_uncommitted (BadPath fault) why = absurd why
@@ -305,7 +315,7 @@ module _ (tells : List (List ℕ) → List File → Outcome → Type 0) (kept : 
               some = may.some; small = may.small; room = may.room; counted = counted; reported = over.reported;
               behind = (behind.not_named, behind.not_book, refl); traced = refl; made = made;
             };
-            left_out = tt;
+            left_out = post_untold kept message no_verify skip number reports behind.untold refusal (λ is. record { config = config; configured = configured; needs = behind.needs is });
             told = told_with [] behind.untold behind.told;
             spent = λ says. behind.spent (says_stopped number reports refusal says);
           }

@@ -6,9 +6,10 @@ use Rattle.hook_base.specs.Trees.{changes_between}
 use Rattle.child_port.specs.declared.answer.Outcome.{Outcome}
 use Rattle.hook_config.specs.declared.configuration.Config.{Config}
 use Rattle.hook_config.specs.declared.stage.Stage.{Stage}
+use Rattle.hook_config.specs.declared.stage.Stage.TheVariants as stage
 use Rattle.hook_run.specs.declared.run_refusal.RunRefusal.TheVariants as run
 use Rattle.hook_run.specs.Parts.{AllTold, Part}
-use Rattle.hook_run.specs.RunOuts.{IsCounted}
+use Rattle.hook_run.specs.RunOuts.{IsCounted, NeedsPart}
 use Rattle.repo_store.specs.declared.fault.StoreFault.{StoreFault}
 use Rattle.repo_store.specs.declared.fault.StoreFault.TheVariants.{TooLarge}
 use Rattle.repo_store.specs.Kept.{FixCollides, Kept}
@@ -20,7 +21,7 @@ use Rattle.commit_flow.specs.declared.host_refusal.HostRefusal.TheVariants.{OutO
 use Rattle.commit_flow.specs.declared.reply.PostCommit.TheVariants.{Stopped}
 use Rattle.commit_flow.specs.declared.reply.Reply.{Reply}
 use Rattle.commit_flow.specs.declared.reply.Reply.TheVariants.{Committed, Refused}
-use Rattle.commit_flow.specs.CommitStages.{FailedAt, StageTold, course_of, parts_of, stages_before_commit}
+use Rattle.commit_flow.specs.CommitStages.{FailedAt, HaveFurther, StageTold, ask_in, course_of, parts_of, stages_before_commit}
 use Rattle.commit_flow.specs.Commits.{IsVerifiedBut}
 use Rattle.commit_flow.specs.Configured.{IsConfigured}
 use Rattle.commit_flow.specs.Runs.{changed_paths}
@@ -50,14 +51,27 @@ abbrev pub IsUnkept : StoreFault → List ℕ → Type 0
 IsUnkept TooLarge cleaned = ¬ IsSmall cleaned
 IsUnkept fault cleaned = Unit {0}
 
+-- a run that needs a further part behind these: of the stages before the commit
+pub record HasFurtherBefore (before : Repository) (message : List ℕ) (no_verify : Bool) (skip : List (List ℕ)) (parts : List Part) : Type 0 where
+  pub config : Config
+  pub configured : IsConfigured before config
+  pub further : HaveFurther config (changed_paths before) skip (stages_before_commit no_verify) (course_of before message) parts
+
+-- or of the hooks behind it
+pub record HasFurtherBehind (before : Repository) (skip : List (List ℕ)) (parts : List Part) : Type 0 where
+  pub config : Config
+  pub configured : IsConfigured before config
+  pub needs : NeedsPart config (ask_in (changed_paths before) skip stage.PostCommit) before.staged parts
+
 -- The parts that the reply doesn't stand on. Where hooks are stopped, they are theirs, and those of the hooks before them
--- where nothing is committed; where the store refuses, those of all stages that were run. Else there are none.
+-- where nothing is committed; where the store refuses, those of all stages that were run. Else there are none. Children are spent only where one is needed.
 abbrev pub AreLeftOut : Kept → List ℕ → Bool → List (List ℕ) → List Part → Reply → Type 0
 AreLeftOut kept message no_verify skip parts (Refused OutOfMemory) = Unit {0}
-AreLeftOut kept message no_verify skip parts (Refused Spent) = Unit {0}
+AreLeftOut kept message no_verify skip parts (Refused Spent) = HasFurtherBefore kept.repo message no_verify skip parts
 AreLeftOut kept message no_verify skip parts (Refused (Store fault)) =
     HasFailedBut kept.repo message no_verify skip parts (IsUnset fault) ⊎ IsVerifiedBut kept.repo message no_verify skip parts (IsUnkept fault)
 AreLeftOut kept message no_verify skip parts (Refused Collision) = HasFailedBut kept.repo message no_verify skip parts (λ fixes. FixCollides fixes kept.contents)
+AreLeftOut kept message no_verify skip parts (Committed number reports (Stopped run.Spent)) = HasFurtherBehind kept.repo skip parts
 AreLeftOut kept message no_verify skip parts (Committed number reports (Stopped refusal)) = Unit {0}
 AreLeftOut kept message no_verify skip parts reply = parts ≡ []
 

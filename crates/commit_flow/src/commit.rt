@@ -107,7 +107,7 @@ fn go_through<C: Children, S: Alter>(
     skip: &[Text],
 ) -> Result<Through, HostRefusal>
     ensures through { IfOk result (IsThrough (C.tells children.old) (C.call_count children.old) (C.call_count children.new) (C.fault_count children.old) (C.fault_count children.new) store.now.kept.repo message.now no_verify skip.now) }
-    ensures refused { IfErr result (IsUnthrough (C.tells children.old) (C.call_count children.old) (C.call_count children.new) (C.fault_count children.old) (C.fault_count children.new) store.now.kept.repo message.now) }
+    ensures refused { IfErr result (IsUnthrough (C.tells children.old) (C.call_count children.old) (C.call_count children.new) (C.fault_count children.old) (C.fault_count children.new) store.now.kept.repo message.now no_verify skip.now) }
     ensures same { SameTells (C.tells children.old) (C.tells children.new) }
 {
     let begun = begin_commit(alloc, store, message)?;

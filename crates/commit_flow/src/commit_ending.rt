@@ -85,7 +85,7 @@ fn run_on_staged<C: Children, S: Alter>(
     skip: &[Text],
 ) -> Result<RunOut, RunRefusal>
     ensures run { IfOk result (HaveRun (C.tells children.old) (C.call_count children.old) (C.call_count children.new) (C.fault_count children.old) (C.fault_count children.new) config.now (ask_in [] skip.now Stage.PostCommit) store.now.kept.repo.staged) }
-    ensures stopped { IfErr result (IsRunStopped (C.tells children.old) (C.call_count children.old) (C.call_count children.new) (C.fault_count children.old) (C.fault_count children.new)) }
+    ensures stopped { IfErr result (IsRunStopped (C.tells children.old) (C.call_count children.old) (C.call_count children.new) (C.fault_count children.old) (C.fault_count children.new) config.now (ask_in [] skip.now Stage.PostCommit) store.now.kept.repo.staged) }
     ensures same { SameTells (C.tells children.old) (C.tells children.new) }
 {
     let staged = store.staged()?;
