@@ -1,5 +1,5 @@
 -- A commit as a step over children: one lemma for each of its ends.
-use Rattle.std.proofs.Common.{◌≡◌, ◌≢◌, ◌∙◌, ◌⊎◌, inl, inr, sym, subst, refl, ap, arith, append_assoc, ℕ, ◌+◌, ◌-◌, ◌^◌, ◌<◌, ◌≤◌, true, false, Bool, List, [], ◌∷◌, ◌++◌, length, length-append}
+use Rattle.std.proofs.Common.{◌≡◌, inl, inr, sym, subst, refl, append_assoc, ℕ, ◌+◌, Bool, List, [], ◌++◌, length}
 use Rattle.std.proofs.lemmas.List.{append-nil}
 use Rattle.hook_base.specs.declared.change.Change.{Change}
 use Rattle.hook_base.specs.declared.file.File.{File}
@@ -19,8 +19,8 @@ use Rattle.commit_flow.specs.declared.host_refusal.HostRefusal.TheVariants.{OutO
 use Rattle.commit_flow.specs.declared.reply.PostCommit.{PostCommit}
 use Rattle.commit_flow.specs.declared.reply.PostCommit.TheVariants.{Told, Stopped}
 use Rattle.commit_flow.specs.declared.reply.Reply.TheVariants.{Committed, HooksFailed, Refused}
-use Rattle.commit_flow.specs.CommitCalls.{AreStagesOver, IsHalt, IsHalted, IsNotBegun, IsPostOver, IsStoppedIn, IsUnbegun, IsUncommitted, IsUnfixed, IsUnthrough, MayCommit}
-use Rattle.commit_flow.specs.CommitStages.{FailedAt, HaveFurther, HavePassed, StageTold, course_of, parts_of, reports_of, stages_before_commit}
+use Rattle.commit_flow.specs.CommitCalls.{AreStagesOver, IsHalt, IsHalted, IsNotBegun, IsPostOver, IsUnbegun, IsUncommitted, IsUnfixed, IsUnthrough, MayCommit}
+use Rattle.commit_flow.specs.CommitStages.{FailedAt, HaveFurther, HavePassed, course_of, parts_of, stages_before_commit}
 use Rattle.commit_flow.specs.Commits.{IsCommitRefusal, IsCommittable, IsVerified}
 use Rattle.commit_flow.specs.Configured.{HasReadableConfig, IsConfigured}
 use Rattle.commit_flow.specs.Messages.{cleaned_message}
@@ -203,12 +203,20 @@ module _ (tells : List (List ℕ) → List File → Outcome → Type 0) (kept : 
         step_unfixed OutOfMemory why = step_halted OutOfMemory committable config configured
             (halted_for_memory tells calls calls_after faults faults_after (HaveFurther config (changed_paths kept.repo) skip (stages_before_commit no_verify) (course_of kept.repo message)) (parts_of over.told) over.all_told)
         step_unfixed (Store fault) why = record {
-          parts = []; untold = parts_of over.told; step = ((committable, (config, configured), why.0, refl), refl);
-          left_out = inl (failed_but (IsUnset fault) why.1); told = over.all_told; spent = λ says. absurd says;
+          parts = [];
+          untold = parts_of over.told;
+          step = ((committable, (config, configured), why.0, refl), refl);
+          left_out = inl (failed_but (IsUnset fault) why.1);
+          told = over.all_told;
+          spent = λ says. absurd says;
         }
         step_unfixed Collision why = record {
-          parts = []; untold = parts_of over.told; step = ((committable, (config, configured), tt, refl), refl);
-          left_out = failed_but (λ fixes. FixCollides fixes kept.contents) why; told = over.all_told; spent = λ says. absurd says;
+          parts = [];
+          untold = parts_of over.told;
+          step = ((committable, (config, configured), tt, refl), refl);
+          left_out = failed_but (λ fixes. FixCollides fixes kept.contents) why;
+          told = over.all_told;
+          spent = λ says. absurd says;
         }
         step_unfixed Spent why = absurd why
         step_unfixed NoConfig why = absurd why
@@ -299,9 +307,19 @@ module _ (tells : List (List ℕ) → List File → Outcome → Type 0) (kept : 
             parts = parts_of over.told ++ all_parts behind.told.trace;
             untold = [];
             step = record {
-              config = config; told = over.told; last = left.message; post_parts = all_parts behind.told.trace; verified = verified;
-              some = may.some; small = may.small; room = may.room; counted = counted; reported = over.reported;
-              behind = (behind.told, behind.run, behind.reported, refl); traced = refl; made = made;
+              config = config;
+              told = over.told;
+              last = left.message;
+              post_parts = all_parts behind.told.trace;
+              verified = verified;
+              some = may.some;
+              small = may.small;
+              room = may.room;
+              counted = counted;
+              reported = over.reported;
+              behind = (behind.told, behind.run, behind.reported, refl);
+              traced = refl;
+              made = made;
             };
             left_out = refl;
             told = told_with (all_parts behind.told.trace) [] (subst (AreTold next calls_after calls_end faults_after faults_end) (sym (append-nil (all_parts behind.told.trace))) behind.all_told);
@@ -311,9 +329,19 @@ module _ (tells : List (List ℕ) → List File → Outcome → Type 0) (kept : 
             parts = parts_of over.told ++ [];
             untold = behind.untold;
             step = record {
-              config = config; told = over.told; last = left.message; post_parts = []; verified = verified;
-              some = may.some; small = may.small; room = may.room; counted = counted; reported = over.reported;
-              behind = (behind.not_named, behind.not_book, refl); traced = refl; made = made;
+              config = config;
+              told = over.told;
+              last = left.message;
+              post_parts = [];
+              verified = verified;
+              some = may.some;
+              small = may.small;
+              room = may.room;
+              counted = counted;
+              reported = over.reported;
+              behind = (behind.not_named, behind.not_book, refl);
+              traced = refl;
+              made = made;
             };
             left_out = post_untold kept message no_verify skip number reports behind.untold refusal (λ is. record { config = config; configured = configured; needs = behind.needs is });
             told = told_with [] behind.untold behind.told;

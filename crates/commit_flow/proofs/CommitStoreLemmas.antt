@@ -1,5 +1,5 @@
 -- What a commit leaves in the store's tables, from what the store's call leaves.
-use Rattle.std.proofs.Common.{◌≡◌, ◌≢◌, ◌∙◌, ℕ, ◌+◌, ◌<◌, ◌≤◌, Bool, true, false, if◌then◌else◌, List, [], ◌∷◌, ◌++◌, length, length-append, filter, is_some, Option, None, Some, Result, Ok, Err, inl, refl, sym, subst, ap, arith}
+use Rattle.std.proofs.Common.{◌≡◌, ◌≢◌, ◌∙◌, ℕ, ◌+◌, ◌≤◌, Bool, true, false, List, [], ◌∷◌, ◌++◌, length, length-append, Ok, Err, inl, refl, sym, subst, ap, arith}
 use Rattle.std.specs.List.{AllByRecursion}
 use Rattle.std.specs.Bool.{Decides}
 use Rattle.std.specs.Cmp.Lexicographic.{pointwise, pointwise_decides}
@@ -113,9 +113,19 @@ commit_reached kept message no_verify skip config told last verified some trees 
       done = tt;
       parts = parts_of told ++ [];
       step = record {
-        config = config; told = told; last = last; post_parts = []; verified = verified;
-        some = some; small = last_small 1 kept.repo.history (record { message = cleaned_message last; tree = kept.repo.staged }) leaves.obeys.commits.messages_small;
-        room = omega arith; counted = refl; reported = refl; behind = (λ is. cc, refl, refl); traced = refl; made = refl;
+        config = config;
+        told = told;
+        last = last;
+        post_parts = [];
+        verified = verified;
+        some = some;
+        small = last_small 1 kept.repo.history (record { message = cleaned_message last; tree = kept.repo.staged }) leaves.obeys.commits.messages_small;
+        room = omega arith;
+        counted = refl;
+        reported = refl;
+        behind = (λ is. cc, refl, refl);
+        traced = refl;
+        made = refl;
       };
       leaves = leaves;
     }
@@ -129,7 +139,14 @@ fix_reached kept message no_verify skip config told failed last committable conf
   done = tt;
   parts = parts_of told;
   step = record {
-    config = config; told = told; last = last; committable = committable; configured = configured; run = run; reported = refl; traced = refl;
+    config = config;
+    told = told;
+    last = last;
+    committable = committable;
+    configured = configured;
+    run = run;
+    reported = refl;
+    traced = refl;
     made = same_fixing kept.repo last.tree;
   };
   leaves = leaves;
@@ -161,5 +178,5 @@ pub unfixed : (kept : Kept) (after : List File) (asked : List Change) (fault : S
     → IsUnfixed kept (changes_between kept.repo.staged after) (of_store fault)
 unfixed kept after asked fault is why =
     let all : staged_changes asked kept.repo.staged ≡ changes_between kept.repo.staged after =
-        ap (λ (changes : List Change). staged_changes changes kept.repo.staged) is ∙ changes_are_staged kept.repo.staged after in
+    ap (λ (changes : List Change). staged_changes changes kept.repo.staged) is ∙ changes_are_staged kept.repo.staged after in
     unfixed_so kept (changes_between kept.repo.staged after) fault (subst (λ (fixes : List Change). IsRefusal (HasLarge fixes) ⊥ (FixCollides fixes kept.contents) fault) all why)

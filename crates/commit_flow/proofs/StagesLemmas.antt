@@ -1,5 +1,5 @@
 -- What children told within a commit, and its stages, one after another.
-use Rattle.std.proofs.Common.{◌≡◌, ◌≢◌, ◌∙◌, sym, subst, refl, ap, arith, append_assoc, ℕ, suc, ◌+◌, ◌-◌, ◌^◌, ◌<◌, drop, drop-cons, get_or, true, false, List, [], ◌∷◌, ◌++◌, length, length-append, Result, Ok, Err, IfOk, IfErr}
+use Rattle.std.proofs.Common.{◌≡◌, ◌∙◌, sym, subst, refl, ap, arith, append_assoc, ℕ, suc, ◌+◌, ◌<◌, drop, drop-cons, get_or, true, false, List, [], ◌∷◌, ◌++◌, length, length-append, Result, Ok, Err, IfErr}
 use Rattle.std.proofs.lemmas.List.{append-nil}
 use Rattle.std.proofs.lemmas.List.Elements.{All-append, All-nil}
 use Rattle.hook_base.specs.declared.file.File.{File}
@@ -12,13 +12,12 @@ use Rattle.hook_run.specs.declared.run_out.RunOut.{RunOut}
 use Rattle.hook_run.specs.declared.run_refusal.RunRefusal.{RunRefusal}
 use Rattle.hook_run.specs.declared.run_refusal.RunRefusal.TheVariants as run
 use Rattle.hook_run.specs.Parts.{AllTold, Part, all_parts, faults_of}
-use Rattle.hook_run.specs.Refusals.{is_of_book}
 use Rattle.hook_run.specs.RunOuts.{NeedsPart}
 use Rattle.commit_flow.specs.declared.commit_stages.StageEnd.{StageEnd}
 use Rattle.commit_flow.specs.declared.commit_stages.StagesEnd.TheVariants.{Passed, Failed}
 use Rattle.commit_flow.specs.declared.course.Course.{Course}
 use Rattle.commit_flow.specs.declared.host_refusal.HostRefusal.{HostRefusal}
-use Rattle.commit_flow.specs.declared.host_refusal.HostRefusal.TheVariants.{OutOfMemory, Spent}
+use Rattle.commit_flow.specs.declared.host_refusal.HostRefusal.TheVariants.{OutOfMemory}
 use Rattle.commit_flow.specs.CommitCalls.{AreRunOver, IsHalted, IsRunStopped, IsStageOver}
 use Rattle.commit_flow.specs.CommitStages.{FailedAt, HaveFurther, HavePassed, NeedsPartAt, StageTold, ask_in, course_after, parts_of, reports_of, tree_in}
 use Rattle.commit_flow.specs.Preparations.{HaveRun, HaveStopped}

@@ -1,6 +1,6 @@
 -- The stages of a commit (githooks(5)): what the hooks of each get, and how the tree and the message pass from one stage on
 -- to the next. The message is a file of the tree in the two stages that are about it.
-use Rattle.std.specs.Prelude.{◌≡◌, ℕ, Bool, true, false, MatchBool, if◌then◌else◌, List, [], ◌∷◌, ◌++◌, Option, None, Some, option_map, unwrap_or}
+use Rattle.std.specs.Prelude.{◌≡◌, ℕ, Bool, true, false, MatchBool, if◌then◌else◌, List, [], ◌∷◌, ◌++◌, None, option_map, unwrap_or}
 use Rattle.hook_base.specs.declared.file.File.{File}
 use Rattle.hook_base.specs.declared.file.FileEntry.{FileEntry}
 use Rattle.hook_base.specs.declared.file.Mode.TheVariants.{Plain}
@@ -8,7 +8,7 @@ use Rattle.hook_base.specs.Paths.{message_path}
 use Rattle.hook_base.specs.Trees.{entry_of, put_file, remove_file}
 use Rattle.hook_config.specs.declared.configuration.Config.{Config}
 use Rattle.hook_config.specs.declared.stage.Stage.{Stage}
-use Rattle.hook_config.specs.declared.stage.Stage.TheVariants.{PreCommit, PrepareCommitMsg, CommitMsg, PostCommit}
+use Rattle.hook_config.specs.declared.stage.Stage.TheVariants.{PreCommit, PrepareCommitMsg, CommitMsg}
 use Rattle.hook_run.specs.declared.run_ask.RunAsk.{RunAsk}
 use Rattle.hook_run.specs.declared.run_out.RunOut.{RunOut}
 use Rattle.hook_run.specs.Parts.{Part, all_parts}

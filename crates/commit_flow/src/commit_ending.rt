@@ -66,13 +66,15 @@ pub(crate) fn run_post_commit<C: Children, S: Alter>(
     ensures same { SameTells (C.tells children.old) (C.tells children.new) }
 {
     match run_on_staged(alloc, children, store, config, skip) {
-        Ok(RunOut {
-            passed: _,
-            report,
-            results: _,
-            tree: _,
-            unsteady: _,
-        }) => PostCommit::Told(report),
+        Ok(
+            RunOut {
+                passed: _,
+                report,
+                results: _,
+                tree: _,
+                unsteady: _,
+            },
+        ) => PostCommit::Told(report),
         Err(refusal) => PostCommit::Stopped(refusal),
     }
 }
@@ -89,5 +91,13 @@ fn run_on_staged<C: Children, S: Alter>(
     ensures same { SameTells (C.tells children.old) (C.tells children.new) }
 {
     let staged = store.staged()?;
-    run_hooks_of(alloc, children, config, &[], skip, Stage::PostCommit, &staged)
+    run_hooks_of(
+        alloc,
+        children,
+        config,
+        &[],
+        skip,
+        Stage::PostCommit,
+        &staged,
+    )
 }

@@ -56,11 +56,7 @@ pub(crate) fn stages_before_commit(no_verify: bool) -> &'static [Stage]
     if no_verify {
         &[Stage::PrepareCommitMsg]
     } else {
-        &[
-            Stage::PreCommit,
-            Stage::PrepareCommitMsg,
-            Stage::CommitMsg,
-        ]
+        &[Stage::PreCommit, Stage::PrepareCommitMsg, Stage::CommitMsg]
     }
 }
 
