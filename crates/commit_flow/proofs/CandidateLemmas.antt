@@ -1,6 +1,6 @@
 -- The files that the hooks of a run may get, row by row and name by name.
-use Rattle.std.proofs.Common.{◌≡◌, ◌≢◌, ◌↔◌, ◌⊎◌, ◌∙◌, ap, sym, subst, inl, inr, refl, IsTrue, ℕ, zero, suc, ◌+◌, ◌<◌, Bool, true, false, not, List, [], ◌∷◌, ◌++◌, Option, None, Some, length, drop, map, add-one, rules}
-use Rattle.std.specs.Prelude.{filter, slice_get, if◌then◌else◌, ◌&&◌}
+use Rattle.std.proofs.Common.{◌≡◌, ◌≢◌, ◌↔◌, ◌∙◌, ap, sym, subst, inl, inr, refl, IsTrue, ℕ, zero, suc, ◌+◌, Bool, true, false, not, List, [], ◌∷◌, Option, None, Some, drop, map, add-one, rules}
+use Rattle.std.specs.Prelude.{filter, slice_get, ◌&&◌}
 use Rattle.std.specs.Cmp.Lexicographic.{bytes_decides}
 use Rattle.std.specs.Str.{bytes_eq}
 use Rattle.hook_base.specs.declared.file.File.{File}
@@ -14,7 +14,7 @@ use Rattle.hook_base.specs.Trees.{IsRising, entry_of, path_of}
 use Rattle.repo_store.specs.Repository.{Repository, last_tree}
 use Rattle.commit_flow.specs.declared.host_refusal.HostRefusal.{HostRefusal}
 use Rattle.commit_flow.specs.Preparations.{IsNameFault, IsNamesFault}
-use Rattle.commit_flow.specs.Runs.{AreStagedPaths, IsNameRefusal, IsNamesRefusal, IsStagedPath, changed_paths, holds_entry, same_mode}
+use Rattle.commit_flow.specs.Runs.{AreStagedPaths, IsNamesRefusal, IsStagedPath, holds_entry, same_mode}
 
 -- ---- rows
 

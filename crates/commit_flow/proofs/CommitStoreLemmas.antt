@@ -1,5 +1,5 @@
 -- What a commit leaves in the store's tables, from what the store's call leaves.
-use Rattle.std.proofs.Common.{◌≡◌, ◌≢◌, ◌∙◌, ℕ, ◌+◌, ◌<◌, ◌≤◌, Bool, true, false, if◌then◌else◌, List, [], ◌∷◌, ◌++◌, length, length-append, filter, is_some, Option, None, Some, Result, Ok, Err, inl, refl, sym, subst, ap, arith}
+use Rattle.std.proofs.Common.{◌≡◌, ◌≢◌, ◌∙◌, ℕ, ◌+◌, ◌≤◌, Bool, true, false, List, [], ◌∷◌, ◌++◌, length, length-append, Ok, Err, inl, refl, sym, subst, ap, arith}
 use Rattle.std.specs.List.{AllByRecursion}
 use Rattle.std.specs.Bool.{Decides}
 use Rattle.std.specs.Cmp.Lexicographic.{pointwise, pointwise_decides}
@@ -20,19 +20,18 @@ use Rattle.store_tables.specs.declared.rows.CommitRow.{CommitRow}
 use Rattle.repo_store.specs.declared.fault.StoreFault.{StoreFault}
 use Rattle.repo_store.specs.declared.fault.StoreFault.TheVariants as store
 use Rattle.repo_store.specs.Faults.{IsRefusal}
-use Rattle.repo_store.specs.Kept.{Kept, committing, setting}
+use Rattle.repo_store.specs.Kept.{FixCollides, HasLarge, Kept, committing, setting}
 use Rattle.repo_store.specs.Limits.{IsSmall, most_commits}
-use Rattle.repo_store.specs.Repository.{Commit as Entry, Repository, last_tree, with_fixes}
+use Rattle.repo_store.specs.Repository.{Commit as Entry, Repository, last_tree, staged_changes, with_fixes}
 use Rattle.repo_store.specs.Rows.{commit_rows}
 use Rattle.repo_store.specs.Shown.{IsOneTransaction, Leaves, LeavesOnly, Shown}
 use Rattle.commit_flow.specs.declared.command.Command.{Command}
 use Rattle.commit_flow.specs.declared.command.Command.TheVariants.{Commit}
 use Rattle.commit_flow.specs.declared.course.Course.{Course}
 use Rattle.commit_flow.specs.declared.host_refusal.HostRefusal.{HostRefusal}
-use Rattle.commit_flow.specs.declared.host_refusal.HostRefusal.TheVariants.{Spent}
 use Rattle.commit_flow.specs.declared.reply.PostCommit.TheVariants.{Stopped}
 use Rattle.commit_flow.specs.declared.reply.Reply.TheVariants.{Committed, HooksFailed}
-use Rattle.commit_flow.specs.CommitCalls.{IsHalt, IsOneChange, IsUncommitted}
+use Rattle.commit_flow.specs.CommitCalls.{IsOneChange, IsUncommitted, IsUnfixed}
 use Rattle.commit_flow.specs.CommitStages.{FailedAt, StageTold, course_of, parts_of, reports_of, stages_before_commit}
 use Rattle.commit_flow.specs.Commits.{HasNothingNew, IsCommittable, IsVerified}
 use Rattle.commit_flow.specs.Configured.{IsConfigured}
@@ -114,9 +113,19 @@ commit_reached kept message no_verify skip config told last verified some trees 
       done = tt;
       parts = parts_of told ++ [];
       step = record {
-        config = config; told = told; last = last; post_parts = []; verified = verified;
-        some = some; small = last_small 1 kept.repo.history (record { message = cleaned_message last; tree = kept.repo.staged }) leaves.obeys.commits.messages_small;
-        room = omega arith; counted = refl; reported = refl; behind = (λ is. cc, refl, refl); traced = refl; made = refl;
+        config = config;
+        told = told;
+        last = last;
+        post_parts = [];
+        verified = verified;
+        some = some;
+        small = last_small 1 kept.repo.history (record { message = cleaned_message last; tree = kept.repo.staged }) leaves.obeys.commits.messages_small;
+        room = omega arith;
+        counted = refl;
+        reported = refl;
+        behind = (λ is. cc, refl, refl);
+        traced = refl;
+        made = refl;
       };
       leaves = leaves;
     }
@@ -130,7 +139,14 @@ fix_reached kept message no_verify skip config told failed last committable conf
   done = tt;
   parts = parts_of told;
   step = record {
-    config = config; told = told; last = last; committable = committable; configured = configured; run = run; reported = refl; traced = refl;
+    config = config;
+    told = told;
+    last = last;
+    committable = committable;
+    configured = configured;
+    run = run;
+    reported = refl;
+    traced = refl;
     made = same_fixing kept.repo last.tree;
   };
   leaves = leaves;
@@ -142,26 +158,25 @@ pub uncommitted : (repo : Repository) (cleaned : List ℕ) (fault : StoreFault) 
     → IsUncommitted repo cleaned (of_store fault)
 uncommitted repo cleaned store.NotAStore some why = absurd why
 uncommitted repo cleaned store.Damaged some why = absurd why
-uncommitted repo cleaned (store.Sql error) some why = tt
+uncommitted repo cleaned (store.Sql error) some why = (tt, tt)
 uncommitted repo cleaned store.OutOfMemory some why = tt
 uncommitted repo cleaned store.Collision some why = absurd why
-uncommitted repo cleaned store.TooLarge some why = tt
+uncommitted repo cleaned store.TooLarge some why = (tt, why)
 uncommitted repo cleaned store.TooMany some why = (some, why.0, why.1)
 
-pub halted_fixes : (large collides : Type 0) (fault : StoreFault) → IsRefusal large ⊥ collides fault → IsHalt (of_store fault)
-halted_fixes large collides store.NotAStore why = absurd why
-halted_fixes large collides store.Damaged why = absurd why
-halted_fixes large collides (store.Sql error) why = tt
-halted_fixes large collides store.OutOfMemory why = tt
-halted_fixes large collides store.Collision why = tt
-halted_fixes large collides store.TooLarge why = tt
-halted_fixes large collides store.TooMany why = absurd why
+unfixed_so : (kept : Kept) (fixes : List Change) (fault : StoreFault) → IsRefusal (HasLarge fixes) ⊥ (FixCollides fixes kept.contents) fault → IsUnfixed kept fixes (of_store fault)
+unfixed_so kept fixes store.NotAStore why = absurd why
+unfixed_so kept fixes store.Damaged why = absurd why
+unfixed_so kept fixes (store.Sql error) why = (tt, tt)
+unfixed_so kept fixes store.OutOfMemory why = tt
+unfixed_so kept fixes store.Collision why = why
+unfixed_so kept fixes store.TooLarge why = (tt, why)
+unfixed_so kept fixes store.TooMany why = absurd why
 
-pub not_spent : (fault : StoreFault) → of_store fault ≢ Spent
-not_spent store.NotAStore is = cc
-not_spent store.Damaged is = cc
-not_spent (store.Sql error) is = cc
-not_spent store.OutOfMemory is = cc
-not_spent store.Collision is = cc
-not_spent store.TooLarge is = cc
-not_spent store.TooMany is = cc
+pub unfixed : (kept : Kept) (after : List File) (asked : List Change) (fault : StoreFault) → asked ≡ changes_between kept.repo.staged after
+    → IsRefusal (HasLarge (staged_changes asked kept.repo.staged)) ⊥ (FixCollides (staged_changes asked kept.repo.staged) kept.contents) fault
+    → IsUnfixed kept (changes_between kept.repo.staged after) (of_store fault)
+unfixed kept after asked fault is why =
+    let all : staged_changes asked kept.repo.staged ≡ changes_between kept.repo.staged after =
+    ap (λ (changes : List Change). staged_changes changes kept.repo.staged) is ∙ changes_are_staged kept.repo.staged after in
+    unfixed_so kept (changes_between kept.repo.staged after) fault (subst (λ (fixes : List Change). IsRefusal (HasLarge fixes) ⊥ (FixCollides fixes kept.contents) fault) all why)

@@ -1,5 +1,5 @@
 -- A run on the staged files, from what is ready for it and what its hooks came to.
-use Rattle.std.proofs.Common.{◌≡◌, ◌≢◌, ◌⊎◌, ◌∙◌, ap, sym, subst, inl, inr, refl, ℕ, ◌+◌, true, false, List, [], ◌∷◌, ◌++◌, length, arith, rules}
+use Rattle.std.proofs.Common.{◌≡◌, ◌∙◌, ap, sym, subst, inl, inr, refl, ℕ, false, List, [], ◌∷◌, arith, rules}
 use Rattle.std.proofs.lemmas.List.{append-nil}
 use Rattle.hook_base.specs.declared.change.Change.{Change}
 use Rattle.hook_base.specs.declared.file.File.{File}
@@ -11,9 +11,8 @@ use Rattle.hook_run.specs.declared.run_out.RunOut.{RunOut}
 use Rattle.hook_run.specs.declared.run_refusal.RunRefusal.{RunRefusal}
 use Rattle.hook_run.specs.declared.run_refusal.RunRefusal.TheVariants as run
 use Rattle.hook_run.specs.Asks.{names_no_hook}
-use Rattle.hook_run.specs.Parts.{Part, all_parts}
-use Rattle.hook_run.specs.RunOuts.{IsBegun, IsCounted, IsRunOut, IsRunOver, IsStoppedRun}
-use Rattle.hook_run.specs.Starts.{Starts}
+use Rattle.hook_run.specs.Parts.{all_parts}
+use Rattle.hook_run.specs.RunOuts.{IsCounted}
 use Rattle.repo_store.specs.declared.fault.StoreFault.{StoreFault}
 use Rattle.repo_store.specs.declared.fault.StoreFault.TheVariants as store
 use Rattle.repo_store.specs.Faults.{IsRefusal}
@@ -29,10 +28,10 @@ use Rattle.commit_flow.specs.declared.prepared.Prepared.{Prepared}
 use Rattle.commit_flow.specs.declared.staged_run.StagedRun.{StagedRun}
 use Rattle.commit_flow.specs.Configured.{HasReadableConfig}
 use Rattle.commit_flow.specs.Crashes.{LeavesDone}
-use Rattle.commit_flow.specs.Preparations.{HasRunReady, HasStoppedReady, HaveRun, HaveStopped, IsConfigRefusal, IsNamesFault, IsPrepared, IsUnprepared}
+use Rattle.commit_flow.specs.Preparations.{HasRunReady, HasStoppedReady, HaveRun, HaveStopped, IsConfigRefusal, IsPrepared, IsUnprepared}
 use Rattle.commit_flow.specs.Refusals.{of_run, of_store}
 use Rattle.commit_flow.specs.RunRefusals.{IsRunRefusal}
-use Rattle.commit_flow.specs.RunSteps.{HasBegun, HasRunBut, IsRunStep, IsStoppedAt, IsStoppedStep, IsUnset, nothing, reply_of_run}
+use Rattle.commit_flow.specs.RunSteps.{HasBegun, HasRunBut, IsRunStep, IsStoppedAt, IsStoppedStep, IsUnset, reply_of_run}
 use Rattle.commit_flow.specs.Runs.{IsNameRefusal, IsNamesRefusal, IsRan, IsRunnable, names_in, run_ask_of}
 use Rattle.commit_flow.proofs.FixLemmas.{changes_are_staged, setting_is_fixing}
 

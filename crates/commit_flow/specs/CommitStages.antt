@@ -1,6 +1,6 @@
 -- The stages of a commit (githooks(5)): what the hooks of each get, and how the tree and the message pass from one stage on
 -- to the next. The message is a file of the tree in the two stages that are about it.
-use Rattle.std.specs.Prelude.{◌≡◌, ℕ, Bool, true, false, MatchBool, if◌then◌else◌, List, [], ◌∷◌, ◌++◌, Option, None, Some, option_map, unwrap_or}
+use Rattle.std.specs.Prelude.{◌≡◌, ℕ, Bool, true, false, MatchBool, if◌then◌else◌, List, [], ◌∷◌, ◌++◌, None, option_map, unwrap_or}
 use Rattle.hook_base.specs.declared.file.File.{File}
 use Rattle.hook_base.specs.declared.file.FileEntry.{FileEntry}
 use Rattle.hook_base.specs.declared.file.Mode.TheVariants.{Plain}
@@ -8,11 +8,11 @@ use Rattle.hook_base.specs.Paths.{message_path}
 use Rattle.hook_base.specs.Trees.{entry_of, put_file, remove_file}
 use Rattle.hook_config.specs.declared.configuration.Config.{Config}
 use Rattle.hook_config.specs.declared.stage.Stage.{Stage}
-use Rattle.hook_config.specs.declared.stage.Stage.TheVariants.{PreCommit, PrepareCommitMsg, CommitMsg, PostCommit}
+use Rattle.hook_config.specs.declared.stage.Stage.TheVariants.{PreCommit, PrepareCommitMsg, CommitMsg}
 use Rattle.hook_run.specs.declared.run_ask.RunAsk.{RunAsk}
 use Rattle.hook_run.specs.declared.run_out.RunOut.{RunOut}
 use Rattle.hook_run.specs.Parts.{Part, all_parts}
-use Rattle.hook_run.specs.RunOuts.{IsRunOut}
+use Rattle.hook_run.specs.RunOuts.{IsRunOut, NeedsPart}
 use Rattle.repo_store.specs.Repository.{Repository}
 use Rattle.commit_flow.specs.declared.course.Course.{Course}
 use Rattle.commit_flow.specs.Messages.{begun_message}
@@ -84,6 +84,15 @@ FailedAt config changed skip (stage ∷ stages) course (told ∷ more) failed la
     ((more ≡ []) × (failed ≡ stage) × (last ≡ course_after stage course told.out.tree))
 FailedAt config changed skip _ course _ failed last = ⊥
 
+-- the stages were run in order up to this one, each before it passed, and it has a further part behind these of its own
+abbrev pub NeedsPartAt : Config → List (List ℕ) → List (List ℕ) → List Stage → Course → List StageTold → List Part → Type 0
+NeedsPartAt config changed skip (stage ∷ stages) course [] begun = NeedsPart config (ask_in changed skip stage) (tree_in stage course) begun
+NeedsPartAt config changed skip (stage ∷ stages) course (told ∷ more) begun =
+    IsStageTold config changed skip stage course told
+    × (told.out.passed ≡ true)
+    × NeedsPartAt config changed skip stages (course_after stage course told.out.tree) more begun
+NeedsPartAt config changed skip [] course told begun = ⊥
+
 -- a commit begins with the staged files, and with its message ended by a line feed
 abbrev pub course_of : Repository → List ℕ → Course
 course_of repo message = record { tree = repo.staged; message = begun_message message }
@@ -95,3 +104,10 @@ parts_of (told ∷ more) = all_parts told.trace ++ parts_of more
 abbrev pub reports_of : List StageTold → List (List ℕ)
 reports_of [] = []
 reports_of (told ∷ more) = told.out.report ∷ reports_of more
+
+-- the stages have a further part behind these, of those that passed and of the next one so far
+pub record HaveFurther (config : Config) (changed skip : List (List ℕ)) (stages : List Stage) (course : Course) (parts : List Part) : Type 0 where
+  pub told : List StageTold
+  pub begun : List Part
+  pub needs : NeedsPartAt config changed skip stages course told begun
+  pub traced : parts ≡ parts_of told ++ begun

@@ -7,11 +7,10 @@ use Rattle.hook_config.specs.declared.stage.Stage.TheVariants as stage
 use Rattle.hook_run.specs.declared.run_refusal.RunRefusal.TheVariants.{NoSuchHook}
 use Rattle.hook_run.specs.Parts.{Part, all_parts}
 use Rattle.hook_run.specs.Refusals.{is_of_book}
-use Rattle.repo_store.specs.declared.fault.StoreFault.TheVariants as store
 use Rattle.repo_store.specs.Limits.{IsSmall, most_commits}
 use Rattle.repo_store.specs.Repository.{Repository, last_tree, with_new_commit}
 use Rattle.commit_flow.specs.declared.host_refusal.HostRefusal.{HostRefusal}
-use Rattle.commit_flow.specs.declared.host_refusal.HostRefusal.TheVariants.{OutOfMemory, Store, TooLarge, TooMany, NoConfig, BadConfig, NothingStaged, EmptyMessage}
+use Rattle.commit_flow.specs.declared.host_refusal.HostRefusal.TheVariants.{OutOfMemory, TooLarge, TooMany, NoConfig, BadConfig, NothingStaged, EmptyMessage}
 use Rattle.commit_flow.specs.declared.reply.PostCommit.{PostCommit}
 use Rattle.commit_flow.specs.declared.reply.PostCommit.TheVariants.{Told, Stopped}
 use Rattle.commit_flow.specs.declared.course.Course.{Course}

@@ -1,5 +1,5 @@
 -- The configuration of a repository: the staged file that describes the hooks.
-use Rattle.std.specs.Prelude.{◌≡◌, ◌≢◌, ℕ, List, Option, None, Some, codes}
+use Rattle.std.specs.Prelude.{◌≡◌, ◌≢◌, ℕ, List, None, Some, codes}
 use Rattle.hook_base.specs.declared.file.FileEntry.{FileEntry}
 use Rattle.hook_base.specs.Trees.{entry_of}
 use Rattle.hook_config.specs.declared.configuration.Config.{Config}

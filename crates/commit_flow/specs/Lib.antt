@@ -2,6 +2,7 @@ pub mod Commands
 pub mod CommitCalls
 pub mod CommitKept
 pub mod CommitStages
+pub mod CommitSteps
 pub mod Commits
 pub mod Configured
 pub mod Crashes
@@ -14,5 +15,4 @@ pub mod RunSteps
 pub mod Runs
 pub mod StagedPaths
 pub mod Steps
-pub mod StepsOver
 pub mod StepLaws

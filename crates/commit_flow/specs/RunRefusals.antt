@@ -1,5 +1,4 @@
 -- Why a run on the staged files is refused, and what stops the hooks of runs and commits alike.
-use Rattle.std.specs.Prelude.{ℕ}
 use Rattle.hook_config.specs.declared.configuration.Config.{Config}
 use Rattle.repo_store.specs.declared.fault.StoreFault.{StoreFault}
 use Rattle.repo_store.specs.declared.fault.StoreFault.TheVariants.{Sql, TooLarge}

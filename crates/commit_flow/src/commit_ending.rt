@@ -1,11 +1,11 @@
 //! How a commit ends.
 
-ghost use Rattle.std.specs.Prelude.{◌≢◌, [], IfOk, IfErr};
+ghost use Rattle.std.specs.Prelude.{[], IfOk, IfErr};
 ghost use Rattle.child_port.specs.Telling.{SameTells};
 ghost use Rattle.hook_base.specs.Trees.{changes_between};
 ghost use Rattle.repo_store.specs.AllOrNothing.{IsAllOrNothing};
 ghost use Rattle.repo_store.specs.Kept.{setting};
-ghost use Rattle.commit_flow.specs.CommitCalls.{IsHalt, IsOneChange, IsPostOver, IsRunStopped};
+ghost use Rattle.commit_flow.specs.CommitCalls.{IsOneChange, IsPostOver, IsRunStopped, IsUnfixed};
 ghost use Rattle.commit_flow.specs.CommitStages.{ask_in};
 ghost use Rattle.commit_flow.specs.Preparations.{HaveRun};
 
@@ -44,8 +44,7 @@ pub enum CommitEnding {
 /// others, `Store` where the database refuses or a fix has more than 16 MiB, and `OutOfMemory` where memory is refused. A
 /// refusal leaves the store as it was.
 pub(crate) fn set_fixes_to<S: Alter>(store: &mut Store<S>, tree: &Tree) -> Result<(), HostRefusal>
-    ensures refused { IfErr result IsHalt }
-    ensures not_spent { IfErr result (λ refusal. refusal ≢ HostRefusal.Spent) }
+    ensures refused { IfErr result (IsUnfixed store.old.kept (changes_between store.old.kept.repo.staged tree.now)) }
     ensures change { IsAllOrNothing store.old.kept store.new.kept result (setting (changes_between store.old.kept.repo.staged tree.now) store.old.kept) }
     ensures one { IsOneChange S.Store store.old store.new result (setting (changes_between store.old.kept.repo.staged tree.now) store.old.kept) }
 {
@@ -67,13 +66,15 @@ pub(crate) fn run_post_commit<C: Children, S: Alter>(
     ensures same { SameTells (C.tells children.old) (C.tells children.new) }
 {
     match run_on_staged(alloc, children, store, config, skip) {
-        Ok(RunOut {
-            passed: _,
-            report,
-            results: _,
-            tree: _,
-            unsteady: _,
-        }) => PostCommit::Told(report),
+        Ok(
+            RunOut {
+                passed: _,
+                report,
+                results: _,
+                tree: _,
+                unsteady: _,
+            },
+        ) => PostCommit::Told(report),
         Err(refusal) => PostCommit::Stopped(refusal),
     }
 }
@@ -86,9 +87,17 @@ fn run_on_staged<C: Children, S: Alter>(
     skip: &[Text],
 ) -> Result<RunOut, RunRefusal>
     ensures run { IfOk result (HaveRun (C.tells children.old) (C.call_count children.old) (C.call_count children.new) (C.fault_count children.old) (C.fault_count children.new) config.now (ask_in [] skip.now Stage.PostCommit) store.now.kept.repo.staged) }
-    ensures stopped { IfErr result (IsRunStopped (C.tells children.old) (C.call_count children.old) (C.call_count children.new) (C.fault_count children.old) (C.fault_count children.new)) }
+    ensures stopped { IfErr result (IsRunStopped (C.tells children.old) (C.call_count children.old) (C.call_count children.new) (C.fault_count children.old) (C.fault_count children.new) config.now (ask_in [] skip.now Stage.PostCommit) store.now.kept.repo.staged) }
     ensures same { SameTells (C.tells children.old) (C.tells children.new) }
 {
     let staged = store.staged()?;
-    run_hooks_of(alloc, children, config, &[], skip, Stage::PostCommit, &staged)
+    run_hooks_of(
+        alloc,
+        children,
+        config,
+        &[],
+        skip,
+        Stage::PostCommit,
+        &staged,
+    )
 }

@@ -3,8 +3,9 @@
 ghost use Rattle.std.specs.Prelude.{◌≡◌, [], ◌∷◌, ◌++◌, IfOk, IfErr, OnOk};
 ghost use Rattle.child_port.specs.Telling.{SameTells};
 ghost use Rattle.hook_base.specs.Paths.{message_path};
+ghost use Rattle.hook_run.specs.RunOuts.{NeedsPart};
 ghost use Rattle.commit_flow.specs.CommitCalls.{AreRunOver, IsHalted, IsRunStopped, IsStageOver};
-ghost use Rattle.commit_flow.specs.CommitStages.{ask_in, candidates_in, stages_before_commit};
+ghost use Rattle.commit_flow.specs.CommitStages.{HaveFurther, ask_in, candidates_in, stages_before_commit, tree_in};
 ghost use Rattle.commit_flow.specs.Preparations.{HaveRun};
 
 use crate::HostRefusal;
@@ -55,11 +56,7 @@ pub(crate) fn stages_before_commit(no_verify: bool) -> &'static [Stage]
     if no_verify {
         &[Stage::PrepareCommitMsg]
     } else {
-        &[
-            Stage::PreCommit,
-            Stage::PrepareCommitMsg,
-            Stage::CommitMsg,
-        ]
+        &[Stage::PreCommit, Stage::PrepareCommitMsg, Stage::CommitMsg]
     }
 }
 
@@ -74,7 +71,7 @@ pub(crate) fn run_stages<C: Children>(
     course: Course,
 ) -> Result<StagesEnd, HostRefusal>
     ensures run { IfOk result (AreRunOver (C.tells children.old) (C.call_count children.old) (C.call_count children.new) (C.fault_count children.old) (C.fault_count children.new) config.now changed.now skip.now stages.now course) }
-    ensures halted { IfErr result (IsHalted (C.tells children.old) (C.call_count children.old) (C.call_count children.new) (C.fault_count children.old) (C.fault_count children.new)) }
+    ensures halted { IfErr result (IsHalted (C.tells children.old) (C.call_count children.old) (C.call_count children.new) (C.fault_count children.old) (C.fault_count children.new) (HaveFurther config.now changed.now skip.now stages.now course)) }
     ensures same { SameTells (C.tells children.old) (C.tells children.new) }
 {
     let mut reports = Vec::new(alloc);
@@ -120,7 +117,7 @@ fn run_stage<C: Children>(
     course: Course,
 ) -> Result<StageEnd, HostRefusal>
     ensures run { IfOk result (IsStageOver (C.tells children.old) (C.call_count children.old) (C.call_count children.new) (C.fault_count children.old) (C.fault_count children.new) config.now changed.now skip.now stage course) }
-    ensures halted { IfErr result (IsHalted (C.tells children.old) (C.call_count children.old) (C.call_count children.new) (C.fault_count children.old) (C.fault_count children.new)) }
+    ensures halted { IfErr result (IsHalted (C.tells children.old) (C.call_count children.old) (C.call_count children.new) (C.fault_count children.old) (C.fault_count children.new) (NeedsPart config.now (ask_in changed.now skip.now stage) (tree_in stage course))) }
     ensures same { SameTells (C.tells children.old) (C.tells children.new) }
 {
     let begun = course.into_stage(alloc, stage)?;
@@ -151,7 +148,7 @@ pub(crate) fn run_hooks_of<C: Children>(
     tree: &Tree,
 ) -> Result<RunOut, RunRefusal>
     ensures run { IfOk result (HaveRun (C.tells children.old) (C.call_count children.old) (C.call_count children.new) (C.fault_count children.old) (C.fault_count children.new) config.now (ask_in changed.now skip.now stage) tree.now) }
-    ensures stopped { IfErr result (IsRunStopped (C.tells children.old) (C.call_count children.old) (C.call_count children.new) (C.fault_count children.old) (C.fault_count children.new)) }
+    ensures stopped { IfErr result (IsRunStopped (C.tells children.old) (C.call_count children.old) (C.call_count children.new) (C.fault_count children.old) (C.fault_count children.new) config.now (ask_in changed.now skip.now stage) tree.now) }
     ensures same { SameTells (C.tells children.old) (C.tells children.new) }
 {
     let ask = ask_in(alloc, changed, skip, stage)?;

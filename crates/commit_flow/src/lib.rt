@@ -1,16 +1,18 @@
 //! The host of a repository: the commands by which files are staged, and what each answers.
 //!
 //! A [`Host`] works on a store. A [`HostAsk`] says what is asked of a run of hooks on the staged files, and a [`StagedRun`]
-//! what it gave. A [`HostRefusal`] says why a command is refused; [`Command`] and [`Reply`] are the commands and their answers
-//! as values.
+//! what it gave; a [`CommitEnding`] says how a commit through its hooks ended. A [`HostRefusal`] says why a command is refused;
+//! [`Command`] and [`Reply`] are the commands and their answers as values.
 //!
 //! The contracts cite `Step` of `specs/Steps.antt` (what each command may answer, and what it makes of the repository),
 //! `specs/Commands.antt` (the reply that a call's answer is), `IsOneCommand` of `specs/Crashes.antt` (what a crash leaves),
-//! `IsRunStep` and `IsStoppedStep` of `specs/RunSteps.antt` (how a run stands to what its children told), `specs/Runs.antt` and
-//! `specs/Commits.antt` (the cases of runs, and of commits, which no call makes yet),
+//! `IsRunStep` and `IsStoppedStep` of `specs/RunSteps.antt` and `IsCommitStep` of `specs/CommitSteps.antt` (how a run and a
+//! commit stand to what their children told), `specs/Runs.antt`, `specs/Commits.antt` and `specs/CommitStages.antt` (the cases
+//! of runs and of commits, and the stages of these), `specs/CommitKept.antt` (what a commit makes of what is kept),
 //! `specs/Hosts.antt` (what is seen of a host), `specs/Messages.antt` (how the message of a commit is cleaned) and
 //! `specs/Refusals.antt`; of the repository and its files they cite definitions of `repo_store` and `hook_base`.
-//! `specs/Preparations.antt` serves private functions alone. [`laws`] says that a step has one answer at most.
+//! `specs/Preparations.antt` and `specs/CommitCalls.antt` serve private functions alone. [`laws`] says that a step has one
+//! answer at most.
 #![tactic(auto)]
 
 mod candidates;

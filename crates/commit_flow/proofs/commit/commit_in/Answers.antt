@@ -1,4 +1,3 @@
-use Rattle.std.proofs.Common.{sym, ◌∙◌}
 use Rattle.std.proofs.lemmas.Result.{err_from_is_err_and}
 use Rattle.hook_base.specs.Trees.{changes_between}
 use Rattle.repo_store.specs.Kept.{committing, setting}
@@ -13,7 +12,7 @@ pub returns-in_err-through-clause-step : goal.returns-in_err-through-clause-step
 returns-in_err-through-clause-step g c =
     let children = g.C.Children in
     let p = err_from_is_err_and c.from_residual.result c.from_residual.ensures.1 in
-    rw (p.1, p.2) (step_unthrough (children.tells c.args.children.now) c.args.store.now.kept.repo c.args.message.now c.args.no_verify c.args.skip.now
+    rw (p.1, p.2) (step_unthrough (children.tells c.args.children.now) c.args.store.now.kept c.args.message.now c.args.no_verify c.args.skip.now
     (children.call_count c.args.children.now) (children.call_count c.go_through.new.children) (children.fault_count c.args.children.now) (children.fault_count c.go_through.new.children)
     c.in_err-through.field-0.0 c.in_err-through.ensures.refused)
 
@@ -25,7 +24,7 @@ returns-in_err-set_fixes_to-in-Failed-clause-step g c =
     (children.fault_count c.args.children.now) (children.fault_count c.go_through.new.children) c.args.store.now.kept c.args.message.now c.args.no_verify c.args.skip.now
     c.in_ok-through.through c.in_ok-through.ensures.through c.in-Failed.stage c.in-Failed.reports c.in-Failed.course c.in-Failed.is
     c.in_err-set_fixes_to-in-Failed.field-0.0 c.set_fixes_to.new.store.kept c.in_err-set_fixes_to-in-Failed.ensures.refused
-    c.in_err-set_fixes_to-in-Failed.ensures.not_spent c.in_err-set_fixes_to-in-Failed.ensures.change.same)
+    c.in_err-set_fixes_to-in-Failed.ensures.change.same)
 
 pub returns-in_err-set_fixes_to-in-Failed-clause-command : goal.returns-in_err-set_fixes_to-in-Failed-clause-command
 returns-in_err-set_fixes_to-in-Failed-clause-command g c =
@@ -79,8 +78,8 @@ returns-in_err-number-in-Passed-clause-command g c =
     c.in_ok-through.through c.in_ok-through.ensures.through c.in-Passed.reports c.in-Passed.course c.in-Passed.is c.as_slice.result.now c.as_slice.ensures)
     c.in_err-number-in-Passed.ensures.one)
 
-pub returns-in-Passed-clause-step : goal.returns-in-Passed-clause-step
-returns-in-Passed-clause-step g c =
+pub returns-clause-step : goal.returns-clause-step
+returns-clause-step g c =
     let children = g.C.Children in
     committed_step (children.tells c.args.children.now) (children.call_count c.args.children.now) (children.call_count c.go_through.new.children)
     (children.fault_count c.args.children.now) (children.fault_count c.go_through.new.children) c.args.store.now.kept c.args.message.now c.args.no_verify c.args.skip.now
@@ -89,8 +88,8 @@ returns-in-Passed-clause-step g c =
     c.in_ok-number-in-Passed.number c.commit_staged.new.store.kept c.as_slice.result.now c.run_post_commit-post.result c.as_slice.ensures c.go_through.ensures.same
     c.in_ok-number-in-Passed.ensures.able c.in_ok-number-in-Passed.ensures.number c.in_ok-number-in-Passed.ensures.change.done c.run_post_commit-post.ensures.post
 
-pub returns-in-Passed-clause-command : goal.returns-in-Passed-clause-command
-returns-in-Passed-clause-command g c =
+pub returns-clause-command : goal.returns-clause-command
+returns-clause-command g c =
     let children = g.C.Children in
     command_done g.S.Store c.args.store.now c.commit_staged.new.store (committing (cleaned_message c.as_slice.result.now) c.args.store.now.kept)
     (Commit c.args.message.now c.args.no_verify c.args.skip.now)

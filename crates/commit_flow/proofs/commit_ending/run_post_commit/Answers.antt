@@ -7,6 +7,6 @@ returns-in-Ok-clause-post g c =
     record {
       told = record { trace = over.trace; out = _ };
       run = over.run;
-      all_told = record { told = over.told; counted = over.counted };
+      all_told = record { told = over.told; steady = over.starts.steady; counted = over.counted };
       reported = refl;
     }

@@ -1,8 +1,6 @@
-use Rattle.std.proofs.Common.{refl, rules}
+use Rattle.std.proofs.Common.{refl}
 use Rattle.std.proofs.lemmas.Result.{err_from_is_err_and}
-use Rattle.commit_flow.specs.Messages.{cleaned_message}
-use Rattle.commit_flow.proofs.CommitLemmas.{step_unthrough}
-use Rattle.commit_flow.proofs.CommitStoreLemmas.{change_done, change_refused, change_unasked, uncommitted}
+use Rattle.commit_flow.proofs.CommitStoreLemmas.{change_unasked}
 use Rattle.commit_flow.proofs.commit_staged.commit_staged.Goals as goal
 
 pub returns-in_err-cleaned-clause-one : goal.returns-in_err-cleaned-clause-one

@@ -2,8 +2,7 @@ use Rattle.std.proofs.Common.{◌+◌, ◌∷◌, ◌++◌, [], drop, refl, arit
 use Rattle.std.proofs.lemmas.Grind.{common_steps}
 use Rattle.std.proofs.lemmas.Result.{err_from_is_err_and}
 use Rattle.child_port.specs.TellingLemmas.{SameTells-refl, SameTells-trans}
-use Rattle.commit_flow.specs.CommitStages.{parts_of}
-use Rattle.commit_flow.proofs.StagesLemmas.{all_passed, halted_then, none_so_far, one_failed, one_lost, one_more, rest_after}
+use Rattle.commit_flow.proofs.StagesLemmas.{all_passed, none_so_far, one_failed, one_halted, one_lost, one_more, rest_after}
 use Rattle.commit_flow.proofs.commit_stages.run_stages.Goals as goal
 
 pub stages-init : goal.stages-init
@@ -19,9 +18,11 @@ pub returns-in_err-end-clause-halted : goal.returns-in_err-end-clause-halted
 returns-in_err-end-clause-halted g c =
     let children = g.C.Children in
     let p = err_from_is_err_and c.from_residual.result c.from_residual.ensures.1 in
-    rw (p.1, p.2) (halted_then (children.tells c.args.children.now) (children.tells c.stages.children) (children.call_count c.args.children.now) (children.call_count c.stages.children)
+    rw (p.1, p.2) (one_halted (children.tells c.args.children.now) (children.tells c.stages.children) (children.call_count c.args.children.now) (children.call_count c.stages.children)
     (children.call_count c.run_stage.new.children) (children.fault_count c.args.children.now) (children.fault_count c.stages.children) (children.fault_count c.run_stage.new.children)
-    (parts_of c.stages.invariant.so_far.told) c.in_err-end.field-0.0 c.stages.invariant.same c.stages.invariant.so_far.all_told c.in_err-end.ensures.halted)
+    c.args.config.now c.args.changed.now c.args.skip.now c.args.stages.now c.args.course (drop c.stages.stage-index c.args.stages.now) (drop (c.stages.stage-index + 1) c.args.stages.now)
+    _ c.stages.course c.stages.reports.items c.in_err-end.field-0.0 c.stages.invariant.same c.stages.invariant.so_far
+    (rest_after c.args.stages.now c.stages.stage-index _ (omega (arith, c.stages-test.true))) c.in_err-end.ensures.halted)
 
 pub returns-in_err-add_report-clause-halted : goal.returns-in_err-add_report-clause-halted
 returns-in_err-add_report-clause-halted g c =
