@@ -21,7 +21,7 @@ use Rattle.commit_flow.specs.CommitKept.{KeepsFor}
 use Rattle.commit_flow.specs.Crashes.{IsOneCommand, LeavesDone}
 use Rattle.commit_flow.specs.Hosts.{Hosted}
 use Rattle.commit_flow.specs.RunSteps.{IsRunStep, IsStoppedStep, changes_in}
-use Rattle.commit_flow.specs.StepsOver.{IsStepOver}
+use Rattle.commit_flow.specs.CommitSteps.{IsCommitStep}
 use Rattle.hook_cli.specs.declared.command_ending.CommandEnding.{CommandEnding}
 use Rattle.hook_cli.specs.CommandOver.{Counts, IsCommitOverHost, IsReplied, IsRunOverHost}
 use Rattle.hook_cli.specs.Printing.{IsRunSaid, IsSilent, IsTold, Output}
@@ -106,7 +106,7 @@ run-unasked g tells calls faults host ask out err ending told silent = record {
 -- a commit whose answer is printed: the bytes that the host got are the message
 pub commit-answered : {S : Type 0} (g : Ghosts S) (tells : List (List ℕ) → List File → Outcome → Type 0) (counts : Counts) (old new : Hosted S) (bytes message : List ℕ) (no_verify : Bool) (skip : List (List ℕ)) (out err : Output) (ending : CommandEnding)
     (answer : Result CommitEnding HostRefusal) → bytes ≡ message
-    → IsStepOver tells counts.calls counts.calls_after counts.faults counts.faults_after old.store.kept.repo (command.Commit bytes no_verify skip) (reply_of reply_of_ending answer) new.store.kept.repo
+    → IsCommitStep tells counts.calls counts.calls_after counts.faults counts.faults_after old.store.kept bytes no_verify skip (reply_of reply_of_ending answer) new.store.kept.repo
     → KeepsFor old.store.kept new.store.kept answer
     → IsOneCommand g old new (command.Commit bytes no_verify skip) answer
     → IsReplied out err (reply_of reply_of_ending answer) ending

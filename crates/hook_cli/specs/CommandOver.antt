@@ -29,7 +29,7 @@ use Rattle.commit_flow.specs.Hosts.{Hosted}
 use Rattle.commit_flow.specs.RunSteps.{IsRunStep, IsStoppedStep, changes_in, reply_of_run}
 use Rattle.commit_flow.specs.StagedPaths.{IsLegal, IsStaged}
 use Rattle.commit_flow.specs.Steps.{Step, entry_to_add}
-use Rattle.commit_flow.specs.StepsOver.{IsStepOver}
+use Rattle.commit_flow.specs.CommitSteps.{IsCommitStep}
 use Rattle.hook_cli.specs.declared.line.Line.{Line}
 use Rattle.hook_cli.specs.declared.line.Line.TheVariants.{Init, Try, Check, Add, Remove, Status, Run, Fixes, Accept, Commit, Cat, Log, Show}
 use Rattle.hook_cli.specs.declared.command_ending.CommandEnding.{CommandEnding}
@@ -127,7 +127,7 @@ pub record IsRunOverHost {S : Type 0} (g : Ghosts S) (tells : List (List ℕ) �
 -- step of the host's machine over the children, or stays as it is, and a writer's error undoes none of it.
 pub record IsCommitOverHost {S : Type 0} (g : Ghosts S) (tells : List (List ℕ) → List File → Outcome → Type 0) (counts : Counts) (old new : Hosted S) (message : List ℕ) (no_verify : Bool) (skip : List (List ℕ)) (out err : Output) (ending : CommandEnding) : Type 0 where
   pub answer : Result CommitEnding HostRefusal
-  pub step : IsStepOver tells counts.calls counts.calls_after counts.faults counts.faults_after old.store.kept.repo (command.Commit message no_verify skip) (reply_of reply_of_ending answer) new.store.kept.repo
+  pub step : IsCommitStep tells counts.calls counts.calls_after counts.faults counts.faults_after old.store.kept message no_verify skip (reply_of reply_of_ending answer) new.store.kept.repo
   pub change : KeepsFor old.store.kept new.store.kept answer
   pub one : IsOneCommand g old new (command.Commit message no_verify skip) answer
   pub replied : IsReplied out err (reply_of reply_of_ending answer) ending
