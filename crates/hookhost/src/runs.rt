@@ -32,12 +32,14 @@ pub(crate) fn runs_of(rt: &HostRuntime, line: &Line) -> Result<Option<Runs>, Sto
     ensures { IfErr result (IsStopOfLine line.now) }
 {
     match line {
-        Line::Run { .. } | Line::Commit { .. } => Ok(Some(runs(rt).map_err(Stop::of_command)?)),
+        Line::Run { .. } | Line::Commit { .. } => Ok(Some(made_runs(rt).map_err(
+            Stop::of_command,
+        )?)),
         _ => Ok(None),
     }
 }
 
-fn runs(rt: &HostRuntime) -> Result<Runs, Stop>
+fn made_runs(rt: &HostRuntime) -> Result<Runs, Stop>
     ensures { IfErr result (λ stop. stop ≡ Refused NoMemory) }
 {
     Ok(Runs {
