@@ -9,6 +9,9 @@ use hook_base::{Bytes, Change, Changes, FileEntry, Items, Mode, RepoPath, Text, 
 use std::alloc::Global;
 use trial_rows::{Stop, number_of, text_of};
 
+// The message of a commit, among the files of its stages.
+const MESSAGE: &str = ".git/COMMIT_EDITMSG";
+
 // What stands for a line feed in the bytes of a file.
 const FURTHER_LINE: u8 = 1;
 
@@ -69,7 +72,7 @@ fn seen_of(alloc: Global, line: &str) -> Result<Tree, Stop> {
     for file in line.split('\t') {
         let (path, contents) = file.split_once('=').ok_or(Stop::BadLine)?;
         let (mode, bytes) = (Mode::Plain, line_bytes(alloc, contents)?);
-        tree.put(RepoPath::read(alloc, path)?, FileEntry { mode, bytes })?;
+        tree.put(path_of(alloc, path)?, FileEntry { mode, bytes })?;
     }
     Ok(tree)
 }
@@ -89,8 +92,16 @@ fn change_of(alloc: Global, text: &str) -> Result<Change, Stop> {
         Some((path, contents)) => (path, Some(line_bytes(alloc, contents)?)),
         None => (text, None),
     };
-    let path = RepoPath::read(alloc, path)?;
+    let path = path_of(alloc, path)?;
     Ok(Change { path, now })
+}
+
+// A path that a tree may hold.
+fn path_of(alloc: Global, text: &str) -> Result<RepoPath, Stop> {
+    if text == MESSAGE {
+        return Ok(RepoPath::message(alloc)?);
+    }
+    Ok(RepoPath::read(alloc, text)?)
 }
 
 fn line_bytes(alloc: Global, line: &str) -> Result<Bytes, Stop> {
