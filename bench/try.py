@@ -137,7 +137,7 @@ def time_children():
         time_hooks("`true`, 10,000 files in 295 parts", [command(0, '"true"', require_serial="true", args=LONG_ARGUMENTS)], names, 295)
         names = names_of(1000)
         time_hooks("a child that changes 1 of 1,000 files", [command(0, "sh -c 'echo x >> f/00000'", pass_filenames="false")], names, 1, changes=True)
-        time_hooks("a child that changes all of 1,000 files", [command(0, "sed -i s/x/y/", require_serial="true")], names, 1, changes=True)
+        time_hooks("a child that changes all of 1,000 files", [command(0, "sed -i s/x/y/", require_serial="true", files="^f/")], names, 1, changes=True)
     finally:
         os.chdir("/")
         shutil.rmtree(folder)
