@@ -1,7 +1,7 @@
 #!/usr/bin/env python3
 """Compares commits with those of Git, into whose repository pre-commit has installed its hooks, in random plays.
 
-Usage: tests/compare_commits.py [PROGRAM [PLAYS [SEED]]]   (default: crates/hookhost/out/hookhost, 24 plays, seed 1)
+Usage: tests/compare_commits.py [PROGRAM [PLAYS [SEED]]]   (default: crates/hookhost/out/hookhost, 40 plays, seed 1)
 
 pre-commit and Git must be there. In a play the same files are staged and taken out in a repository of Git and in one of
 `hookhost`, with the same configuration, and commits are tried in both: with messages of all kinds, with `--no-verify` and
@@ -23,7 +23,7 @@ from concurrent.futures import ThreadPoolExecutor
 HERE = os.path.dirname(os.path.abspath(__file__))
 WORDS = sys.argv[1:]
 PROGRAM = os.path.abspath(WORDS[0] if WORDS else os.path.join(HERE, "..", "crates/hookhost/out/hookhost"))
-PLAYS, SEED = int(WORDS[1]) if len(WORDS) > 1 else 24, int(WORDS[2]) if len(WORDS) > 2 else 1
+PLAYS, SEED = int(WORDS[1]) if len(WORDS) > 1 else 40, int(WORDS[2]) if len(WORDS) > 2 else 1
 COMMITS = 6
 CONFIGURATION = ".pre-commit-config.yaml"
 STAGES = ["commit", "prepare-commit-msg", "commit-msg", "post-commit"]
@@ -35,7 +35,7 @@ ACTIONS = {
     "change": 'for f in "$@"; do echo more >> "$f"; done',
     "new": "echo new > made.txt",
     "remove": 'rm -f "$1"',
-    "message": 'printf " \\\\n\\\\nby a hook \\\\n\\\\n" >> "$1"',
+    "message": 'printf "by a hook \\\\n\\\\n" >> "$1"',
 }
 OF_FILES = ["pass", "pass", "pass", "fail", "change", "remove"]
 OF_MESSAGES = ["pass", "message", "message", "fail", "remove"]
@@ -47,7 +47,7 @@ LINES = ["first", "body", "# a comment", "", "", " ", "  indented", "blank behin
 REASONS = {
     "nothing staged": "Git runs the hooks of pre-commit before it looks whether there is anything to commit",
     "cleaned before hooks": "Git cleans a message before hooks see it, and once more behind them",
-    "no message": "Git fails where a hook has removed the message",
+    "a removed message": "pre-commit hands a message that a hook has removed to the hooks behind it, which write it anew",
     "working files": "Git leaves in the working folder what hooks behind the commit changed",
 }
 
@@ -63,7 +63,7 @@ def random_hooks(rng):
         stage = rng.choice(STAGES)
         action = rng.choice(OF_FILES if stage == "commit" else BEHIND if stage == "post-commit" else OF_MESSAGES)
         files = rng.choice(["", "", r"\.txt$", "^dir/"]) if stage == "commit" else ""
-        hooks.append(Hook(f"hook{at}", stage, action, stage == "post-commit" or rng.random() < 0.2, files))
+        hooks.append(Hook(f"hook{at}", stage, action, stage == "post-commit" or rng.random() < 0.4, files))
     return hooks
 
 
@@ -241,6 +241,12 @@ def changes_message(hooks, no_verify, skip):
             and (hook.stage == "prepare-commit-msg" or (hook.stage == "commit-msg" and not no_verify))]
 
 
+def writes_anew(changing):
+    """Whether a hook writes the message behind one of its stage that has removed it."""
+    return any(hook.action == "remove" and other.action == "message" and hook.stage == other.stage
+               for at, hook in enumerate(changing) for other in changing[at + 1:])
+
+
 def same(what, ours, theirs, play):
     if ours != theirs:
         raise Differs(f"{what}: here {ours!r}, Git {theirs!r}; {play}")
@@ -284,13 +290,16 @@ def play_one(number):
             skip = ",".join(hook.id for hook in hooks if rng.random() < 0.15)
             play = f"play {number}, commit {at + 1}, message {message!r}, no_verify {no_verify}, SKIP {skip!r}\n{configuration(hooks)}"
             tried += 1
-            made_in_all += try_commit(ours, theirs, hooks, message, no_verify, skip, needed, play)
+            made = try_commit(ours, theirs, hooks, message, no_verify, skip, needed, play)
+            if made is None:
+                break
+            made_in_all += made
             staged = {path for path in ours.staged() if path != CONFIGURATION}
     return needed, tried, made_in_all
 
 
 def try_commit(ours, theirs, hooks, message, no_verify, skip, needed, play):
-    """Tries one commit in both, and answers whether it was made."""
+    """Tries one commit in both, and answers whether it was made; None where one alone was, so that the play is over."""
     nothing = theirs.run("git", "diff", "--cached", "--quiet")[0] == 0 and theirs.commits() > 0
     (status, made), (git_status, git_made) = ours.commit(message, no_verify, skip), theirs.commit(message, no_verify, skip)
     play += f"\nhere {status}: {ours.told}\nGit {git_status}: {theirs.told}"
@@ -301,6 +310,10 @@ def try_commit(ours, theirs, hooks, message, no_verify, skip, needed, play):
             needed["nothing staged"] += 1
         theirs.leave()
         return False
+    if git_made and not made and writes_anew(changes_message(hooks, no_verify, skip)):
+        same("a removed message", (status, "12 EmptyMessage" in ours.told), (3, True), play)
+        needed["a removed message"] += 1
+        return None
     same("made", made, git_made, play)
     same("hooks", ran, git_ran, play)
     same("status", status == 0, git_status == 0, play)
@@ -322,7 +335,7 @@ def compare_messages(ours, theirs, changing, message, needed, play):
     here, there = ours.message(), theirs.message()
     if here == there:
         return
-    added = b" \n\nby a hook \n\n" * sum(hook.action == "message" for hook in changing)
+    added = b"by a hook \n\n" * sum(hook.action == "message" for hook in changing)
     begun = message.encode() + (b"" if message.endswith("\n") or not message else b"\n")
     same("the message that is cleaned first", (here, there), (stripspace(begun + added), stripspace(stripspace(begun) + added)), play)
     needed["cleaned before hooks"] += 1
@@ -345,7 +358,7 @@ def main():
         print(f"compare_commits: {failure}")
     for name, count in sorted(needed.items()):
         print(f"{count:5} {name}: {REASONS[name]}")
-    unneeded = [name for name in REASONS if name not in needed] if PLAYS >= 24 else []
+    unneeded = [name for name in REASONS if name not in needed] if PLAYS >= 40 else []
     for name in unneeded:
         print(f"compare_commits: no play needed the reason: {name}")
     print(f"commits: {tried} tried in {PLAYS} plays, {made} made, {len(failures)} plays differ without a reason")
