@@ -47,7 +47,7 @@ LINES = ["first", "body", "# a comment", "", "", " ", "  indented", "blank behin
 REASONS = {
     "nothing staged": "Git runs the hooks of pre-commit before it looks whether there is anything to commit",
     "cleaned before hooks": "Git cleans a message before hooks see it, and once more behind them",
-    "a removed message": "pre-commit hands a message that a hook has removed to the hooks behind it, which write it anew",
+    "a removed file": "pre-commit hands a file that a hook has removed to the hooks behind it; here they get what is there, and a removed message is an empty file again in the next stage",
     "working files": "Git leaves in the working folder what hooks behind the commit changed",
 }
 
@@ -241,10 +241,10 @@ def changes_message(hooks, no_verify, skip):
             and (hook.stage == "prepare-commit-msg" or (hook.stage == "commit-msg" and not no_verify))]
 
 
-def writes_anew(changing):
-    """Whether a hook writes the message behind one of its stage that has removed it."""
-    return any(hook.action == "remove" and other.action == "message" and hook.stage == other.stage
-               for at, hook in enumerate(changing) for other in changing[at + 1:])
+def calls_to_removal(hooks, ran):
+    """How many calls of hooks there were up to the first that removes a file, or 0 where none does."""
+    removing = [hook.id for hook in hooks if hook.action == "remove"]
+    return next((at + 1 for at, call in enumerate(ran) if call.split(":")[0] in removing), 0)
 
 
 def same(what, ours, theirs, play):
@@ -310,9 +310,9 @@ def try_commit(ours, theirs, hooks, message, no_verify, skip, needed, play):
             needed["nothing staged"] += 1
         theirs.leave()
         return False
-    if git_made and not made and writes_anew(changes_message(hooks, no_verify, skip)):
-        same("a removed message", (status, "12 EmptyMessage" in ours.told), (3, True), play)
-        needed["a removed message"] += 1
+    if (ran, made) != (git_ran, git_made) and (shared := calls_to_removal(hooks, git_ran)):
+        same("the hooks up to one that removes a file", ran[:shared], git_ran[:shared], play)
+        needed["a removed file"] += 1
         return None
     same("made", made, git_made, play)
     same("hooks", ran, git_ran, play)

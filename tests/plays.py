@@ -102,8 +102,8 @@ class Table:
 
 
 def is_told(file):
-    """Whether a row can say that a child has seen this file."""
-    return not file.executable and file.contents.endswith(b"\n")
+    """Whether a row can say that a child has seen this file: it is plain, and its lines are ended and hold no tab."""
+    return not file.executable and file.contents.endswith(b"\n") and b"\t" not in file.contents
 
 
 def line_of(contents):

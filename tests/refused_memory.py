@@ -257,6 +257,13 @@ def number_of(said):
     return None
 
 
+def is_stopped_behind(said, plain):
+    """Whether a run told all that it does with ample memory but for the hook behind the commit, which was stopped: that is
+    told on standard error, and undoes nothing."""
+    told = b"".join(line for line in plain[1].splitlines(keepends=True) if not line.startswith(b"Behind"))
+    return told != plain[1] and said == (plain[0], told, b"hookhost: refused: 1 OutOfMemory\n")
+
+
 def count_allocations(play, shared, folder):
     """How many allocations a run makes: the greatest number at which one is refused, found by halving."""
     least, most = 0, 1
@@ -298,7 +305,7 @@ def refuse_each(play, shared, folder):
         if number is not None:
             gave_up += 1
             came += [number] if came[-1:] != [number] else []
-        elif answer.said != plain.said:
+        elif answer.said != plain.said and not is_stopped_behind(answer.said, plain.said):
             return count, gave_up, f"answered {answer.said} where allocation {allocation} was refused"
         if answer.shown != (plain.shown if number is None else before):
             return count, gave_up, f"left {answer.shown} where allocation {allocation} was refused, and said {answer.said}"
