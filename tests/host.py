@@ -264,15 +264,18 @@ class Killed:
 
     def __init__(self, folder, base):
         self.folder, self.base, self.chance = folder, base, random.Random(2)
+        self.work, self.copies = os.path.join(folder, "work"), 0
 
     def copy(self):
-        work = os.path.join(self.folder, "work")
-        shutil.rmtree(work, ignore_errors=True)
-        return shutil.copytree(self.base, work)
+        """A new copy in place of the last. A child of a killed command may still be at work in that, so it has another name."""
+        shutil.rmtree(self.work, ignore_errors=True)
+        self.copies += 1
+        self.work = os.path.join(self.folder, f"work{self.copies}")
+        return shutil.copytree(self.base, self.work)
 
     def play(self, words, given, seconds):
         """Plays a command on a copy, and kills it after so many seconds. Answers the copy, whether the command ended by
-        itself, and what it printed."""
+        itself, with 0 or as a run with 1, and what it printed."""
         work = self.copy()
         child = subprocess.Popen(words, cwd=work, stdin=subprocess.PIPE, stdout=subprocess.PIPE, stderr=subprocess.PIPE)
         try:
@@ -280,8 +283,8 @@ class Killed:
         except subprocess.TimeoutExpired:
             child.send_signal(signal.SIGKILL)
         out, err = child.communicate()
-        check(child.returncode in (0, -signal.SIGKILL), f"{words!r} ends with {child.returncode} and says {err!r}")
-        return work, child.returncode == 0, out
+        check(child.returncode in (0, 1, -signal.SIGKILL), f"{words!r} ends with {child.returncode} and says {err!r}")
+        return work, child.returncode >= 0, out
 
     def seconds(self, words, given):
         start = time.monotonic()
@@ -336,6 +339,36 @@ def is_left_whole_by_kills_of_add_rm_and_accept(folder):
             check(found == after or (found == before and not is_ended), f"after a kill of {words!r} it shows {found!r:.1000}")
 
 
+# Hooks of each stage of a commit. That of the stage `manual` modifies files.
+HOOKS = b"""repos:
+- repo: local
+  hooks:
+  - {id: look, name: Look, language: system, entry: cat, stages: [pre-commit]}
+  - {id: write, name: Write, language: system, entry: "sh -c 'echo a line >> $1' --", stages: [prepare-commit-msg, commit-msg]}
+  - {id: behind, name: Behind, language: system, entry: 'true', stages: [post-commit], always_run: true}
+  - {id: change, name: Change, language: system, entry: "sed -i 's/x/y/'", stages: [manual]}
+"""
+
+
+def is_left_whole_by_kills_of_runs_and_commits(folder):
+    base = filled(folder)
+    for name, held in ((".pre-commit-config.yaml", HOOKS), ("x", b"x" * 100000)):
+        write(base, name, held)
+        do(base, "add", name)
+    play(base, ["fix a 2", "set"])
+    killed = Killed(folder, base)
+    before = state(killed.copy())
+    for words, wanted in ((["run", "--hook-stage", "manual"], 1), (["commit", "-m", "second"], 0)):
+        work = killed.copy()
+        status, _, err = run(work, *words)
+        check((status, err) == (wanted, b""), f"{words!r} ends with {status} and says {err!r}")
+        after = state(work)
+        check(before != after, f"{words!r} changes nothing")
+        for work, is_ended, _ in killed.each([PROGRAM, *words]):
+            found = state(work)
+            check(found == after or (found == before and not is_ended), f"after a kill of {words!r} it shows {found!r:.1000}")
+
+
 def is_left_whole_by_kills_of_init(folder):
     """A killed init leaves a store, or what the next one makes a store of."""
     base = os.path.join(folder, "base")
@@ -365,7 +398,7 @@ def is_left_whole_by_kills_of_commits(folder):
 CASES = [keeps_files_of_hard_names, keeps_the_longest_path_that_the_system_opens, refuses_control_bytes, takes_no_mode_from_the_working_file,
          refuses_what_may_not_be_read_or_written, refuses_fifos_and_waits_for_none, lets_one_program_work_at_a_time,
          loses_nothing_of_programs_at_once, is_left_whole_by_kills_of_init, is_left_whole_by_kills_of_add_rm_and_accept,
-         is_left_whole_by_kills_of_commits]
+         is_left_whole_by_kills_of_commits, is_left_whole_by_kills_of_runs_and_commits]
 
 
 def main():

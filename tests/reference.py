@@ -43,8 +43,11 @@ REPOSITORY_HELP = {
     "add": "ADD_HELP",
     "rm": "REMOVE_HELP",
     "status": "STATUS_HELP",
+    "run": "RUN_HELP",
+    "run-files": "RUN_FILES_HELP",
     "fixes": "FIXES_HELP",
     "accept": "ACCEPT_HELP",
+    "commit": "COMMIT_HELP",
     "cat": "CAT_HELP",
     "log": "LOG_HELP",
     "show": "SHOW_HELP",
@@ -143,8 +146,12 @@ def repository_help_of(constant):
     source = read("crates", "hook_cli", "src", "repository_help.rt")
     texts = lambda code: [re.sub(r"\\\n\s*", "", it) for it in re.findall(r'"([^"]*)"', code)]
     told = texts(re.search(rf"const {constant}: &str = (.*?);\n(?:\n|$)", source, re.DOTALL)[1])
-    shared = texts(re.search(r"\$does,\n(.*?)\$refuses\n", source, re.DOTALL)[1])
-    return told[0] if len(told) == 1 else "".join([told[0], *shared, *told[1:]])
+    if len(told) == 1:
+        return told[0]
+    before, after = texts(re.search(r"\$does,\n(.*?)\$refuses\n", source, re.DOTALL)[1])
+    usual = texts(re.search(r"opening_help!\(\$does, (.*?), \$refuses\)", source)[1])
+    statuses, = told[1:-1] or usual
+    return "".join([told[0], before, statuses, after, told[-1]])
 
 
 def wrong_repository_help(reference):

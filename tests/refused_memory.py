@@ -118,13 +118,23 @@ FAULTS = b"""repos:
   - {id: folder, name: Folder, language: system, entry: "sh -c 'rm a.txt; mkdir a.txt'", pass_filenames: false}
   - {id: long, name: Long, language: system, entry: 'true', args: [%s], files: ^a}
 """ % (b"c" * LONGEST)
+# Hooks of each stage of a commit; that of the stage `manual` modifies a file.
+STAGED_HOOKS = b"""repos:
+- repo: local
+  hooks:
+  - {id: look, name: Look, language: system, entry: cat, stages: [pre-commit], verbose: true}
+  - {id: write, name: Write, language: system, entry: "sh -c 'echo a line >> $1' --", stages: [prepare-commit-msg, commit-msg]}
+  - {id: behind, name: Behind, language: system, entry: 'true', stages: [post-commit], always_run: true}
+  - {id: change, name: Change, language: system, entry: "sed -i 's/a/b/'", stages: [manual]}
+"""
 # The numbers of want of memory: a run's, and those of `check`, whose words are read as a run's are. A command on a
 # repository says 4 while its words are read, as a run does, and while the store is opened or made, as the store does. It
-# says 1, as the host does, of anything else: the working file of `add`, before the store, and the command itself.
+# says 1, as the host does, of anything else: what is prepared before the store, as the working file of `add` and the children
+# of a run, and the command itself.
 OF_RUN = (4,)
 OF_CHECK = (4, 12)
 OF_INIT = (4,)
-OF_ADD = (4, 1, 4, 1)
+OF_PREPARED = (4, 1, 4, 1)
 OF_COMMAND = (4, 1)
 # How many allocations at the beginning and the end are refused, and how many between, of a command on a repository, most of
 # whose allocations open the store, and of a run that starts children.
@@ -162,8 +172,8 @@ PLAYS = [
     Play("words that name no command", ["try", "config.yaml"], status=2),
     Play("the check of a configuration", ["check"], OF_CHECK, status=0),
     Play("a new repository", ["init"], OF_INIT, status=0, repository="made"),
-    Play("the add of a new file", ["add", "dir/c.txt"], OF_ADD, status=0, repository="there"),
-    Play("the add of a staged file", ["add", "--chmod=+x", "a.txt"], OF_ADD, status=0, repository="there"),
+    Play("the add of a new file", ["add", "dir/c.txt"], OF_PREPARED, status=0, repository="there"),
+    Play("the add of a staged file", ["add", "--chmod=+x", "a.txt"], OF_PREPARED, status=0, repository="there"),
     Play("the removal of a staged file", ["rm", "a.txt"], OF_COMMAND, status=0, repository="there"),
     Play("the status", ["status"], OF_COMMAND, status=0, repository="there"),
     Play("the fixes", ["fixes"], OF_COMMAND, status=0, repository="there"),
@@ -171,6 +181,9 @@ PLAYS = [
     Play("the bytes of a staged file", ["cat", "a.txt"], OF_COMMAND, status=0, repository="there"),
     Play("the log", ["log"], OF_COMMAND, status=0, repository="there"),
     Play("a commit", ["show", "1"], OF_COMMAND, status=0, repository="there"),
+    Play("a run on the staged files", ["run", "--all-files", "--hook-stage", "manual"], OF_PREPARED, status=1, repository="there"),
+    Play("a run on named files", ["run-files", "a.txt"], OF_PREPARED, status=0, repository="there"),
+    Play("a commit through all stages", ["commit", "-m", "second"], OF_PREPARED, status=0, repository="there"),
 ]
 FILES = (("a.txt", b"a\n"), ("b.txt", b""), ("dir/c.txt", b"c" * 9000), ("run.sh", SCRIPT))
 
@@ -233,7 +246,7 @@ def end_of(words, work, given=b"", env=None):
 
 def shown_in(work):
     """What the repository in a folder shows, or how the program says that there is none."""
-    return end_of([PROGRAM, "status"], work), end_of([PROGRAM, "cat", "a.txt"], work)
+    return [end_of([PROGRAM, *words], work) for words in (["status"], ["cat", "a.txt"], ["fixes"], ["log"])]
 
 
 def number_of(said):
@@ -242,6 +255,13 @@ def number_of(said):
         if said == (3, b"", f"hookhost: refused: {number} OutOfMemory\n".encode()):
             return number
     return None
+
+
+def is_stopped_behind(said, plain):
+    """Whether a run told all that it does with ample memory but for the hook behind the commit, which was stopped: that is
+    told on standard error, and undoes nothing."""
+    told = b"".join(line for line in plain[1].splitlines(keepends=True) if not line.startswith(b"Behind"))
+    return told != plain[1] and said == (plain[0], told, b"hookhost: refused: 1 OutOfMemory\n")
 
 
 def count_allocations(play, shared, folder):
@@ -285,7 +305,7 @@ def refuse_each(play, shared, folder):
         if number is not None:
             gave_up += 1
             came += [number] if came[-1:] != [number] else []
-        elif answer.said != plain.said:
+        elif answer.said != plain.said and not is_stopped_behind(answer.said, plain.said):
             return count, gave_up, f"answered {answer.said} where allocation {allocation} was refused"
         if answer.shown != (plain.shown if number is None else before):
             return count, gave_up, f"left {answer.shown} where allocation {allocation} was refused, and said {answer.said}"
@@ -302,13 +322,13 @@ def play_alone(play, shared):
 
 
 def make_repository(folder):
-    """Makes a repository with a commit, whose files are those of the plays, and a fix."""
-    for name, text in FILES[:2]:
+    """Makes a repository with a commit, whose files are those of the plays, hooks that are staged, and a fix."""
+    for name, text in ((".pre-commit-config.yaml", STAGED_HOOKS), *FILES[:2]):
         with open(os.path.join(folder, name), "wb") as file:
             file.write(text)
     made = [end_of([PROGRAM, *words], folder) for words in (["init"], ["add", "a.txt"], ["add", "b.txt"])]
     made.append(end_of([STORE_TRIAL, ".hookhost/store.db"], folder, b"open\ncommit first\\n\\nbody\nclose\n"))
-    made.append(end_of([PROGRAM, "rm", "b.txt"], folder))
+    made += [end_of([PROGRAM, *words], folder) for words in (["rm", "b.txt"], ["add", ".pre-commit-config.yaml"])]
     made.append(end_of([STORE_TRIAL, ".hookhost/store.db"], folder, b"open\nfix a.txt 2\nset\nclose\n"))
     if any(status for status, _, _ in made):
         sys.exit(f"refused_memory: no repository is made: {made!r}")

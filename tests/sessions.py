@@ -22,12 +22,13 @@ A session file holds cases. `== NAME` begins a case, in an empty folder. Within 
   -- status N       its exit status (0 where left out)
   -- output FILE    its standard output goes to this file, as /dev/full, and isn't compared
   -- locked         another process holds the lock while the next command runs
+  -- environment NAME=VALUE   the variable has this value in the next command's environment
   -- play           store_trial plays the lines that follow on the folder's store, and answers `ok` to each
   -- sql TEXT       sqlite3 answers this to SQL on the store: the lines that follow, and nothing else
   -- files          the lines that follow are the folder's files, all of them, in order
 
-After each command but an `init`, `add`, `rm` or `accept` that is done, every file has to be as it was; `accept` is done also
-where its output takes no more. Two may change, since every command that opens a store does that to them: the lock, and the
+After each command but an `init`, `add`, `rm`, `accept`, `run`, `run-files` or `commit` that is done, every file has to be as
+it was; it is done also where its output takes no more, and where a hook fails. Two may change, since every command that opens a store does that to them: the lock, and the
 log that the database begins anew. What lies in the scratch folder of the commands of hooks isn't looked at, nor is the folder
 that holds it.
 """
@@ -48,6 +49,7 @@ STORE, LOCK = ".hookhost/store.db", ".hookhost/lock"
 FOLDER, SCRATCH = "./.hookhost", "./.hookhost/scratch"
 LAID = ("file", "bytes", "fill", "repeat", "folder", "remove", "demo")
 LOOKED_AT = ("play", "sql", "files")
+CHANGING = ("init", "add", "rm", "accept", "run", "run-files", "commit")
 
 
 def unescaped(text):
@@ -74,7 +76,7 @@ def cases_of(path):
 
 def commands_of(steps):
     """The steps as a list of files to lay, commands with what they must print, and looks at the folder."""
-    stdin, is_locked, command = b"", False, None
+    stdin, is_locked, environment, command = b"", False, {}, None
     for head, body in steps:
         word, _, rest = head.partition(" ")
         if word in LAID or word in LOOKED_AT:
@@ -83,11 +85,14 @@ def commands_of(steps):
             stdin = rest or body.encode()
         elif word == "locked":
             is_locked = True
+        elif word == "environment":
+            name, _, value = rest.partition("=")
+            environment[name] = value
         elif word in ("run", "run-bytes"):
             words = shlex.split(rest) if word == "run" else [unescaped(each) for each in rest.split()]
             command = {"words": words, "stdin": stdin, "stdout": b"", "stderr": b"", "part": None, "status": 0,
-                       "output": None, "shown": None, "is_locked": is_locked}
-            stdin, is_locked = b"", False
+                       "output": None, "shown": None, "is_locked": is_locked, "environment": environment}
+            stdin, is_locked, environment = b"", False, {}
             yield "run", command, None
         elif word == "stdout":
             command["stdout"] = unescaped(body.replace("\n", "")) if rest == "bytes" else body.encode()
@@ -129,8 +134,8 @@ def run_alone(command):
     wrong = run(command)
     if held:
         held.close()
-    is_done = command["status"] == 0 or command["output"] is not None
-    may_change = is_done and command["words"][:1] in (["init"], ["add"], ["rm"], ["accept"])
+    is_done = command["status"] in (0, 1) or command["output"] is not None
+    may_change = is_done and command["words"][:1] in [[word] for word in CHANGING]
     return wrong or (None if may_change or files_that_stay() == before else "it changed the folder's files")
 
 
@@ -142,7 +147,8 @@ def run(command):
         given = {"stdin": os.open(stdin, os.O_RDONLY)}
     else:
         given = {"input": stdin if isinstance(stdin, bytes) else content(stdin)}
-    done = subprocess.run([PROGRAM, *command["words"]], **given, stdout=stdout, stderr=subprocess.PIPE, timeout=60)
+    env = {key: value for key, value in os.environ.items() if key != "SKIP"} | command["environment"]
+    done = subprocess.run([PROGRAM, *command["words"]], **given, stdout=stdout, stderr=subprocess.PIPE, env=env, timeout=60)
     if done.returncode != command["status"]:
         return f"status {done.returncode}, wanted {command['status']}; printed {(done.stdout or b'')[:300]!r} {done.stderr[:300]!r}"
     if done.stdout is not None and done.stdout != command["stdout"]:

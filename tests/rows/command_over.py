@@ -444,4 +444,52 @@ WRITERS = [
     (*stage("a", "0123456789\n" * 3000), *line("cat", "a", out="9000"), ended(3, out=("0123456789\n" * 3000)[:9000])),
 ]
 
-ROWS = [("command_over", *row) for row in [*EMPTY, *ADDED, *REMOVED, *BAD_PATHS, *GOOD_PATHS, *CLASHES, *TOO_LARGE, *FIXES, *STATUS, *CAT, *LOG, *SHOW, *WRITERS]]
+# A configuration with a hook that fails on the files named bad.txt, one that can't be started, and one of the stage manual.
+CONFIG = """repos:
+- repo: local
+  hooks:
+  - {id: names, alias: bad, name: Check names, language: fail, entry: no such names, files: 'bad\\.txt$'}
+  - {id: start, name: Start, language: system, entry: start, files: '\\.c$'}
+  - {id: late, name: Late, language: fail, entry: late, stages: [manual]}
+"""
+
+CONFIGURED = (*stage(".pre-commit-config.yaml", CONFIG), *stage("bad.txt", "x"), *stage("good.txt", "y"))
+
+NO_START = "Start" + "." * 48 + "(no files to check)Skipped\n"
+BAD = "Check names" + "." * 62 + "Failed\n- hook id: names\n- exit code: 1\n\nno such names\n\nbad.txt\n\n"
+NO_BAD = "Check names" + "." * 42 + "(no files to check)Skipped\n"
+SKIPPED = "Check names" + "." * 61 + "Skipped\n"
+NOT_STARTED = "Start" + "." * 68 + "Failed\n- hook id: start\n- fault: could not be started\n"
+
+
+def run(files="changed", only="", skip="", stage="pre-commit", out="all", err="all"):
+    return line("run", stage, files, only, skip, out=out, err=err)
+
+
+RUNS = [
+    (*run(), refused("7 NoConfig")),
+    (*stage(".pre-commit-config.yaml", "repos: 1\n"), *run(), refused("8 BadConfig 2")),
+    (*CONFIGURED, *run("a//b"), refused("3 BadPath 4")),
+    (*CONFIGURED, *run("other.txt"), refused("4 NotStaged")),
+    (*CONFIGURED, *run(only="late"), refused("9 NoSuchHook")),
+    (*CONFIGURED, *run(), ended(1, out=BAD + NO_START)),
+    (*CONFIGURED, *run(only="bad"), ended(1, out=BAD)),
+    (*CONFIGURED, *run("bad.txt"), ended(1, out=BAD + NO_START)),
+    (*CONFIGURED, *run("good.txt"), done(NO_BAD + NO_START)),
+    # The hooks that are skipped, by id and by alias, with spaces and empty pieces between the commas.
+    *((*CONFIGURED, *run(skip=skip), done(SKIPPED + NO_START)) for skip in ["names", "bad", " names ", ",  ,start2, names", "a,b,names,"]),
+    *((*CONFIGURED, *run(skip=skip), ended(1, out=BAD + NO_START)) for skip in ["", ",", "name", "na mes", "\tnames"]),
+    # A committed file is no candidate any more, unless all are asked for or it is named.
+    (*CONFIGURED, "commit", "m", *run(), done(NO_BAD + NO_START)),
+    (*CONFIGURED, "commit", "m", *run("all"), ended(1, out=BAD + NO_START)),
+    (*CONFIGURED, "commit", "m", *run("bad.txt"), ended(1, out=BAD + NO_START)),
+    (*CONFIGURED, *stage("a.c"), *run(skip="names"), ended(1, out=SKIPPED + NOT_STARTED)),
+    # A run forgets the fixes that were, and a refused one keeps them.
+    (*CONFIGURED, "fixes", "good.txt\tz", *run("good.txt"), *line("fixes"), done(NO_BAD + NO_START) + done()),
+    (*CONFIGURED, "fixes", "good.txt\tz", *run("other.txt"), *line("fixes"), refused("4 NotStaged") + done("M good.txt\n")),
+    # What a writer took before it gave an error is out.
+    *((*CONFIGURED, *run(out=str(count)), ended(3, out=(BAD + NO_START)[:count])) for count in [0, 1, 80]),
+    (*CONFIGURED, *run(only="late", err="5"), ended(3, err="hookh")),
+]
+
+ROWS = [("command_over", *row) for row in [*RUNS, *EMPTY, *ADDED, *REMOVED, *BAD_PATHS, *GOOD_PATHS, *CLASHES, *TOO_LARGE, *FIXES, *STATUS, *CAT, *LOG, *SHOW, *WRITERS]]

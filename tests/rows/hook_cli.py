@@ -189,7 +189,7 @@ LINES = [
         [],
         "refused MissingSubcommand\n"
         "error: 'hookhost' requires a subcommand but one was not provided\n"
-        "  [subcommands: init, try, check, add, rm, status, fixes, accept, cat, log, show]\n\n"
+        "  [subcommands: init, try, check, add, rm, status, cat, run, run-files, fixes, accept, commit, log, show]\n\n"
         f"Usage: hookhost <COMMAND>\n\n{MORE}",
     ),
     (
@@ -233,17 +233,20 @@ LINES = [
         "Runs the hooks of a pre-commit configuration, and keeps a small repository\n\n"
         "Usage: hookhost <COMMAND>\n\n"
         "Commands:\n"
-        "  init    Makes a new repository in the current folder\n"
-        "  try     Runs the hooks of a configuration on files, and prints the report\n"
-        "  check   Prints how many hooks .pre-commit-config.yaml has, and its ignored keys\n"
-        "  add     Stages a file of the current folder\n"
-        "  rm      Takes a path out of the staged files\n"
-        "  status  Prints which staged files differ from those of the last commit\n"
-        "  fixes   Prints the fixes, which accept applies to the staged files\n"
-        "  accept  Applies the fixes to the staged files, and prints how many there were\n"
-        "  cat     Prints the bytes of a staged file\n"
-        "  log     Prints the commits, the newest first\n"
-        "  show    Prints a commit's message and its paths\n\n"
+        "  init       Makes a new repository in the current folder\n"
+        "  try        Runs the hooks of a configuration on files, and prints the report\n"
+        "  check      Prints how many hooks .pre-commit-config.yaml has, and its ignored keys\n"
+        "  add        Stages a file of the current folder\n"
+        "  rm         Takes a path out of the staged files\n"
+        "  status     Prints which staged files differ from those of the last commit\n"
+        "  cat        Prints the bytes of a staged file\n"
+        "  run        Runs the hooks of the staged configuration on staged files, and prints the report\n"
+        "  run-files  Runs the hooks of the staged configuration on the named staged files\n"
+        "  fixes      Prints the fixes, which accept applies to the staged files\n"
+        "  accept     Applies the fixes to the staged files, and prints how many there were\n"
+        "  commit     Commits the staged files, through the hooks of a commit\n"
+        "  log        Prints the commits, the newest first\n"
+        "  show       Prints a commit's message and its paths\n\n"
         "Options:\n"
         "  -h, --help  Print help\n\n"
         "Without words, the configuration is read from standard input, and its hooks are\n"
@@ -399,6 +402,21 @@ REPOSITORY_LINES = [
     ),
 ]
 
+# Words for runs of hooks, and what they ask for.
+RUN_LINES = [
+    (("run",), "run pre-commit changed\n"),
+    (("run", "names"), "run pre-commit changed\nnames\n"),
+    (("run", "--all-files", "--fresh", "--hook-stage", "manual", "names"), "run manual all fresh\nnames\n"),
+    (("run", "names", "--hook-stage=pre-commit"), "run pre-commit changed\nnames\n"),
+    (("run", "--", "--fresh"), "run pre-commit changed\n--fresh\n"),
+    (("commit", "-m", "a word"), "commit\na word\n"),
+    (("commit", "-mx"), "commit\nx\n"),
+    (("commit", "-m", ""), "commit\n\n"),
+    (("commit", "--no-verify", "-m", "x\ny"), "commit unverified\nx\ny\n"),
+    (("run-files", "a"), "run pre-commit named\na\n"),
+    (("run-files", "--fresh", "b", "a", "--hook-stage=manual", "a"), "run manual named fresh\nb\na\na\n"),
+]
+
 WIDE = "日" * 60
 
 # What a report says of a hook with the id `t`: the columns, the hook's name, whether it is verbose, how it ended, and its
@@ -478,7 +496,7 @@ ROWS = [
     *WRITES,
     *(("try_fault", *case) for case in FAULTS),
     *(("check_text", *case) for case in CHECKS),
-    *(("line_of", *words, said) for words, said in LINES + REPOSITORY_LINES),
+    *(("line_of", *words, said) for words, said in LINES + REPOSITORY_LINES + RUN_LINES),
     *(("hook_text", *hook, said) for hook, said in HOOK_TEXTS),
     *(("columns", *names, said) for names, said in COLUMNS),
 ]

@@ -1,5 +1,5 @@
 -- What a command leaves, from what the store's call leaves.
-use Rattle.std.proofs.Common.{◌≡◌, ℕ, List, length, Option, Ok, Err, inl, refl, sym, subst, arith}
+use Rattle.std.proofs.Common.{◌≡◌, ℕ, List, [], length, Option, Ok, Err, inl, refl, sym, subst, arith}
 use Rattle.sqlite_trees.specs.declared.store.Store.{Ghosts}
 use Rattle.sqlite_trees.specs.Tree.{Trees}
 use Rattle.sqlite.specs.Held.{state}
@@ -15,7 +15,8 @@ use Rattle.commit_flow.specs.declared.host_refusal.HostRefusal.{HostRefusal}
 use Rattle.commit_flow.specs.declared.reply.Reply.TheVariants.{Added, Removed, Accepted}
 use Rattle.commit_flow.specs.Crashes.{IsOneCommand, LeavesDone}
 use Rattle.commit_flow.specs.Hosts.{Hosted}
-use Rattle.commit_flow.specs.Steps.{HasFixes, IsAddable, IsLegal, IsStaged, entry_to_add, mode_to_add}
+use Rattle.commit_flow.specs.StagedPaths.{IsLegal, IsStaged}
+use Rattle.commit_flow.specs.Steps.{HasFixes, IsAddable, entry_to_add, mode_to_add}
 
 survives_itself : (s : State) (P : Trees → Type 0) → Survives s s P
 survives_itself s P = record {
@@ -57,7 +58,7 @@ add_reached kept path bytes asked addable trees leaves = record {
   kept = staging path (entry_to_add kept.repo path bytes asked) kept;
   reply = Added;
   done = tt;
-  faults = 0;
+  parts = [];
   step = (record { addable = addable; fits = leaves.complete.sound.staged_fit; made = refl }, refl);
   leaves = leaves;
 }
@@ -67,7 +68,7 @@ remove_reached kept path legal staged trees leaves = record {
   kept = unstaging path kept;
   reply = Removed;
   done = tt;
-  faults = 0;
+  parts = [];
   step = (record { legal = legal; staged = staged; made = refl }, refl);
   leaves = leaves;
 }
@@ -77,7 +78,7 @@ accept_reached kept some trees leaves = record {
   kept = accepting kept;
   reply = Accepted (length kept.repo.fixes);
   done = tt;
-  faults = 0;
+  parts = [];
   step = (record { some = some; counted = refl; made = refl }, refl);
   leaves = leaves;
 }

@@ -1,4 +1,12 @@
+pub mod CandidateLemmas
 pub mod CommandLemmas
+pub mod CommitEnds
+pub mod CommitLemmas
+pub mod CommitStoreLemmas
+pub mod ConfigLemmas
+pub mod FixLemmas
 pub mod MessageLemmas
 pub mod PathLemmas
+pub mod RunLemmas
+pub mod StagesLemmas
 pub mod StepLemmas

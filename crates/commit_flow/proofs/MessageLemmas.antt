@@ -1,8 +1,8 @@
 -- The clean-up of a message, line by line.
-use Rattle.std.proofs.Common.{◌≡◌, ◌∙◌, ap, sym, refl, arith, ℕ, ◌+◌, ◌-◌, ◌<◌, Bool, true, false, not, ◌&&◌, ◌||◌, if◌then◌else◌, List, [], ◌∷◌, ◌++◌, length, map, take, get_or}
+use Rattle.std.proofs.Common.{◌≡◌, ◌∙◌, ap, sym, refl, arith, ℕ, ◌+◌, ◌-◌, ◌<◌, Bool, true, false, if◌then◌else◌, List, [], ◌∷◌, ◌++◌, length, map, take, get_or}
 use Rattle.std.specs.List.{flat_map, list_any, slice_split}
 use Rattle.std.proofs.lemmas.List.{append-nil, take_more, take_all}
-use Rattle.commit_flow.specs.Messages.{before_rest, cleaned_message, ended_line, is_blank, is_filled, is_line_feed, lacks_line_end, line_text, staying, without_blanks_after}
+use Rattle.commit_flow.specs.Messages.{before_rest, cleaned_message, ended_line, is_blank, is_filled, is_line_feed, lacks_line_end, staying, without_blanks_after}
 
 -- ---- a trim at the end, byte by byte
 

@@ -3,17 +3,19 @@ use Rattle.std.proofs.Common.{◌≡◌, ◌⊎◌, ℕ, List, [], Option, Some,
 use Rattle.hook_base.specs.declared.file.Mode.{Mode}
 use Rattle.hook_base.specs.declared.path_fault.PathFault.{PathFault}
 use Rattle.hook_base.specs.Paths.{path_fault}
+use Rattle.hook_run.specs.Parts.{Part}
 use Rattle.repo_store.specs.Clashes.{Clashes}
 use Rattle.repo_store.specs.Limits.{Fits, IsSmall}
 use Rattle.repo_store.specs.Repository.{Repository}
 use Rattle.commit_flow.specs.declared.command.Command.{Command}
-use Rattle.commit_flow.specs.declared.command.Command.TheVariants.{Add, Remove, Accept}
+use Rattle.commit_flow.specs.declared.command.Command.TheVariants.{Add, Remove, Accept, Run, Commit, Forget}
 use Rattle.commit_flow.specs.declared.host_refusal.HostRefusal.{HostRefusal}
 use Rattle.commit_flow.specs.declared.host_refusal.HostRefusal.TheVariants.{OutOfMemory, Store, BadPath, NotStaged, TooLarge, TooMany, NoFixes, Collision, Clash}
 use Rattle.commit_flow.specs.declared.reply.Reply.{Reply}
-use Rattle.commit_flow.specs.declared.reply.Reply.TheVariants.{Added, Removed, Accepted, Refused}
-use Rattle.commit_flow.specs.StepLaws.{IsDecided}
-use Rattle.commit_flow.specs.Steps.{HasFixes, IsAcceptRefusal, IsAddable, IsAddRefusal, IsLegal, IsRemoveRefusal, IsStaged, Step, tree_with}
+use Rattle.commit_flow.specs.declared.reply.Reply.TheVariants.{Added, Removed, Accepted, Ran, Committed, HooksFailed, Forgot, Refused}
+use Rattle.commit_flow.specs.StepLaws.{IsDecided, IsRunless}
+use Rattle.commit_flow.specs.StagedPaths.{IsLegal, IsStaged}
+use Rattle.commit_flow.specs.Steps.{HasFixes, IsAcceptRefusal, IsAddable, IsAddRefusal, IsRemoveRefusal, Step, tree_with}
 
 module _ (path : List ℕ) (fault : PathFault) (is : path_fault path ≡ Some fault) where
   not_legal : IsLegal path → ⊥
@@ -95,33 +97,60 @@ same_accept before r s why also own other = (no_fixes before r why own).1 ∙ sy
 not_accepted : (before : Repository) (r : HostRefusal) → HasFixes before → IsAcceptRefusal before r → IsDecided (Refused r) → ⊥
 not_accepted before r some why own = some ((no_fixes before r why own).0)
 
-abbrev pub AreOne : Reply → Reply → ℕ → ℕ → Repository → Repository → Type 0
-AreOne reply second faults more after other = (reply ≡ second) × (faults ≡ more) × (after ≡ other)
+abbrev pub AreOne : Reply → Reply → List Part → List Part → Repository → Repository → Type 0
+AreOne reply second parts more after other = (reply ≡ second) × (parts ≡ more) × (after ≡ other)
 
-pub one_answer : (before after other : Repository) (command : Command) (reply second : Reply) (faults more : ℕ) → Step before command reply faults after → Step before command second more other → IsDecided reply → IsDecided second → AreOne reply second faults more after other
-one_answer before after other (Add path bytes asked) Added Added faults more p q own also = (refl, p.1 ∙ sym q.1, p.0.made ∙ sym q.0.made)
-one_answer before after other (Add path bytes asked) Added (Refused s) faults more p q own also = absurd (not_added before path bytes asked s p.0.addable p.0.fits (add_way before path bytes asked s q.0 also))
-one_answer before after other (Add path bytes asked) (Refused r) Added faults more p q own also = absurd (not_added before path bytes asked r q.0.addable q.0.fits (add_way before path bytes asked r p.0 own))
-one_answer before after other (Add path bytes asked) (Refused r) (Refused s) faults more p q own also =
-    (ap Refused (same_add before path bytes asked r s (add_way before path bytes asked r p.0 own) (add_way before path bytes asked s q.0 also)), p.2 ∙ sym q.2, p.1 ∙ sym q.1)
-one_answer before after other (Add path bytes asked) Removed second faults more p q own also = absurd p
-one_answer before after other (Add path bytes asked) reply Removed faults more p q own also = absurd q
-one_answer before after other (Add path bytes asked) (Accepted number) second faults more p q own also = absurd p
-one_answer before after other (Add path bytes asked) reply (Accepted number) faults more p q own also = absurd q
-one_answer before after other (Remove path) Removed Removed faults more p q own also = (refl, p.1 ∙ sym q.1, p.0.made ∙ sym q.0.made)
-one_answer before after other (Remove path) Removed (Refused s) faults more p q own also = absurd (not_removed before path s p.0.legal p.0.staged (remove_way before path s q.0 also))
-one_answer before after other (Remove path) (Refused r) Removed faults more p q own also = absurd (not_removed before path r q.0.legal q.0.staged (remove_way before path r p.0 own))
-one_answer before after other (Remove path) (Refused r) (Refused s) faults more p q own also =
-    (ap Refused (same_remove before path r s (remove_way before path r p.0 own) (remove_way before path s q.0 also)), p.2 ∙ sym q.2, p.1 ∙ sym q.1)
-one_answer before after other (Remove path) Added second faults more p q own also = absurd p
-one_answer before after other (Remove path) reply Added faults more p q own also = absurd q
-one_answer before after other (Remove path) (Accepted number) second faults more p q own also = absurd p
-one_answer before after other (Remove path) reply (Accepted number) faults more p q own also = absurd q
-one_answer before after other Accept (Accepted n) (Accepted m) faults more p q own also = (ap Accepted (p.0.counted ∙ sym q.0.counted), p.1 ∙ sym q.1, p.0.made ∙ sym q.0.made)
-one_answer before after other Accept (Accepted n) (Refused s) faults more p q own also = absurd (not_accepted before s p.0.some q.0 also)
-one_answer before after other Accept (Refused r) (Accepted m) faults more p q own also = absurd (not_accepted before r q.0.some p.0 own)
-one_answer before after other Accept (Refused r) (Refused s) faults more p q own also = (ap Refused (same_accept before r s p.0 q.0 own also), p.2 ∙ sym q.2, p.1 ∙ sym q.1)
-one_answer before after other Accept Added second faults more p q own also = absurd p
-one_answer before after other Accept reply Added faults more p q own also = absurd q
-one_answer before after other Accept Removed second faults more p q own also = absurd p
-one_answer before after other Accept reply Removed faults more p q own also = absurd q
+pub one_answer : (before after other : Repository) (command : Command) (reply second : Reply) (parts more : List Part) → Step before command reply parts after → Step before command second more other → IsRunless command → IsDecided reply → IsDecided second → AreOne reply second parts more after other
+one_answer before after other (Add path bytes asked) Added Added parts more p q runless own also = (refl, p.1 ∙ sym q.1, p.0.made ∙ sym q.0.made)
+one_answer before after other (Add path bytes asked) Added (Refused s) parts more p q runless own also = absurd (not_added before path bytes asked s p.0.addable p.0.fits (add_way before path bytes asked s q.0.0 also))
+one_answer before after other (Add path bytes asked) (Refused r) Added parts more p q runless own also = absurd (not_added before path bytes asked r q.0.addable q.0.fits (add_way before path bytes asked r p.0.0 own))
+one_answer before after other (Add path bytes asked) (Refused r) (Refused s) parts more p q runless own also =
+    (ap Refused (same_add before path bytes asked r s (add_way before path bytes asked r p.0.0 own) (add_way before path bytes asked s q.0.0 also)), p.0.1 ∙ sym q.0.1, p.1 ∙ sym q.1)
+one_answer before after other (Remove path) Removed Removed parts more p q runless own also = (refl, p.1 ∙ sym q.1, p.0.made ∙ sym q.0.made)
+one_answer before after other (Remove path) Removed (Refused s) parts more p q runless own also = absurd (not_removed before path s p.0.legal p.0.staged (remove_way before path s q.0.0 also))
+one_answer before after other (Remove path) (Refused r) Removed parts more p q runless own also = absurd (not_removed before path r q.0.legal q.0.staged (remove_way before path r p.0.0 own))
+one_answer before after other (Remove path) (Refused r) (Refused s) parts more p q runless own also =
+    (ap Refused (same_remove before path r s (remove_way before path r p.0.0 own) (remove_way before path s q.0.0 also)), p.0.1 ∙ sym q.0.1, p.1 ∙ sym q.1)
+one_answer before after other Accept (Accepted n) (Accepted m) parts more p q runless own also = (ap Accepted (p.0.counted ∙ sym q.0.counted), p.1 ∙ sym q.1, p.0.made ∙ sym q.0.made)
+one_answer before after other Accept (Accepted n) (Refused s) parts more p q runless own also = absurd (not_accepted before s p.0.some q.0.0 also)
+one_answer before after other Accept (Refused r) (Accepted m) parts more p q runless own also = absurd (not_accepted before r q.0.some p.0.0 own)
+one_answer before after other Accept (Refused r) (Refused s) parts more p q runless own also = (ap Refused (same_accept before r s p.0.0 q.0.0 own also), p.0.1 ∙ sym q.0.1, p.1 ∙ sym q.1)
+one_answer before after other (Run ask) reply second parts more p q runless own also = absurd runless
+one_answer before after other (Commit message no_verify skip) reply second parts more p q runless own also = absurd runless
+one_answer before after other Forget reply second parts more p q runless own also = absurd runless
+one_answer before after other (Add path bytes asked) Removed second parts more p q runless own also = absurd p
+one_answer before after other (Add path bytes asked) reply Removed parts more p q runless own also = absurd q
+one_answer before after other (Add path bytes asked) (Accepted n) second parts more p q runless own also = absurd p
+one_answer before after other (Add path bytes asked) reply (Accepted n) parts more p q runless own also = absurd q
+one_answer before after other (Add path bytes asked) (Ran passed report changes unsteady) second parts more p q runless own also = absurd p
+one_answer before after other (Add path bytes asked) reply (Ran passed report changes unsteady) parts more p q runless own also = absurd q
+one_answer before after other (Add path bytes asked) (Committed number reports post) second parts more p q runless own also = absurd p
+one_answer before after other (Add path bytes asked) reply (Committed number reports post) parts more p q runless own also = absurd q
+one_answer before after other (Add path bytes asked) (HooksFailed stage reports) second parts more p q runless own also = absurd p
+one_answer before after other (Add path bytes asked) reply (HooksFailed stage reports) parts more p q runless own also = absurd q
+one_answer before after other (Add path bytes asked) (Forgot number) second parts more p q runless own also = absurd p
+one_answer before after other (Add path bytes asked) reply (Forgot number) parts more p q runless own also = absurd q
+one_answer before after other (Remove path) Added second parts more p q runless own also = absurd p
+one_answer before after other (Remove path) reply Added parts more p q runless own also = absurd q
+one_answer before after other (Remove path) (Accepted n) second parts more p q runless own also = absurd p
+one_answer before after other (Remove path) reply (Accepted n) parts more p q runless own also = absurd q
+one_answer before after other (Remove path) (Ran passed report changes unsteady) second parts more p q runless own also = absurd p
+one_answer before after other (Remove path) reply (Ran passed report changes unsteady) parts more p q runless own also = absurd q
+one_answer before after other (Remove path) (Committed number reports post) second parts more p q runless own also = absurd p
+one_answer before after other (Remove path) reply (Committed number reports post) parts more p q runless own also = absurd q
+one_answer before after other (Remove path) (HooksFailed stage reports) second parts more p q runless own also = absurd p
+one_answer before after other (Remove path) reply (HooksFailed stage reports) parts more p q runless own also = absurd q
+one_answer before after other (Remove path) (Forgot number) second parts more p q runless own also = absurd p
+one_answer before after other (Remove path) reply (Forgot number) parts more p q runless own also = absurd q
+one_answer before after other Accept Added second parts more p q runless own also = absurd p
+one_answer before after other Accept reply Added parts more p q runless own also = absurd q
+one_answer before after other Accept Removed second parts more p q runless own also = absurd p
+one_answer before after other Accept reply Removed parts more p q runless own also = absurd q
+one_answer before after other Accept (Ran passed report changes unsteady) second parts more p q runless own also = absurd p
+one_answer before after other Accept reply (Ran passed report changes unsteady) parts more p q runless own also = absurd q
+one_answer before after other Accept (Committed number reports post) second parts more p q runless own also = absurd p
+one_answer before after other Accept reply (Committed number reports post) parts more p q runless own also = absurd q
+one_answer before after other Accept (HooksFailed stage reports) second parts more p q runless own also = absurd p
+one_answer before after other Accept reply (HooksFailed stage reports) parts more p q runless own also = absurd q
+one_answer before after other Accept (Forgot number) second parts more p q runless own also = absurd p
+one_answer before after other Accept reply (Forgot number) parts more p q runless own also = absurd q

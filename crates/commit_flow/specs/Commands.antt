@@ -1,17 +1,28 @@
 -- The reply that a call's answer is, and which replies say that the command was done.
 use Rattle.std.specs.Prelude.{Result, Ok, Err}
+use Rattle.commit_flow.specs.declared.commit_ending.CommitEnding.{CommitEnding}
+use Rattle.commit_flow.specs.declared.commit_ending.CommitEnding.TheVariants as ending
 use Rattle.commit_flow.specs.declared.host_refusal.HostRefusal.{HostRefusal}
 use Rattle.commit_flow.specs.declared.reply.Reply.{Reply}
-use Rattle.commit_flow.specs.declared.reply.Reply.TheVariants.{Added, Removed, Accepted, Refused}
+use Rattle.commit_flow.specs.declared.reply.Reply.TheVariants.{Added, Removed, Accepted, Ran, Committed, HooksFailed, Forgot, Refused}
 
 -- the reply that a call's answer is
 abbrev pub reply_of : {A : Type 0} → (A → Reply) → Result A HostRefusal → Reply
 reply_of done (Ok answer) = done answer
 reply_of done (Err refusal) = Refused refusal
 
+-- the reply that a commit's ending is
+abbrev pub reply_of_ending : CommitEnding → Reply
+reply_of_ending (ending.Committed number reports post) = Committed number reports post
+reply_of_ending (ending.HooksFailed stage reports) = HooksFailed stage reports
+
 -- the command was done
 abbrev pub IsDone : Reply → Type 0
 IsDone Added = Unit {0}
 IsDone Removed = Unit {0}
 IsDone (Accepted number) = Unit {0}
+IsDone (Ran passed report changes unsteady) = Unit {0}
+IsDone (Committed number reports post) = Unit {0}
+IsDone (HooksFailed stage reports) = Unit {0}
+IsDone (Forgot number) = Unit {0}
 IsDone (Refused refusal) = ⊥

@@ -1,9 +1,10 @@
 -- What a command leaves in the store's tables, and what a crash leaves of it.
-use Rattle.std.specs.Prelude.{ℕ, Result, OnOk}
+use Rattle.std.specs.Prelude.{List, Result, OnOk}
 use Rattle.sqlite_trees.specs.declared.store.Store.{Ghosts}
 use Rattle.sqlite_trees.specs.Tree.{Trees}
 use Rattle.sqlite.specs.Held.{state}
 use Rattle.sqlite.specs.State.{Survives}
+use Rattle.hook_run.specs.Parts.{Part}
 use Rattle.repo_store.specs.Kept.{Kept}
 use Rattle.repo_store.specs.Repository.{Repository}
 use Rattle.repo_store.specs.Shown.{Leaves, LeavesOnly, Stands}
@@ -19,8 +20,8 @@ pub record LeavesDone (before : Repository) (command : Command) (trees : Trees) 
   pub kept : Kept
   pub reply : Reply
   pub done : IsDone reply
-  pub faults : ℕ
-  pub step : Step before command reply faults kept.repo
+  pub parts : List Part
+  pub step : Step before command reply parts kept.repo
   pub leaves : Leaves kept trees
 
 -- A command changes the store in one transaction, or not at all: where what the store showed stood in its tables, what it

@@ -7,6 +7,10 @@ use Rattle.hook_base.specs.PathFaults.{number_of as path_number_of}
 use Rattle.repo_store.specs.declared.fault.StoreFault.{StoreFault}
 use Rattle.repo_store.specs.declared.fault.StoreFault.TheVariants as store
 use Rattle.repo_store.specs.Faults.{number_of as store_number_of}
+use Rattle.result_book.specs.declared.book_fault.BookFault.{BookFault}
+use Rattle.result_book.specs.declared.book_fault.BookFault.TheVariants as book
+use Rattle.hook_run.specs.declared.run_refusal.RunRefusal.{RunRefusal}
+use Rattle.hook_run.specs.declared.run_refusal.RunRefusal.TheVariants as run
 use Rattle.hook_config.specs.declared.config_fault.ConfigFault.{ConfigFault}
 use Rattle.hook_config.specs.declared.config_fault.ConfigKind.{ConfigKind}
 use Rattle.hook_config.specs.declared.config_fault.ConfigKind.TheVariants as kind
@@ -85,3 +89,14 @@ of_config_kind other fault = BadConfig fault
 
 abbrev pub of_config : ConfigFault → HostRefusal
 of_config fault = of_config_kind fault.kind fault
+
+abbrev pub of_book : BookFault → HostRefusal
+of_book book.OutOfMemory = OutOfMemory
+of_book (book.Store fault) = of_store fault
+
+-- what stops hooks is the host's own refusal
+abbrev pub of_run : RunRefusal → HostRefusal
+of_run run.OutOfMemory = OutOfMemory
+of_run (run.Book fault) = of_book fault
+of_run run.NoSuchHook = NoSuchHook
+of_run run.Spent = Spent

@@ -1,6 +1,6 @@
 -- The host as a machine: what each command may answer, and what it makes of the repository. A command that is added gets its
 -- cases in Step, for what it does, and in IsRefused, and its reply one in IsDone of Commands.
-use Rattle.std.specs.Prelude.{◌≡◌, ◌≢◌, ℕ, List, [], length, Option, None, Some, IsSome, option_map, unwrap_or}
+use Rattle.std.specs.Prelude.{◌≡◌, ◌≢◌, ℕ, List, [], length, Option, Some, option_map, unwrap_or}
 use Rattle.hook_base.specs.declared.file.File.{File}
 use Rattle.hook_base.specs.declared.file.FileEntry.{FileEntry}
 use Rattle.hook_base.specs.declared.file.Mode.{Mode}
@@ -13,18 +13,17 @@ use Rattle.repo_store.specs.Clashes.{Clashes}
 use Rattle.repo_store.specs.Limits.{Fits, IsSmall}
 use Rattle.repo_store.specs.Repository.{Repository, accepted, with_staged, without_staged}
 use Rattle.commit_flow.specs.declared.command.Command.{Command}
-use Rattle.commit_flow.specs.declared.command.Command.TheVariants.{Add, Remove, Accept}
+use Rattle.commit_flow.specs.declared.command.Command.TheVariants.{Add, Remove, Accept, Run, Commit, Forget}
 use Rattle.commit_flow.specs.declared.host_refusal.HostRefusal.{HostRefusal}
 use Rattle.commit_flow.specs.declared.host_refusal.HostRefusal.TheVariants.{OutOfMemory, Store, BadPath, NotStaged, TooLarge, TooMany, NoFixes, Collision, Clash}
 use Rattle.commit_flow.specs.declared.reply.Reply.{Reply}
-use Rattle.commit_flow.specs.declared.reply.Reply.TheVariants.{Added, Removed, Accepted, Refused}
-
--- the text is a path inside a repository
-abbrev pub IsLegal : List ℕ → Type 0
-IsLegal path = path_fault path ≡ None
-
-abbrev pub IsStaged : List ℕ → Repository → Type 0
-IsStaged path repo = IsSome (entry_of path repo.staged)
+use Rattle.commit_flow.specs.declared.reply.Reply.TheVariants.{Added, Removed, Accepted, Ran, Committed, HooksFailed, Forgot, Refused}
+use Rattle.child_port.specs.declared.answer.Outcome.{Outcome}
+use Rattle.hook_run.specs.Parts.{AllTold, Part, faults_of}
+use Rattle.commit_flow.specs.Commits.{HaveHooksFailed, IsCommitted, IsCommitRefusal}
+use Rattle.commit_flow.specs.RunRefusals.{IsRunRefusal}
+use Rattle.commit_flow.specs.Runs.{IsRan}
+pub use Rattle.commit_flow.specs.StagedPaths.{IsLegal, IsStaged}
 
 -- the refusal is the database's own
 abbrev pub IsOfDatabase : StoreFault → Type 0
@@ -109,19 +108,42 @@ IsAcceptRefusal before OutOfMemory = HasFixes before
 IsAcceptRefusal before (Store fault) = HasFixes before × IsOfDatabase fault
 IsAcceptRefusal before refusal = ⊥
 
+-- ---- the remembered answers are forgotten
+
+-- why they aren't: memory or the database refuses
+abbrev pub IsForgetRefusal : HostRefusal → Type 0
+IsForgetRefusal OutOfMemory = Unit {0}
+IsForgetRefusal (Store fault) = IsOfDatabase fault
+IsForgetRefusal refusal = ⊥
+
 -- ---- the steps
 
--- the refusal may answer the command
-abbrev pub IsRefused : Repository → Command → HostRefusal → Type 0
-IsRefused before (Add path bytes asked) refusal = IsAddRefusal before path bytes asked refusal
-IsRefused before (Remove path) refusal = IsRemoveRefusal before path refusal
-IsRefused before Accept refusal = IsAcceptRefusal before refusal
+-- The refusal may answer the command, whose runs had these parts.
+abbrev pub IsRefused : Repository → Command → List Part → HostRefusal → Type 0
+IsRefused before (Add path bytes asked) parts refusal = IsAddRefusal before path bytes asked refusal × (parts ≡ [])
+IsRefused before (Remove path) parts refusal = IsRemoveRefusal before path refusal × (parts ≡ [])
+IsRefused before Accept parts refusal = IsAcceptRefusal before refusal × (parts ≡ [])
+IsRefused before (Run ask) parts refusal = IsRunRefusal before ask refusal × (parts ≡ [])
+IsRefused before (Commit message no_verify skip) parts refusal = IsCommitRefusal before message no_verify skip parts refusal
+IsRefused before Forget parts refusal = IsForgetRefusal refusal × (parts ≡ [])
 
--- The command may answer so, and then leaves this repository: any refusal leaves the one before. The number counts the
--- children that failed in the runs of which the reply reports; no command of today runs any.
-abbrev pub Step : Repository → Command → Reply → ℕ → Repository → Type 0
-Step before (Add path bytes asked) Added faults after = IsAdded before path bytes asked after × (faults ≡ 0)
-Step before (Remove path) Removed faults after = IsRemoved before path after × (faults ≡ 0)
-Step before Accept (Accepted number) faults after = IsAccepted before number after × (faults ≡ 0)
-Step before command (Refused refusal) faults after = IsRefused before command refusal × (after ≡ before) × (faults ≡ 0)
-Step before command reply faults after = ⊥
+-- The command may answer so, and then leaves this repository: any refusal leaves the one before. The parts are those of the
+-- runs that it made, in order, but for those of a run that was stopped: they say which children's outcomes the reply stands on
+-- and how many of them were faults. How many answers were forgotten is said by what is remembered.
+abbrev pub Step : Repository → Command → Reply → List Part → Repository → Type 0
+Step before (Add path bytes asked) Added parts after = IsAdded before path bytes asked after × (parts ≡ [])
+Step before (Remove path) Removed parts after = IsRemoved before path after × (parts ≡ [])
+Step before Accept (Accepted number) parts after = IsAccepted before number after × (parts ≡ [])
+Step before (Run ask) (Ran passed report changes unsteady) parts after = IsRan before ask passed report changes unsteady parts after
+Step before (Commit message no_verify skip) (Committed number reports post) parts after = IsCommitted before message no_verify skip number reports post parts after
+Step before (Commit message no_verify skip) (HooksFailed stage reports) parts after = HaveHooksFailed before message no_verify skip stage reports parts after
+Step before Forget (Forgot number) parts after = (after ≡ before) × (parts ≡ [])
+Step before command (Refused refusal) parts after = IsRefused before command parts refusal × (after ≡ before)
+Step before command reply parts after = ⊥
+
+-- a step over children: they told its parts, and so many of these were faults
+pub record IsStep (tells : List (List ℕ) → List File → Outcome → Type 0) (before : Repository) (command : Command) (reply : Reply) (faults : ℕ) (after : Repository) : Type 0 where
+  pub parts : List Part
+  pub step : Step before command reply parts after
+  pub told : AllTold tells parts
+  pub counted : faults ≡ faults_of parts

@@ -1,6 +1,7 @@
 //! The commands of a host, as values.
 
-use hook_base::{Bytes, Mode, Text};
+use crate::HostAsk;
+use hook_base::{Bytes, Items, Mode, Text};
 
 /// A command, with the arguments of its call.
 #[derive(Debug, Drop)]
@@ -21,4 +22,20 @@ pub enum Command {
     },
     /// [`Host::accept`](crate::Host::accept).
     Accept,
+    /// [`Host::run`](crate::Host::run).
+    Run {
+        /// What is asked of it.
+        ask: HostAsk,
+    },
+    /// A commit of the staged files, through its hooks.
+    Commit {
+        /// The message, before any hook has seen it.
+        message: Bytes,
+        /// Whether the hooks of `pre-commit` and `commit-msg` are left out.
+        no_verify: bool,
+        /// The ids and aliases of hooks that are skipped.
+        skip: Items<Text>,
+    },
+    /// All remembered answers are forgotten.
+    Forget,
 }

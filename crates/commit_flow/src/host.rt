@@ -12,7 +12,8 @@ ghost use Rattle.commit_flow.specs.declared.command.Command.TheVariants.{Add, Re
 ghost use Rattle.commit_flow.specs.declared.reply.Reply.TheVariants.{Added, Removed, Accepted};
 ghost use Rattle.commit_flow.specs.Commands.{reply_of};
 ghost use Rattle.commit_flow.specs.Crashes.{IsOneCommand};
-ghost use Rattle.commit_flow.specs.Steps.{IsAddable, IsLegal, IsRemoveRefusal, IsStaged, IsUnaddable, Step, entry_to_add, mode_to_add};
+ghost use Rattle.commit_flow.specs.StagedPaths.{IsLegal, IsStaged};
+ghost use Rattle.commit_flow.specs.Steps.{IsAddable, IsRemoveRefusal, IsUnaddable, Step, entry_to_add, mode_to_add};
 
 use crate::HostRefusal;
 use hook_base::{Change, Mode, OutOfMemory, RepoPath, Tree};
@@ -24,7 +25,7 @@ use std::marker::Model;
 /// The host of a repository, which stands in a store. Each command changes the repository as a whole or not at all, whatever
 /// stops it.
 pub struct Host<S: Alter> {
-    store: Store<S>,
+    pub(crate) store: Store<S>,
 }
 
 // It is written out, so that a caller doesn't prove again how each part is dropped.
@@ -79,7 +80,7 @@ impl<S: Alter> Host<S> {
         bytes: &[u8],
         mode: Option<Mode>,
     ) -> Result<(), HostRefusal>
-        ensures step { Step self.old.store.kept.repo (Add path.now bytes.now mode) (reply_of (λ _. Added) result) 0 self.new.store.kept.repo }
+        ensures step { Step self.old.store.kept.repo (Add path.now bytes.now mode) (reply_of (λ _. Added) result) [] self.new.store.kept.repo }
         ensures change { IsAllOrNothing self.old.store.kept self.new.store.kept result (staging path.now (entry_to_add self.old.store.kept.repo path.now bytes.now mode) self.old.store.kept) }
         ensures command { IsOneCommand S.Store self.old self.new (Add path.now bytes.now mode) result }
         ensures apart { OnOk result (¬ Collides bytes.now self.old.store.kept.contents) }
@@ -95,7 +96,7 @@ impl<S: Alter> Host<S> {
     /// (`BadPath`) and a path that isn't staged (`NotStaged`); `OutOfMemory` and `Store` come where memory or the database
     /// refuses. A refusal leaves the repository as it was.
     pub fn remove(&mut self, alloc: Global, path: &str) -> Result<(), HostRefusal>
-        ensures step { Step self.old.store.kept.repo (Remove path.now) (reply_of (λ _. Removed) result) 0 self.new.store.kept.repo }
+        ensures step { Step self.old.store.kept.repo (Remove path.now) (reply_of (λ _. Removed) result) [] self.new.store.kept.repo }
         ensures change { IsAllOrNothing self.old.store.kept self.new.store.kept result (unstaging path.now self.old.store.kept) }
         ensures command { IsOneCommand S.Store self.old self.new (Remove path.now) result }
     {
@@ -108,7 +109,7 @@ impl<S: Alter> Host<S> {
     /// are none; else `OutOfMemory` and `Store` come where memory or the database refuses. A refusal leaves the repository as
     /// it was.
     pub fn accept(&mut self) -> Result<u32, HostRefusal>
-        ensures step { Step self.old.store.kept.repo Accept (reply_of Accepted result) 0 self.new.store.kept.repo }
+        ensures step { Step self.old.store.kept.repo Accept (reply_of Accepted result) [] self.new.store.kept.repo }
         ensures change { IsAllOrNothing self.old.store.kept self.new.store.kept result (accepting self.old.store.kept) }
         ensures command { IsOneCommand S.Store self.old self.new Accept result }
     {

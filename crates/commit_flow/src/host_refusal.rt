@@ -2,10 +2,14 @@
 
 ghost use Rattle.std.specs.Prelude.{◌≡◌};
 ghost use Rattle.commit_flow.specs.Refusals.{inner_number_of, name_of, number_of};
+ghost use Rattle.commit_flow.specs.declared.host_refusal.HostRefusal.TheVariants.{OutOfMemory};
 
-use hook_base::PathFault;
+use hook_base::{OutOfMemory, PathFault};
 use hook_config::{ConfigFault, ConfigKind};
+use hook_run::RunRefusal;
 use repo_store::StoreFault;
+use result_book::BookFault;
+use std::alloc::AllocFailed;
 use thiserror::Error;
 
 /// Why a command of a host is refused. The commits, the staged files and the fixes are as before the command. Where a fault
@@ -120,6 +124,22 @@ impl HostRefusal {
     }
 }
 
+impl From<OutOfMemory> for HostRefusal {
+    ghost from_gives = { λ _ refusal. refusal ≡ OutOfMemory };
+
+    fn from(_refused: OutOfMemory) -> Self {
+        HostRefusal::OutOfMemory
+    }
+}
+
+impl<T: Drop> From<AllocFailed<T>> for HostRefusal {
+    ghost from_gives = { λ _ refusal. refusal ≡ OutOfMemory };
+
+    fn from(_refused: AllocFailed<T>) -> Self {
+        HostRefusal::OutOfMemory
+    }
+}
+
 impl From<PathFault> for HostRefusal {
     ghost use Rattle.std.specs.Prelude.{◌≡◌};
     ghost use Rattle.commit_flow.specs.Refusals.{of_path};
@@ -164,6 +184,38 @@ impl From<ConfigFault> for HostRefusal {
         match fault.kind {
             ConfigKind::OutOfMemory => HostRefusal::OutOfMemory,
             _ => HostRefusal::BadConfig(fault),
+        }
+    }
+}
+
+impl From<BookFault> for HostRefusal {
+    ghost use Rattle.std.specs.Prelude.{◌≡◌};
+    ghost use Rattle.commit_flow.specs.Refusals.{of_book};
+
+    ghost from_gives = { λ fault refusal. refusal ≡ of_book fault };
+
+    /// Want of memory is `OutOfMemory`, and a fault of the store what it is elsewhere.
+    fn from(fault: BookFault) -> Self {
+        match fault {
+            BookFault::OutOfMemory => HostRefusal::OutOfMemory,
+            BookFault::Store(fault) => HostRefusal::from(fault),
+        }
+    }
+}
+
+impl From<RunRefusal> for HostRefusal {
+    ghost use Rattle.std.specs.Prelude.{◌≡◌};
+    ghost use Rattle.commit_flow.specs.Refusals.{of_run};
+
+    ghost from_gives = { λ refused refusal. refusal ≡ of_run refused };
+
+    /// Why hooks are stopped is the host's own refusal, and a fault of the remembered answers what it is elsewhere.
+    fn from(refused: RunRefusal) -> Self {
+        match refused {
+            RunRefusal::OutOfMemory => HostRefusal::OutOfMemory,
+            RunRefusal::Book(fault) => HostRefusal::from(fault),
+            RunRefusal::NoSuchHook => HostRefusal::NoSuchHook,
+            RunRefusal::Spent => HostRefusal::Spent,
         }
     }
 }

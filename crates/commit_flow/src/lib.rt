@@ -1,24 +1,45 @@
 //! The host of a repository: the commands by which files are staged, and what each answers.
 //!
-//! A [`Host`] works on a store. A [`HostRefusal`] says why a command is refused; [`Command`] and [`Reply`] are the commands
-//! and their answers as values.
+//! A [`Host`] works on a store. A [`HostAsk`] says what is asked of a run of hooks on the staged files, and a [`StagedRun`]
+//! what it gave; a [`CommitEnding`] says how a commit through its hooks ended. A [`HostRefusal`] says why a command is refused;
+//! [`Command`] and [`Reply`] are the commands and their answers as values.
 //!
 //! The contracts cite `Step` of `specs/Steps.antt` (what each command may answer, and what it makes of the repository),
 //! `specs/Commands.antt` (the reply that a call's answer is), `IsOneCommand` of `specs/Crashes.antt` (what a crash leaves),
+//! `IsRunStep` and `IsStoppedStep` of `specs/RunSteps.antt` and `IsCommitStep` of `specs/CommitSteps.antt` (how a run and a
+//! commit stand to what their children told), `specs/Runs.antt`, `specs/Commits.antt` and `specs/CommitStages.antt` (the cases
+//! of runs and of commits, and the stages of these), `specs/CommitKept.antt` (what a commit makes of what is kept),
 //! `specs/Hosts.antt` (what is seen of a host), `specs/Messages.antt` (how the message of a commit is cleaned) and
-//! `specs/Refusals.antt`; of the repository and its files they cite definitions of `repo_store` and `hook_base`. [`laws`]
-//! says that a step has one answer at most.
+//! `specs/Refusals.antt`; of the repository and its files they cite definitions of `repo_store` and `hook_base`.
+//! `specs/Preparations.antt` and `specs/CommitCalls.antt` serve private functions alone. [`laws`] says that a step has one
+//! answer at most.
 #![tactic(auto)]
 
+mod candidates;
 mod command;
+mod commit;
+mod commit_begun;
+mod commit_ending;
+mod commit_staged;
+mod commit_stages;
+mod configured;
+mod course;
+mod hooks;
 mod host;
+mod host_ask;
 mod host_refusal;
 pub mod laws;
 mod message;
+mod prepared;
 mod reply;
+mod run;
+mod staged_run;
 
 pub use command::Command;
+pub use commit_ending::CommitEnding;
 pub use host::Host;
+pub use host_ask::{AskStage, HostAsk, Which};
 pub use host_refusal::HostRefusal;
 pub use message::{begun_message, cleaned_message};
-pub use reply::Reply;
+pub use reply::{PostCommit, Reply};
+pub use staged_run::StagedRun;

@@ -1,6 +1,9 @@
 //! What the commands of a host answer, as values.
 
 use crate::HostRefusal;
+use hook_base::{Bytes, Changes, Items, Text};
+use hook_config::Stage;
+use hook_run::RunRefusal;
 
 /// The reply to a command.
 #[derive(Debug, Drop)]
@@ -11,6 +14,44 @@ pub enum Reply {
     Removed,
     /// The fixes were accepted, and there were so many.
     Accepted(u32),
+    /// The hooks were run, and the changes that they made are the fixes now.
+    Ran {
+        /// Whether no hook failed.
+        passed: bool,
+        /// What is reported of the hooks.
+        report: Bytes,
+        /// The fixes.
+        changes: Changes,
+        /// The ids of the hooks whose answer was another than the remembered one.
+        unsteady: Items<Text>,
+    },
+    /// The commit was made.
+    Committed {
+        /// Its number.
+        number: u32,
+        /// The reports of the stages before the commit, in order.
+        reports: Items<Bytes>,
+        /// What became of the hooks behind the commit.
+        post: PostCommit,
+    },
+    /// A hook failed before the commit, which wasn't made.
+    HooksFailed {
+        /// The stage of the hook.
+        stage: Stage,
+        /// The reports of the stages up to this one, in order.
+        reports: Items<Bytes>,
+    },
+    /// The remembered answers are forgotten, and there were so many.
+    Forgot(u64),
     /// The command was refused. The repository is as it was.
     Refused(HostRefusal),
+}
+
+/// What became of the hooks behind a commit.
+#[derive(Debug, Drop)]
+pub enum PostCommit {
+    /// They were run, and this is reported of them.
+    Told(Bytes),
+    /// Their run was refused. The commit stands.
+    Stopped(RunRefusal),
 }

@@ -1,5 +1,5 @@
 -- How the commands over a repository end.
-use Rattle.std.proofs.Common.{subst, refl, inl, inr, ℕ, List, Option, Ok, Err}
+use Rattle.std.proofs.Common.{subst, refl, inl, inr, ℕ, List, [], Option, Ok, Err}
 use Rattle.sqlite_trees.specs.declared.store.Store.{Ghosts}
 use Rattle.repo_store.specs.AllOrNothing.{IsAllOrNothing}
 use Rattle.repo_store.specs.Kept.{accepting}
@@ -12,7 +12,7 @@ use Rattle.commit_flow.specs.Hosts.{Hosted}
 use Rattle.commit_flow.specs.Steps.{IsAcceptRefusal, Step}
 use Rattle.hook_cli.specs.declared.line.Line.{Line}
 use Rattle.hook_cli.specs.declared.command_ending.CommandEnding.{CommandEnding}
-use Rattle.hook_cli.specs.CommandOver.{IsAnswer, IsChanged, IsLookUp, IsRefusalText}
+use Rattle.hook_cli.specs.CommandOver.{IsAcceptOver, IsAnswer, IsLookUp, IsRefusalText}
 use Rattle.hook_cli.specs.FixesText.{accepted_text}
 use Rattle.hook_cli.specs.Printing.{IsSaid, IsSilent, IsTold, Output}
 use Rattle.hook_cli.specs.RefusalText.{refusal_text}
@@ -34,10 +34,10 @@ silent-itself held = keeps-itself held
 -- ---- the fixes are accepted
 
 pub accepted-said : {S : Type 0} (g : Ghosts S) (old new : Hosted S) (out err : Output) (ending : CommandEnding) (number : ℕ)
-    → Step old.store.kept.repo command.Accept (Accepted number) 0 new.store.kept.repo
+    → Step old.store.kept.repo command.Accept (Accepted number) [] new.store.kept.repo
     → IsAllOrNothing {E = HostRefusal} old.store.kept new.store.kept (Ok number) (accepting old.store.kept)
     → IsOneCommand g old new command.Accept (Ok number)
-    → IsSaid out (accepted_text number) ending → IsSilent err → IsChanged g old new command.Accept out err ending
+    → IsSaid out (accepted_text number) ending → IsSilent err → IsAcceptOver g old new out err ending
 accepted-said g old new out err ending number step change one said silent = record {
   answer = Ok tt;
   step = (record { some = step.0.some; counted = refl; made = step.0.made }, refl);
@@ -49,16 +49,16 @@ accepted-said g old new out err ending number step change one said silent = reco
 }
 
 pub accept-refused : {S : Type 0} (g : Ghosts S) (old new : Hosted S) (out err : Output) (ending : CommandEnding) (refusal : HostRefusal)
-    → Step old.store.kept.repo command.Accept (Refused refusal) 0 new.store.kept.repo
+    → Step old.store.kept.repo command.Accept (Refused refusal) [] new.store.kept.repo
     → IsAllOrNothing {A = ℕ} old.store.kept new.store.kept (Err refusal) (accepting old.store.kept)
     → IsOneCommand {A = ℕ} g old new command.Accept (Err refusal)
-    → IsTold err (refusal_text refusal) ending → IsSilent out → IsChanged g old new command.Accept out err ending
+    → IsTold err (refusal_text refusal) ending → IsSilent out → IsAcceptOver g old new out err ending
 accept-refused g old new out err ending refusal step change one told silent = record {
   answer = Err refusal;
   step = step;
   change = record { done = tt; same = change.same };
   one = record { stands = one.stands; crash = one.crash; durable = tt };
   apart = tt;
-  collides = λ is. subst (λ (r : HostRefusal). IsAcceptRefusal old.store.kept.repo r) is step.0;
+  collides = λ is. subst (λ (r : HostRefusal). IsAcceptRefusal old.store.kept.repo r) is step.0.0;
   replied = (silent, told);
 }

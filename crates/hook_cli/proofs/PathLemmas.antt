@@ -6,7 +6,7 @@ use Rattle.hook_base.specs.Paths.{message_path, path_fault}
 use Rattle.commit_flow.specs.declared.host_refusal.HostRefusal.{HostRefusal}
 use Rattle.commit_flow.specs.declared.host_refusal.HostRefusal.TheVariants.{BadPath, OutOfMemory as Wanting}
 use Rattle.commit_flow.specs.Refusals.{of_path}
-use Rattle.commit_flow.specs.Steps.{IsLegal}
+use Rattle.commit_flow.specs.StagedPaths.{IsLegal}
 
 -- the message of a commit stands under `.git`
 message_fault : path_fault message_path ≡ Some UnderGit

@@ -12,7 +12,8 @@ use Rattle.clap.specs.declared.error.Error.{Error}
 use Rattle.clap.specs.declared.error.kind.ErrorKind.TheVariants.{InvalidValue}
 use Rattle.clap.proofs.ValueTestLemmas.{Accepts-accepts, accepts-Accepts}
 use Rattle.hook_base.specs.declared.file.Mode.TheVariants.{Executable}
-use Rattle.hook_cli.specs.CommandLine.{mode_in, number_in, value_fault}
+use Rattle.commit_flow.specs.declared.host_ask.AskStage.TheVariants.{PreCommit, Manual}
+use Rattle.hook_cli.specs.CommandLine.{mode_in, number_in, stage_in, value_fault}
 
 pub text_or : (found : Option (Bor (List ℕ))) (empty : Bor (List ℕ)) (text : List ℕ) (rows : Option (List ℕ))
     → empty.now ≡ [] → option_map (λ s. s.now) found ≡ rows → text ≡ (unwrap_or found empty).now → text ≡ unwrap_or rows []
@@ -64,3 +65,38 @@ number-refused text {E} parsed refused error reads is kind =
     let most = accepted.3 in
     none (accepted.0, omega (arith, most))) in
     rw fails kind
+
+-- ---- the stage
+
+pub stage-none : (found given : Option Text) (held : Option (Bor Text)) → option_map (λ s. s.now) held ≡ found → found ≡ given → held ≡ None
+    → stage_in given ≡ Some PreCommit
+stage-none found given held known same is = ap stage_in (given-is found given held None known same is)
+
+pub stage-pre-commit : (found given : Option Text) (held : Option (Bor Text)) (value : Bor Text) → option_map (λ s. s.now) held ≡ found → found ≡ given
+    → held ≡ Some value → value.now ≡ codes "pre-commit" → stage_in given ≡ Some PreCommit
+stage-pre-commit found given held value known same is text =
+    ap stage_in (given-is found given held (Some value) known same is ∙ ap (λ (t : Text). Some t) text)
+
+pub stage-manual : (found given : Option Text) (held : Option (Bor Text)) (value : Bor Text) → option_map (λ s. s.now) held ≡ found → found ≡ given
+    → held ≡ Some value → value.now ≡ codes "manual" → stage_in given ≡ Some Manual
+stage-manual found given held value known same is text =
+    ap stage_in (given-is found given held (Some value) known same is ∙ ap (λ (t : Text). Some t) text)
+
+pub stage-refused : (found given : Option Text) (held : Option (Bor Text)) (value : Bor Text) (error : Error) → option_map (λ s. s.now) held ≡ found
+    → found ≡ given → held ≡ Some value → value.now ≢ codes "pre-commit" → value.now ≢ codes "manual" → HasKind (InvalidValue ∷ []) error
+    → HasKind (value_fault (stage_in given)) error
+stage-refused found given held value error known same is other another kind =
+    let differs : bytes_eq value.now (codes "pre-commit") ≡ false = false_from_ne_true _ (λ e. other ((bytes_eq-Decides value.now (codes "pre-commit")).0 e)) in
+    let differs_too : bytes_eq value.now (codes "manual") ≡ false = false_from_ne_true _ (λ e. another ((bytes_eq-Decides value.now (codes "manual")).0 e)) in
+    rw (given-is found given held (Some value) known same is, differs, differs_too) kind
+
+-- ---- a text that may be left out
+
+pub text-given : (found given : Option Text) (held : Option (Bor Text)) (value : Bor Text) (text : Text) → option_map (λ s. s.now) held ≡ found
+    → found ≡ given → held ≡ Some value → text ≡ value.now → Some text ≡ given
+text-given found given held value text known same is copied =
+    ap (λ (t : Text). Some t) copied ∙ sym (given-is found given held (Some value) known same is)
+
+pub text-left-out : (found given : Option Text) (held : Option (Bor Text)) → option_map (λ s. s.now) held ≡ found → found ≡ given → held ≡ None
+    → None ≡ given
+text-left-out found given held known same is = sym (given-is found given held None known same is)

@@ -8,12 +8,17 @@ use Rattle.clap.specs.Kinds.{Kinds, or_else}
 use Rattle.clap.specs.Simple.{on_top}
 use Rattle.clap.specs.Lexer.{usize_max}
 use Rattle.clap.specs.ValueTests.{is_unsigned_in}
+use Rattle.clap.specs.declared.builder.action.ArgAction.TheVariants.{SetTrue}
 use Rattle.clap.specs.declared.error.Error.{Error}
 use Rattle.clap.specs.declared.error.kind.ErrorKind.TheVariants.{InvalidValue}
 use Rattle.hook_base.specs.declared.file.Mode.{Mode}
 use Rattle.hook_base.specs.declared.file.Mode.TheVariants.{Executable}
+use Rattle.commit_flow.specs.declared.host_ask.AskStage.{AskStage}
+use Rattle.commit_flow.specs.declared.host_ask.AskStage.TheVariants.{PreCommit, Manual}
+use Rattle.commit_flow.specs.declared.host_ask.Which.{Which}
+use Rattle.commit_flow.specs.declared.host_ask.Which.TheVariants.{Changed, All, Named}
 use Rattle.hook_cli.specs.declared.line.Line.{Line}
-use Rattle.hook_cli.specs.declared.line.Line.TheVariants.{Init, Try, Check, Add, Remove, Status, Fixes, Accept, Cat, Log, Show}
+use Rattle.hook_cli.specs.declared.line.Line.TheVariants.{Init, Try, Check, Add, Remove, Status, Run, Fixes, Accept, Commit, Cat, Log, Show}
 
 -- ---- the commands and their values, as `clap` takes them
 
@@ -30,6 +35,18 @@ words_rule id = record (word_rule id) {
 -- `--chmod=MODE`, which may be left out
 abbrev pub chmod_rule : Rule
 chmod_rule = record (new_rule (codes "chmod")) { long = Some (codes "chmod"); value_names = 1 }
+
+-- `--NAME`, which takes no value
+abbrev pub flag_rule : Text → Rule
+flag_rule name = record (new_rule name) { long = Some name; action = Some SetTrue }
+
+-- `--hook-stage=STAGE`, which may be left out
+abbrev pub stage_rule : Rule
+stage_rule = record (new_rule (codes "hook-stage")) { long = Some (codes "hook-stage"); value_names = 1 }
+
+-- `-m TEXT`: 109 is the character `m`
+abbrev pub message_rule : Rule
+message_rule = record (new_rule (codes "message")) { short = Some 109; value_names = 1; required = true }
 
 abbrev pub init_app : App
 init_app = new_app (codes "init")
@@ -52,11 +69,29 @@ remove_app = with_rule (new_app (codes "rm")) (word_rule (codes "PATH"))
 abbrev pub status_app : App
 status_app = new_app (codes "status")
 
+-- `run [--all-files] [--hook-stage=STAGE] [--fresh]`
+abbrev pub run_with_options_app : App
+run_with_options_app =
+    with_rule (with_rule (with_rule (new_app (codes "run")) (flag_rule (codes "all-files"))) stage_rule) (flag_rule (codes "fresh"))
+
+-- behind them `[ID]`
+abbrev pub run_app : App
+run_app = with_rule run_with_options_app (new_rule (codes "ID"))
+
+-- `run-files [--hook-stage=STAGE] [--fresh] PATH..`
+abbrev pub run_files_app : App
+run_files_app =
+    with_rule (with_rule (with_rule (new_app (codes "run-files")) stage_rule) (flag_rule (codes "fresh"))) (words_rule (codes "PATH"))
+
 abbrev pub fixes_app : App
 fixes_app = new_app (codes "fixes")
 
 abbrev pub accept_app : App
 accept_app = new_app (codes "accept")
+
+-- `commit [--no-verify] -m TEXT`
+abbrev pub commit_app : App
+commit_app = with_rule (with_rule (new_app (codes "commit")) (flag_rule (codes "no-verify"))) message_rule
 
 -- `cat PATH`
 abbrev pub cat_app : App
@@ -82,7 +117,8 @@ hookhost_base = on_top (λ s. record s {
 
 abbrev pub all_commands : List App
 all_commands =
-    init_app ∷ try_app ∷ check_app ∷ add_app ∷ remove_app ∷ status_app ∷ fixes_app ∷ accept_app ∷ cat_app ∷ log_app ∷ show_app ∷ []
+    init_app ∷ try_app ∷ check_app ∷ add_app ∷ remove_app ∷ status_app ∷ cat_app ∷ run_app ∷ run_files_app ∷ fixes_app ∷ accept_app
+    ∷ commit_app ∷ log_app ∷ show_app ∷ []
 
 abbrev pub hookhost_app : App
 hookhost_app = with_commands hookhost_base all_commands
@@ -101,10 +137,24 @@ word_in id rows = unwrap_or (first_of id rows) []
 abbrev pub words_in : Text → List Row → List Text
 words_in id rows = unwrap_or (all_of id rows) []
 
+-- whether a flag is given, of which `clap` says "true" or "false"
+abbrev pub flag_in : Text → List Row → Bool
+flag_in name rows = bytes_eq (word_in name rows) (codes "true")
+
 -- the mode that `--chmod` asks for: `+x` is one, and where nothing is asked for that is an answer too
 abbrev pub mode_in : Option Text → Option (Option Mode)
 mode_in None = Some None
 mode_in (Some text) = if bytes_eq text (codes "+x") then Some (Some Executable) else None
+
+-- the stage that `--hook-stage` asks for, `pre-commit` where nothing is asked for
+abbrev pub stage_in : Option Text → Option AskStage
+stage_in None = Some PreCommit
+stage_in (Some text) =
+    if bytes_eq text (codes "pre-commit") then Some PreCommit else (if bytes_eq text (codes "manual") then Some Manual else None)
+
+-- the staged files that `run` is about
+abbrev pub which_in : List Row → Which
+which_in rows = if flag_in (codes "all-files") rows then All else Changed
 
 -- the number of 32 bits that decimal digits write, which a `+` may precede
 abbrev pub number_in : Text → Option ℕ
@@ -119,6 +169,19 @@ try_line rows = Try (word_in (codes "CONFIG") rows) (words_in (codes "PATH") row
 abbrev pub add_line : List Row → Option Line
 add_line rows = option_map (Add (word_in (codes "PATH") rows)) (mode_in (first_of (codes "chmod") rows))
 
+abbrev pub run_line : List Row → Option Line
+run_line rows =
+    option_map (λ (stage : AskStage). Run (which_in rows) (first_of (codes "ID") rows) stage (flag_in (codes "fresh") rows))
+    (stage_in (first_of (codes "hook-stage") rows))
+
+abbrev pub run_files_line : List Row → Option Line
+run_files_line rows =
+    option_map (λ (stage : AskStage). Run (Named (words_in (codes "PATH") rows)) None stage (flag_in (codes "fresh") rows))
+    (stage_in (first_of (codes "hook-stage") rows))
+
+abbrev pub commit_line : List Row → Line
+commit_line rows = Commit (word_in (codes "message") rows) (flag_in (codes "no-verify") rows)
+
 abbrev pub show_line : List Row → Option Line
 show_line rows = option_map Show (number_in (word_in (codes "N") rows))
 
@@ -131,11 +194,14 @@ line_by name rows =
     else (if bytes_eq name (codes "add") then add_line rows
     else (if bytes_eq name (codes "rm") then Some (Remove (word_in (codes "PATH") rows))
     else (if bytes_eq name (codes "status") then Some Status
+    else (if bytes_eq name (codes "run") then run_line rows
+    else (if bytes_eq name (codes "run-files") then run_files_line rows
     else (if bytes_eq name (codes "fixes") then Some Fixes
     else (if bytes_eq name (codes "accept") then Some Accept
+    else (if bytes_eq name (codes "commit") then Some (commit_line rows)
     else (if bytes_eq name (codes "cat") then Some (Cat (word_in (codes "PATH") rows))
     else (if bytes_eq name (codes "log") then Some Log
-    else (if bytes_eq name (codes "show") then show_line rows else None))))))))))
+    else (if bytes_eq name (codes "show") then show_line rows else None)))))))))))))
 
 -- what the words ask for: a command with its values, as `clap` finds them
 abbrev pub line_asked : List Text → Option Line

@@ -1,39 +1,55 @@
--- The commands over a repository: what each makes of it, what it prints, and the exit status.
-use Rattle.std.specs.Prelude.{◌≡◌, ◌⊎◌, ℕ, List, length, None, Some, IsSome, option_map, Result, IfErr, OnOk}
+-- The commands over a repository: what each makes of it, which children it calls, what it prints, and the exit status.
+use Rattle.std.specs.Prelude.{◌≡◌, ◌⊎◌, ℕ, Bool, List, [], length, Option, None, Some, IsSome, option_map, Result, IfErr, IfOk, OnOk}
 use Rattle.sqlite_trees.specs.declared.store.Store.{Ghosts}
+use Rattle.hook_base.specs.declared.file.File.{File}
 use Rattle.hook_base.specs.declared.file.FileEntry.{FileEntry}
+use Rattle.hook_base.specs.declared.file.Mode.{Mode}
 use Rattle.hook_base.specs.Paths.{path_fault}
 use Rattle.hook_base.specs.Trees.{entry_of}
+use Rattle.child_port.specs.declared.answer.Outcome.{Outcome}
 use Rattle.repo_store.specs.AllOrNothing.{IsAllOrNothing}
 use Rattle.repo_store.specs.Contents.{Collides}
-use Rattle.repo_store.specs.Kept.{Kept, accepting, staging, unstaging}
+use Rattle.repo_store.specs.Kept.{Kept, accepting, setting, staging, unstaging}
 use Rattle.repo_store.specs.Repository.{Repository, commit_at, last_tree}
 use Rattle.commit_flow.specs.declared.command.Command.{Command}
 use Rattle.commit_flow.specs.declared.command.Command.TheVariants as command
+use Rattle.commit_flow.specs.declared.commit_ending.CommitEnding.{CommitEnding}
+use Rattle.commit_flow.specs.declared.host_ask.AskStage.{AskStage}
+use Rattle.commit_flow.specs.declared.host_ask.HostAsk.{HostAsk}
+use Rattle.commit_flow.specs.declared.host_ask.Which.{Which}
 use Rattle.commit_flow.specs.declared.host_refusal.HostRefusal.{HostRefusal}
 use Rattle.commit_flow.specs.declared.host_refusal.HostRefusal.TheVariants.{OutOfMemory, BadPath, NotStaged, Collision}
 use Rattle.commit_flow.specs.declared.reply.Reply.{Reply}
-use Rattle.commit_flow.specs.declared.reply.Reply.TheVariants.{Added, Removed, Accepted, Refused}
-use Rattle.commit_flow.specs.Commands.{reply_of}
+use Rattle.commit_flow.specs.declared.reply.Reply.TheVariants.{Added, Removed, Accepted, Ran, Committed, HooksFailed, Refused}
+use Rattle.commit_flow.specs.declared.staged_run.StagedRun.{StagedRun}
+use Rattle.commit_flow.specs.Commands.{reply_of, reply_of_ending}
+use Rattle.commit_flow.specs.CommitKept.{KeepsFor}
 use Rattle.commit_flow.specs.Crashes.{IsOneCommand}
 use Rattle.commit_flow.specs.Hosts.{Hosted}
-use Rattle.commit_flow.specs.Steps.{IsLegal, IsStaged, Step, entry_to_add}
+use Rattle.commit_flow.specs.RunSteps.{IsRunStep, IsStoppedStep, changes_in, reply_of_run}
+use Rattle.commit_flow.specs.StagedPaths.{IsLegal, IsStaged}
+use Rattle.commit_flow.specs.Steps.{Step, entry_to_add}
+use Rattle.commit_flow.specs.CommitSteps.{IsCommitStep}
 use Rattle.hook_cli.specs.declared.line.Line.{Line}
-use Rattle.hook_cli.specs.declared.line.Line.TheVariants.{Init, Try, Check, Add, Remove, Status, Fixes, Accept, Cat, Log, Show}
+use Rattle.hook_cli.specs.declared.line.Line.TheVariants.{Init, Try, Check, Add, Remove, Status, Run, Fixes, Accept, Commit, Cat, Log, Show}
 use Rattle.hook_cli.specs.declared.command_ending.CommandEnding.{CommandEnding}
 use Rattle.hook_cli.specs.declared.command_ending.CommandEnding.TheVariants.{Done}
-use Rattle.hook_cli.specs.Printing.{IsSaid, IsSilent, IsTold, Output, status_of}
+use Rattle.hook_cli.specs.Printing.{IsFailureSaid, IsRunSaid, IsSaid, IsSilent, IsTold, Output, status_of}
 use Rattle.hook_cli.specs.FixesText.{accepted_text, fixes_text}
 use Rattle.hook_cli.specs.LogText.{log_text}
 use Rattle.hook_cli.specs.RefusalText.{no_commit_text, refusal_text}
+use Rattle.hook_cli.specs.RunText.{IsCommitSaid, failure_text, run_text}
 use Rattle.hook_cli.specs.ShowText.{show_text}
 use Rattle.hook_cli.specs.StatusText.{status_text}
+use Rattle.hook_cli.specs.TryOver.{NoneCalled}
 
 -- the line is a command over a repository
 abbrev pub IsOverHost : Line → Type 0
 IsOverHost Init = ⊥
 IsOverHost (Try config paths) = ⊥
 IsOverHost Check = ⊥
+IsOverHost (Run which only stage fresh) = Unit {0}
+IsOverHost (Commit message no_verify) = Unit {0}
 IsOverHost (Add path mode) = Unit {0}
 IsOverHost (Remove path) = Unit {0}
 IsOverHost Status = Unit {0}
@@ -45,42 +61,76 @@ IsOverHost (Show number) = Unit {0}
 
 -- ---- the commands that change the repository
 
--- the reply of the command that is done, where this was kept
-abbrev pub reply_to : Command → Kept → Reply
-reply_to (command.Add path bytes mode) kept = Added
-reply_to (command.Remove path) kept = Removed
-reply_to command.Accept kept = Accepted (length kept.repo.fixes)
-
--- what is kept once the command is done
-abbrev pub kept_after : Command → Kept → Kept
-kept_after (command.Add path bytes mode) kept = staging path (entry_to_add kept.repo path bytes mode) kept
-kept_after (command.Remove path) kept = unstaging path kept
-kept_after command.Accept kept = accepting kept
-
--- the command brings contents that have the digest of others that are kept
-abbrev pub BringsCollision : Command → Kept → Type 0
-BringsCollision (command.Add path bytes mode) kept = Collides bytes kept.contents
-BringsCollision (command.Remove path) kept = ⊥
-BringsCollision command.Accept kept = ⊥
-
--- what each reply prints: a file that was added or removed nothing, fixes that were accepted how many there were, and a
--- refusal why
+-- what each reply prints: a file that was added or removed nothing, fixes that were accepted how many there were, hooks that
+-- were run what is reported of them, a commit that too, with its number where it was made, and a refusal why
 abbrev pub IsReplied : Output → Output → Reply → CommandEnding → Type 0
 IsReplied out err Added ending = IsSilent out × IsSilent err × (ending ≡ Done)
 IsReplied out err Removed ending = IsSilent out × IsSilent err × (ending ≡ Done)
 IsReplied out err (Accepted number) ending = IsSaid out (accepted_text number) ending × IsSilent err
+IsReplied out err (Ran passed report changes unsteady) ending = IsRunSaid passed out (run_text report unsteady) ending × IsSilent err
+IsReplied out err (Committed number reports post) ending = IsCommitSaid number reports post out err ending
+IsReplied out err (HooksFailed stage reports) ending = IsFailureSaid out (failure_text reports) ending × IsSilent err
 IsReplied out err (Refused refusal) ending = IsSilent out × IsTold err (refusal_text refusal) ending
+IsReplied out err reply ending = ⊥
 
--- One call of the host, whose answer is printed. The repository takes a step of the host's machine, as a whole or not at all,
--- whatever stops it, and a writer's error undoes none of it.
-pub record IsChanged {S : Type 0} (g : Ghosts S) (old new : Hosted S) (command : Command) (out err : Output) (ending : CommandEnding) : Type 0 where
+-- One call of the host that runs no hooks, whose answer is printed. Done, it has this reply and leaves this kept, and it may
+-- bring contents that collide. The repository takes a step of the host's machine, as a whole or not at all, whatever stops it,
+-- and a writer's error undoes none of it.
+pub record IsChanged {S : Type 0} (g : Ghosts S) (old new : Hosted S) (command : Command) (reply : Reply) (after : Kept) (BringsCollision : Type 0) (out err : Output) (ending : CommandEnding) : Type 0 where
   pub answer : Result (Unit {0}) HostRefusal
-  pub step : Step old.store.kept.repo command (reply_of (λ _. reply_to command old.store.kept) answer) 0 new.store.kept.repo
-  pub change : IsAllOrNothing old.store.kept new.store.kept answer (kept_after command old.store.kept)
+  pub step : Step old.store.kept.repo command (reply_of (λ _. reply) answer) [] new.store.kept.repo
+  pub change : IsAllOrNothing old.store.kept new.store.kept answer after
   pub one : IsOneCommand g old new command answer
-  pub apart : OnOk answer (¬ BringsCollision command old.store.kept)
-  pub collides : IfErr answer (λ refusal. refusal ≡ Collision → BringsCollision command old.store.kept)
-  pub replied : IsReplied out err (reply_of (λ _. reply_to command old.store.kept) answer) ending
+  pub apart : OnOk answer (¬ BringsCollision)
+  pub collides : IfErr answer (λ refusal. refusal ≡ Collision → BringsCollision)
+  pub replied : IsReplied out err (reply_of (λ _. reply) answer) ending
+
+-- the bytes are staged at the path
+abbrev pub IsAddOver : {S : Type 0} → Ghosts S → Hosted S → Hosted S → List ℕ → List ℕ → Option Mode → Output → Output → CommandEnding → Type 0
+IsAddOver g old new path bytes mode out err ending =
+    IsChanged g old new (command.Add path bytes mode) Added (staging path (entry_to_add old.store.kept.repo path bytes mode) old.store.kept)
+    (Collides bytes old.store.kept.contents) out err ending
+
+-- the path is taken out of the staged files
+abbrev pub IsRemoveOver : {S : Type 0} → Ghosts S → Hosted S → Hosted S → List ℕ → Output → Output → CommandEnding → Type 0
+IsRemoveOver g old new path out err ending = IsChanged g old new (command.Remove path) Removed (unstaging path old.store.kept) ⊥ out err ending
+
+-- the fixes are accepted
+abbrev pub IsAcceptOver : {S : Type 0} → Ghosts S → Hosted S → Hosted S → Output → Output → CommandEnding → Type 0
+IsAcceptOver g old new out err ending =
+    IsChanged g old new command.Accept (Accepted (length old.store.kept.repo.fixes)) (accepting old.store.kept) ⊥ out err ending
+
+-- ---- runs of hooks
+
+-- how many outcomes children told before a command and after it, and how many of these were faults
+pub record Counts : Type 0 where
+  pub calls : ℕ
+  pub calls_after : ℕ
+  pub faults : ℕ
+  pub faults_after : ℕ
+
+-- what a line asks of the host, with the hooks that are skipped
+abbrev pub ask_of : Which → Option (List ℕ) → AskStage → Bool → List (List ℕ) → HostAsk
+ask_of which only stage fresh skip = record { which = which; only = only; stage = stage; skip = skip; fresh = fresh }
+
+-- Hooks are run on the staged files by one call of the host, whose answer is printed. The repository takes a step of the host's
+-- machine over the children, or stays as it is, and a writer's error undoes none of it.
+pub record IsRunOverHost {S : Type 0} (g : Ghosts S) (tells : List (List ℕ) → List File → Outcome → Type 0) (counts : Counts) (old new : Hosted S) (ask : HostAsk) (out err : Output) (ending : CommandEnding) : Type 0 where
+  pub answer : Result StagedRun HostRefusal
+  pub step : IfOk answer (λ ran. IsRunStep tells counts.calls counts.calls_after counts.faults counts.faults_after old.store.kept.repo ask ran new.store.kept.repo)
+  pub stopped : IfErr answer (IsStoppedStep tells counts.calls counts.calls_after counts.faults counts.faults_after old.store.kept ask)
+  pub change : IsAllOrNothing old.store.kept new.store.kept answer (setting (changes_in answer) old.store.kept)
+  pub one : IsOneCommand g old new (command.Run ask) answer
+  pub replied : IsReplied out err (reply_of reply_of_run answer) ending
+
+-- The staged files are committed through their hooks by one call of the host, whose answer is printed. The repository takes a
+-- step of the host's machine over the children, or stays as it is, and a writer's error undoes none of it.
+pub record IsCommitOverHost {S : Type 0} (g : Ghosts S) (tells : List (List ℕ) → List File → Outcome → Type 0) (counts : Counts) (old new : Hosted S) (message : List ℕ) (no_verify : Bool) (skip : List (List ℕ)) (out err : Output) (ending : CommandEnding) : Type 0 where
+  pub answer : Result CommitEnding HostRefusal
+  pub step : IsCommitStep tells counts.calls counts.calls_after counts.faults counts.faults_after old.store.kept message no_verify skip (reply_of reply_of_ending answer) new.store.kept.repo
+  pub change : KeepsFor old.store.kept new.store.kept answer
+  pub one : IsOneCommand g old new (command.Commit message no_verify skip) answer
+  pub replied : IsReplied out err (reply_of reply_of_ending answer) ending
 
 -- ---- the commands that look something up
 
@@ -94,6 +144,8 @@ IsAnswer repo (Show number) text = option_map show_text (commit_at number repo.h
 IsAnswer repo Init text = ⊥
 IsAnswer repo (Try config paths) text = ⊥
 IsAnswer repo Check text = ⊥
+IsAnswer repo (Run which only stage fresh) text = ⊥
+IsAnswer repo (Commit message no_verify) text = ⊥
 IsAnswer repo (Add path mode) text = ⊥
 IsAnswer repo (Remove path) text = ⊥
 IsAnswer repo Accept text = ⊥
@@ -118,6 +170,8 @@ IsRefusalText repo (Show number) text =
 IsRefusalText repo Init text = ⊥
 IsRefusalText repo (Try config paths) text = ⊥
 IsRefusalText repo Check text = ⊥
+IsRefusalText repo (Run which only stage fresh) text = ⊥
+IsRefusalText repo (Commit message no_verify) text = ⊥
 IsRefusalText repo (Add path mode) text = ⊥
 IsRefusalText repo (Remove path) text = ⊥
 IsRefusalText repo Accept text = ⊥
@@ -146,22 +200,37 @@ pub record IsLookedUp {S : Type 0} (old new : Hosted S) (line : Line) (out err :
 
 -- ---- all of them
 
--- the line is done so; the bytes are those of the file that is added
-abbrev pub IsEnded : {S : Type 0} → Ghosts S → Hosted S → Hosted S → Line → List ℕ → Output → Output → CommandEnding → Type 0
-IsEnded g old new (Add path mode) bytes out err ending = IsChanged g old new (command.Add path bytes mode) out err ending
-IsEnded g old new (Remove path) bytes out err ending = IsChanged g old new (command.Remove path) out err ending
-IsEnded g old new Status bytes out err ending = IsLookedUp old new Status out err ending
-IsEnded g old new Fixes bytes out err ending = IsLookedUp old new Fixes out err ending
-IsEnded g old new Accept bytes out err ending = IsChanged g old new command.Accept out err ending
-IsEnded g old new (Cat path) bytes out err ending = IsLookedUp old new (Cat path) out err ending
-IsEnded g old new Log bytes out err ending = IsLookedUp old new Log out err ending
-IsEnded g old new (Show number) bytes out err ending = IsLookedUp old new (Show number) out err ending
-IsEnded g old new Init bytes out err ending = ⊥
-IsEnded g old new (Try config paths) bytes out err ending = ⊥
-IsEnded g old new Check bytes out err ending = ⊥
+-- the line is done so; the bytes are those of the file that is added, and the names those of the hooks that are skipped
+abbrev pub IsEnded : {S : Type 0} → Ghosts S → (List (List ℕ) → List File → Outcome → Type 0) → Counts → Hosted S → Hosted S → Line → List ℕ → List (List ℕ) → Output → Output → CommandEnding → Type 0
+IsEnded g tells counts old new (Add path mode) bytes skip out err ending = IsAddOver g old new path bytes mode out err ending
+IsEnded g tells counts old new (Remove path) bytes skip out err ending = IsRemoveOver g old new path out err ending
+IsEnded g tells counts old new Status bytes skip out err ending = IsLookedUp old new Status out err ending
+IsEnded g tells counts old new Fixes bytes skip out err ending = IsLookedUp old new Fixes out err ending
+IsEnded g tells counts old new Accept bytes skip out err ending = IsAcceptOver g old new out err ending
+IsEnded g tells counts old new (Cat path) bytes skip out err ending = IsLookedUp old new (Cat path) out err ending
+IsEnded g tells counts old new Log bytes skip out err ending = IsLookedUp old new Log out err ending
+IsEnded g tells counts old new (Show number) bytes skip out err ending = IsLookedUp old new (Show number) out err ending
+IsEnded g tells counts old new Init bytes skip out err ending = ⊥
+IsEnded g tells counts old new (Try config paths) bytes skip out err ending = ⊥
+IsEnded g tells counts old new Check bytes skip out err ending = ⊥
+IsEnded g tells counts old new (Run which only stage fresh) bytes skip out err ending =
+    IsRunOverHost g tells counts old new (ask_of which only stage fresh skip) out err ending
+IsEnded g tells counts old new (Commit message no_verify) bytes skip out err ending =
+    IsCommitOverHost g tells counts old new message no_verify skip out err ending
+
+-- the line runs no hooks
+abbrev pub IsRunless : Line → Type 0
+IsRunless (Run which only stage fresh) = ⊥
+IsRunless (Commit message no_verify) = ⊥
+IsRunless line = Unit {0}
+
+-- children are called by a line that runs hooks alone
+abbrev pub IsCalledBy : Line → Counts → Type 0
+IsCalledBy line counts = IsRunless line → NoneCalled counts.calls counts.calls_after counts.faults counts.faults_after
 
 -- the line ends in one of these ways, and its exit status is that ending's
-pub record IsCommandOver {S : Type 0} (g : Ghosts S) (old new : Hosted S) (line : Line) (bytes : List ℕ) (out err : Output) (status : ℕ) : Type 0 where
+pub record IsCommandOver {S : Type 0} (g : Ghosts S) (tells : List (List ℕ) → List File → Outcome → Type 0) (counts : Counts) (old new : Hosted S) (line : Line) (bytes : List ℕ) (skip : List (List ℕ)) (out err : Output) (status : ℕ) : Type 0 where
   pub ending : CommandEnding
-  pub ended : IsEnded g old new line bytes out err ending
+  pub ended : IsEnded g tells counts old new line bytes skip out err ending
+  pub called : IsCalledBy line counts
   pub exits : status ≡ status_of ending

@@ -6,7 +6,9 @@ pub mod LogText
 pub mod Printing
 pub mod Reading
 pub mod RefusalText
+pub mod RunText
 pub mod ShowText
+pub mod SkipList
 pub mod StatusText
 pub mod StatusWalk
 pub mod TryFaults

@@ -6,6 +6,9 @@ ghost use Rattle.hook_cli.specs.Printing.{status_of};
 // The exit status of a command that is done.
 const DONE: u8 = 0;
 
+// The exit status of a command in which a hook failed.
+const HOOK_FAILED: u8 = 1;
+
 // The exit status of a refusal, and of an answer that a writer doesn't take.
 const REFUSED: u8 = 3;
 
@@ -14,19 +17,22 @@ const REFUSED: u8 = 3;
 pub enum CommandEnding {
     /// It is done, and its text stands on standard output.
     Done,
+    /// A hook failed in it, and its text stands on standard output.
+    Failed,
     /// It is refused, and standard error says why.
     Refused,
     /// A writer gave an error while it took what the command had to say.
     CutOff,
 }
 
-/// The exit status of an ending: 0 or 3.
+/// The exit status of an ending: 0, 1 or 3.
 pub(crate) fn status_of(ending: CommandEnding) -> u8
     ensures exits { result ≡ status_of ending }
-    ensures either { (result ≡ 0) ⊎ (result ≡ 3) }
+    ensures one_of { (result ≡ 0) ⊎ (result ≡ 1) ⊎ (result ≡ 3) }
 {
     match ending {
         CommandEnding::Done => DONE,
+        CommandEnding::Failed => HOOK_FAILED,
         CommandEnding::Refused | CommandEnding::CutOff => REFUSED,
     }
 }

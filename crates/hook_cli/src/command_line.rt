@@ -4,19 +4,21 @@
 
 ghost use Rattle.std.specs.Prelude.{◌≡◌, IfOk, Some, is_some, map, option_map, true};
 ghost use Rattle.clap.specs.Words.{FailsBy, fault_of, found_of, rows_of, subcommand_of, subcommand_rows_of};
-ghost use Rattle.hook_cli.specs.CommandLine.{IsValueOf, add_line, hookhost_app, is_command, line_asked, line_by, line_fault, show_line, try_line};
+ghost use Rattle.hook_cli.specs.CommandLine.{IsValueOf, add_line, commit_line, hookhost_app, is_command, line_asked, line_by, line_fault, run_files_line, run_line, show_line, try_line, which_in};
 
 use crate::Line;
 use crate::commands::hookhost;
-use crate::values::{mode_of, number_of, text_of, texts_of};
+use crate::values::{flag_of, maybe_text_of, mode_of, number_of, stage_of, text_of, texts_of};
 use clap::{ArgMatches, Error};
+use commit_flow::Which;
 use std::alloc::{AllocError, Global};
 
 /// What the words, without the program's own name, ask for.
 ///
 /// An error's text says what the words lack, or which value can't be taken, or is the help that they ask for. Its kind
 /// is `OutOfMemory` where memory was refused, the one that `clap` states for these words, or else `InvalidValue`: for
-/// another `--chmod` than `+x`, or where the number of `show` isn't one of 32 bits.
+/// another `--chmod` than `+x` or another `--hook-stage` than `pre-commit` and `manual`, or where the number of `show` isn't
+/// one of 32 bits.
 pub fn line_of<'a>(alloc: Global, words: &'a [&'a str]) -> Result<Line, Error>
     ensures line { IfOk result (λ line. line_asked (map (λ s. s.now) words.entry.now) ≡ Some line) }
     ensures fault { FailsBy (line_fault (map (λ s. s.now) words.entry.now)) result }
@@ -58,8 +60,11 @@ fn line_by(alloc: Global, name: &str, values: &ArgMatches<'_>) -> Result<Line, E
             path: text_of(alloc, values, "PATH")?,
         }),
         "status" => Ok(Line::Status),
+        "run" => run_line(alloc, values),
+        "run-files" => run_files_line(alloc, values),
         "fixes" => Ok(Line::Fixes),
         "accept" => Ok(Line::Accept),
+        "commit" => Ok(commit_line(alloc, values)?),
         "cat" => Ok(Line::Cat {
             path: text_of(alloc, values, "PATH")?,
         }),
@@ -84,6 +89,49 @@ fn add_line(alloc: Global, values: &ArgMatches<'_>) -> Result<Line, Error>
     Ok(Line::Add {
         path: text_of(alloc, values, "PATH")?,
         mode: mode_of(alloc, values)?,
+    })
+}
+
+fn run_line(alloc: Global, values: &ArgMatches<'_>) -> Result<Line, Error>
+    ensures { IsValueOf (run_line (rows_of (found_of values.now))) result }
+{
+    let stage = stage_of(alloc, "run", values)?;
+    Ok(Line::Run {
+        which: which_of(values),
+        only: maybe_text_of(alloc, values, "ID")?,
+        stage,
+        fresh: flag_of(values, "fresh"),
+    })
+}
+
+fn which_of(values: &ArgMatches<'_>) -> Which
+    ensures { result ≡ which_in (rows_of (found_of values.now)) }
+{
+    if flag_of(values, "all-files") {
+        Which::All
+    } else {
+        Which::Changed
+    }
+}
+
+fn run_files_line(alloc: Global, values: &ArgMatches<'_>) -> Result<Line, Error>
+    ensures { IsValueOf (run_files_line (rows_of (found_of values.now))) result }
+{
+    let stage = stage_of(alloc, "run-files", values)?;
+    Ok(Line::Run {
+        which: Which::Named(texts_of(alloc, values, "PATH")?),
+        only: None,
+        stage,
+        fresh: flag_of(values, "fresh"),
+    })
+}
+
+fn commit_line(alloc: Global, values: &ArgMatches<'_>) -> Result<Line, AllocError>
+    ensures { IfOk result (λ line. line ≡ commit_line (rows_of (found_of values.now))) }
+{
+    Ok(Line::Commit {
+        message: text_of(alloc, values, "message")?,
+        no_verify: flag_of(values, "no-verify"),
     })
 }
 

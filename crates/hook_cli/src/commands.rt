@@ -3,16 +3,16 @@
 //! The contracts cite `specs/CommandLine.antt`.
 
 ghost use Rattle.std.specs.Prelude.{◌≡◌, ◌∷◌, IfOk, [], false};
-ghost use Rattle.clap.specs.Words.{app_of, rule_of};
+ghost use Rattle.clap.specs.Words.{app_of, new_rule, rule_of};
 ghost use Rattle.clap.specs.declared.builder.Command.TheViews.{out-Command as fields_of};
-ghost use Rattle.hook_cli.specs.CommandLine.{accept_app, add_app, cat_app, check_app, chmod_rule, fixes_app, hookhost_app, hookhost_base, init_app, log_app, remove_app, show_app, status_app, try_app, with_commands, word_rule, words_rule};
+ghost use Rattle.hook_cli.specs.CommandLine.{accept_app, add_app, cat_app, check_app, chmod_rule, commit_app, fixes_app, flag_rule, hookhost_app, hookhost_base, init_app, log_app, message_rule, remove_app, run_app, run_files_app, run_with_options_app, show_app, stage_rule, status_app, try_app, with_commands, word_rule, words_rule};
 
 use crate::help::{CHECK_HELP, PROGRAM_HELP, TRY_HELP};
 use crate::repository_help::{
-    ACCEPT_HELP, ADD_HELP, CAT_HELP, FIXES_HELP, INIT_HELP, LOG_HELP, REMOVE_HELP, SHOW_HELP,
-    STATUS_HELP,
+    ACCEPT_HELP, ADD_HELP, CAT_HELP, COMMIT_HELP, FIXES_HELP, INIT_HELP, LOG_HELP, REMOVE_HELP,
+    RUN_FILES_HELP, RUN_HELP, SHOW_HELP, STATUS_HELP,
 };
-use clap::{Arg, Command};
+use clap::{Arg, ArgAction, Command};
 use std::alloc::{AllocError, Global};
 
 /// The program without its name, with all its commands.
@@ -21,6 +21,8 @@ pub(crate) fn hookhost<'a>(alloc: Global) -> Result<Command<'a>, AllocError>
 {
     let program = with_configurations(alloc, program(alloc))?;
     let program = with_staging(alloc, program)?;
+    let program = with_staged_files(alloc, program)?;
+    let program = with_runs(alloc, program)?;
     let program = with_fixes(alloc, program)?;
     with_commits(alloc, program)
 }
@@ -46,12 +48,27 @@ fn with_configurations<'a>(alloc: Global, program: Command<'a>) -> Result<Comman
 }
 
 fn with_staging<'a>(alloc: Global, program: Command<'a>) -> Result<Command<'a>, AllocError>
-    ensures { IfOk result (λ command. app_of command ≡ with_commands (app_of program.entry) (add_app ∷ remove_app ∷ status_app ∷ [])) }
+    ensures { IfOk result (λ command. app_of command ≡ with_commands (app_of program.entry) (add_app ∷ remove_app ∷ [])) }
 {
     program
         .subcommand(add_command(alloc)?)?
-        .subcommand(remove_command(alloc)?)?
-        .subcommand(status_command(alloc))
+        .subcommand(remove_command(alloc)?)
+}
+
+fn with_staged_files<'a>(alloc: Global, program: Command<'a>) -> Result<Command<'a>, AllocError>
+    ensures { IfOk result (λ command. app_of command ≡ with_commands (app_of program.entry) (status_app ∷ cat_app ∷ [])) }
+{
+    program
+        .subcommand(status_command(alloc))?
+        .subcommand(cat_command(alloc)?)
+}
+
+fn with_runs<'a>(alloc: Global, program: Command<'a>) -> Result<Command<'a>, AllocError>
+    ensures { IfOk result (λ command. app_of command ≡ with_commands (app_of program.entry) (run_app ∷ run_files_app ∷ [])) }
+{
+    program
+        .subcommand(run_command(alloc)?)?
+        .subcommand(run_files_command(alloc)?)
 }
 
 fn with_fixes<'a>(alloc: Global, program: Command<'a>) -> Result<Command<'a>, AllocError>
@@ -63,10 +80,10 @@ fn with_fixes<'a>(alloc: Global, program: Command<'a>) -> Result<Command<'a>, Al
 }
 
 fn with_commits<'a>(alloc: Global, program: Command<'a>) -> Result<Command<'a>, AllocError>
-    ensures { IfOk result (λ command. app_of command ≡ with_commands (app_of program.entry) (cat_app ∷ log_app ∷ show_app ∷ [])) }
+    ensures { IfOk result (λ command. app_of command ≡ with_commands (app_of program.entry) (commit_app ∷ log_app ∷ show_app ∷ [])) }
 {
     program
-        .subcommand(cat_command(alloc)?)?
+        .subcommand(commit_command(alloc)?)?
         .subcommand(log_command(alloc))?
         .subcommand(show_command(alloc)?)
 }
@@ -141,6 +158,58 @@ fn status_command<'a>(alloc: Global) -> Command<'a>
         .after_help(STATUS_HELP)
 }
 
+/// `run [--all-files] [--hook-stage=STAGE] [--fresh] [ID]`.
+pub(crate) fn run_command<'a>(alloc: Global) -> Result<Command<'a>, AllocError>
+    ensures app { IfOk result (λ command. app_of command ≡ run_app) }
+    ensures local { IfOk result (λ command. (fields_of command).has_globals ≡ false) }
+{
+    run_with_options(alloc)?.arg(optional_word(
+        alloc,
+        "ID",
+        "The id or alias of the hooks to run; without it all of the stage",
+    ))
+}
+
+// `run` with its options alone.
+fn run_with_options<'a>(alloc: Global) -> Result<Command<'a>, AllocError>
+    ensures app { IfOk result (λ command. app_of command ≡ run_with_options_app) }
+    ensures local { IfOk result (λ command. (fields_of command).has_globals ≡ false) }
+{
+    Command::new(alloc, "run")
+        .about("Runs the hooks of the staged configuration on staged files, and prints the report")
+        .override_usage("hookhost run [--all-files] [--hook-stage=<STAGE>] [--fresh] [ID]")
+        .after_help(RUN_HELP)
+        .arg(flag(
+            alloc,
+            "all-files",
+            "Takes all staged files, not only those that differ from the last commit",
+        ))?
+        .arg(stage(alloc))?
+        .arg(flag(
+            alloc,
+            "fresh",
+            "Starts every command, also where its answer is remembered",
+        ))
+}
+
+/// `run-files [--hook-stage=STAGE] [--fresh] PATH..`.
+pub(crate) fn run_files_command<'a>(alloc: Global) -> Result<Command<'a>, AllocError>
+    ensures app { IfOk result (λ command. app_of command ≡ run_files_app) }
+    ensures local { IfOk result (λ command. (fields_of command).has_globals ≡ false) }
+{
+    Command::new(alloc, "run-files")
+        .about("Runs the hooks of the staged configuration on the named staged files")
+        .override_usage("hookhost run-files [--hook-stage=<STAGE>] [--fresh] <PATH>...")
+        .after_help(RUN_FILES_HELP)
+        .arg(stage(alloc))?
+        .arg(flag(
+            alloc,
+            "fresh",
+            "Starts every command, also where its answer is remembered",
+        ))?
+        .arg(words(alloc, "PATH", "The staged files to run the hooks on"))
+}
+
 fn fixes_command<'a>(alloc: Global) -> Command<'a>
     ensures app { app_of result ≡ fixes_app }
     ensures local { (fields_of result).has_globals ≡ false }
@@ -159,6 +228,22 @@ fn accept_command<'a>(alloc: Global) -> Command<'a>
         .about("Applies the fixes to the staged files, and prints how many there were")
         .override_usage("hookhost accept")
         .after_help(ACCEPT_HELP)
+}
+
+fn commit_command<'a>(alloc: Global) -> Result<Command<'a>, AllocError>
+    ensures app { IfOk result (λ command. app_of command ≡ commit_app) }
+    ensures local { IfOk result (λ command. (fields_of command).has_globals ≡ false) }
+{
+    Command::new(alloc, "commit")
+        .about("Commits the staged files, through the hooks of a commit")
+        .override_usage("hookhost commit [--no-verify] -m <TEXT>")
+        .after_help(COMMIT_HELP)
+        .arg(flag(
+            alloc,
+            "no-verify",
+            "Leaves out the hooks of pre-commit and commit-msg",
+        ))?
+        .arg(message(alloc))
 }
 
 fn cat_command<'a>(alloc: Global) -> Result<Command<'a>, AllocError>
@@ -202,6 +287,14 @@ fn word<'a>(alloc: Global, id: &'a str, help: &'a str) -> Arg<'a>
     Arg::new(alloc, id).required(true).help(help)
 }
 
+// A value of one word, which may be left out.
+fn optional_word<'a>(alloc: Global, id: &'a str, help: &'a str) -> Arg<'a>
+    ensures rule { rule_of result ≡ new_rule id.entry.now }
+    ensures local { result.global ≡ false }
+{
+    Arg::new(alloc, id).help(help)
+}
+
 // A value of one word or more.
 fn words<'a>(alloc: Global, id: &'a str, help: &'a str) -> Arg<'a>
     ensures rule { rule_of result ≡ words_rule id.entry.now }
@@ -218,4 +311,35 @@ fn chmod<'a>(alloc: Global) -> Arg<'a>
         .long("chmod")
         .value_name("MODE")
         .help("The file's mode: +x makes it executable")
+}
+
+fn flag<'a>(alloc: Global, id: &'a str, help: &'a str) -> Arg<'a>
+    ensures rule { rule_of result ≡ flag_rule id.entry.now }
+    ensures local { result.global ≡ false }
+{
+    Arg::new(alloc, id)
+        .long(id)
+        .action(ArgAction::SetTrue)
+        .help(help)
+}
+
+fn stage<'a>(alloc: Global) -> Arg<'a>
+    ensures rule { rule_of result ≡ stage_rule }
+    ensures local { result.global ≡ false }
+{
+    Arg::new(alloc, "hook-stage")
+        .long("hook-stage")
+        .value_name("STAGE")
+        .help("The stage whose hooks are run, pre-commit or manual; without it pre-commit")
+}
+
+fn message<'a>(alloc: Global) -> Arg<'a>
+    ensures rule { rule_of result ≡ message_rule }
+    ensures local { result.global ≡ false }
+{
+    Arg::new(alloc, "message")
+        .short('m')
+        .value_name("TEXT")
+        .required(true)
+        .help("The message, which hooks may change")
 }

@@ -1,5 +1,6 @@
 //! What a line of words asks the program for, as a value.
 
+use commit_flow::{AskStage, Which};
 use hook_base::{Items, Mode, Text};
 
 /// What a line of words asks the program for.
@@ -30,10 +31,28 @@ pub enum Line {
     },
     /// The staged files that differ from those of the last commit.
     Status,
+    /// A run of hooks on the staged files.
+    Run {
+        /// The files that hooks may get.
+        which: Which,
+        /// The id or alias of the hooks that are run, or `None` for all of the stage.
+        only: Option<Text>,
+        /// The stage whose hooks are run.
+        stage: AskStage,
+        /// Whether every child is to be started, also where its answer is remembered.
+        fresh: bool,
+    },
     /// What the last run of hooks would change of the staged files.
     Fixes,
     /// The fixes are applied to the staged files.
     Accept,
+    /// A commit of the staged files, through its hooks.
+    Commit {
+        /// The message, before any hook has seen it.
+        message: Text,
+        /// Whether the hooks of `pre-commit` and `commit-msg` are left out.
+        no_verify: bool,
+    },
     /// The bytes of a staged file.
     Cat {
         /// The path, as a text that needn't be one.

@@ -5,7 +5,7 @@
 ghost use Rattle.std.specs.Prelude.{◌≡◌, IfOk, IfErr, Some, option_map};
 ghost use Rattle.hook_base.specs.declared.file.FileEntry.{FileEntry};
 ghost use Rattle.hook_base.specs.Trees.{entry_of};
-ghost use Rattle.commit_flow.specs.Steps.{IsLegal};
+ghost use Rattle.commit_flow.specs.StagedPaths.{IsLegal};
 ghost use Rattle.hook_cli.specs.declared.line.Line.TheVariants as line;
 ghost use Rattle.hook_cli.specs.CommandOver.{IsCatRefusal, IsLookUp};
 

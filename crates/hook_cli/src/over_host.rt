@@ -3,60 +3,91 @@
 //! The contracts cite `specs/CommandOver.antt`.
 
 ghost use Rattle.std.specs.Prelude.{◌≡◌, ◌⊎◌};
-ghost use Rattle.hook_cli.specs.CommandOver.{IsCommandOver, IsChanged, IsEnded, IsOverHost};
+ghost use Rattle.child_port.specs.Telling.{SameTells};
+ghost use Rattle.hook_cli.specs.CommandOver.{IsAcceptOver, IsAddOver, IsCalledBy, IsCommandOver, IsEnded, IsOverHost, IsRemoveOver};
 ghost use Rattle.hook_cli.specs.Printing.{IsSilent, Output};
-ghost use Rattle.commit_flow.specs.declared.command.Command.TheVariants as command;
 
 use crate::command_ending::status_of;
 use crate::look_up::{cat, fixes, log, show, status};
+use crate::over_runs::{ask_of, commit, run};
 use crate::printing::{say_accepted, tell};
 use crate::{CommandEnding, Line};
+use child_port::Children;
 use commit_flow::Host;
-use hook_base::Mode;
+use hook_base::{Mode, Text};
 use sqlite::Alter;
 use std::alloc::Global;
 use std::io::Write;
 
 /// Makes the call of a line that is a command over a repository, prints what it answers, and answers the exit status. The
-/// bytes are those of the file that `add` stages; another command doesn't look at them.
+/// bytes are those of the file that `add` stages, and `skip` the ids and aliases of hooks that runs skip; another command
+/// doesn't look at them.
 ///
-/// Done, it is 0: what the command looks up stands on `out` and nothing else, and for `accept` how many fixes there were;
-/// `add` and `rm` print nothing. Refused, it is 3: `hookhost: refused: NUMBER NAME` stands on `err`, with the inner number
+/// Done, it is 0: what the command looks up stands on `out` and nothing else, for `accept` how many fixes there were, and for
+/// a run the report of its hooks and a line for each that is unsteady, and for a commit the reports of its stages and its number;
+/// `add` and `rm` print nothing. It is 1 where a hook failed in a run or before a commit, with what is reported on `out`. Where
+/// the hooks behind a commit are stopped, `err` says why, and it is 0. Refused, it is 3: `hookhost: refused: NUMBER NAME` stands on `err`, with the inner number
 /// where the refusal has one, or for `show` of a number that no commit has `hookhost: no commit N`; nothing is on `out`. Want
 /// of memory is refused as `OutOfMemory`. A writer's error gives 3 too: what it took before is out, and what the command
 /// changed stays.
 ///
-/// `add`, `rm` and `accept` change the repository as the host's calls do, and a refusal leaves it as it was; the others change
-/// nothing.
-pub fn command_over<S: Alter, O: Write, E: Write>(
+/// `add`, `rm`, `accept`, runs and commits change the repository as the host's calls do, and a refusal leaves it as it was; the
+/// others change nothing. Runs and commits alone call children.
+pub fn command_over<S: Alter, C: Children, O: Write, E: Write>(
     alloc: Global,
     line: &Line,
     bytes: &[u8],
+    skip: &[Text],
     host: &mut Host<S>,
+    children: &mut C,
     out: &mut O,
     err: &mut E,
 ) -> u8
     requires { IsOverHost line.now }
-    ensures done { IsCommandOver S.Store host.old host.new line.now bytes.now (record { held = O.contents out.old; holds = O.contents out.new }) (record { held = E.contents err.old; holds = E.contents err.new }) result }
-    ensures either { (result ≡ 0) ⊎ (result ≡ 3) }
+    ensures done { IsCommandOver S.Store (C.tells children.old) (record { calls = C.call_count children.old; calls_after = C.call_count children.new; faults = C.fault_count children.old; faults_after = C.fault_count children.new }) host.old host.new line.now bytes.now skip.now (record { held = O.contents out.old; holds = O.contents out.new }) (record { held = E.contents err.old; holds = E.contents err.new }) result }
+    ensures same { SameTells (C.tells children.old) (C.tells children.new) }
+    ensures one_of { (result ≡ 0) ⊎ (result ≡ 1) ⊎ (result ≡ 3) }
 {
-    status_of(end_of(alloc, line, bytes, host, out, err))
+    status_of(end_of(alloc, line, bytes, skip, host, children, out, err))
 }
 
-fn end_of<S: Alter, O: Write, E: Write>(
+fn end_of<S: Alter, C: Children, O: Write, E: Write>(
     alloc: Global,
     line: &Line,
     bytes: &[u8],
+    skip: &[Text],
     host: &mut Host<S>,
+    children: &mut C,
     out: &mut O,
     err: &mut E,
 ) -> CommandEnding
     requires { IsOverHost line.now }
-    ensures { IsEnded S.Store host.old host.new line.now bytes.now (record { held = O.contents out.old; holds = O.contents out.new }) (record { held = E.contents err.old; holds = E.contents err.new }) result }
+    ensures ended { IsEnded S.Store (C.tells children.old) (record { calls = C.call_count children.old; calls_after = C.call_count children.new; faults = C.fault_count children.old; faults_after = C.fault_count children.new }) host.old host.new line.now bytes.now skip.now (record { held = O.contents out.old; holds = O.contents out.new }) (record { held = E.contents err.old; holds = E.contents err.new }) result }
+    ensures called { IsCalledBy line.now (record { calls = C.call_count children.old; calls_after = C.call_count children.new; faults = C.fault_count children.old; faults_after = C.fault_count children.new }) }
+    ensures same { SameTells (C.tells children.old) (C.tells children.new) }
 {
     match line {
         Line::Add { path, mode } => add(alloc, path.as_str(), bytes, *mode, host, err),
         Line::Remove { path } => remove(alloc, path.as_str(), host, err),
+        Line::Run {
+            which,
+            only,
+            stage,
+            fresh,
+        } => {
+            let ask = ask_of(alloc, which, only, *stage, *fresh, skip);
+            run(alloc, ask, host, children, out, err)
+        }
+        Line::Commit { message, no_verify } => commit(
+            alloc,
+            message.as_str(),
+            *no_verify,
+            skip,
+            host,
+            children,
+            out,
+            err,
+        ),
         Line::Status => status(alloc, host.store(), out, err),
         Line::Fixes => fixes(alloc, host.store(), out, err),
         Line::Accept => accept(host, out, err),
@@ -77,7 +108,7 @@ fn add<S: Alter, E: Write>(
     host: &mut Host<S>,
     err: &mut E,
 ) -> CommandEnding
-    ensures { (out : Output) → IsSilent out → IsChanged S.Store host.old host.new (command.Add path.now bytes.now mode) out (record { held = E.contents err.old; holds = E.contents err.new }) result }
+    ensures { (out : Output) → IsSilent out → IsAddOver S.Store host.old host.new path.now bytes.now mode out (record { held = E.contents err.old; holds = E.contents err.new }) result }
 {
     match host.add(alloc, path, bytes, mode) {
         Ok(()) => CommandEnding::Done,
@@ -92,7 +123,7 @@ fn remove<S: Alter, E: Write>(
     host: &mut Host<S>,
     err: &mut E,
 ) -> CommandEnding
-    ensures { (out : Output) → IsSilent out → IsChanged S.Store host.old host.new (command.Remove path.now) out (record { held = E.contents err.old; holds = E.contents err.new }) result }
+    ensures { (out : Output) → IsSilent out → IsRemoveOver S.Store host.old host.new path.now out (record { held = E.contents err.old; holds = E.contents err.new }) result }
 {
     match host.remove(alloc, path) {
         Ok(()) => CommandEnding::Done,
@@ -106,7 +137,7 @@ fn accept<S: Alter, O: Write, E: Write>(
     out: &mut O,
     err: &mut E,
 ) -> CommandEnding
-    ensures { IsChanged S.Store host.old host.new command.Accept (record { held = O.contents out.old; holds = O.contents out.new }) (record { held = E.contents err.old; holds = E.contents err.new }) result }
+    ensures { IsAcceptOver S.Store host.old host.new (record { held = O.contents out.old; holds = O.contents out.new }) (record { held = E.contents err.old; holds = E.contents err.new }) result }
 {
     match host.accept() {
         Ok(number) => say_accepted(out, number),

@@ -36,8 +36,8 @@ pub(crate) fn say_accepted<O: Write>(out: &mut O, number: u32) -> CommandEnding
     say_pieces(out, &["accepted: ", digits.format(number), "\n"])
 }
 
-// Says the text of a command that is done, piece by piece.
-fn say_pieces<'a, O: Write>(out: &mut O, pieces: &'a [&'a str]) -> CommandEnding
+/// Says the text of a command that is done, piece by piece.
+pub(crate) fn say_pieces<'a, O: Write>(out: &mut O, pieces: &'a [&'a str]) -> CommandEnding
     ensures { IsSaid (record { held = O.contents out.old; holds = O.contents out.new }) (concat (map (λ s. s.now) pieces.entry.now)) result }
 {
     match write_pieces(out, pieces) {
@@ -91,7 +91,11 @@ fn tell_pieces<'a, E: Write>(err: &mut E, pieces: &'a [&'a str]) -> CommandEndin
     }
 }
 
-fn write_pieces<'a, W: Write>(writer: &mut W, pieces: &'a [&'a str]) -> Result<(), Unwritten>
+/// Writes a text, piece by piece, and flushes the writer.
+pub(crate) fn write_pieces<'a, W: Write>(
+    writer: &mut W,
+    pieces: &'a [&'a str],
+) -> Result<(), Unwritten>
     ensures ok { OnOk result (Has (record { held = W.contents writer.old; holds = W.contents writer.new }) (concat (map (λ s. s.now) pieces.entry.now))) }
     ensures err { OnErr result (HasBeginning (record { held = W.contents writer.old; holds = W.contents writer.new }) (concat (map (λ s. s.now) pieces.entry.now))) }
 {

@@ -2,15 +2,21 @@
 //!
 //! `docs/REFERENCE.md` holds the same refusals, and `tests/reference.py` compares the two.
 
-// The help of a command that opens the store: what it does, with an example, and what it alone refuses.
+// The help of a command that opens the store: what it does, with an example, the exit statuses of what it does, where these
+// are its own, and what it alone refuses.
 macro_rules! opening_help {
     ($does:literal, $refuses:literal) => {
+        opening_help!($does, "   0  the command did what it says", $refuses)
+    };
+    ($does:literal, $statuses:literal, $refuses:literal) => {
         concat!(
             $does,
             "
 
 Exit status:
-   0  the command did what it says
+",
+            $statuses,
+            "
    2  the words are wrong, or ask for help
    3  something was refused: standard error says what
 
@@ -111,6 +117,64 @@ Example:
     ""
 );
 
+/// Behind the help of `run`.
+pub(crate) const RUN_HELP: &str = opening_help!(
+    "\
+The hooks of the staged .pre-commit-config.yaml are run, one after another, on the
+staged files that each selects: of those that differ from the last commit, or with
+--all-files of all. Those that SKIP of the environment names, by ids or aliases with
+commas between them, are skipped. What the hooks change isn't staged: these are the
+fixes, which hookhost fixes lists and hookhost accept applies.
+
+The commands of hooks run in .hookhost/scratch, over copies of the staged files. No
+answer of theirs is remembered yet: each run starts them all, with --fresh as
+without it, and no hook is told as unsteady: ID, which is that it answers otherwise
+than is remembered.
+
+Examples:
+  hookhost run
+  SKIP=slow,names hookhost run --all-files
+  hookhost run names --hook-stage=manual",
+    "   0  every hook passed or was skipped
+   1  a hook failed",
+    "
+   7 NoConfig     no .pre-commit-config.yaml is staged
+                  stage one, by hookhost add
+   8 BadConfig N  the staged configuration can't be read, for the cause N
+                  mend and stage it: hookhost check --help has the causes
+   9 NoSuchHook   no hook of the stage has the id or alias ID
+                  name one of the staged configuration
+  13 Collision    other contents are kept under the same digest
+                  this store can't keep these contents
+  14 Spent        no more children can be counted
+                  run it again: each run counts anew"
+);
+
+/// Behind the help of `run-files`.
+pub(crate) const RUN_FILES_HELP: &str = opening_help!(
+    "\
+As hookhost run, whose help tells more, but on the named files alone. Each has to be
+staged; that it differs from the last commit isn't asked.
+
+Example:
+  hookhost run-files README.md src/main.c",
+    "   0  every hook passed or was skipped
+   1  a hook failed",
+    "
+   3 BadPath N    PATH isn't allowed; docs/REFERENCE.md has the number N
+                  name a path inside the folder, and none below .git
+   4 NotStaged    nothing is staged at PATH
+                  stage it first, by hookhost add
+   7 NoConfig     no .pre-commit-config.yaml is staged
+                  stage one, by hookhost add
+   8 BadConfig N  the staged configuration can't be read, for the cause N
+                  mend and stage it: hookhost check --help has the causes
+  13 Collision    other contents are kept under the same digest
+                  this store can't keep these contents
+  14 Spent        no more children can be counted
+                  run it again: each run counts anew"
+);
+
 /// Behind the help of `fixes`.
 pub(crate) const FIXES_HELP: &str = opening_help!(
     "\
@@ -136,6 +200,45 @@ Example:
     "
   11 NoFixes      there are no fixes to accept
                   hookhost fixes lists what could be accepted"
+);
+
+/// Behind the help of `commit`.
+pub(crate) const COMMIT_HELP: &str = opening_help!(
+    "\
+The hooks of pre-commit are run as by hookhost run, then those of prepare-commit-msg
+and of commit-msg on the message, which they may change. Where one fails, nothing is
+committed, and what the hooks changed of staged files are the fixes. Else the staged
+files are committed with the message that is left, and the hooks of post-commit are
+run, whose outcome changes nothing. The reports are printed in this order, and then
+commit N, with the number of the commit.
+
+With --no-verify the hooks of pre-commit and commit-msg are left out. Those that
+SKIP of the environment names are skipped, as by hookhost run. Blanks at the ends of
+the message's lines go, and so do empty lines at its start and its end; of several
+empty lines one is left. Where the hooks of post-commit are stopped, standard error
+says why, and the commit stands.
+
+Example:
+  hookhost commit -m 'Say hello'",
+    "   0  the commit was made
+   1  a hook failed, and no commit was made",
+    "
+   5 TooLarge     the message has more than 16 MiB
+                  make it shorter
+   6 TooMany      there are 100,000 commits
+                  this store can't take one more
+   7 NoConfig     no .pre-commit-config.yaml is staged
+                  stage one, by hookhost add
+   8 BadConfig N  the staged configuration can't be read, for the cause N
+                  mend and stage it: hookhost check --help has the causes
+  10 NothingStaged the staged files are those of the last commit
+                  stage a change, by hookhost add
+  12 EmptyMessage the message is empty, once hooks and blanks are done with
+                  give one that has words
+  13 Collision    other contents are kept under the same digest
+                  this store can't keep these contents
+  14 Spent        no more children can be counted
+                  run it again: each run counts anew"
 );
 
 /// Behind the help of `cat`.

@@ -5,11 +5,12 @@
 ghost use Rattle.std.specs.Prelude.{◌≡◌, ◌∷◌, IfOk, [], codes, map};
 ghost use Rattle.clap.specs.Words.{HasKind, first_of, found_of, rows_of};
 ghost use Rattle.clap.specs.declared.error.kind.ErrorKind.TheVariants.{InvalidValue};
-ghost use Rattle.hook_cli.specs.CommandLine.{IsValueOf, mode_in, number_in, word_in, words_in};
+ghost use Rattle.hook_cli.specs.CommandLine.{IsValueOf, flag_in, mode_in, number_in, stage_in, word_in, words_in};
 
-use crate::commands::{add_command, show_command};
+use crate::commands::{add_command, run_command, run_files_command, show_command};
 use clap::error::ErrorKind;
 use clap::{ArgMatches, Command, Error};
+use commit_flow::AskStage;
 use hook_base::{Items, Mode, Text};
 use std::alloc::{AllocError, Global};
 
@@ -24,6 +25,27 @@ fn word_of<'a>(values: &ArgMatches<'a>, id: &str) -> &'a str
     ensures { result.now ≡ word_in id.now (rows_of (found_of values.now)) }
 {
     values.get_str(id).unwrap_or("")
+}
+
+/// A value of one word, or `None` where it was left out.
+pub(crate) fn maybe_text_of(
+    alloc: Global,
+    values: &ArgMatches<'_>,
+    id: &str,
+) -> Result<Option<Text>, AllocError>
+    ensures { IfOk result (λ text. text ≡ first_of id.now (rows_of (found_of values.now))) }
+{
+    match values.get_str(id) {
+        Some(text) => Ok(Some(Text::from(String::from_str(alloc, text)?))),
+        None => Ok(None),
+    }
+}
+
+/// Whether a flag was given.
+pub(crate) fn flag_of(values: &ArgMatches<'_>, id: &str) -> bool
+    ensures { result ≡ flag_in id.now (rows_of (found_of values.now)) }
+{
+    word_of(values, id) == "true"
 }
 
 /// A value of several words.
@@ -61,6 +83,23 @@ pub(crate) fn mode_of(alloc: Global, values: &ArgMatches<'_>) -> Result<Option<M
     }
 }
 
+/// The stage that `--hook-stage` asks for. Another value than `pre-commit` and `manual` is an error, with the usage of the
+/// command of this name.
+pub(crate) fn stage_of(
+    alloc: Global,
+    command: &str,
+    values: &ArgMatches<'_>,
+) -> Result<AskStage, Error>
+    ensures { IsValueOf (stage_in (first_of (codes "hook-stage") (rows_of (found_of values.now)))) result }
+{
+    match values.get_str("hook-stage") {
+        None => Ok(AskStage::PreCommit),
+        Some("pre-commit") => Ok(AskStage::PreCommit),
+        Some("manual") => Ok(AskStage::Manual),
+        Some(text) => Err(stage_error(alloc, command, text)),
+    }
+}
+
 /// The number of `show`. Another text is an error.
 pub(crate) fn number_of(alloc: Global, values: &ArgMatches<'_>) -> Result<u32, Error>
     ensures { IsValueOf (number_in (word_in (codes "N") (rows_of (found_of values.now)))) result }
@@ -83,6 +122,28 @@ fn chmod_error(alloc: Global, text: &str) -> Error
 
 fn chmod_message(alloc: Global, text: &str) -> Result<String, AllocError> {
     format!(in alloc; "invalid value '{text}' for '--chmod <MODE>': only +x is allowed")
+}
+
+fn stage_error(alloc: Global, command: &str, text: &str) -> Error
+    ensures { HasKind (InvalidValue ∷ []) result }
+{
+    match stage_message(alloc, text) {
+        Ok(message) => error_of(command_of_runs(alloc, command), message.as_str()),
+        Err(refused) => Error::from(refused),
+    }
+}
+
+fn stage_message(alloc: Global, text: &str) -> Result<String, AllocError> {
+    format!(in alloc;
+        "invalid value '{text}' for '--hook-stage <STAGE>': only pre-commit and manual are allowed"
+    )
+}
+
+fn command_of_runs<'a>(alloc: Global, name: &str) -> Result<Command<'a>, AllocError> {
+    match name {
+        "run-files" => run_files_command(alloc),
+        _ => run_command(alloc),
+    }
 }
 
 fn number_error(alloc: Global, text: &str) -> Error

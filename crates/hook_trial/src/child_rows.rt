@@ -1,13 +1,19 @@
 //! Children that answer by the rows of a table.
 //!
 //! A row is a text of lines: `answer STATUS`; the words of the command; the files that the child has seen; what it changes;
-//! and its output. Words are parted by tabs, and so are files, each `PATH=LINE`: its bytes are the line and a line feed.
-//! `PATH` alone, of what is changed, is a file that is gone.
+//! and its output. Words are parted by tabs, and so are files, each `PATH=LINE`: its bytes are the line and a line feed, where
+//! the byte 1 stands for a line feed too. `PATH` alone, of what is changed, is a file that is gone.
 
 use child_port::{Answer, Fault, TableRow};
 use hook_base::{Bytes, Change, Changes, FileEntry, Items, Mode, RepoPath, Text, Tree};
 use std::alloc::Global;
 use trial_rows::{Stop, number_of, text_of};
+
+// The message of a commit, among the files of its stages.
+const MESSAGE: &str = ".git/COMMIT_EDITMSG";
+
+// What stands for a line feed in the bytes of a file.
+const FURTHER_LINE: u8 = 1;
 
 /// The row that a text is.
 pub(crate) fn row_of(alloc: Global, text: &str) -> Result<TableRow, Stop> {
@@ -66,7 +72,7 @@ fn seen_of(alloc: Global, line: &str) -> Result<Tree, Stop> {
     for file in line.split('\t') {
         let (path, contents) = file.split_once('=').ok_or(Stop::BadLine)?;
         let (mode, bytes) = (Mode::Plain, line_bytes(alloc, contents)?);
-        tree.put(RepoPath::read(alloc, path)?, FileEntry { mode, bytes })?;
+        tree.put(path_of(alloc, path)?, FileEntry { mode, bytes })?;
     }
     Ok(tree)
 }
@@ -86,12 +92,25 @@ fn change_of(alloc: Global, text: &str) -> Result<Change, Stop> {
         Some((path, contents)) => (path, Some(line_bytes(alloc, contents)?)),
         None => (text, None),
     };
-    let path = RepoPath::read(alloc, path)?;
+    let path = path_of(alloc, path)?;
     Ok(Change { path, now })
+}
+
+// A path that a tree may hold.
+fn path_of(alloc: Global, text: &str) -> Result<RepoPath, Stop> {
+    if text == MESSAGE {
+        return Ok(RepoPath::message(alloc)?);
+    }
+    Ok(RepoPath::read(alloc, text)?)
 }
 
 fn line_bytes(alloc: Global, line: &str) -> Result<Bytes, Stop> {
     let mut bytes = line.as_bytes().to_vec(alloc)?;
     bytes.push(b'\n')?;
+    for byte in bytes.as_mut_slice() {
+        if *byte == FURTHER_LINE {
+            *byte = b'\n';
+        }
+    }
     Ok(Bytes::from(bytes))
 }

@@ -1,5 +1,6 @@
 //! What a line of words asks for.
 
+use commit_flow::{AskStage, Which};
 use hook_base::{Mode, Text};
 use hook_cli::{Line, line_of};
 use std::alloc::{AllocError, Global};
@@ -27,7 +28,21 @@ fn told(alloc: Global, line: &Line) -> Result<String, AllocError> {
         Line::Add { path, mode } => of_path(alloc, word_of_add(*mode), path),
         Line::Remove { path } => of_path(alloc, "remove", path),
         Line::Status => String::from_str(alloc, "status\n"),
+        Line::Run {
+            which,
+            only,
+            stage,
+            fresh,
+        } => of_run(alloc, which, only, *stage, *fresh),
         Line::Fixes => String::from_str(alloc, "fixes\n"),
+        Line::Commit {
+            message,
+            no_verify: false,
+        } => of_path(alloc, "commit", message),
+        Line::Commit {
+            message,
+            no_verify: true,
+        } => of_path(alloc, "commit unverified", message),
         Line::Accept => String::from_str(alloc, "accept\n"),
         Line::Cat { path } => of_path(alloc, "cat", path),
         Line::Log => String::from_str(alloc, "log\n"),
@@ -53,6 +68,32 @@ fn of_path(alloc: Global, word: &str, path: &Text) -> Result<String, AllocError>
 fn of_try(alloc: Global, config: &Text, paths: &[Text]) -> Result<String, AllocError> {
     let mut text = String::from_str(alloc, "try\n")?;
     push_line(&mut text, config)?;
+    push_lines(&mut text, paths)?;
+    Ok(text)
+}
+
+// The stage, the files, whether it is fresh, and then the name that is asked for and the paths, a line each.
+fn of_run(
+    alloc: Global,
+    which: &Which,
+    only: &Option<Text>,
+    stage: AskStage,
+    fresh: bool,
+) -> Result<String, AllocError> {
+    let stage = match stage {
+        AskStage::PreCommit => "pre-commit",
+        AskStage::Manual => "manual",
+    };
+    let fresh = if fresh { " fresh" } else { "" };
+    let (files, paths) = match which {
+        Which::Changed => ("changed", &[] as &[Text]),
+        Which::All => ("all", &[] as &[Text]),
+        Which::Named(paths) => ("named", paths.as_slice()),
+    };
+    let mut text = format!(in alloc; "run {stage} {files}{fresh}\n")?;
+    if let Some(name) = only {
+        push_line(&mut text, name)?;
+    }
     push_lines(&mut text, paths)?;
     Ok(text)
 }

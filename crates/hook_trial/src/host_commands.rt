@@ -2,66 +2,60 @@
 //!
 //! A row's arguments are steps, each a word and what it needs. `stage MODE PATH CONTENTS`, `unstage PATH`,
 //! `commit MESSAGE` and `fixes FIX..` (one text, a fix a line: a path alone is a file that is gone, and behind a path and a tab
-//! stand its other bytes) set the store up, which is empty at first. `line OUT ERR COMMAND ..` plays a command over writers of
-//! two habits (`host_writers.rt`): `add MODE PATH CONTENTS`, `add_zeros MODE PATH COUNT`, `rm PATH`, `status`, `fixes`,
-//! `accept`, `cat PATH`, `log` or `show NUMBER`, where MODE is `plain`, `executable` or `none`. It is answered by the exit status and how many bytes stand on each writer, and after a line end by these bytes.
-//! `store` is answered by the staged files, those of HEAD, and how many fixes and commits there are.
+//! stand its other bytes) set the store up, which is empty at first. `line OUT ERR COMMAND ..` plays a command (`host_lines.rt`)
+//! over writers of two habits (`host_writers.rt`), and is answered by the exit status and how many bytes stand on each writer,
+//! and after a line end by these bytes. `store` is answered by the staged files, those of HEAD, and how many fixes and commits
+//! there are. Before all of them may stand `child ROW`, once for each row of the table by which children answer
+//! (`child_rows.rt`); another child isn't started.
 
 ghost use Rattle.std.specs.Prelude.{◌≢◌, IfOk};
 ghost use Rattle.hook_base.specs.Paths.{message_path};
-ghost use Rattle.hook_cli.specs.CommandOver.{IsOverHost};
 
-use crate::host_writers::HabitWriter;
-use commit_flow::Host;
-use hook_base::{Bytes, Change, Changes, Mode, RepoPath, Text};
-use hook_cli::{Line, command_over};
+use crate::child_rows::row_of;
+use crate::host_lines::line_played;
+use crate::host_words::{Words, mode_of, tell};
+use child_port::TableChildren;
+use hook_base::{Bytes, Change, Changes, Items, Mode, RepoPath};
 use repo_store::{FileRef, Store, StoreFault};
 use sqlite::{Connection, MemStore};
-use std::alloc::{AllocError, Global};
-use trial_rows::{Stop, number_of, text_of};
+use std::alloc::Global;
+use trial_rows::{Stop, text_of};
 
-type Kept = Store<MemStore>;
-
-// The words of a row that are still to be read.
-#[derive(Drop)]
-struct Words<'a> {
-    left: &'a [Vec<u8>],
-}
-
-impl<'a> Words<'a> {
-    fn next(&mut self) -> Option<&'a [u8]> {
-        let [word, others @ ..] = self.left else {
-            return None;
-        };
-        self.left = others;
-        Some(word.as_slice())
-    }
-
-    fn bytes(&mut self) -> Result<&'a [u8], Stop> {
-        self.next().ok_or(Stop::BadLine)
-    }
-
-    fn text(&mut self) -> Result<&'a str, Stop> {
-        text_of(self.bytes()?)
-    }
-
-    fn number(&mut self) -> Result<u32, Stop> {
-        number_of(self.bytes()?)
-    }
-}
+/// The store of a row.
+pub(crate) type Kept = Store<MemStore>;
 
 /// `command_over STEP..`: what the lines and the store answer, one after the other.
 pub(crate) fn played(alloc: Global, arguments: &[Vec<u8>]) -> Result<Vec<u8>, Stop> {
     let mut words = Words { left: arguments };
+    let mut children = children_of(alloc, &mut words)?;
     let mut store = empty_store(alloc)?;
     let mut told = Vec::new(alloc);
     for _ in 0..arguments.len() {
         match words.next() {
-            Some(step) => store = stepped(alloc, text_of(step)?, &mut words, store, &mut told)?,
+            Some(step) => {
+                let step = text_of(step)?;
+                store = stepped(alloc, step, &mut words, &mut children, store, &mut told)?;
+            }
             None => return Ok(told),
         }
     }
     Ok(told)
+}
+
+// The children by the rows that the first words give.
+fn children_of(alloc: Global, words: &mut Words<'_>) -> Result<TableChildren, Stop> {
+    let mut rows = Vec::new(alloc);
+    for _ in 0..words.left.len() {
+        let [step, row, others @ ..] = words.left else {
+            break;
+        };
+        if text_of(step.as_slice())? != "child" {
+            break;
+        }
+        rows.push(row_of(alloc, text_of(row.as_slice())?)?)?;
+        words.left = others;
+    }
+    Ok(TableChildren::new(Items::from(rows)))
 }
 
 fn empty_store(alloc: Global) -> Result<Kept, Stop> {
@@ -83,12 +77,13 @@ fn stepped(
     alloc: Global,
     step: &str,
     words: &mut Words<'_>,
+    children: &mut TableChildren,
     store: Kept,
     told: &mut Vec<u8>,
 ) -> Result<Kept, Stop> {
     let mut store = store;
     match step {
-        "line" => return line_played(alloc, words, store, told),
+        "line" => return line_played(alloc, words, children, store, told),
         "stage" => stage(alloc, words, &mut store)?,
         "unstage" => unstage(alloc, words, &mut store)?,
         "commit" => commit(words, &mut store)?,
@@ -149,119 +144,6 @@ fn fix_of(alloc: Global, line: &str) -> Result<Change, Stop> {
             now: None,
         }),
     }
-}
-
-// Hands the store to a host for one command.
-fn line_played(
-    alloc: Global,
-    words: &mut Words<'_>,
-    store: Kept,
-    told: &mut Vec<u8>,
-) -> Result<Kept, Stop> {
-    let mut out = HabitWriter::of(alloc, words.bytes()?)?;
-    let mut err = HabitWriter::of(alloc, words.bytes()?)?;
-    let command = words.text()?;
-    let line = line_of(alloc, command, words)?;
-    let bytes = bytes_of(alloc, command, words)?;
-    let mut host = Host::over(store);
-    let status = command_over(
-        alloc,
-        &line,
-        bytes.as_slice(),
-        &mut host,
-        &mut out,
-        &mut err,
-    );
-    tell_end(alloc, status, out, err, told)?;
-    Ok(host.into_store())
-}
-
-// The line of a command, but for the bytes of `add`.
-fn line_of(alloc: Global, command: &str, words: &mut Words<'_>) -> Result<Line, Stop>
-    ensures { IfOk result IsOverHost }
-{
-    match command {
-        "add" | "add_zeros" => {
-            let mode = mode_of(words)?;
-            let path = asked_path(alloc, words)?;
-            Ok(Line::Add { path, mode })
-        }
-        "rm" => Ok(Line::Remove {
-            path: asked_path(alloc, words)?,
-        }),
-        "status" => Ok(Line::Status),
-        "fixes" => Ok(Line::Fixes),
-        "accept" => Ok(Line::Accept),
-        "cat" => Ok(Line::Cat {
-            path: asked_path(alloc, words)?,
-        }),
-        "log" => Ok(Line::Log),
-        "show" => Ok(Line::Show {
-            number: words.number()?,
-        }),
-        _ => Err(Stop::BadLine),
-    }
-}
-
-fn asked_path(alloc: Global, words: &mut Words<'_>) -> Result<Text, Stop> {
-    Ok(Text::copy_of(alloc, words.text()?)?)
-}
-
-fn mode_of(words: &mut Words<'_>) -> Result<Option<Mode>, Stop> {
-    match words.text()? {
-        "plain" => Ok(Some(Mode::Plain)),
-        "executable" => Ok(Some(Mode::Executable)),
-        "none" => Ok(None),
-        _ => Err(Stop::BadLine),
-    }
-}
-
-fn bytes_of(alloc: Global, command: &str, words: &mut Words<'_>) -> Result<Vec<u8>, Stop> {
-    match command {
-        "add" => Ok(words.bytes()?.to_vec(alloc)?),
-        "add_zeros" => zeros(alloc, words.number()?),
-        _ => Ok(Vec::new(alloc)),
-    }
-}
-
-fn zeros(alloc: Global, count: u32) -> Result<Vec<u8>, Stop> {
-    let mut bytes = Vec::new(alloc);
-    for _ in 0..count {
-        bytes.push(0)?;
-    }
-    Ok(bytes)
-}
-
-fn tell_end(
-    alloc: Global,
-    status: u8,
-    out: HabitWriter,
-    err: HabitWriter,
-    told: &mut Vec<u8>,
-) -> Result<(), Stop> {
-    tell(told, format!(in alloc; "status {status}, out ")?)?;
-    tell_flushes(alloc, &out, told)?;
-    let out = out.into_bytes();
-    let length = out.len();
-    tell(told, format!(in alloc; "{length}, err ")?)?;
-    tell_flushes(alloc, &err, told)?;
-    let err = err.into_bytes();
-    let length = err.len();
-    tell(told, format!(in alloc; "{length}\n")?)?;
-    told.extend_from_slice(out.as_slice())?;
-    told.extend_from_slice(err.as_slice())?;
-    Ok(())
-}
-
-fn tell_flushes(alloc: Global, writer: &HabitWriter, told: &mut Vec<u8>) -> Result<(), AllocError> {
-    match writer.told_flushes() {
-        Some(count) => tell(told, format!(in alloc; "flushed {count} times ")?),
-        None => Ok(()),
-    }
-}
-
-fn tell(told: &mut Vec<u8>, text: String) -> Result<(), AllocError> {
-    told.extend_from_slice(text.as_bytes())
 }
 
 fn tell_store(alloc: Global, store: &Kept, told: &mut Vec<u8>) -> Result<(), Stop> {

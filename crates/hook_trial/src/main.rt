@@ -14,6 +14,8 @@ mod config_kinds;
 mod config_texts;
 mod configurations;
 mod host_commands;
+mod host_lines;
+mod host_words;
 mod host_writers;
 mod messages;
 mod plans;

@@ -12,7 +12,7 @@ use Rattle.hook_config.specs.declared.config_fault.ConfigKind.TheVariants.{OutOf
 use Rattle.commit_flow.specs.declared.host_refusal.HostRefusal.TheVariants.{OutOfMemory as NoMemoryOfHost}
 use Rattle.repo_store.specs.Faults.{fault_of}
 use Rattle.hook_cli.specs.declared.line.Line.{Line}
-use Rattle.hook_cli.specs.declared.line.Line.TheVariants.{Add}
+use Rattle.hook_cli.specs.declared.line.Line.TheVariants.{Add, Run, Commit}
 use Rattle.sqlite.specs.Opening.{is_open_error}
 use Rattle.sqlite.specs.declared.error.Error.{Error as DatabaseError}
 use Rattle.sqlite.specs.declared.error.Error.TheVariants.{SqliteFailure}
@@ -135,14 +135,17 @@ abbrev pub IsStopOfInit : Stop → Type 0
 IsStopOfInit CannotUseLock = Unit {0}
 IsStopOfInit stop = IsStopOfOpening stop
 
--- the file that a line stages can't be used, or memory was refused, which is then the host's refusal
-abbrev pub IsStopOfAdd : Line → Stop → Type 0
-IsStopOfAdd (Add path mode) stop = (stop ≡ CannotUse path) ⊎ (stop ≡ RefusedCommand NoMemoryOfHost)
-IsStopOfAdd line stop = ⊥
+-- the file that a line stages can't be used, or memory was refused for it or for what runs of hooks need, which is then the
+-- host's refusal
+abbrev pub IsStopOfLine : Line → Stop → Type 0
+IsStopOfLine (Add path mode) stop = (stop ≡ CannotUse path) ⊎ (stop ≡ RefusedCommand NoMemoryOfHost)
+IsStopOfLine (Run which only stage fresh) stop = stop ≡ RefusedCommand NoMemoryOfHost
+IsStopOfLine (Commit message no_verify) stop = stop ≡ RefusedCommand NoMemoryOfHost
+IsStopOfLine line stop = ⊥
 
--- what stops a command on the repository: its store, its lock, or the file that is staged
+-- what stops a command on the repository: its store, its lock, or what the line needs beside them
 abbrev pub IsStopOfCommand : Line → Stop → Type 0
 IsStopOfCommand line CannotUseLock = Unit {0}
 IsStopOfCommand line CannotUseStore = Unit {0}
 IsStopOfCommand line (NoStore fault) = Unit {0}
-IsStopOfCommand line stop = IsStopOfAdd line stop
+IsStopOfCommand line stop = IsStopOfLine line stop

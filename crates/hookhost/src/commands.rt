@@ -7,46 +7,86 @@ ghost use Rattle.hookhost.specs.Stops.{IsStopOfCommand, IsStopOfOpening};
 use crate::database::{Before, leave, open_database};
 use crate::files::read_file_of;
 use crate::repository::{Found, Lock, look_at_store, take_lock};
+use crate::runs::{Runs, runs_of};
 use crate::stop::Stop;
+use child_port::TableChildren;
 use commit_flow::Host;
+use hook_base::Items;
 use hook_cli::{Line, command_over};
 use repo_store::{Store, StoreFault};
 use sqlite::{File, FileStore};
 use std::{io, mem};
 
-// The exit status of a command that was done.
-const DONE: u8 = 0;
+// The exit status of a refusal.
+const REFUSED: u8 = 3;
 
 /// Does what a line asks of the repository, and answers the exit status, as `command_over` does. The errors are, in this
 /// order: `Stop::CannotUseStore` where the store's file isn't there, `Stop::CannotUseLock`, what `read_file_of` says of the
-/// file of `add`, and what the store says when it is opened. After an error or a refusal the folder is as it was, but for its lock.
+/// file of `add`, want of memory for what runs of hooks need, and what the store says when it is opened. After an error or a
+/// refusal the folder is as it was, but for its lock and the folder of children.
 pub(crate) fn host_command(rt: &HostRuntime, line: &Line) -> Result<u8, Stop>
     requires { IsOverHost line.now }
-    ensures status { IfOk result (λ status. (status ≡ 0) ⊎ (status ≡ 3)) }
+    ensures status { IfOk result (λ status. (status ≡ 0) ⊎ (status ≡ 1) ⊎ (status ≡ 3)) }
     ensures stopped { IfErr result (IsStopOfCommand line.now) }
 {
     look_at_store(rt)?;
     let lock = take_lock(rt)?;
     let bytes = read_file_of(rt, line)?;
+    let mut runs = runs_of(rt, line)?;
     let before = Before::found(rt)?;
     let mut host = Host::over(open_store(rt, &lock, &before)?);
-    let status = answer(rt, line, bytes.as_slice(), &mut host);
-    leave(rt, host, &before, status == DONE && changes(line));
+    let status = answer(rt, line, bytes.as_slice(), &mut runs, &mut host);
+    leave(rt, host, &before, status != REFUSED && changes(line));
     Ok(status)
 }
 
-fn answer(rt: &HostRuntime, line: &Line, bytes: &[u8], host: &mut Host<FileStore<File>>) -> u8
+fn answer(
+    rt: &HostRuntime,
+    line: &Line,
+    bytes: &[u8],
+    runs: &mut Option<Runs>,
+    host: &mut Host<FileStore<File>>,
+) -> u8
     requires { IsOverHost line.now }
-    ensures { (result ≡ 0) ⊎ (result ≡ 3) }
+    ensures { (result ≡ 0) ⊎ (result ≡ 1) ⊎ (result ≡ 3) }
 {
+    let alloc = rt.alloc();
     let (mut out, mut err) = (io::writer(rt), rt.stderr());
-    command_over(rt.alloc(), line, bytes, host, &mut out, &mut err)
+    match runs {
+        Some(Runs { skip, children }) => command_over(
+            alloc,
+            line,
+            bytes,
+            skip.as_slice(),
+            host,
+            children,
+            &mut out,
+            &mut err,
+        ),
+        None => {
+            let mut children = TableChildren::new(Items::new(alloc));
+            command_over(
+                alloc,
+                line,
+                bytes,
+                &[],
+                host,
+                &mut children,
+                &mut out,
+                &mut err,
+            )
+        }
+    }
 }
 
 // Whether a line asks for a change.
 fn changes(line: &Line) -> bool {
     match line {
-        Line::Add { .. } | Line::Remove { .. } | Line::Accept => true,
+        Line::Add { .. }
+        | Line::Remove { .. }
+        | Line::Run { .. }
+        | Line::Accept
+        | Line::Commit { .. } => true,
         _ => false,
     }
 }

@@ -2,7 +2,7 @@
 
 ghost use Rattle.std.specs.Prelude.{IfErr, IfOk};
 ghost use Rattle.hookhost.specs.FileTrees.{AreFilesOf, IsFileOf, IsTreeOf};
-ghost use Rattle.hookhost.specs.Stops.{IsStopOfAdd, IsStopOfFile, IsStopOfFiles};
+ghost use Rattle.hookhost.specs.Stops.{IsStopOfLine, IsStopOfFile, IsStopOfFiles};
 
 use crate::file_tree::{plain_file, tree_of};
 use crate::stop::Stop;
@@ -65,7 +65,7 @@ pub(crate) fn read_configuration<R: Files + AllocGlobal>(
 /// for another line. A file that isn't there or can't be read is `Stop::CannotUse`, and want of memory
 /// `Stop::RefusedCommand`.
 pub(crate) fn read_file_of<R: Files + AllocGlobal>(rt: &R, line: &Line) -> Result<Vec<u8>, Stop>
-    ensures { IfErr result (IsStopOfAdd line.now) }
+    ensures { IfErr result (IsStopOfLine line.now) }
 {
     match line {
         Line::Add { path, .. } => read_staged(rt, path).map_err(Stop::of_command),

@@ -12,24 +12,22 @@ mod file_tree;
 mod files;
 mod new_repository;
 mod repository;
+mod runs;
 mod stop;
 mod terminal;
 
-use child_display::ShownChildren;
 use commands::host_command;
 use files::{read_configuration, read_tree};
 use hook_base::{Items, Text, Tree};
 use hook_cli::{Line, TryFault, check_text, line_of, try_over};
 use hook_config::read_config_with_node;
 use new_repository::init;
-use process_children::ProcessChildren;
-use repository::SCRATCH;
+use runs::children_of;
 use std::io::{Read, Write};
 use std::process::ExitCode;
 use std::rt::Files;
 use std::{env, io, mem};
 use stop::{Stop, tell};
-use terminal::terminal_of;
 
 // The file that `check` reads, in the working folder.
 const CONFIGURATION: &str = ".pre-commit-config.yaml";
@@ -115,11 +113,7 @@ fn try_files(rt: &HostRuntime, config: Text, paths: Items<Text>) -> Result<bool,
 
 // Runs the configuration over the tree, with children that are processes, which a terminal shows, and prints the report.
 fn report(rt: &HostRuntime, reader: &mut impl Read, tree: &Tree) -> Result<bool, Stop> {
-    let folder = String::from_str(rt.alloc(), SCRATCH)?;
-    let mut children = ShownChildren::new(
-        ProcessChildren::new(rt.clone()?, folder),
-        terminal_of(rt),
-    );
+    let mut children = children_of(rt)?;
     let passed = try_over(rt.alloc(), reader, &mut io::writer(rt), tree, &mut children)?;
     Ok(passed)
 }

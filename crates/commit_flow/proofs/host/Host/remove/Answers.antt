@@ -4,7 +4,7 @@ use Rattle.repo_store.specs.Kept.{unstaging}
 use Rattle.commit_flow.specs.declared.command.Command.TheVariants.{Remove}
 use Rattle.commit_flow.specs.Crashes.{IsOneCommand}
 use Rattle.commit_flow.specs.Hosts.{Hosted}
-use Rattle.commit_flow.specs.Steps.{IsStaged}
+use Rattle.commit_flow.specs.StagedPaths.{IsStaged}
 use Rattle.commit_flow.proofs.CommandLemmas.{done_command, refused_command, remove_reached}
 use Rattle.commit_flow.proofs.host.Host.remove.Goals as goal
 

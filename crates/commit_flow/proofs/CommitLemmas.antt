@@ -1,0 +1,349 @@
+-- A commit as a step over children: one lemma for each of its ends.
+use Rattle.std.proofs.Common.{◌≡◌, inl, inr, sym, subst, refl, append_assoc, ℕ, ◌+◌, Bool, List, [], ◌++◌, length}
+use Rattle.std.proofs.lemmas.List.{append-nil}
+use Rattle.hook_base.specs.declared.change.Change.{Change}
+use Rattle.hook_base.specs.declared.file.File.{File}
+use Rattle.hook_base.specs.Trees.{changes_between}
+use Rattle.child_port.specs.declared.answer.Outcome.{Outcome}
+use Rattle.child_port.specs.Telling.{SameTells}
+use Rattle.hook_config.specs.declared.configuration.Config.{Config}
+use Rattle.hook_config.specs.declared.stage.Stage.{Stage}
+use Rattle.hook_run.specs.declared.run_refusal.RunRefusal.{RunRefusal}
+use Rattle.hook_run.specs.declared.run_refusal.RunRefusal.TheVariants as run
+use Rattle.hook_run.specs.Parts.{Part, all_parts}
+use Rattle.repo_store.specs.Kept.{FixCollides, Kept}
+use Rattle.repo_store.specs.Repository.{Repository, with_new_commit}
+use Rattle.commit_flow.specs.declared.course.Course.{Course}
+use Rattle.commit_flow.specs.declared.host_refusal.HostRefusal.{HostRefusal}
+use Rattle.commit_flow.specs.declared.host_refusal.HostRefusal.TheVariants.{OutOfMemory, Store, BadPath, NotStaged, TooLarge, TooMany, NoConfig, BadConfig, NoSuchHook, NothingStaged, NoFixes, EmptyMessage, Collision, Spent, Clash}
+use Rattle.commit_flow.specs.declared.reply.PostCommit.{PostCommit}
+use Rattle.commit_flow.specs.declared.reply.PostCommit.TheVariants.{Told, Stopped}
+use Rattle.commit_flow.specs.declared.reply.Reply.TheVariants.{Committed, HooksFailed, Refused}
+use Rattle.commit_flow.specs.CommitCalls.{AreStagesOver, IsHalt, IsHalted, IsNotBegun, IsPostOver, IsUnbegun, IsUncommitted, IsUnfixed, IsUnthrough, MayCommit}
+use Rattle.commit_flow.specs.CommitStages.{FailedAt, HaveFurther, HavePassed, course_of, parts_of, stages_before_commit}
+use Rattle.commit_flow.specs.Commits.{IsCommitRefusal, IsCommittable, IsVerified}
+use Rattle.commit_flow.specs.Configured.{HasReadableConfig, IsConfigured}
+use Rattle.commit_flow.specs.Messages.{cleaned_message}
+use Rattle.commit_flow.specs.Preparations.{IsConfigRefusal}
+use Rattle.commit_flow.specs.Runs.{changed_paths, fixing}
+use Rattle.commit_flow.specs.RunSteps.{IsUnset}
+use Rattle.commit_flow.specs.CommitSteps.{AreLeftOut, AreTold, HasFailedBut, HasFurtherBefore, HasFurtherBehind, IsCommitStep, SaysSpent}
+use Rattle.commit_flow.proofs.StagesLemmas.{halted_for_memory, told_none, told_then}
+
+-- ---- refusals
+
+pub unbegun_config : (repo : Repository) (message : List ℕ) (refusal : HostRefusal) → IsCommittable repo message → IsConfigRefusal repo refusal → IsUnbegun repo message refusal
+unbegun_config repo message OutOfMemory committable why = committable
+unbegun_config repo message NoConfig committable why = (committable, why)
+unbegun_config repo message (BadConfig fault) committable why = (committable, why)
+unbegun_config repo message (Store fault) committable why = absurd why
+unbegun_config repo message (BadPath fault) committable why = absurd why
+unbegun_config repo message NotStaged committable why = absurd why
+unbegun_config repo message TooLarge committable why = absurd why
+unbegun_config repo message TooMany committable why = absurd why
+unbegun_config repo message NoSuchHook committable why = absurd why
+unbegun_config repo message NothingStaged committable why = absurd why
+unbegun_config repo message NoFixes committable why = absurd why
+unbegun_config repo message EmptyMessage committable why = absurd why
+unbegun_config repo message Collision committable why = absurd why
+unbegun_config repo message Spent committable why = absurd why
+unbegun_config repo message Clash committable why = absurd why
+
+says_spent : (refusal : HostRefusal) → SaysSpent (Refused refusal) → refusal ≡ Spent
+says_spent Spent says = refl
+says_spent OutOfMemory says = absurd says
+says_spent NoConfig says = absurd says
+says_spent (BadConfig fault) says = absurd says
+says_spent (Store fault) says = absurd says
+says_spent (BadPath fault) says = absurd says
+says_spent NotStaged says = absurd says
+says_spent TooLarge says = absurd says
+says_spent TooMany says = absurd says
+says_spent NoSuchHook says = absurd says
+says_spent NothingStaged says = absurd says
+says_spent NoFixes says = absurd says
+says_spent EmptyMessage says = absurd says
+says_spent Collision says = absurd says
+says_spent Clash says = absurd says
+
+says_stopped : (number : ℕ) (reports : List (List ℕ)) (refusal : RunRefusal) → SaysSpent (Committed number reports (Stopped refusal)) → refusal ≡ run.Spent
+says_stopped number reports run.Spent says = refl
+says_stopped number reports run.OutOfMemory says = absurd says
+says_stopped number reports (run.Book fault) says = absurd says
+says_stopped number reports run.NoSuchHook says = absurd says
+
+module _ (repo : Repository) (message : List ℕ) (no_verify : Bool) (skip : List (List ℕ)) where
+  unbegun_refusal : (refusal : HostRefusal) → IsUnbegun repo message refusal → IsCommitRefusal repo message no_verify skip [] refusal
+  unbegun_refusal TooLarge why = (why, refl)
+  unbegun_refusal NothingStaged why = (why.0, why.1, refl)
+  unbegun_refusal NoConfig why = (why.0, why.1, refl)
+  unbegun_refusal (BadConfig fault) why = (why.0, why.1, refl)
+  unbegun_refusal OutOfMemory why = (why, refl)
+  unbegun_refusal (Store fault) why = absurd why
+  unbegun_refusal (BadPath fault) why = absurd why
+  unbegun_refusal NotStaged why = absurd why
+  unbegun_refusal TooMany why = absurd why
+  unbegun_refusal NoSuchHook why = absurd why
+  unbegun_refusal NoFixes why = absurd why
+  unbegun_refusal EmptyMessage why = absurd why
+  unbegun_refusal Collision why = absurd why
+  unbegun_refusal Spent why = absurd why
+  unbegun_refusal Clash why = absurd why
+
+  halt_refusal : IsCommittable repo message → HasReadableConfig repo → (refusal : HostRefusal) → IsHalt refusal → IsCommitRefusal repo message no_verify skip [] refusal
+  halt_refusal committable readable OutOfMemory why = (committable, refl)
+  halt_refusal committable readable (Store fault) why = absurd why
+  halt_refusal committable readable Collision why = absurd why
+  halt_refusal committable readable Spent why = (committable, readable, tt, refl)
+  halt_refusal committable readable NoConfig why = absurd why
+  halt_refusal committable readable (BadConfig fault) why = absurd why
+  halt_refusal committable readable (BadPath fault) why = absurd why
+  halt_refusal committable readable NotStaged why = absurd why
+  halt_refusal committable readable TooLarge why = absurd why
+  halt_refusal committable readable TooMany why = absurd why
+  halt_refusal committable readable NoSuchHook why = absurd why
+  halt_refusal committable readable NothingStaged why = absurd why
+  halt_refusal committable readable NoFixes why = absurd why
+  halt_refusal committable readable EmptyMessage why = absurd why
+  halt_refusal committable readable Clash why = absurd why
+
+module _ (kept : Kept) (message : List ℕ) (no_verify : Bool) (skip : List (List ℕ)) where
+  unbegun_untold : (refusal : HostRefusal) → IsUnbegun kept.repo message refusal → AreLeftOut kept message no_verify skip [] (Refused refusal)
+  unbegun_untold OutOfMemory why = tt
+  unbegun_untold (Store fault) why = absurd why
+  unbegun_untold Collision why = absurd why
+  unbegun_untold Spent why = absurd why
+  unbegun_untold NoConfig why = refl
+  unbegun_untold (BadConfig fault) why = refl
+  unbegun_untold (BadPath fault) why = absurd why
+  unbegun_untold NotStaged why = absurd why
+  unbegun_untold TooLarge why = refl
+  unbegun_untold TooMany why = absurd why
+  unbegun_untold NoSuchHook why = absurd why
+  unbegun_untold NothingStaged why = refl
+  unbegun_untold NoFixes why = absurd why
+  unbegun_untold EmptyMessage why = absurd why
+  unbegun_untold Clash why = absurd why
+
+  halt_untold : (untold : List Part) (refusal : HostRefusal) → IsHalt refusal → (refusal ≡ Spent → HasFurtherBefore kept.repo message no_verify skip untold) → AreLeftOut kept message no_verify skip untold (Refused refusal)
+  halt_untold untold OutOfMemory why needs = tt
+  halt_untold untold (Store fault) why needs = absurd why
+  halt_untold untold Collision why needs = absurd why
+  halt_untold untold Spent why needs = needs refl
+  halt_untold untold NoConfig why needs = absurd why
+  halt_untold untold (BadConfig fault) why needs = absurd why
+  halt_untold untold (BadPath fault) why needs = absurd why
+  halt_untold untold NotStaged why needs = absurd why
+  halt_untold untold TooLarge why needs = absurd why
+  halt_untold untold TooMany why needs = absurd why
+  halt_untold untold NoSuchHook why needs = absurd why
+  halt_untold untold NothingStaged why needs = absurd why
+  halt_untold untold NoFixes why needs = absurd why
+  halt_untold untold EmptyMessage why needs = absurd why
+  halt_untold untold Clash why needs = absurd why
+
+  -- the hooks behind a commit were stopped
+  post_untold : (number : ℕ) (reports : List (List ℕ)) (untold : List Part) (refusal : RunRefusal) → (refusal ≡ run.Spent → HasFurtherBehind kept.repo skip untold)
+      → AreLeftOut kept message no_verify skip untold (Committed number reports (Stopped refusal))
+  post_untold number reports untold run.Spent needs = needs refl
+  post_untold number reports untold run.OutOfMemory needs = tt
+  post_untold number reports untold (run.Book fault) needs = tt
+  post_untold number reports untold run.NoSuchHook needs = tt
+
+-- ---- the ends
+
+module _ (tells : List (List ℕ) → List File → Outcome → Type 0) (kept : Kept) (message : List ℕ) (no_verify : Bool) (skip : List (List ℕ)) where
+  step_unbegun : (calls faults : ℕ) (refusal : HostRefusal) → IsUnbegun kept.repo message refusal
+      → IsCommitStep tells calls calls faults faults kept message no_verify skip (Refused refusal) kept.repo
+  step_unbegun calls faults refusal why = record {
+    parts = [];
+    untold = [];
+    step = (unbegun_refusal kept.repo message no_verify skip refusal why, refl);
+    left_out = unbegun_untold kept message no_verify skip refusal why;
+    told = told_none tells calls faults;
+    spent = λ says. absurd (subst (IsUnbegun kept.repo message) (says_spent refusal says) why);
+  }
+
+  step_not_begun : (calls calls_after faults faults_after : ℕ) (refusal : HostRefusal) → IsNotBegun calls calls_after faults faults_after kept.repo message refusal
+      → IsCommitStep tells calls calls_after faults faults_after kept message no_verify skip (Refused refusal) kept.repo
+  step_not_begun calls calls_after faults faults_after refusal why =
+      subst (λ (n : ℕ). IsCommitStep tells calls n faults faults_after kept message no_verify skip (Refused refusal) kept.repo) (sym why.uncalled)
+      (subst (λ (n : ℕ). IsCommitStep tells calls calls faults n kept message no_verify skip (Refused refusal) kept.repo) (sym why.unfaulted)
+      (step_unbegun calls faults refusal why.unbegun))
+
+  module _ (calls calls_after faults faults_after : ℕ) where
+    pub step_halted : (refusal : HostRefusal) → IsCommittable kept.repo message → (config : Config) → IsConfigured kept.repo config → IsHalted tells calls calls_after faults faults_after (HaveFurther config (changed_paths kept.repo) skip (stages_before_commit no_verify) (course_of kept.repo message)) refusal
+        → IsCommitStep tells calls calls_after faults faults_after kept message no_verify skip (Refused refusal) kept.repo
+    step_halted refusal committable config configured halted =
+        record {
+          parts = [];
+          untold = halted.untold;
+          step = (halt_refusal kept.repo message no_verify skip committable (config, configured) refusal halted.why, refl);
+          left_out = halt_untold kept message no_verify skip halted.untold refusal halted.why (λ is. record { config = config; configured = configured; further = halted.needs is });
+          told = halted.told;
+          spent = λ says. halted.spent (says_spent refusal says);
+        }
+
+    pub step_unthrough : (refusal : HostRefusal) → IsUnthrough tells calls calls_after faults faults_after kept.repo message no_verify skip refusal
+        → IsCommitStep tells calls calls_after faults faults_after kept message no_verify skip (Refused refusal) kept.repo
+    step_unthrough refusal why =
+        elim why [
+          | inl early ↦ step_not_begun calls calls_after faults faults_after refusal early
+          | inr late ↦ step_halted refusal late.committable late.config late.configured late.halted
+        ]
+
+    module _ (committable : IsCommittable kept.repo message) (config : Config) (configured : IsConfigured kept.repo config) (reports : List (List ℕ)) where
+      -- a hook failed, and the fixes aren't set
+      module _ (stage : Stage) (left : Course) (over : AreStagesOver tells calls calls_after faults faults_after reports (λ told. FailedAt config (changed_paths kept.repo) skip (stages_before_commit no_verify) (course_of kept.repo message) told stage left)) where
+        failed_but : (reason : List Change → Type 0) → reason (changes_between kept.repo.staged left.tree) → HasFailedBut kept.repo message no_verify skip (parts_of over.told) reason
+        failed_but reason why = record { config = config; told = over.told; failed = stage; last = left; configured = configured; run = over.ran_so; traced = refl; why = why }
+
+        pub step_unfixed : (refusal : HostRefusal) → IsUnfixed kept (changes_between kept.repo.staged left.tree) refusal
+            → IsCommitStep tells calls calls_after faults faults_after kept message no_verify skip (Refused refusal) kept.repo
+        step_unfixed OutOfMemory why = step_halted OutOfMemory committable config configured
+            (halted_for_memory tells calls calls_after faults faults_after (HaveFurther config (changed_paths kept.repo) skip (stages_before_commit no_verify) (course_of kept.repo message)) (parts_of over.told) over.all_told)
+        step_unfixed (Store fault) why = record {
+          parts = [];
+          untold = parts_of over.told;
+          step = ((committable, (config, configured), why.0, refl), refl);
+          left_out = inl (failed_but (IsUnset fault) why.1);
+          told = over.all_told;
+          spent = λ says. absurd says;
+        }
+        step_unfixed Collision why = record {
+          parts = [];
+          untold = parts_of over.told;
+          step = ((committable, (config, configured), tt, refl), refl);
+          left_out = failed_but (λ fixes. FixCollides fixes kept.contents) why;
+          told = over.all_told;
+          spent = λ says. absurd says;
+        }
+        step_unfixed Spent why = absurd why
+        step_unfixed NoConfig why = absurd why
+        step_unfixed (BadConfig fault) why = absurd why
+        step_unfixed (BadPath fault) why = absurd why
+        step_unfixed NotStaged why = absurd why
+        step_unfixed TooLarge why = absurd why
+        step_unfixed TooMany why = absurd why
+        step_unfixed NoSuchHook why = absurd why
+        step_unfixed NothingStaged why = absurd why
+        step_unfixed NoFixes why = absurd why
+        step_unfixed EmptyMessage why = absurd why
+        step_unfixed Clash why = absurd why
+
+      -- a hook failed, and the fixes are set
+      pub step_failed : (stage : Stage) (left : Course) (after : Repository)
+          → AreStagesOver tells calls calls_after faults faults_after reports (λ told. FailedAt config (changed_paths kept.repo) skip (stages_before_commit no_verify) (course_of kept.repo message) told stage left)
+          → after ≡ fixing (changes_between kept.repo.staged left.tree) kept.repo
+          → IsCommitStep tells calls calls_after faults faults_after kept message no_verify skip (HooksFailed stage reports) after
+      step_failed stage left after over made = record {
+        parts = parts_of over.told;
+        untold = [];
+        step = record { config = config; told = over.told; last = left; committable = committable; configured = configured; run = over.ran_so; reported = over.reported; traced = refl; made = made };
+        left_out = refl;
+        told = subst (AreTold tells calls calls_after faults faults_after) (sym (append-nil (parts_of over.told))) over.all_told;
+        spent = λ says. absurd says;
+      }
+
+      module _ (left : Course) (over : AreStagesOver tells calls calls_after faults faults_after reports (λ told. HavePassed config (changed_paths kept.repo) skip (stages_before_commit no_verify) (course_of kept.repo message) told left)) where
+        verified : IsVerified kept.repo message no_verify skip config over.told left.message
+        verified = record { committable = committable; configured = configured; left = left; passed = over.ran_so; message_left = refl }
+
+        all_but : AreTold tells calls calls_after faults faults_after (parts_of over.told ++ [])
+        all_but = subst (AreTold tells calls calls_after faults faults_after) (sym (append-nil (parts_of over.told))) over.all_told
+
+        -- the stages passed, and nothing is committed
+        pub step_uncommitted : (refusal : HostRefusal) → IsUncommitted kept.repo (cleaned_message left.message) refusal
+            → IsCommitStep tells calls calls_after faults faults_after kept message no_verify skip (Refused refusal) kept.repo
+        step_uncommitted EmptyMessage why = record {
+          parts = parts_of over.told;
+          untold = [];
+          step = (record { config = config; told = over.told; last = left.message; verified = verified; traced = refl; why = why }, refl);
+          left_out = refl;
+          told = all_but;
+          spent = λ says. absurd says;
+        }
+        step_uncommitted TooMany why = record {
+          parts = parts_of over.told;
+          untold = [];
+          step = (record { config = config; told = over.told; last = left.message; verified = verified; traced = refl; why = why }, refl);
+          left_out = refl;
+          told = all_but;
+          spent = λ says. absurd says;
+        }
+        step_uncommitted (Store fault) why = record {
+          parts = [];
+          untold = parts_of over.told;
+          step = ((committable, (config, configured), why.0, refl), refl);
+          left_out = inr (record { config = config; told = over.told; last = left.message; verified = verified; traced = refl; why = why.1 });
+          told = over.all_told;
+          spent = λ says. absurd says;
+        }
+        step_uncommitted OutOfMemory why = step_halted OutOfMemory committable config configured
+            (halted_for_memory tells calls calls_after faults faults_after (HaveFurther config (changed_paths kept.repo) skip (stages_before_commit no_verify) (course_of kept.repo message)) (parts_of over.told) over.all_told)
+        step_uncommitted NoConfig why = absurd why
+        step_uncommitted (BadConfig fault) why = absurd why
+        step_uncommitted (BadPath fault) why = absurd why
+        step_uncommitted NotStaged why = absurd why
+        step_uncommitted TooLarge why = absurd why
+        step_uncommitted NoSuchHook why = absurd why
+        step_uncommitted NothingStaged why = absurd why
+        step_uncommitted NoFixes why = absurd why
+        step_uncommitted Collision why = absurd why
+        step_uncommitted Spent why = absurd why
+        step_uncommitted Clash why = absurd why
+
+        module _ (next : List (List ℕ) → List File → Outcome → Type 0) (calls_end faults_end number : ℕ) (after : Repository) (same : SameTells tells next)
+            (may : MayCommit kept.repo (cleaned_message left.message)) (counted : number ≡ length kept.repo.history + 1) (made : after ≡ with_new_commit (cleaned_message left.message) kept.repo) where
+          told_with : (post untold : List Part) → AreTold next calls_after calls_end faults_after faults_end (post ++ untold)
+              → AreTold tells calls calls_end faults faults_end ((parts_of over.told ++ post) ++ untold)
+          told_with post untold told = subst (AreTold tells calls calls_end faults faults_end) (sym (append_assoc (parts_of over.told) post untold))
+              (told_then tells next calls calls_after calls_end faults faults_after faults_end (parts_of over.told) (post ++ untold) same over.all_told told)
+
+          -- the commit was made, and this became of the hooks behind it
+          pub step_committed : (post : PostCommit) → IsPostOver next calls_after calls_end faults_after faults_end config kept.repo.staged skip post
+              → IsCommitStep tells calls calls_end faults faults_end kept message no_verify skip (Committed number reports post) after
+          step_committed (Told report) behind = record {
+            parts = parts_of over.told ++ all_parts behind.told.trace;
+            untold = [];
+            step = record {
+              config = config;
+              told = over.told;
+              last = left.message;
+              post_parts = all_parts behind.told.trace;
+              verified = verified;
+              some = may.some;
+              small = may.small;
+              room = may.room;
+              counted = counted;
+              reported = over.reported;
+              behind = (behind.told, behind.run, behind.reported, refl);
+              traced = refl;
+              made = made;
+            };
+            left_out = refl;
+            told = told_with (all_parts behind.told.trace) [] (subst (AreTold next calls_after calls_end faults_after faults_end) (sym (append-nil (all_parts behind.told.trace))) behind.all_told);
+            spent = λ says. absurd says;
+          }
+          step_committed (Stopped refusal) behind = record {
+            parts = parts_of over.told ++ [];
+            untold = behind.untold;
+            step = record {
+              config = config;
+              told = over.told;
+              last = left.message;
+              post_parts = [];
+              verified = verified;
+              some = may.some;
+              small = may.small;
+              room = may.room;
+              counted = counted;
+              reported = over.reported;
+              behind = (behind.not_named, behind.not_book, refl);
+              traced = refl;
+              made = made;
+            };
+            left_out = post_untold kept message no_verify skip number reports behind.untold refusal (λ is. record { config = config; configured = configured; needs = behind.needs is });
+            told = told_with [] behind.untold behind.told;
+            spent = λ says. behind.spent (says_stopped number reports refusal says);
+          }

@@ -1,0 +1,182 @@
+-- What a commit leaves in the store's tables, from what the store's call leaves.
+use Rattle.std.proofs.Common.{◌≡◌, ◌≢◌, ◌∙◌, ℕ, ◌+◌, ◌≤◌, Bool, true, false, List, [], ◌∷◌, ◌++◌, length, length-append, Ok, Err, inl, refl, sym, subst, ap, arith}
+use Rattle.std.specs.List.{AllByRecursion}
+use Rattle.std.specs.Bool.{Decides}
+use Rattle.std.specs.Cmp.Lexicographic.{pointwise, pointwise_decides}
+use Rattle.sqlite_trees.specs.declared.store.Store.{Ghosts}
+use Rattle.sqlite_trees.specs.Tree.{Trees}
+use Rattle.sqlite.specs.Held.{state}
+use Rattle.sqlite.specs.State.{State, Survives}
+use Rattle.sqlite.proofs.StateLemmas.{survives_weaker}
+use Rattle.hook_base.specs.declared.change.Change.{Change}
+use Rattle.hook_base.specs.declared.file.File.{File}
+use Rattle.hook_base.specs.AlikeLemmas.{file_decides}
+use Rattle.hook_base.specs.contracts.file.FilePartialEq.TheImpl as file_eq
+use Rattle.hook_base.specs.Trees.{changes_between}
+use Rattle.hook_config.specs.declared.configuration.Config.{Config}
+use Rattle.hook_config.specs.declared.stage.Stage.{Stage}
+use Rattle.hook_run.specs.declared.run_refusal.RunRefusal.TheVariants as run
+use Rattle.store_tables.specs.declared.rows.CommitRow.{CommitRow}
+use Rattle.repo_store.specs.declared.fault.StoreFault.{StoreFault}
+use Rattle.repo_store.specs.declared.fault.StoreFault.TheVariants as store
+use Rattle.repo_store.specs.Faults.{IsRefusal}
+use Rattle.repo_store.specs.Kept.{FixCollides, HasLarge, Kept, committing, setting}
+use Rattle.repo_store.specs.Limits.{IsSmall, most_commits}
+use Rattle.repo_store.specs.Repository.{Commit as Entry, Repository, last_tree, staged_changes, with_fixes}
+use Rattle.repo_store.specs.Rows.{commit_rows}
+use Rattle.repo_store.specs.Shown.{IsOneTransaction, Leaves, LeavesOnly, Shown}
+use Rattle.commit_flow.specs.declared.command.Command.{Command}
+use Rattle.commit_flow.specs.declared.command.Command.TheVariants.{Commit}
+use Rattle.commit_flow.specs.declared.course.Course.{Course}
+use Rattle.commit_flow.specs.declared.host_refusal.HostRefusal.{HostRefusal}
+use Rattle.commit_flow.specs.declared.reply.PostCommit.TheVariants.{Stopped}
+use Rattle.commit_flow.specs.declared.reply.Reply.TheVariants.{Committed, HooksFailed}
+use Rattle.commit_flow.specs.CommitCalls.{IsOneChange, IsUncommitted, IsUnfixed}
+use Rattle.commit_flow.specs.CommitStages.{FailedAt, StageTold, course_of, parts_of, reports_of, stages_before_commit}
+use Rattle.commit_flow.specs.Commits.{HasNothingNew, IsCommittable, IsVerified}
+use Rattle.commit_flow.specs.Configured.{IsConfigured}
+use Rattle.commit_flow.specs.Crashes.{IsOneCommand, LeavesDone}
+use Rattle.commit_flow.specs.Messages.{cleaned_message}
+use Rattle.commit_flow.specs.Refusals.{of_store}
+use Rattle.commit_flow.specs.Runs.{changed_paths, fixing}
+use Rattle.commit_flow.proofs.FixLemmas.{changes_are_staged}
+
+-- ---- one change of the store
+
+survives_itself : (s : State) (P : Trees → Type 0) → Survives s s P
+survives_itself s P = record {
+  clean = omega arith;
+  shield = λ shielded. shielded;
+  counts = omega arith;
+  limit = refl;
+  closes = λ _ is_open. inl is_open;
+  crash = λ _ trees left. inl left;
+}
+
+module _ {S : Type 0} (g : Ghosts S) (old new : Shown S) (after : Kept) where
+  -- the store isn't asked
+  pub change_unasked : {A : Type 0} (refusal : HostRefusal) → new ≡ old → IsOneChange {A = A} g old new (Err refusal) after
+  change_unasked {A} refusal same = subst (λ (at : Shown S). IsOneChange {A = A} g old at (Err refusal) after) (sym same)
+      (record { stands = λ stands. stands; crash = survives_itself (state g old.conn) (Leaves after); durable = tt })
+
+  pub change_refused : {A B E : Type 0} (fault : E) (refusal : HostRefusal) → IsOneTransaction {A = A} g old new (Err fault) after → IsOneChange {A = B} g old new (Err refusal) after
+  change_refused fault refusal one = record { stands = λ _. one.stands; crash = one.crash; durable = tt }
+
+  pub change_done : {A B E : Type 0} (x : A) (y : B) → new.kept ≡ after → IsOneTransaction {E = E} g old new (Ok x) after → IsOneChange g old new (Ok y) after
+  change_done x y same one = record { stands = λ _. one.stands; crash = one.crash; durable = subst (LeavesOnly g new.conn) (sym same) one.durable }
+
+  -- a command that asks the store for this change
+  module _ (command : Command) (reached : (trees : Trees) → Leaves after trees → LeavesDone old.kept.repo command trees) where
+    pub command_refused : {A B : Type 0} (first second : HostRefusal) → IsOneChange {A = A} g old new (Err first) after → IsOneCommand {A = B} g (record { store = old }) (record { store = new }) command (Err second)
+    command_refused first second one = record {
+      stands = one.stands;
+      crash = survives_weaker (state g old.conn) (state g new.conn) (Leaves after) (LeavesDone old.kept.repo command) (λ _ trees leaves. reached trees leaves) one.crash;
+      durable = tt;
+    }
+
+    pub command_done : {A B : Type 0} (x : A) (y : B) → IsOneChange g old new (Ok x) after → IsOneCommand g (record { store = old }) (record { store = new }) command (Ok y)
+    command_done x y one = record {
+      stands = one.stands;
+      crash = survives_weaker (state g old.conn) (state g new.conn) (Leaves after) (LeavesDone old.kept.repo command) (λ _ trees leaves. reached trees leaves) one.crash;
+      durable = one.durable;
+    }
+
+-- ---- what is staged
+
+stable : {P : Type 0} (same : Bool) → Decides same P → ((P → ⊥) → ⊥) → P
+stable true decides twice = decides.0 refl
+stable false decides twice = absurd (twice (λ p. let is = decides.1 p in cc))
+
+-- what doesn't differ is the same
+pub nothing_new : (repo : Repository) → ((repo.staged ≢ last_tree repo.history) → ⊥) → HasNothingNew repo
+nothing_new repo twice = stable (pointwise file_eq.ghosts.eq repo.staged (last_tree repo.history)) (pointwise_decides file_decides repo.staged (last_tree repo.history)) twice
+
+-- the fixes that are set are all of the changes
+pub same_fixing : (repo : Repository) (after : List File) → with_fixes (changes_between repo.staged after) repo ≡ fixing (changes_between repo.staged after) repo
+same_fixing repo after = ap (λ (fixes : List Change). record repo { fixes = fixes }) (changes_are_staged repo.staged after)
+
+-- ---- what the store is asked for is what a commit makes
+
+last_small : (n : ℕ) (history : List Entry) (entry : Entry) → AllByRecursion (λ (row : CommitRow). IsSmall row.message) (commit_rows n (history ++ entry ∷ [])) → IsSmall entry.message
+last_small n [] entry all = all.0
+last_small n (first ∷ history) entry all = last_small (n + 1) history entry all.1
+
+pub commit_reached : (kept : Kept) (message : List ℕ) (no_verify : Bool) (skip : List (List ℕ)) (config : Config) (told : List StageTold) (last : List ℕ)
+    → IsVerified kept.repo message no_verify skip config told last → (cleaned_message last ≡ [] → ⊥)
+    → (trees : Trees) → Leaves (committing (cleaned_message last) kept) trees → LeavesDone kept.repo (Commit message no_verify skip) trees
+commit_reached kept message no_verify skip config told last verified some trees leaves =
+    let numbered = leaves.complete.sound.numbered in
+    let long = length-append kept.repo.history (record { message = cleaned_message last; tree = kept.repo.staged } ∷ []) in
+    record {
+      kept = committing (cleaned_message last) kept;
+      reply = Committed (length kept.repo.history + 1) (reports_of told) (Stopped run.OutOfMemory);
+      done = tt;
+      parts = parts_of told ++ [];
+      step = record {
+        config = config;
+        told = told;
+        last = last;
+        post_parts = [];
+        verified = verified;
+        some = some;
+        small = last_small 1 kept.repo.history (record { message = cleaned_message last; tree = kept.repo.staged }) leaves.obeys.commits.messages_small;
+        room = omega arith;
+        counted = refl;
+        reported = refl;
+        behind = (λ is. cc, refl, refl);
+        traced = refl;
+        made = refl;
+      };
+      leaves = leaves;
+    }
+
+pub fix_reached : (kept : Kept) (message : List ℕ) (no_verify : Bool) (skip : List (List ℕ)) (config : Config) (told : List StageTold) (failed : Stage) (last : Course)
+    → IsCommittable kept.repo message → IsConfigured kept.repo config → FailedAt config (changed_paths kept.repo) skip (stages_before_commit no_verify) (course_of kept.repo message) told failed last
+    → (trees : Trees) → Leaves (setting (changes_between kept.repo.staged last.tree) kept) trees → LeavesDone kept.repo (Commit message no_verify skip) trees
+fix_reached kept message no_verify skip config told failed last committable configured run trees leaves = record {
+  kept = setting (changes_between kept.repo.staged last.tree) kept;
+  reply = HooksFailed failed (reports_of told);
+  done = tt;
+  parts = parts_of told;
+  step = record {
+    config = config;
+    told = told;
+    last = last;
+    committable = committable;
+    configured = configured;
+    run = run;
+    reported = refl;
+    traced = refl;
+    made = same_fixing kept.repo last.tree;
+  };
+  leaves = leaves;
+}
+
+-- ---- why the store refuses
+
+pub uncommitted : (repo : Repository) (cleaned : List ℕ) (fault : StoreFault) → (cleaned ≡ [] → ⊥) → IsRefusal (¬ IsSmall cleaned) (IsSmall cleaned × (most_commits ≤ length repo.history)) ⊥ fault
+    → IsUncommitted repo cleaned (of_store fault)
+uncommitted repo cleaned store.NotAStore some why = absurd why
+uncommitted repo cleaned store.Damaged some why = absurd why
+uncommitted repo cleaned (store.Sql error) some why = (tt, tt)
+uncommitted repo cleaned store.OutOfMemory some why = tt
+uncommitted repo cleaned store.Collision some why = absurd why
+uncommitted repo cleaned store.TooLarge some why = (tt, why)
+uncommitted repo cleaned store.TooMany some why = (some, why.0, why.1)
+
+unfixed_so : (kept : Kept) (fixes : List Change) (fault : StoreFault) → IsRefusal (HasLarge fixes) ⊥ (FixCollides fixes kept.contents) fault → IsUnfixed kept fixes (of_store fault)
+unfixed_so kept fixes store.NotAStore why = absurd why
+unfixed_so kept fixes store.Damaged why = absurd why
+unfixed_so kept fixes (store.Sql error) why = (tt, tt)
+unfixed_so kept fixes store.OutOfMemory why = tt
+unfixed_so kept fixes store.Collision why = why
+unfixed_so kept fixes store.TooLarge why = (tt, why)
+unfixed_so kept fixes store.TooMany why = absurd why
+
+pub unfixed : (kept : Kept) (after : List File) (asked : List Change) (fault : StoreFault) → asked ≡ changes_between kept.repo.staged after
+    → IsRefusal (HasLarge (staged_changes asked kept.repo.staged)) ⊥ (FixCollides (staged_changes asked kept.repo.staged) kept.contents) fault
+    → IsUnfixed kept (changes_between kept.repo.staged after) (of_store fault)
+unfixed kept after asked fault is why =
+    let all : staged_changes asked kept.repo.staged ≡ changes_between kept.repo.staged after =
+    ap (λ (changes : List Change). staged_changes changes kept.repo.staged) is ∙ changes_are_staged kept.repo.staged after in
+    unfixed_so kept (changes_between kept.repo.staged after) fault (subst (λ (fixes : List Change). IsRefusal (HasLarge fixes) ⊥ (FixCollides fixes kept.contents) fault) all why)

@@ -1,0 +1,177 @@
+-- What the calls within a commit do. Serves private functions alone.
+use Rattle.std.specs.Prelude.{◌≡◌, ◌≢◌, ◌⊎◌, ◌-◌, ◌^◌, ◌≤◌, ◌<◌, ℕ, Bool, false, List, [], length, Result, OnOk}
+use Rattle.sqlite_trees.specs.declared.store.Store.{Ghosts}
+use Rattle.sqlite.specs.Held.{state}
+use Rattle.sqlite.specs.State.{Survives}
+use Rattle.hook_base.specs.declared.change.Change.{Change}
+use Rattle.hook_base.specs.declared.file.File.{File}
+use Rattle.child_port.specs.declared.answer.Outcome.{Outcome}
+use Rattle.hook_config.specs.declared.configuration.Config.{Config}
+use Rattle.hook_config.specs.declared.stage.Stage.{Stage}
+use Rattle.hook_config.specs.declared.stage.Stage.TheVariants as stage
+use Rattle.hook_run.specs.declared.run_ask.RunAsk.{RunAsk}
+use Rattle.hook_run.specs.declared.run_refusal.RunRefusal.{RunRefusal}
+use Rattle.hook_run.specs.declared.run_refusal.RunRefusal.TheVariants as run
+use Rattle.hook_run.specs.Parts.{Part, all_parts}
+use Rattle.hook_run.specs.Refusals.{is_of_book}
+use Rattle.hook_run.specs.RunOuts.{NeedsPart}
+use Rattle.repo_store.specs.Kept.{FixCollides, Kept}
+use Rattle.repo_store.specs.Limits.{IsSmall, most_commits}
+use Rattle.repo_store.specs.Repository.{Repository}
+use Rattle.repo_store.specs.Shown.{Leaves, LeavesOnly, Shown, Stands}
+use Rattle.commit_flow.specs.declared.commit.Through.{Through}
+use Rattle.commit_flow.specs.declared.commit_begun.CommitBegun.{CommitBegun}
+use Rattle.commit_flow.specs.declared.course.Course.{Course}
+use Rattle.commit_flow.specs.declared.commit_stages.StageEnd.{StageEnd}
+use Rattle.commit_flow.specs.declared.commit_stages.StagesEnd.{StagesEnd}
+use Rattle.commit_flow.specs.declared.commit_stages.StagesEnd.TheVariants.{Passed, Failed}
+use Rattle.commit_flow.specs.declared.host_refusal.HostRefusal.{HostRefusal}
+use Rattle.commit_flow.specs.declared.host_refusal.HostRefusal.TheVariants.{OutOfMemory, Store, Spent, TooLarge, TooMany, NothingStaged, NoConfig, BadConfig, EmptyMessage, Collision}
+use Rattle.commit_flow.specs.declared.reply.PostCommit.{PostCommit}
+use Rattle.commit_flow.specs.declared.reply.PostCommit.TheVariants.{Told, Stopped}
+use Rattle.commit_flow.specs.CommitStages.{FailedAt, HaveFurther, HavePassed, IsStageTold, StageTold, ask_in, course_after, course_of, parts_of, reports_of, stages_before_commit}
+use Rattle.commit_flow.specs.Commits.{HasNothingNew, IsCommittable}
+use Rattle.commit_flow.specs.Configured.{IsConfigured, IsMisconfigured, LacksConfig}
+use Rattle.commit_flow.specs.RunRefusals.{IsOfFixes}
+use Rattle.commit_flow.specs.RunSteps.{IsUnset}
+use Rattle.commit_flow.specs.Runs.{changed_paths}
+use Rattle.commit_flow.specs.CommitSteps.{AreTold, IsUnkept}
+
+-- ---- one run
+
+-- the hooks of a stage were stopped
+pub record IsRunStopped (tells : List (List ℕ) → List File → Outcome → Type 0) (calls calls_after faults faults_after : ℕ) (config : Config) (ask : RunAsk) (tree : List File) (refusal : RunRefusal) : Type 0 where
+  pub untold : List Part
+  pub told : AreTold tells calls calls_after faults faults_after untold
+  pub not_named : refusal ≢ run.NoSuchHook
+  pub not_book : is_of_book refusal ≡ false
+  pub needs : refusal ≡ run.Spent → NeedsPart config ask tree untold
+  pub spent : refusal ≡ run.Spent → calls_after ≡ 2 ^ 64 - 1
+
+-- ---- the stages
+
+-- what stops the hooks of a stage
+abbrev pub IsHalt : HostRefusal → Type 0
+IsHalt OutOfMemory = Unit {0}
+IsHalt Spent = Unit {0}
+IsHalt refusal = ⊥
+
+-- the hooks were stopped, and children had told these parts by then; where they are spent, there is a further one
+pub record IsHalted (tells : List (List ℕ) → List File → Outcome → Type 0) (calls calls_after faults faults_after : ℕ) (further : List Part → Type 0) (refusal : HostRefusal) : Type 0 where
+  pub untold : List Part
+  pub told : AreTold tells calls calls_after faults faults_after untold
+  pub why : IsHalt refusal
+  pub needs : refusal ≡ Spent → further untold
+  pub spent : refusal ≡ Spent → calls_after ≡ 2 ^ 64 - 1
+
+-- the hooks of a stage were run, and this is passed on
+pub record IsStageOver (tells : List (List ℕ) → List File → Outcome → Type 0) (calls calls_after faults faults_after : ℕ)
+    (config : Config) (changed skip : List (List ℕ)) (stage : Stage) (course : Course) (end : StageEnd) : Type 0 where
+  pub told : StageTold
+  pub run : IsStageTold config changed skip stage course told
+  pub all_told : AreTold tells calls calls_after faults faults_after (all_parts told.trace)
+  pub passed : end.passed ≡ told.out.passed
+  pub reported : end.report ≡ told.out.report
+  pub left : end.course ≡ course_after stage course told.out.tree
+
+-- stages were run in this way, and reported so
+pub record AreStagesOver (tells : List (List ℕ) → List File → Outcome → Type 0) (calls calls_after faults faults_after : ℕ)
+    (reports : List (List ℕ)) (ran : List StageTold → Type 0) : Type 0 where
+  pub told : List StageTold
+  pub ran_so : ran told
+  pub all_told : AreTold tells calls calls_after faults faults_after (parts_of told)
+  pub reported : reports ≡ reports_of told
+
+-- the stages were run in order, up to the first that failed
+abbrev pub AreRunOver : (List (List ℕ) → List File → Outcome → Type 0) → ℕ → ℕ → ℕ → ℕ → Config → List (List ℕ) → List (List ℕ) → List Stage → Course → StagesEnd → Type 0
+AreRunOver tells calls calls_after faults faults_after config changed skip stages course (Passed reports left) =
+    AreStagesOver tells calls calls_after faults faults_after reports (λ told. HavePassed config changed skip stages course told left)
+AreRunOver tells calls calls_after faults faults_after config changed skip stages course (Failed stage reports left) =
+    AreStagesOver tells calls calls_after faults faults_after reports (λ told. FailedAt config changed skip stages course told stage left)
+
+-- ---- the beginning
+
+-- this is what a commit of the message begins with
+pub record IsBegun (repo : Repository) (message : List ℕ) (begun : CommitBegun) : Type 0 where
+  pub committable : IsCommittable repo message
+  pub configured : IsConfigured repo begun.config
+  pub listed : begun.changed ≡ changed_paths repo
+  pub passed : begun.course ≡ course_of repo message
+
+-- why a commit isn't begun
+abbrev pub IsUnbegun : Repository → List ℕ → HostRefusal → Type 0
+IsUnbegun repo message TooLarge = ¬ IsSmall message
+IsUnbegun repo message NothingStaged = IsSmall message × HasNothingNew repo
+IsUnbegun repo message NoConfig = IsCommittable repo message × LacksConfig repo
+IsUnbegun repo message (BadConfig fault) = IsCommittable repo message × IsMisconfigured repo fault
+IsUnbegun repo message OutOfMemory = IsCommittable repo message
+IsUnbegun repo message refusal = ⊥
+
+-- the stages before the commit were run on what it began with
+pub record IsThrough (tells : List (List ℕ) → List File → Outcome → Type 0) (calls calls_after faults faults_after : ℕ)
+    (repo : Repository) (message : List ℕ) (no_verify : Bool) (skip : List (List ℕ)) (through : Through) : Type 0 where
+  pub committable : IsCommittable repo message
+  pub configured : IsConfigured repo through.config
+  pub run : AreRunOver tells calls calls_after faults faults_after through.config (changed_paths repo) skip (stages_before_commit no_verify) (course_of repo message) through.end
+
+-- the hooks of a commit were stopped that had begun
+pub record IsStoppedIn (tells : List (List ℕ) → List File → Outcome → Type 0) (calls calls_after faults faults_after : ℕ) (repo : Repository) (message : List ℕ) (no_verify : Bool) (skip : List (List ℕ)) (refusal : HostRefusal) : Type 0 where
+  pub committable : IsCommittable repo message
+  pub config : Config
+  pub configured : IsConfigured repo config
+  pub halted : IsHalted tells calls calls_after faults faults_after (HaveFurther config (changed_paths repo) skip (stages_before_commit no_verify) (course_of repo message)) refusal
+
+-- no child was started, and the commit isn't begun
+pub record IsNotBegun (calls calls_after faults faults_after : ℕ) (repo : Repository) (message : List ℕ) (refusal : HostRefusal) : Type 0 where
+  pub uncalled : calls_after ≡ calls
+  pub unfaulted : faults_after ≡ faults
+  pub unbegun : IsUnbegun repo message refusal
+
+-- why a commit doesn't get through the stages before it
+abbrev pub IsUnthrough : (List (List ℕ) → List File → Outcome → Type 0) → ℕ → ℕ → ℕ → ℕ → Repository → List ℕ → Bool → List (List ℕ) → HostRefusal → Type 0
+IsUnthrough tells calls calls_after faults faults_after repo message no_verify skip refusal =
+    IsNotBegun calls calls_after faults faults_after repo message refusal ⊎ IsStoppedIn tells calls calls_after faults faults_after repo message no_verify skip refusal
+
+-- ---- the commit
+
+-- a cleaned message that may be committed
+pub record MayCommit (repo : Repository) (cleaned : List ℕ) : Type 0 where
+  pub some : cleaned ≢ []
+  pub small : IsSmall cleaned
+  pub room : length repo.history < most_commits
+
+-- why the staged files aren't committed with the cleaned message
+abbrev pub IsUncommitted : Repository → List ℕ → HostRefusal → Type 0
+IsUncommitted repo cleaned EmptyMessage = cleaned ≡ []
+IsUncommitted repo cleaned TooMany = (cleaned ≢ []) × IsSmall cleaned × (most_commits ≤ length repo.history)
+IsUncommitted repo cleaned (Store fault) = IsOfFixes fault × IsUnkept fault cleaned
+IsUncommitted repo cleaned OutOfMemory = Unit {0}
+IsUncommitted repo cleaned refusal = ⊥
+
+-- why these fixes aren't set
+abbrev pub IsUnfixed : Kept → List Change → HostRefusal → Type 0
+IsUnfixed kept fixes (Store fault) = IsOfFixes fault × IsUnset fault fixes
+IsUnfixed kept fixes Collision = FixCollides fixes kept.contents
+IsUnfixed kept fixes OutOfMemory = Unit {0}
+IsUnfixed kept fixes refusal = ⊥
+
+-- a call asks the store for this one change at most
+pub record IsOneChange {S A : Type 0} (g : Ghosts S) (old new : Shown S) (result : Result A HostRefusal) (after : Kept) : Type 0 where
+  pub stands : Stands g old.conn old.kept → Stands g new.conn new.kept
+  pub crash : Survives (state g old.conn) (state g new.conn) (Leaves after)
+  pub durable : OnOk result (LeavesOnly g new.conn new.kept)
+
+-- ---- behind the commit
+
+-- the hooks behind a commit were run on the staged files, and this is reported
+pub record IsPostTold (tells : List (List ℕ) → List File → Outcome → Type 0) (calls calls_after faults faults_after : ℕ) (config : Config) (staged : List File) (skip : List (List ℕ)) (report : List ℕ) : Type 0 where
+  pub told : StageTold
+  pub run : IsStageTold config [] skip stage.PostCommit (record { tree = staged; message = [] }) told
+  pub all_told : AreTold tells calls calls_after faults faults_after (all_parts told.trace)
+  pub reported : report ≡ told.out.report
+
+-- what became of the hooks behind a commit
+abbrev pub IsPostOver : (List (List ℕ) → List File → Outcome → Type 0) → ℕ → ℕ → ℕ → ℕ → Config → List File → List (List ℕ) → PostCommit → Type 0
+IsPostOver tells calls calls_after faults faults_after config staged skip (Told report) = IsPostTold tells calls calls_after faults faults_after config staged skip report
+IsPostOver tells calls calls_after faults faults_after config staged skip (Stopped refusal) =
+    IsRunStopped tells calls calls_after faults faults_after config (ask_in [] skip stage.PostCommit) staged refusal

@@ -1,0 +1,113 @@
+-- The stages of a commit (githooks(5)): what the hooks of each get, and how the tree and the message pass from one stage on
+-- to the next. The message is a file of the tree in the two stages that are about it.
+use Rattle.std.specs.Prelude.{◌≡◌, ℕ, Bool, true, false, MatchBool, if◌then◌else◌, List, [], ◌∷◌, ◌++◌, None, option_map, unwrap_or}
+use Rattle.hook_base.specs.declared.file.File.{File}
+use Rattle.hook_base.specs.declared.file.FileEntry.{FileEntry}
+use Rattle.hook_base.specs.declared.file.Mode.TheVariants.{Plain}
+use Rattle.hook_base.specs.Paths.{message_path}
+use Rattle.hook_base.specs.Trees.{entry_of, put_file, remove_file}
+use Rattle.hook_config.specs.declared.configuration.Config.{Config}
+use Rattle.hook_config.specs.declared.stage.Stage.{Stage}
+use Rattle.hook_config.specs.declared.stage.Stage.TheVariants.{PreCommit, PrepareCommitMsg, CommitMsg}
+use Rattle.hook_run.specs.declared.run_ask.RunAsk.{RunAsk}
+use Rattle.hook_run.specs.declared.run_out.RunOut.{RunOut}
+use Rattle.hook_run.specs.Parts.{Part, all_parts}
+use Rattle.hook_run.specs.RunOuts.{IsRunOut, NeedsPart}
+use Rattle.repo_store.specs.Repository.{Repository}
+use Rattle.commit_flow.specs.declared.course.Course.{Course}
+use Rattle.commit_flow.specs.Messages.{begun_message}
+
+-- the stages before the commit, in order: unverified, only that which prepares the message
+abbrev pub stages_before_commit : Bool → List Stage
+stages_before_commit no_verify = if no_verify then PrepareCommitMsg ∷ [] else PreCommit ∷ PrepareCommitMsg ∷ CommitMsg ∷ []
+
+abbrev pub message_entry : List ℕ → FileEntry
+message_entry message = record { mode = Plain; bytes = message }
+
+-- the files, with the message among them
+abbrev pub with_message_file : Course → List File
+with_message_file course = put_file message_path (message_entry course.message) course.tree
+
+-- the tree that the hooks of a stage begin on
+abbrev pub tree_in : Stage → Course → List File
+tree_in PrepareCommitMsg course = with_message_file course
+tree_in CommitMsg course = with_message_file course
+tree_in stage course = course.tree
+
+-- the files that the hooks of a stage may get, where these are staged and not committed so
+abbrev pub candidates_in : List (List ℕ) → Stage → List (List ℕ)
+candidates_in changed PreCommit = changed
+candidates_in changed PrepareCommitMsg = message_path ∷ []
+candidates_in changed CommitMsg = message_path ∷ []
+candidates_in changed stage = []
+
+-- the bytes of the message in a tree; where a hook deleted it, it is empty
+abbrev pub message_in : List File → List ℕ
+message_in tree = unwrap_or (option_map (λ (entry : FileEntry). entry.bytes) (entry_of message_path tree)) []
+
+-- the message is taken out of the files
+abbrev pub without_message_file : List File → Course
+without_message_file tree = record { tree = remove_file message_path tree; message = message_in tree }
+
+-- what a stage that left this tree passes on
+abbrev pub course_after : Stage → Course → List File → Course
+course_after PrepareCommitMsg course tree = without_message_file tree
+course_after CommitMsg course tree = without_message_file tree
+course_after stage course tree = record { tree = tree; message = course.message }
+
+abbrev pub ask_in : List (List ℕ) → List (List ℕ) → Stage → RunAsk
+ask_in changed skip stage = record { stage = stage; candidates = candidates_in changed stage; only = None; skip = skip; fresh = false }
+
+-- a run of a stage: the parts of each of its hooks, and what it gave
+pub record StageTold : Type 0 where
+  pub trace : List (List Part)
+  pub out : RunOut
+
+abbrev pub IsStageTold : Config → List (List ℕ) → List (List ℕ) → Stage → Course → StageTold → Type 0
+IsStageTold config changed skip stage course told = IsRunOut config (ask_in changed skip stage) (tree_in stage course) told.trace told.out
+
+-- the stages were run in order, each on what the one before it passed on; each passed, and the last passes this on
+abbrev pub HavePassed : Config → List (List ℕ) → List (List ℕ) → List Stage → Course → List StageTold → Course → Type 0
+HavePassed config changed skip [] course [] last = last ≡ course
+HavePassed config changed skip (stage ∷ stages) course (told ∷ more) last =
+    IsStageTold config changed skip stage course told
+    × (told.out.passed ≡ true)
+    × HavePassed config changed skip stages (course_after stage course told.out.tree) more last
+HavePassed config changed skip _ course _ last = ⊥
+
+-- the stages were run in order up to this one, in which a hook failed, and which leaves this
+abbrev pub FailedAt : Config → List (List ℕ) → List (List ℕ) → List Stage → Course → List StageTold → Stage → Course → Type 0
+FailedAt config changed skip (stage ∷ stages) course (told ∷ more) failed last =
+    IsStageTold config changed skip stage course told
+    × MatchBool told.out.passed
+    (FailedAt config changed skip stages (course_after stage course told.out.tree) more failed last)
+    ((more ≡ []) × (failed ≡ stage) × (last ≡ course_after stage course told.out.tree))
+FailedAt config changed skip _ course _ failed last = ⊥
+
+-- the stages were run in order up to this one, each before it passed, and it has a further part behind these of its own
+abbrev pub NeedsPartAt : Config → List (List ℕ) → List (List ℕ) → List Stage → Course → List StageTold → List Part → Type 0
+NeedsPartAt config changed skip (stage ∷ stages) course [] begun = NeedsPart config (ask_in changed skip stage) (tree_in stage course) begun
+NeedsPartAt config changed skip (stage ∷ stages) course (told ∷ more) begun =
+    IsStageTold config changed skip stage course told
+    × (told.out.passed ≡ true)
+    × NeedsPartAt config changed skip stages (course_after stage course told.out.tree) more begun
+NeedsPartAt config changed skip [] course told begun = ⊥
+
+-- a commit begins with the staged files, and with its message ended by a line feed
+abbrev pub course_of : Repository → List ℕ → Course
+course_of repo message = record { tree = repo.staged; message = begun_message message }
+
+abbrev pub parts_of : List StageTold → List Part
+parts_of [] = []
+parts_of (told ∷ more) = all_parts told.trace ++ parts_of more
+
+abbrev pub reports_of : List StageTold → List (List ℕ)
+reports_of [] = []
+reports_of (told ∷ more) = told.out.report ∷ reports_of more
+
+-- the stages have a further part behind these, of those that passed and of the next one so far
+pub record HaveFurther (config : Config) (changed skip : List (List ℕ)) (stages : List Stage) (course : Course) (parts : List Part) : Type 0 where
+  pub told : List StageTold
+  pub begun : List Part
+  pub needs : NeedsPartAt config changed skip stages course told begun
+  pub traced : parts ≡ parts_of told ++ begun

@@ -1,0 +1,97 @@
+-- A commit through its hooks: what it makes of the repository, what it answers, and why it is refused.
+use Rattle.std.specs.Prelude.{◌≡◌, ◌≢◌, ◌+◌, ◌≤◌, ◌<◌, ℕ, Bool, false, List, [], ◌++◌, length}
+use Rattle.hook_base.specs.Trees.{changes_between}
+use Rattle.hook_config.specs.declared.configuration.Config.{Config}
+use Rattle.hook_config.specs.declared.stage.Stage.{Stage}
+use Rattle.hook_config.specs.declared.stage.Stage.TheVariants as stage
+use Rattle.hook_run.specs.declared.run_refusal.RunRefusal.TheVariants.{NoSuchHook}
+use Rattle.hook_run.specs.Parts.{Part, all_parts}
+use Rattle.hook_run.specs.Refusals.{is_of_book}
+use Rattle.repo_store.specs.Limits.{IsSmall, most_commits}
+use Rattle.repo_store.specs.Repository.{Repository, last_tree, with_new_commit}
+use Rattle.commit_flow.specs.declared.host_refusal.HostRefusal.{HostRefusal}
+use Rattle.commit_flow.specs.declared.host_refusal.HostRefusal.TheVariants.{OutOfMemory, TooLarge, TooMany, NoConfig, BadConfig, NothingStaged, EmptyMessage}
+use Rattle.commit_flow.specs.declared.reply.PostCommit.{PostCommit}
+use Rattle.commit_flow.specs.declared.reply.PostCommit.TheVariants.{Told, Stopped}
+use Rattle.commit_flow.specs.declared.course.Course.{Course}
+use Rattle.commit_flow.specs.CommitStages.{FailedAt, HavePassed, IsStageTold, StageTold, course_of, parts_of, reports_of, stages_before_commit}
+use Rattle.commit_flow.specs.Configured.{HasReadableConfig, IsConfigured, IsMisconfigured, LacksConfig}
+use Rattle.commit_flow.specs.Messages.{cleaned_message}
+use Rattle.commit_flow.specs.RunRefusals.{IsStop}
+use Rattle.commit_flow.specs.Runs.{changed_paths, fixing}
+
+-- the staged files are those of the last commit, or none before the first
+abbrev pub HasNothingNew : Repository → Type 0
+HasNothingNew repo = repo.staged ≡ last_tree repo.history
+
+-- a commit that may be begun, by its message and what is staged
+pub record IsCommittable (before : Repository) (message : List ℕ) : Type 0 where
+  pub small : IsSmall message
+  pub new : ¬ HasNothingNew before
+
+-- The stages before the commit passed, and the last of them passes this message on.
+pub record IsVerified (before : Repository) (message : List ℕ) (no_verify : Bool) (skip : List (List ℕ)) (config : Config) (told : List StageTold) (last : List ℕ) : Type 0 where
+  pub committable : IsCommittable before message
+  pub configured : IsConfigured before config
+  pub left : Course
+  pub passed : HavePassed config (changed_paths before) skip (stages_before_commit no_verify) (course_of before message) told left
+  pub message_left : last ≡ left.message
+
+-- the hooks behind the commit ran on the committed files, without any to get, and this is reported; or their run was stopped
+-- for want of memory or of a number for a child, and what they were told by then isn't among the parts
+abbrev pub IsPost : Config → Repository → List (List ℕ) → PostCommit → List Part → Type 0
+IsPost config before skip (Told report) parts =
+    (told : StageTold) × IsStageTold config (changed_paths before) skip stage.PostCommit (record { tree = before.staged; message = [] }) told
+    × (report ≡ told.out.report) × (parts ≡ all_parts told.trace)
+IsPost config before skip (Stopped refusal) parts = (refusal ≢ NoSuchHook) × (is_of_book refusal ≡ false) × (parts ≡ [])
+
+-- A commit was made of the staged files and the cleaned message. What the hooks behind it do to files is dropped.
+pub record IsCommitted (before : Repository) (message : List ℕ) (no_verify : Bool) (skip : List (List ℕ)) (number : ℕ) (reports : List (List ℕ)) (post : PostCommit) (parts : List Part) (after : Repository) : Type 0 where
+  pub config : Config
+  pub told : List StageTold
+  pub last : List ℕ
+  pub post_parts : List Part
+  pub verified : IsVerified before message no_verify skip config told last
+  pub some : cleaned_message last ≢ []
+  pub small : IsSmall (cleaned_message last)
+  pub room : length before.history < most_commits
+  pub counted : number ≡ length before.history + 1
+  pub reported : reports ≡ reports_of told
+  pub behind : IsPost config before skip post post_parts
+  pub traced : parts ≡ parts_of told ++ post_parts
+  pub made : after ≡ with_new_commit (cleaned_message last) before
+
+-- A hook failed in a stage before the commit. What the stages did to the staged files, the message aside, are the fixes.
+pub record HaveHooksFailed (before : Repository) (message : List ℕ) (no_verify : Bool) (skip : List (List ℕ)) (failed : Stage) (reports : List (List ℕ)) (parts : List Part) (after : Repository) : Type 0 where
+  pub config : Config
+  pub told : List StageTold
+  pub last : Course
+  pub committable : IsCommittable before message
+  pub configured : IsConfigured before config
+  pub run : FailedAt config (changed_paths before) skip (stages_before_commit no_verify) (course_of before message) told failed last
+  pub reported : reports ≡ reports_of told
+  pub traced : parts ≡ parts_of told
+  pub made : after ≡ fixing (changes_between before.staged last.tree) before
+
+-- The stages passed with these parts, and what they leave isn't committed for this reason.
+pub record IsVerifiedBut (before : Repository) (message : List ℕ) (no_verify : Bool) (skip : List (List ℕ)) (parts : List Part) (reason : List ℕ → Type 0) : Type 0 where
+  pub config : Config
+  pub told : List StageTold
+  pub last : List ℕ
+  pub verified : IsVerified before message no_verify skip config told last
+  pub traced : parts ≡ parts_of told
+  pub why : reason (cleaned_message last)
+
+-- Why a commit is refused, in this order: its message is too large, nothing is staged that isn't committed, no configuration
+-- is staged, it can't be read; then what stops hooks; then the cleaned message is empty, too large for the store, or there are
+-- too many commits. Want of memory comes once the message and what is staged may be committed.
+abbrev pub IsCommitRefusal : Repository → List ℕ → Bool → List (List ℕ) → List Part → HostRefusal → Type 0
+IsCommitRefusal before message no_verify skip parts TooLarge = (¬ IsSmall message) × (parts ≡ [])
+IsCommitRefusal before message no_verify skip parts NothingStaged = IsSmall message × HasNothingNew before × (parts ≡ [])
+IsCommitRefusal before message no_verify skip parts NoConfig = IsCommittable before message × LacksConfig before × (parts ≡ [])
+IsCommitRefusal before message no_verify skip parts (BadConfig fault) = IsCommittable before message × IsMisconfigured before fault × (parts ≡ [])
+IsCommitRefusal before message no_verify skip parts OutOfMemory = IsCommittable before message × (parts ≡ [])
+IsCommitRefusal before message no_verify skip parts EmptyMessage = IsVerifiedBut before message no_verify skip parts (λ cleaned. cleaned ≡ [])
+IsCommitRefusal before message no_verify skip parts TooMany =
+    IsVerifiedBut before message no_verify skip parts (λ cleaned. (cleaned ≢ []) × IsSmall cleaned × (most_commits ≤ length before.history))
+IsCommitRefusal before message no_verify skip parts refusal = IsCommittable before message × HasReadableConfig before × IsStop refusal × (parts ≡ [])

@@ -1,0 +1,42 @@
+-- The configuration of a repository: the staged file that describes the hooks.
+use Rattle.std.specs.Prelude.{◌≡◌, ◌≢◌, ℕ, List, None, Some, codes}
+use Rattle.hook_base.specs.declared.file.FileEntry.{FileEntry}
+use Rattle.hook_base.specs.Trees.{entry_of}
+use Rattle.hook_config.specs.declared.configuration.Config.{Config}
+use Rattle.hook_config.specs.declared.config_fault.ConfigFault.{ConfigFault}
+use Rattle.hook_config.specs.declared.config_fault.ConfigKind.TheVariants as kind
+use Rattle.hook_config.specs.Configuration.{configuration_of}
+use Rattle.hook_config.specs.Gives.{UnlessLeftOpen}
+use Rattle.hook_config.specs.Refusals.{TellsTooLarge}
+use Rattle.repo_store.specs.Repository.{Repository}
+
+abbrev pub config_path : List ℕ
+config_path = codes ".pre-commit-config.yaml"
+
+-- no configuration is staged
+abbrev pub LacksConfig : Repository → Type 0
+LacksConfig repo = entry_of config_path repo.staged ≡ None
+
+-- these bytes are staged as the configuration
+pub record HasConfigBytes (repo : Repository) (bytes : List ℕ) : Type 0 where
+  pub entry : FileEntry
+  pub staged : entry_of config_path repo.staged ≡ Some entry
+  pub are : entry.bytes ≡ bytes
+
+-- the staged configuration is this
+pub record IsConfigured (repo : Repository) (config : Config) : Type 0 where
+  pub bytes : List ℕ
+  pub staged : HasConfigBytes repo bytes
+  pub meant : configuration_of bytes ≡ Some config
+
+-- The staged configuration can't be read, or holds a pattern that `regex` refuses. Want of memory is the host's own refusal.
+pub record IsMisconfigured (repo : Repository) (fault : ConfigFault) : Type 0 where
+  pub bytes : List ℕ
+  pub staged : HasConfigBytes repo bytes
+  pub none : UnlessLeftOpen fault.kind (configuration_of bytes ≡ None)
+  pub large : TellsTooLarge bytes fault
+  pub not_memory : fault.kind ≢ kind.OutOfMemory
+
+-- a configuration is staged that can be read
+abbrev pub HasReadableConfig : Repository → Type 0
+HasReadableConfig repo = (config : Config) × IsConfigured repo config

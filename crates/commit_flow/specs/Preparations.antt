@@ -1,0 +1,92 @@
+-- Serves private functions alone: what is made ready before the hooks of a run start, how it is refused, and what a run of
+-- the hooks that are ready comes to.
+use Rattle.std.specs.Prelude.{◌≡◌, ◌≢◌, ◌⊎◌, ℕ, true, false, List}
+use Rattle.hook_base.specs.declared.file.File.{File}
+use Rattle.hook_base.specs.Trees.{IsRising, changes_between}
+use Rattle.child_port.specs.declared.answer.Outcome.{Outcome}
+use Rattle.hook_config.specs.declared.configuration.Config.{Config}
+use Rattle.hook_run.specs.declared.run_ask.RunAsk.{RunAsk}
+use Rattle.hook_run.specs.declared.run_out.RunOut.{RunOut}
+use Rattle.hook_run.specs.declared.run_refusal.RunRefusal.{RunRefusal}
+use Rattle.hook_run.specs.declared.run_refusal.RunRefusal.TheVariants as run
+use Rattle.hook_run.specs.Asks.{names_no_hook}
+use Rattle.hook_run.specs.Refusals.{is_of_book}
+use Rattle.hook_run.specs.RunOuts.{IsRunOver, IsStoppedRun}
+use Rattle.repo_store.specs.Repository.{Repository}
+use Rattle.commit_flow.specs.declared.host_ask.HostAsk.{HostAsk}
+use Rattle.commit_flow.specs.declared.host_refusal.HostRefusal.{HostRefusal}
+use Rattle.commit_flow.specs.declared.host_refusal.HostRefusal.TheVariants.{OutOfMemory, NoConfig, BadConfig}
+use Rattle.commit_flow.specs.declared.prepared.Prepared.{Prepared}
+use Rattle.commit_flow.specs.declared.staged_run.StagedRun.{StagedRun}
+use Rattle.commit_flow.specs.Configured.{HasReadableConfig, IsConfigured, IsMisconfigured, LacksConfig}
+use Rattle.commit_flow.specs.Refusals.{of_run}
+use Rattle.commit_flow.specs.RunSteps.{nothing}
+use Rattle.commit_flow.specs.Runs.{AreStagedPaths, IsNameRefusal, IsNamesRefusal, names_in, run_ask_of, stage_of}
+
+-- ---- what is made ready
+
+-- why there is no staged configuration: none is staged, it can't be read, or memory is refused
+abbrev pub IsConfigRefusal : Repository → HostRefusal → Type 0
+IsConfigRefusal repo NoConfig = LacksConfig repo
+IsConfigRefusal repo (BadConfig fault) = IsMisconfigured repo fault
+IsConfigRefusal repo OutOfMemory = Unit {0}
+IsConfigRefusal repo refusal = ⊥
+
+-- why a name isn't taken as the path of a staged file: want of memory may come too
+abbrev pub IsNameFault : Repository → List ℕ → HostRefusal → Type 0
+IsNameFault repo name refusal = (refusal ≡ OutOfMemory) ⊎ IsNameRefusal repo name refusal
+
+-- why names aren't
+abbrev pub IsNamesFault : Repository → List (List ℕ) → HostRefusal → Type 0
+IsNamesFault repo names refusal = (refusal ≡ OutOfMemory) ⊎ IsNamesRefusal repo names refusal
+
+-- what is asked of the hooks that may get these files
+abbrev pub run_ask_with : HostAsk → List (List ℕ) → RunAsk
+run_ask_with ask candidates = record {
+  stage = stage_of ask.stage;
+  candidates = candidates;
+  only = ask.only;
+  skip = ask.skip;
+  fresh = ask.fresh;
+}
+
+pub record IsPrepared (repo : Repository) (ask : HostAsk) (ready : Prepared) : Type 0 where
+  pub configured : IsConfigured repo ready.config
+  pub named : AreStagedPaths repo (names_in ask.which)
+  pub asked : ready.ask ≡ run_ask_of ask repo
+  pub tree : ready.tree ≡ repo.staged
+  pub rising : IsRising repo.staged
+
+-- why a run isn't made ready: its configuration isn't, or it can be read and the names that are asked for aren't
+abbrev pub IsUnprepared : Repository → HostAsk → HostRefusal → Type 0
+IsUnprepared repo ask refusal = IsConfigRefusal repo refusal ⊎ (HasReadableConfig repo × IsNamesFault repo (names_in ask.which) refusal)
+
+-- ---- a run of hooks, with nothing remembered before it and after it
+
+-- hooks of the stage have the name that is asked for, and were run
+pub record HaveRun (tells : List (List ℕ) → List File → Outcome → Type 0) (calls calls_after faults faults_after : ℕ) (config : Config) (ask : RunAsk) (tree : List File) (out : RunOut) : Type 0 where
+  pub known : names_no_hook config ask ≡ false
+  pub over : IsRunOver tells calls calls_after faults faults_after nothing nothing config ask tree out
+
+-- their run was refused
+pub record HaveStopped (tells : List (List ℕ) → List File → Outcome → Type 0) (calls calls_after faults faults_after : ℕ) (config : Config) (ask : RunAsk) (tree : List File) (refusal : RunRefusal) : Type 0 where
+  pub unknown : refusal ≡ run.NoSuchHook → names_no_hook config ask ≡ true
+  pub known : refusal ≢ run.NoSuchHook → names_no_hook config ask ≡ false
+  pub not_book : is_of_book refusal ≡ false
+  pub over : IsStoppedRun tells calls calls_after faults faults_after nothing nothing config ask tree refusal
+
+-- what is given of a run on the staged files
+abbrev pub staged_run_of : List File → RunOut → StagedRun
+staged_run_of staged out = record { passed = out.passed; report = out.report; changes = changes_between staged out.tree; unsteady = out.unsteady }
+
+-- the hooks that are ready were run, and this is given of it
+pub record HasRunReady (tells : List (List ℕ) → List File → Outcome → Type 0) (calls calls_after faults faults_after : ℕ) (ready : Prepared) (ran : StagedRun) : Type 0 where
+  pub out : RunOut
+  pub run : HaveRun tells calls calls_after faults faults_after ready.config ready.ask ready.tree out
+  pub gives : ran ≡ staged_run_of ready.tree out
+
+-- their run was refused as this
+pub record HasStoppedReady (tells : List (List ℕ) → List File → Outcome → Type 0) (calls calls_after faults faults_after : ℕ) (ready : Prepared) (refusal : HostRefusal) : Type 0 where
+  pub inner : RunRefusal
+  pub stopped : HaveStopped tells calls calls_after faults faults_after ready.config ready.ask ready.tree inner
+  pub is : refusal ≡ of_run inner

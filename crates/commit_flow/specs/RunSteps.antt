@@ -1,0 +1,95 @@
+-- A run on the staged files over children: the step that it is, and how it stands to what the children told.
+use Rattle.std.specs.Prelude.{◌≡◌, ◌⊎◌, ◌-◌, ◌^◌, ℕ, List, [], Result, Ok, Err}
+use Rattle.hook_base.specs.declared.change.Change.{Change}
+use Rattle.hook_base.specs.declared.file.File.{File}
+use Rattle.hook_base.specs.Trees.{changes_between}
+use Rattle.child_port.specs.declared.answer.Outcome.{Outcome}
+use Rattle.hook_config.specs.declared.configuration.Config.{Config}
+use Rattle.result_book.specs.Contents.{Contents, unlimited}
+use Rattle.hook_run.specs.declared.run_out.RunOut.{RunOut}
+use Rattle.hook_run.specs.Parts.{AllTold, Part, all_parts}
+use Rattle.hook_run.specs.RunOuts.{IsBegun, IsCounted, IsRunOut, NeedsPart}
+use Rattle.hook_run.specs.Starts.{Starts}
+use Rattle.repo_store.specs.declared.fault.StoreFault.{StoreFault}
+use Rattle.repo_store.specs.declared.fault.StoreFault.TheVariants.{TooLarge}
+use Rattle.repo_store.specs.Kept.{FixCollides, HasLarge, Kept}
+use Rattle.repo_store.specs.Repository.{Repository}
+use Rattle.commit_flow.specs.declared.command.Command.TheVariants.{Run}
+use Rattle.commit_flow.specs.declared.host_ask.HostAsk.{HostAsk}
+use Rattle.commit_flow.specs.declared.host_refusal.HostRefusal.{HostRefusal}
+use Rattle.commit_flow.specs.declared.host_refusal.HostRefusal.TheVariants.{OutOfMemory, Store, Collision, Spent}
+use Rattle.commit_flow.specs.declared.reply.Reply.{Reply}
+use Rattle.commit_flow.specs.declared.reply.Reply.TheVariants.{Ran, Refused}
+use Rattle.commit_flow.specs.declared.staged_run.StagedRun.{StagedRun}
+use Rattle.commit_flow.specs.Runs.{IsRunnable, run_ask_of}
+use Rattle.commit_flow.specs.Steps.{Step}
+
+-- no answer is remembered
+abbrev pub nothing : Contents
+nothing = unlimited []
+
+-- the reply that this is
+abbrev pub reply_of_run : StagedRun → Reply
+reply_of_run ran = Ran ran.passed ran.report ran.changes ran.unsteady
+
+-- the changes that become fixes
+abbrev pub changes_in : Result StagedRun HostRefusal → List Change
+changes_in (Ok ran) = ran.changes
+changes_in (Err refusal) = []
+
+-- The run is a step of the machine, over parts that the children told and counted. Each part started a child.
+pub record IsRunStep (tells : List (List ℕ) → List File → Outcome → Type 0) (calls calls_after faults faults_after : ℕ) (before : Repository) (ask : HostAsk) (ran : StagedRun) (after : Repository) : Type 0 where
+  pub parts : List Part
+  pub step : Step before (Run ask) (reply_of_run ran) parts after
+  pub told : AllTold tells parts
+  pub starts : Starts ask.fresh nothing nothing parts
+  pub counted : IsCounted calls calls_after faults faults_after parts
+
+-- ---- a run that is refused
+
+-- a run that may be asked for begins with these parts
+pub record HasBegun (before : Repository) (ask : HostAsk) (parts : List Part) : Type 0 where
+  pub config : Config
+  pub runnable : IsRunnable before ask config
+  pub begun : IsBegun config (run_ask_of ask before) before.staged parts
+
+-- it has a further part behind these
+pub record HasFurther (before : Repository) (ask : HostAsk) (parts : List Part) : Type 0 where
+  pub config : Config
+  pub runnable : IsRunnable before ask config
+  pub needs : NeedsPart config (run_ask_of ask before) before.staged parts
+
+-- it has these parts, and what they did to the staged files can't be the fixes for this reason
+pub record HasRunBut (before : Repository) (ask : HostAsk) (parts : List Part) (reason : List Change → Type 0) : Type 0 where
+  pub config : Config
+  pub trace : List (List Part)
+  pub out : RunOut
+  pub runnable : IsRunnable before ask config
+  pub run : IsRunOut config (run_ask_of ask before) before.staged trace out
+  pub traced : parts ≡ all_parts trace
+  pub why : reason (changes_between before.staged out.tree)
+
+-- fixes that the store refuses so: one is too large, or the database refuses
+abbrev pub IsUnset : StoreFault → List Change → Type 0
+IsUnset TooLarge fixes = HasLarge fixes
+IsUnset fault fixes = Unit {0}
+
+-- How far a run came that is refused so, with these parts and this count of calls: it is spent where it has a further part
+-- and no call more can be counted, the store refuses behind its last part, and want of memory may come anywhere. The other
+-- refusals come before any part.
+abbrev pub IsStoppedAt : Kept → HostAsk → List Part → ℕ → HostRefusal → Type 0
+IsStoppedAt kept ask parts calls Spent = HasFurther kept.repo ask parts × (calls ≡ 2 ^ 64 - 1)
+IsStoppedAt kept ask parts calls Collision = HasRunBut kept.repo ask parts (λ fixes. FixCollides fixes kept.contents)
+IsStoppedAt kept ask parts calls (Store fault) = HasRunBut kept.repo ask parts (IsUnset fault)
+IsStoppedAt kept ask parts calls OutOfMemory = (parts ≡ []) ⊎ HasBegun kept.repo ask parts
+IsStoppedAt kept ask parts calls refusal = parts ≡ []
+
+-- The refused run is a step of the machine that leaves the repository as it was. The children told and counted the parts
+-- that it came to.
+pub record IsStoppedStep (tells : List (List ℕ) → List File → Outcome → Type 0) (calls calls_after faults faults_after : ℕ) (kept : Kept) (ask : HostAsk) (refusal : HostRefusal) : Type 0 where
+  pub parts : List Part
+  pub step : Step kept.repo (Run ask) (Refused refusal) [] kept.repo
+  pub told : AllTold tells parts
+  pub starts : Starts ask.fresh nothing nothing parts
+  pub counted : IsCounted calls calls_after faults faults_after parts
+  pub stopped : IsStoppedAt kept ask parts calls_after refusal

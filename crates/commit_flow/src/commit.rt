@@ -1,0 +1,133 @@
+//! A commit of the staged files, through its hooks.
+
+ghost use Rattle.std.specs.Prelude.{IfOk, IfErr};
+ghost use Rattle.child_port.specs.Telling.{SameTells};
+ghost use Rattle.commit_flow.specs.declared.command.Command.TheVariants.{Commit};
+ghost use Rattle.commit_flow.specs.Commands.{reply_of, reply_of_ending};
+ghost use Rattle.commit_flow.specs.CommitCalls.{IsThrough, IsUnthrough};
+ghost use Rattle.commit_flow.specs.CommitKept.{KeepsFor};
+ghost use Rattle.commit_flow.specs.Crashes.{IsOneCommand};
+ghost use Rattle.commit_flow.specs.CommitSteps.{IsCommitStep};
+
+use crate::commit_begun::{CommitBegun, begin_commit};
+use crate::commit_ending::{run_post_commit, set_fixes_to};
+use crate::commit_staged::commit_staged;
+use crate::commit_stages::{StagesEnd, run_stages, stages_before_commit};
+use crate::{CommitEnding, Host, HostRefusal};
+use child_port::Children;
+use hook_base::Text;
+use hook_config::Config;
+use repo_store::Store;
+use sqlite::Alter;
+use std::alloc::Global;
+
+/// What the stages before a commit came to, with the configuration that says which hooks they have.
+#[derive(Drop)]
+pub(crate) struct Through {
+    /// The staged configuration.
+    pub(crate) config: Config,
+    /// How the stages ended.
+    pub(crate) end: StagesEnd,
+}
+
+impl<S: Alter> Host<S> {
+    /// Commits the staged files, with the children's outcomes: through the hooks of `pre-commit`, `prepare-commit-msg` and
+    /// `commit-msg`, each stage on what the one before it left, and then the hooks of `post-commit`. Unverified, only those of
+    /// `prepare-commit-msg` come before the commit. The message is cleaned once the hooks before the commit are through. The
+    /// fixes are forgotten, and what the hooks did to files is dropped. Where a hook before the commit fails, no commit is made,
+    /// and the fixes are what the hooks did to the staged files. Where the run of the hooks behind the commit is refused, the
+    /// answer says so, and the commit stands.
+    ///
+    /// Refused are, in this order, a message of more than 16 MiB (`TooLarge`), staged files that are those of the last commit
+    /// (`NothingStaged`), that no configuration is staged (`NoConfig`), and that it can't be read (`BadConfig`); no child is
+    /// started then. `Spent` comes where a child is needed and the children have told as many outcomes as can be counted. Behind
+    /// the hooks come, in this order, a cleaned message that is empty (`EmptyMessage`), one of more than 16 MiB (`Store`), and
+    /// more than 100,000 commits (`TooMany`); where a hook failed, fixes whose contents have the digest of others
+    /// (`Collision`), and fixes of more than 16 MiB (`Store`). `Store` comes also where the database refuses, and `OutOfMemory`
+    /// where memory is refused. A refusal leaves the repository as it was, and the children with the outcomes that they have
+    /// told.
+    pub fn commit<C: Children>(
+        &mut self,
+        alloc: Global,
+        children: &mut C,
+        message: &[u8],
+        no_verify: bool,
+        skip: &[Text],
+    ) -> Result<CommitEnding, HostRefusal>
+        ensures step { IsCommitStep (C.tells children.old) (C.call_count children.old) (C.call_count children.new) (C.fault_count children.old) (C.fault_count children.new) self.old.store.kept message.now no_verify skip.now (reply_of reply_of_ending result) self.new.store.kept.repo }
+        ensures kept { KeepsFor self.old.store.kept self.new.store.kept result }
+        ensures command { IsOneCommand S.Store self.old self.new (Commit message.now no_verify skip.now) result }
+        ensures same { SameTells (C.tells children.old) (C.tells children.new) }
+    {
+        commit_in(alloc, children, &mut self.store, message, no_verify, skip)
+    }
+}
+
+// The commit, on the host's store.
+fn commit_in<C: Children, S: Alter>(
+    alloc: Global,
+    children: &mut C,
+    store: &mut Store<S>,
+    message: &[u8],
+    no_verify: bool,
+    skip: &[Text],
+) -> Result<CommitEnding, HostRefusal>
+    ensures step { IsCommitStep (C.tells children.old) (C.call_count children.old) (C.call_count children.new) (C.fault_count children.old) (C.fault_count children.new) store.old.kept message.now no_verify skip.now (reply_of reply_of_ending result) store.new.kept.repo }
+    ensures kept { KeepsFor store.old.kept store.new.kept result }
+    ensures command { IsOneCommand S.Store (record { store = store.old }) (record { store = store.new }) (Commit message.now no_verify skip.now) result }
+    ensures same { SameTells (C.tells children.old) (C.tells children.new) }
+{
+    let through = go_through(alloc, children, store, message, no_verify, skip)?;
+    let Through { config, end } = through;
+    match end {
+        StagesEnd::Failed {
+            stage,
+            reports,
+            course,
+        } => {
+            set_fixes_to(store, &course.tree)?;
+            return Ok(CommitEnding::HooksFailed { stage, reports });
+        }
+        StagesEnd::Passed { reports, course } => {
+            let number = commit_staged(alloc, store, course.message.as_slice())?;
+            let post = run_post_commit(alloc, children, store, &config, skip);
+            Ok(CommitEnding::Committed {
+                number,
+                reports,
+                post,
+            })
+        }
+    }
+}
+
+// Runs the hooks before the commit.
+fn go_through<C: Children, S: Alter>(
+    alloc: Global,
+    children: &mut C,
+    store: &Store<S>,
+    message: &[u8],
+    no_verify: bool,
+    skip: &[Text],
+) -> Result<Through, HostRefusal>
+    ensures through { IfOk result (IsThrough (C.tells children.old) (C.call_count children.old) (C.call_count children.new) (C.fault_count children.old) (C.fault_count children.new) store.now.kept.repo message.now no_verify skip.now) }
+    ensures refused { IfErr result (IsUnthrough (C.tells children.old) (C.call_count children.old) (C.call_count children.new) (C.fault_count children.old) (C.fault_count children.new) store.now.kept.repo message.now no_verify skip.now) }
+    ensures same { SameTells (C.tells children.old) (C.tells children.new) }
+{
+    let begun = begin_commit(alloc, store, message)?;
+    let CommitBegun {
+        config,
+        changed,
+        course,
+    } = begun;
+    let stages = stages_before_commit(no_verify);
+    let end = run_stages(
+        alloc,
+        children,
+        &config,
+        changed.as_slice(),
+        skip,
+        stages,
+        course,
+    )?;
+    Ok(Through { config, end })
+}

@@ -1,0 +1,66 @@
+//! What a commit begins with.
+
+ghost use Rattle.std.specs.Prelude.{IfOk, IfErr, OnOk};
+ghost use Rattle.commit_flow.specs.CommitCalls.{IsBegun, IsUnbegun};
+ghost use Rattle.commit_flow.specs.Commits.{IsCommittable};
+
+use crate::HostRefusal;
+use crate::candidates::changed_paths;
+use crate::configured::staged_config;
+use crate::course::Course;
+use crate::message::begun_message;
+use hook_base::{Bytes, Items, RepoPath};
+use hook_config::Config;
+use repo_store::{MOST_CONTENT_BYTES, Store};
+use sqlite::Alter;
+use std::alloc::Global;
+
+/// What a commit begins with.
+#[derive(Drop)]
+pub(crate) struct CommitBegun {
+    /// The staged configuration.
+    pub(crate) config: Config,
+    /// The paths of the staged files that the last commit doesn't hold so.
+    pub(crate) changed: Items<RepoPath>,
+    /// What is passed to the first stage.
+    pub(crate) course: Course,
+}
+
+/// Begins a commit. Refused are, in this order, a message of more than 16 MiB (`TooLarge`), staged files that are those of the
+/// last commit (`NothingStaged`), that no configuration is staged (`NoConfig`), and that it can't be read (`BadConfig`);
+/// `OutOfMemory` comes where memory is refused.
+pub(crate) fn begin_commit<S: Alter>(
+    alloc: Global,
+    store: &Store<S>,
+    message: &[u8],
+) -> Result<CommitBegun, HostRefusal>
+    ensures begun { IfOk result (IsBegun store.now.kept.repo message.now) }
+    ensures refused { IfErr result (IsUnbegun store.now.kept.repo message.now) }
+{
+    check_committable(store, message)?;
+    let config = staged_config(alloc, store)?;
+    let staged = store.staged()?;
+    let changed = changed_paths(alloc, store, &staged)?;
+    let message = begun_message(alloc, message)?;
+    Ok(CommitBegun {
+        config,
+        changed,
+        course: Course {
+            tree: staged,
+            message: Bytes::from(message),
+        },
+    })
+}
+
+fn check_committable<S: Alter>(store: &Store<S>, message: &[u8]) -> Result<(), HostRefusal>
+    ensures committable { OnOk result (IsCommittable store.now.kept.repo message.now) }
+    ensures refused { IfErr result (IsUnbegun store.now.kept.repo message.now) }
+{
+    if message.len() > MOST_CONTENT_BYTES {
+        return Err(HostRefusal::TooLarge);
+    }
+    if !store.differs_from_head() {
+        return Err(HostRefusal::NothingStaged);
+    }
+    Ok(())
+}

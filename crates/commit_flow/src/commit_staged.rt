@@ -1,0 +1,36 @@
+//! The commit of the staged files, once the hooks before it are through.
+
+ghost use Rattle.std.specs.Prelude.{◌≡◌, ◌+◌, [], length, IfOk, IfErr, OnOk};
+ghost use Rattle.repo_store.specs.AllOrNothing.{IsAllOrNothing};
+ghost use Rattle.repo_store.specs.Kept.{committing};
+ghost use Rattle.commit_flow.specs.CommitCalls.{IsOneChange, IsUncommitted, MayCommit};
+ghost use Rattle.commit_flow.specs.Messages.{cleaned_message};
+
+use crate::HostRefusal;
+use crate::message::cleaned_message;
+use repo_store::Store;
+use sqlite::Alter;
+use std::alloc::Global;
+
+/// Commits the staged files with the message, once this is cleaned, and answers the commit's number. Refused are, in this
+/// order, a cleaned message that is empty (`EmptyMessage`), one of more than 16 MiB (`Store`), and more than 100,000 commits
+/// (`TooMany`); `OutOfMemory` and `Store` come where memory or the database refuses. A refusal leaves the store as it was.
+pub(crate) fn commit_staged<S: Alter>(
+    alloc: Global,
+    store: &mut Store<S>,
+    message: &[u8],
+) -> Result<u32, HostRefusal>
+    ensures number { IfOk result (λ number. number ≡ length store.old.kept.repo.history + 1) }
+    ensures able { OnOk result (MayCommit store.old.kept.repo (cleaned_message message.now)) }
+    ensures refused { IfErr result (IsUncommitted store.old.kept.repo (cleaned_message message.now)) }
+    ensures unasked { cleaned_message message.now ≡ [] → store.new ≡ store.old }
+    ensures change { IsAllOrNothing store.old.kept store.new.kept result (committing (cleaned_message message.now) store.old.kept) }
+    ensures one { IsOneChange S.Store store.old store.new result (committing (cleaned_message message.now) store.old.kept) }
+{
+    let cleaned = cleaned_message(alloc, message)?;
+    if cleaned.is_empty() {
+        return Err(HostRefusal::EmptyMessage);
+    }
+    let number = store.commit(cleaned.as_slice())?;
+    Ok(number)
+}

@@ -1,0 +1,38 @@
+//! What is asked of a run on the staged files.
+
+use hook_base::{Items, Text};
+
+/// What is asked of a run on the staged files.
+#[derive(Debug, Drop)]
+pub struct HostAsk {
+    /// The files that hooks may get.
+    pub which: Which,
+    /// The id or alias of the hooks that are run, or `None` for all of the stage.
+    pub only: Option<Text>,
+    /// The stage whose hooks are run.
+    pub stage: AskStage,
+    /// The ids and aliases of hooks that are skipped.
+    pub skip: Items<Text>,
+    /// Whether every child is to be started, also where its answer is remembered.
+    pub fresh: bool,
+}
+
+/// The staged files that the hooks of a run may get.
+#[derive(Debug, Drop)]
+pub enum Which {
+    /// Those that the last commit doesn't hold so.
+    Changed,
+    /// All of them.
+    All,
+    /// These, as texts that needn't be paths.
+    Named(Items<Text>),
+}
+
+/// A stage that a run may be asked for.
+#[derive(Clone, Copy, Debug, PartialEq, Eq)]
+pub enum AskStage {
+    /// The hooks that run before a commit.
+    PreCommit,
+    /// The hooks that run only where they are asked for.
+    Manual,
+}

@@ -1,0 +1,81 @@
+//! What is made ready before the hooks of a run start.
+
+ghost use Rattle.std.specs.Prelude.{◌≡◌, IfOk, IfErr};
+ghost use Rattle.commit_flow.specs.Preparations.{IsPrepared, IsUnprepared, run_ask_with};
+ghost use Rattle.commit_flow.specs.Runs.{stage_of};
+
+use crate::candidates::candidates;
+use crate::configured::staged_config;
+use crate::{AskStage, HostAsk, HostRefusal};
+use hook_base::{Items, OutOfMemory, RepoPath, Text, Tree, copy_texts};
+use hook_config::{Config, Stage};
+use hook_run::RunAsk;
+use repo_store::Store;
+use sqlite::Alter;
+use std::alloc::Global;
+
+/// What is made ready before the hooks of a run start.
+#[derive(Drop)]
+pub(crate) struct Prepared {
+    /// The staged configuration.
+    pub config: Config,
+    /// What is asked of the hooks.
+    pub ask: RunAsk,
+    /// The staged files.
+    pub tree: Tree,
+}
+
+/// Makes a run ready. Refused is, in this order, that no configuration is staged (`NoConfig`), that it can't be read
+/// (`BadConfig`), and the first name that is no path (`BadPath`) or isn't staged (`NotStaged`); `OutOfMemory` comes where memory
+/// is refused.
+pub(crate) fn prepare<S: Alter>(
+    alloc: Global,
+    store: &Store<S>,
+    ask: &HostAsk,
+) -> Result<Prepared, HostRefusal>
+    ensures ready { IfOk result (IsPrepared store.now.kept.repo ask.now) }
+    ensures refused { IfErr result (IsUnprepared store.now.kept.repo ask.now) }
+{
+    let config = staged_config(alloc, store)?;
+    let tree = store.staged()?;
+    let candidates = candidates(alloc, store, &tree, &ask.which)?;
+    let ask = run_ask_with(alloc, ask, candidates)?;
+    Ok(Prepared { config, ask, tree })
+}
+
+// What is asked of the hooks that may get these files.
+fn run_ask_with(
+    alloc: Global,
+    ask: &HostAsk,
+    candidates: Items<RepoPath>,
+) -> Result<RunAsk, OutOfMemory>
+    ensures { IfOk result (λ asked. asked ≡ run_ask_with ask.now candidates) }
+{
+    let only = copy_name(&ask.only)?;
+    let skip = copy_texts(alloc, ask.skip.as_slice())?;
+    Ok(RunAsk {
+        stage: stage_of(ask.stage),
+        candidates,
+        only,
+        skip,
+        fresh: ask.fresh,
+    })
+}
+
+fn copy_name(name: &Option<Text>) -> Result<Option<Text>, OutOfMemory>
+    ensures { IfOk result (λ copy. copy ≡ name.now) }
+{
+    match name {
+        None => Ok(None),
+        Some(name) => Ok(Some(name.clone()?)),
+    }
+}
+
+fn stage_of(stage: AskStage) -> Stage
+    ensures { result ≡ stage_of stage }
+{
+    match stage {
+        AskStage::PreCommit => Stage::PreCommit,
+        AskStage::Manual => Stage::Manual,
+    }
+}

@@ -1,0 +1,76 @@
+//! A run of hooks on the staged files.
+
+ghost use Rattle.std.specs.Prelude.{◌≡◌, IfOk, IfErr};
+ghost use Rattle.child_port.specs.Telling.{SameTells};
+ghost use Rattle.repo_store.specs.AllOrNothing.{IsAllOrNothing};
+ghost use Rattle.repo_store.specs.Kept.{setting};
+ghost use Rattle.commit_flow.specs.declared.command.Command.TheVariants.{Run};
+ghost use Rattle.commit_flow.specs.Crashes.{IsOneCommand};
+ghost use Rattle.commit_flow.specs.Preparations.{HasRunReady, HasStoppedReady};
+ghost use Rattle.commit_flow.specs.RunSteps.{IsRunStep, IsStoppedStep, changes_in};
+
+use crate::hooks::run_without_book;
+use crate::prepared::{Prepared, prepare};
+use crate::{Host, HostAsk, HostRefusal, StagedRun};
+use child_port::Children;
+use hook_run::RunOut;
+use sqlite::Alter;
+use std::alloc::Global;
+
+impl<S: Alter> Host<S> {
+    /// Runs hooks on the staged files, with the children's outcomes, and sets the fixes to what they did to the staged files:
+    /// where they did nothing, earlier fixes are forgotten. The staged files stay.
+    ///
+    /// Refused is, in this order, that no configuration is staged (`NoConfig`), that it can't be read (`BadConfig`), the first
+    /// name that is no path (`BadPath`) or isn't staged (`NotStaged`), and a name that no hook of the stage has
+    /// (`NoSuchHook`); no child is started then. `Spent` comes where a child is needed and the children have told as many
+    /// outcomes as can be counted, and behind the last child `Collision` where the contents of a fix have the digest of
+    /// others, and `Store` where the database refuses or a fix has more than 16 MiB. `OutOfMemory` comes where memory is
+    /// refused. A refusal leaves the repository as it was, and the children with the outcomes that they have told.
+    pub fn run<C: Children>(
+        &mut self,
+        alloc: Global,
+        children: &mut C,
+        ask: &HostAsk,
+    ) -> Result<StagedRun, HostRefusal>
+        ensures step { IfOk result (λ ran. IsRunStep (C.tells children.old) (C.call_count children.old) (C.call_count children.new) (C.fault_count children.old) (C.fault_count children.new) self.old.store.kept.repo ask.now ran self.new.store.kept.repo) }
+        ensures stopped { IfErr result (IsStoppedStep (C.tells children.old) (C.call_count children.old) (C.call_count children.new) (C.fault_count children.old) (C.fault_count children.new) self.old.store.kept ask.now) }
+        ensures fixed { IfOk result (λ ran. self.new.store.kept.repo.fixes ≡ ran.changes) }
+        ensures kept { IsAllOrNothing self.old.store.kept self.new.store.kept result (setting (changes_in result) self.old.store.kept) }
+        ensures command { IsOneCommand S.Store self.old self.new (Run ask.now) result }
+        ensures same { SameTells (C.tells children.old) (C.tells children.new) }
+    {
+        let prepared = prepare(alloc, &self.store, ask)?;
+        let ran = run_prepared(alloc, children, &prepared)?;
+        self.store.set_fixes(ran.changes.as_slice())?;
+        Ok(ran)
+    }
+}
+
+// Runs the hooks that are made ready.
+fn run_prepared<C: Children>(
+    alloc: Global,
+    children: &mut C,
+    prepared: &Prepared,
+) -> Result<StagedRun, HostRefusal>
+    ensures run { IfOk result (HasRunReady (C.tells children.old) (C.call_count children.old) (C.call_count children.new) (C.fault_count children.old) (C.fault_count children.new) prepared.now) }
+    ensures stopped { IfErr result (HasStoppedReady (C.tells children.old) (C.call_count children.old) (C.call_count children.new) (C.fault_count children.old) (C.fault_count children.new) prepared.now) }
+    ensures same { SameTells (C.tells children.old) (C.tells children.new) }
+{
+    let Prepared { config, ask, tree } = prepared;
+    let out = run_without_book(alloc, children, config, ask, tree)?;
+    let changes = tree.changes_to(&out.tree)?;
+    let RunOut {
+        passed,
+        report,
+        results: _,
+        tree: _,
+        unsteady,
+    } = out;
+    Ok(StagedRun {
+        passed,
+        report,
+        changes,
+        unsteady,
+    })
+}

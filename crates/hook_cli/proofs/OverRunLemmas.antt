@@ -1,0 +1,116 @@
+-- How a run of hooks over a repository ends.
+use Rattle.std.proofs.Common.{rules, ◌≡◌, ℕ, Bool, Result, List, [], Ok, Err, inl, refl, subst, sym, arith}
+use Rattle.sqlite_trees.specs.declared.store.Store.{Ghosts}
+use Rattle.sqlite_trees.specs.Tree.{Trees}
+use Rattle.sqlite.specs.Held.{state}
+use Rattle.sqlite.specs.State.{State, Survives}
+use Rattle.hook_base.specs.declared.file.File.{File}
+use Rattle.child_port.specs.declared.answer.Outcome.{Outcome}
+use Rattle.child_port.specs.Telling.{SameTells}
+use Rattle.repo_store.specs.AllOrNothing.{IsAllOrNothing}
+use Rattle.repo_store.specs.Kept.{setting}
+use Rattle.commit_flow.specs.declared.command.Command.{Command}
+use Rattle.commit_flow.specs.declared.command.Command.TheVariants as command
+use Rattle.commit_flow.specs.declared.commit_ending.CommitEnding.{CommitEnding}
+use Rattle.commit_flow.specs.declared.host_ask.HostAsk.{HostAsk}
+use Rattle.commit_flow.specs.declared.host_refusal.HostRefusal.{HostRefusal}
+use Rattle.commit_flow.specs.declared.host_refusal.HostRefusal.TheVariants.{OutOfMemory}
+use Rattle.commit_flow.specs.declared.staged_run.StagedRun.{StagedRun}
+use Rattle.commit_flow.specs.Commands.{reply_of, reply_of_ending}
+use Rattle.commit_flow.specs.CommitKept.{KeepsFor}
+use Rattle.commit_flow.specs.Crashes.{IsOneCommand, LeavesDone}
+use Rattle.commit_flow.specs.Hosts.{Hosted}
+use Rattle.commit_flow.specs.RunSteps.{IsRunStep, IsStoppedStep, changes_in}
+use Rattle.commit_flow.specs.CommitSteps.{IsCommitStep}
+use Rattle.hook_cli.specs.declared.command_ending.CommandEnding.{CommandEnding}
+use Rattle.hook_cli.specs.CommandOver.{Counts, IsCommitOverHost, IsReplied, IsRunOverHost}
+use Rattle.hook_cli.specs.Printing.{IsRunSaid, IsSilent, IsTold, Output}
+use Rattle.hook_cli.specs.RefusalText.{refusal_text}
+use Rattle.hook_cli.specs.RunText.{run_text}
+
+pub same-tells-itself : (tells : List (List ℕ) → List File → Outcome → Type 0) → SameTells tells tells
+same-tells-itself tells = record { kept = λ words seen outcome told. told; added = λ words seen outcome told. told }
+
+survives-itself : (s : State) (P : Trees → Type 0) → Survives s s P
+survives-itself s P = record {
+  clean = omega arith;
+  shield = λ shielded. shielded;
+  counts = omega arith;
+  limit = refl;
+  closes = λ _ is_open. inl is_open;
+  crash = λ _ trees left. inl left;
+}
+
+unchanged : {S A : Type 0} (g : Ghosts S) (host : Hosted S) (command : Command) (refusal : HostRefusal) → IsOneCommand {A = A} g host host command (Err refusal)
+unchanged g host command refusal = record {
+  stands = λ stands. stands;
+  crash = survives-itself (state g host.store.conn) (LeavesDone host.store.kept.repo command);
+  durable = tt;
+}
+
+module _ {S : Type 0} (g : Ghosts S) (tells : List (List ℕ) → List File → Outcome → Type 0) (counts : Counts) (old new : Hosted S) (ask : HostAsk) (out err : Output) (ending : CommandEnding) where
+  pub run-said : (ran : StagedRun) (report : List ℕ) (unsteady : List (List ℕ)) → report ≡ ran.report → unsteady ≡ ran.unsteady
+      → IsRunStep tells counts.calls counts.calls_after counts.faults counts.faults_after old.store.kept.repo ask ran new.store.kept.repo
+      → IsAllOrNothing {E = HostRefusal} old.store.kept new.store.kept (Ok ran) (setting ran.changes old.store.kept)
+      → IsOneCommand g old new (command.Run ask) (Ok ran)
+      → IsRunSaid ran.passed out (run_text report unsteady) ending → IsSilent err
+      → IsRunOverHost g tells counts old new ask out err ending
+  run-said ran report unsteady reported named step change one said silent = record {
+    answer = Ok ran;
+    step = step;
+    stopped = tt;
+    change = change;
+    one = one;
+    replied = (
+      subst (λ (names : List (List ℕ)). IsRunSaid ran.passed out (run_text ran.report names) ending) named
+          (subst (λ (text : List ℕ). IsRunSaid ran.passed out (run_text text unsteady) ending) reported said),
+      silent,
+    );
+  }
+
+  pub run-refused : (refusal : HostRefusal)
+      → IsStoppedStep tells counts.calls counts.calls_after counts.faults counts.faults_after old.store.kept ask refusal
+      → IsAllOrNothing {A = StagedRun} old.store.kept new.store.kept (Err refusal) (setting [] old.store.kept)
+      → IsOneCommand {A = StagedRun} g old new (command.Run ask) (Err refusal)
+      → IsTold err (refusal_text refusal) ending → IsSilent out
+      → IsRunOverHost g tells counts old new ask out err ending
+  run-refused refusal stopped change one told silent = record {
+    answer = Err refusal;
+    step = tt;
+    stopped = stopped;
+    change = change;
+    one = one;
+    replied = (silent, told);
+  }
+
+-- memory is refused before the host is asked
+pub run-unasked : {S : Type 0} (g : Ghosts S) (tells : List (List ℕ) → List File → Outcome → Type 0) (calls faults : ℕ) (host : Hosted S) (ask : HostAsk) (out err : Output) (ending : CommandEnding)
+    → IsTold err (refusal_text OutOfMemory) ending → IsSilent out
+    → IsRunOverHost g tells (record { calls = calls; calls_after = calls; faults = faults; faults_after = faults }) host host ask out err ending
+run-unasked g tells calls faults host ask out err ending told silent = record {
+  answer = Err OutOfMemory;
+  step = tt;
+  stopped = record {
+    parts = [];
+    step = ((tt, refl), refl);
+    told = tt;
+    starts = record { kept = refl; steady = search rules };
+    counted = record { called = omega arith; faulted = omega arith };
+    stopped = inl refl;
+  };
+  change = record { done = tt; same = refl };
+  one = unchanged g host (command.Run ask) OutOfMemory;
+  replied = (silent, told);
+}
+
+-- a commit whose answer is printed: the bytes that the host got are the message
+pub commit-answered : {S : Type 0} (g : Ghosts S) (tells : List (List ℕ) → List File → Outcome → Type 0) (counts : Counts) (old new : Hosted S) (bytes message : List ℕ) (no_verify : Bool) (skip : List (List ℕ)) (out err : Output) (ending : CommandEnding)
+    (answer : Result CommitEnding HostRefusal) → bytes ≡ message
+    → IsCommitStep tells counts.calls counts.calls_after counts.faults counts.faults_after old.store.kept bytes no_verify skip (reply_of reply_of_ending answer) new.store.kept.repo
+    → KeepsFor old.store.kept new.store.kept answer
+    → IsOneCommand g old new (command.Commit bytes no_verify skip) answer
+    → IsReplied out err (reply_of reply_of_ending answer) ending
+    → IsCommitOverHost g tells counts old new message no_verify skip out err ending
+commit-answered g tells counts old new bytes message no_verify skip out err ending answer is step change one replied =
+    subst (λ (message : List ℕ). IsCommitOverHost g tells counts old new message no_verify skip out err ending) is
+    (record { answer = answer; step = step; change = change; one = one; replied = replied })

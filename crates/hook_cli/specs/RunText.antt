@@ -1,0 +1,44 @@
+-- What runs of hooks and commits say.
+use Rattle.std.specs.Prelude.{ℕ, List, [], ◌++◌, codes}
+use Rattle.std.specs.List.{concat, flat_map}
+use Rattle.std.specs.Fmt.{decimal}
+use Rattle.report_text.specs.Report.{line}
+use Rattle.hook_run.specs.declared.run_refusal.RunRefusal.{RunRefusal}
+use Rattle.hook_run.specs.Refusals.{name_of, number_of}
+use Rattle.commit_flow.specs.declared.reply.PostCommit.{PostCommit}
+use Rattle.commit_flow.specs.declared.reply.PostCommit.TheVariants.{Told, Stopped}
+use Rattle.hook_cli.specs.declared.command_ending.CommandEnding.{CommandEnding}
+use Rattle.hook_cli.specs.Printing.{AreSaid, IsSaid, IsSilent, Output}
+
+-- a hook whose answer was another than the remembered one
+abbrev pub unsteady_line : List ℕ → List ℕ
+unsteady_line id = line (codes "unsteady: " ++ id)
+
+-- a run: what is reported of its hooks, and then those hooks
+abbrev pub run_text : List ℕ → List (List ℕ) → List ℕ
+run_text report unsteady = report ++ flat_map unsteady_line unsteady
+
+-- what is reported of the hooks behind a commit: nothing where they were stopped
+abbrev pub post_report : PostCommit → List ℕ
+post_report (Told report) = report
+post_report (Stopped refusal) = []
+
+-- a commit that hooks refused: what is reported of the hooks of each stage, in order
+abbrev pub failure_text : List (List ℕ) → List ℕ
+failure_text reports = concat reports
+
+-- a commit: what is reported of the hooks of each stage before it, in order, of those behind it, and then its number
+abbrev pub commit_text : ℕ → List (List ℕ) → PostCommit → List ℕ
+commit_text number reports post = concat reports ++ (post_report post ++ line (codes "commit " ++ decimal number))
+
+-- why the hooks behind a commit were stopped
+abbrev pub stopped_text : RunRefusal → List ℕ
+stopped_text refusal = line (codes "hookhost: refused: " ++ decimal (number_of refusal) ++ codes " " ++ name_of refusal)
+
+-- ---- how it is printed
+
+-- the texts of a commit, with why the hooks behind it were stopped on standard error
+abbrev pub IsCommitSaid : ℕ → List (List ℕ) → PostCommit → Output → Output → CommandEnding → Type 0
+IsCommitSaid number reports (Told report) out err ending = IsSaid out (commit_text number reports (Told report)) ending × IsSilent err
+IsCommitSaid number reports (Stopped refusal) out err ending =
+    AreSaid out (commit_text number reports (Stopped refusal)) err (stopped_text refusal) ending

@@ -1,0 +1,142 @@
+//! The commands over a repository that run hooks.
+//!
+//! The contracts cite `specs/CommandOver.antt`.
+
+ghost use Rattle.std.specs.Prelude.{◌≡◌, IfOk};
+ghost use Rattle.child_port.specs.Telling.{SameTells};
+ghost use Rattle.commit_flow.specs.Commands.{reply_of_ending};
+ghost use Rattle.hook_cli.specs.CommandOver.{IsCommitOverHost, IsReplied, IsRunOverHost, ask_of};
+
+use crate::CommandEnding;
+use crate::printing::tell;
+use crate::run_printing::{say_commit, say_failure, say_run};
+use child_port::Children;
+use commit_flow::{AskStage, CommitEnding, Host, HostAsk, HostRefusal, Which};
+use hook_base::{Items, OutOfMemory, Text};
+use sqlite::Alter;
+use std::alloc::Global;
+use std::io::Write;
+
+/// `run` and `run-files`: runs hooks on the staged files, where memory gave what is asked. It prints what is reported of the
+/// hooks, and which of them are unsteady.
+pub(crate) fn run<S: Alter, C: Children, O: Write, E: Write>(
+    alloc: Global,
+    ask: Result<HostAsk, OutOfMemory>,
+    host: &mut Host<S>,
+    children: &mut C,
+    out: &mut O,
+    err: &mut E,
+) -> CommandEnding
+    ensures run { (asked : _) → IfOk ask (λ ask. ask ≡ asked) → IsRunOverHost S.Store (C.tells children.old) (record { calls = C.call_count children.old; calls_after = C.call_count children.new; faults = C.fault_count children.old; faults_after = C.fault_count children.new }) host.old host.new asked (record { held = O.contents out.old; holds = O.contents out.new }) (record { held = E.contents err.old; holds = E.contents err.new }) result }
+    ensures same { SameTells (C.tells children.old) (C.tells children.new) }
+{
+    match ask {
+        Ok(ask) => run_asked(alloc, &ask, host, children, out, err),
+        Err(OutOfMemory) => tell(err, &HostRefusal::OutOfMemory),
+    }
+}
+
+fn run_asked<S: Alter, C: Children, O: Write, E: Write>(
+    alloc: Global,
+    ask: &HostAsk,
+    host: &mut Host<S>,
+    children: &mut C,
+    out: &mut O,
+    err: &mut E,
+) -> CommandEnding
+    ensures run { IsRunOverHost S.Store (C.tells children.old) (record { calls = C.call_count children.old; calls_after = C.call_count children.new; faults = C.fault_count children.old; faults_after = C.fault_count children.new }) host.old host.new ask.now (record { held = O.contents out.old; holds = O.contents out.new }) (record { held = E.contents err.old; holds = E.contents err.new }) result }
+    ensures same { SameTells (C.tells children.old) (C.tells children.new) }
+{
+    match host.run(alloc, children, ask) {
+        Ok(ran) => say_run(
+            out,
+            ran.passed,
+            ran.report.as_slice(),
+            ran.unsteady.as_slice(),
+        ),
+        Err(refusal) => tell(err, &refusal),
+    }
+}
+
+/// `commit`: commits the staged files through their hooks. It prints what is reported of the hooks, and the commit's number where
+/// it was made.
+pub(crate) fn commit<S: Alter, C: Children, O: Write, E: Write>(
+    alloc: Global,
+    message: &str,
+    no_verify: bool,
+    skip: &[Text],
+    host: &mut Host<S>,
+    children: &mut C,
+    out: &mut O,
+    err: &mut E,
+) -> CommandEnding
+    ensures commit { IsCommitOverHost S.Store (C.tells children.old) (record { calls = C.call_count children.old; calls_after = C.call_count children.new; faults = C.fault_count children.old; faults_after = C.fault_count children.new }) host.old host.new message.now no_verify skip.now (record { held = O.contents out.old; holds = O.contents out.new }) (record { held = E.contents err.old; holds = E.contents err.new }) result }
+    ensures same { SameTells (C.tells children.old) (C.tells children.new) }
+{
+    match host.commit(alloc, children, message.as_bytes(), no_verify, skip) {
+        Ok(ending) => say_ending(out, err, &ending),
+        Err(refusal) => tell(err, &refusal),
+    }
+}
+
+fn say_ending<O: Write, E: Write>(out: &mut O, err: &mut E, ending: &CommitEnding) -> CommandEnding
+    ensures { IsReplied (record { held = O.contents out.old; holds = O.contents out.new }) (record { held = E.contents err.old; holds = E.contents err.new }) (reply_of_ending ending.now) result }
+{
+    match ending {
+        CommitEnding::Committed {
+            number,
+            reports,
+            post,
+        } => say_commit(out, err, *number, reports.as_slice(), post),
+        CommitEnding::HooksFailed { stage: _, reports } => say_failure(out, reports.as_slice()),
+    }
+}
+
+/// What a line asks of the host, with the hooks that are skipped.
+pub(crate) fn ask_of(
+    alloc: Global,
+    which: &Which,
+    only: &Option<Text>,
+    stage: AskStage,
+    fresh: bool,
+    skip: &[Text],
+) -> Result<HostAsk, OutOfMemory>
+    ensures { IfOk result (λ ask. ask ≡ ask_of which.now only.now stage fresh skip.now) }
+{
+    Ok(HostAsk {
+        which: which_of(alloc, which)?,
+        only: only_of(only)?,
+        stage,
+        skip: Items::from(copies_of(alloc, skip)?),
+        fresh,
+    })
+}
+
+fn which_of(alloc: Global, which: &Which) -> Result<Which, OutOfMemory>
+    ensures { IfOk result (λ copy. copy ≡ which.now) }
+{
+    match which {
+        Which::Changed => Ok(Which::Changed),
+        Which::All => Ok(Which::All),
+        Which::Named(names) => Ok(Which::Named(Items::from(copies_of(alloc, names.as_slice())?))),
+    }
+}
+
+fn only_of(only: &Option<Text>) -> Result<Option<Text>, OutOfMemory>
+    ensures { IfOk result (λ copy. copy ≡ only.now) }
+{
+    match only {
+        Some(name) => Ok(Some(name.clone()?)),
+        None => Ok(None),
+    }
+}
+
+fn copies_of(alloc: Global, texts: &[Text]) -> Result<Vec<Text>, OutOfMemory>
+    ensures { IfOk result (λ copies. copies.items ≡ texts.now) }
+{
+    let mut copies = Vec::new(alloc);
+    'texts: for text in texts {
+        copies.push(text.clone()?)?;
+    }
+    Ok(copies)
+}

@@ -1,0 +1,174 @@
+//! Commands over a repository, from the words of a row: `add MODE PATH CONTENTS`, `add_zeros MODE PATH COUNT`, `rm PATH`,
+//! `status`, `fixes`, `accept`, `cat PATH`, `log`, `show NUMBER`, `run STAGE FILES ONLY SKIP` or `commit MESSAGE HOW SKIP`. MODE is
+//! `plain`, `executable` or `none`, and STAGE `pre-commit` or `manual`. FILES is `changed`, `all` or the path of the one that is
+//! named; ONLY names the hooks to run, or is empty; SKIP is a list of those that are skipped, with commas between them; HOW is
+//! `verified` or `unverified`.
+
+ghost use Rattle.std.specs.Prelude.{IfOk};
+ghost use Rattle.hook_cli.specs.CommandOver.{IsOverHost};
+
+use crate::host_commands::Kept;
+use crate::host_words::{Words, mode_of, tell};
+use crate::host_writers::HabitWriter;
+use child_port::TableChildren;
+use commit_flow::{AskStage, Host, Which};
+use hook_base::{Items, Text};
+use hook_cli::{Line, command_over, skip_list_of};
+use std::alloc::{AllocError, Global};
+use trial_rows::Stop;
+
+/// Hands the store to a host for one command.
+pub(crate) fn line_played(
+    alloc: Global,
+    words: &mut Words<'_>,
+    children: &mut TableChildren,
+    store: Kept,
+    told: &mut Vec<u8>,
+) -> Result<Kept, Stop> {
+    let mut out = HabitWriter::of(alloc, words.bytes()?)?;
+    let mut err = HabitWriter::of(alloc, words.bytes()?)?;
+    let command = words.text()?;
+    let line = line_of(alloc, command, words)?;
+    let bytes = bytes_of(alloc, command, words)?;
+    let skip = skip_of(alloc, command, words)?;
+    let mut host = Host::over(store);
+    let status = command_over(
+        alloc,
+        &line,
+        bytes.as_slice(),
+        skip.as_slice(),
+        &mut host,
+        children,
+        &mut out,
+        &mut err,
+    );
+    tell_end(alloc, status, out, err, told)?;
+    Ok(host.into_store())
+}
+
+// The line of a command, but for the bytes of `add` and what runs skip.
+fn line_of(alloc: Global, command: &str, words: &mut Words<'_>) -> Result<Line, Stop>
+    ensures { IfOk result IsOverHost }
+{
+    match command {
+        "add" | "add_zeros" => {
+            let mode = mode_of(words)?;
+            let path = asked_path(alloc, words)?;
+            Ok(Line::Add { path, mode })
+        }
+        "rm" => Ok(Line::Remove {
+            path: asked_path(alloc, words)?,
+        }),
+        "status" => Ok(Line::Status),
+        "run" => Ok(Line::Run {
+            stage: stage_of(words)?,
+            which: files_of(alloc, words)?,
+            only: asked_name(alloc, words)?,
+            fresh: false,
+        }),
+        "commit" => Ok(Line::Commit {
+            message: Text::copy_of(alloc, words.text()?)?,
+            no_verify: is_unverified(words)?,
+        }),
+        "fixes" => Ok(Line::Fixes),
+        "accept" => Ok(Line::Accept),
+        "cat" => Ok(Line::Cat {
+            path: asked_path(alloc, words)?,
+        }),
+        "log" => Ok(Line::Log),
+        "show" => Ok(Line::Show {
+            number: words.number()?,
+        }),
+        _ => Err(Stop::BadLine),
+    }
+}
+
+fn asked_path(alloc: Global, words: &mut Words<'_>) -> Result<Text, Stop> {
+    Ok(Text::copy_of(alloc, words.text()?)?)
+}
+
+fn stage_of(words: &mut Words<'_>) -> Result<AskStage, Stop> {
+    match words.text()? {
+        "pre-commit" => Ok(AskStage::PreCommit),
+        "manual" => Ok(AskStage::Manual),
+        _ => Err(Stop::BadLine),
+    }
+}
+
+fn is_unverified(words: &mut Words<'_>) -> Result<bool, Stop> {
+    match words.text()? {
+        "verified" => Ok(false),
+        "unverified" => Ok(true),
+        _ => Err(Stop::BadLine),
+    }
+}
+
+fn files_of(alloc: Global, words: &mut Words<'_>) -> Result<Which, Stop> {
+    match words.text()? {
+        "changed" => Ok(Which::Changed),
+        "all" => Ok(Which::All),
+        path => {
+            let mut paths = Vec::new(alloc);
+            paths.push(Text::copy_of(alloc, path)?)?;
+            Ok(Which::Named(Items::from(paths)))
+        }
+    }
+}
+
+fn asked_name(alloc: Global, words: &mut Words<'_>) -> Result<Option<Text>, Stop> {
+    match words.text()? {
+        "" => Ok(None),
+        name => Ok(Some(Text::copy_of(alloc, name)?)),
+    }
+}
+
+fn skip_of(alloc: Global, command: &str, words: &mut Words<'_>) -> Result<Items<Text>, Stop> {
+    match command {
+        "run" | "commit" => Ok(skip_list_of(alloc, words.text()?)?),
+        _ => Ok(Items::new(alloc)),
+    }
+}
+
+fn bytes_of(alloc: Global, command: &str, words: &mut Words<'_>) -> Result<Vec<u8>, Stop> {
+    match command {
+        "add" => Ok(words.bytes()?.to_vec(alloc)?),
+        "add_zeros" => zeros(alloc, words.number()?),
+        _ => Ok(Vec::new(alloc)),
+    }
+}
+
+fn zeros(alloc: Global, count: u32) -> Result<Vec<u8>, Stop> {
+    let mut bytes = Vec::new(alloc);
+    for _ in 0..count {
+        bytes.push(0)?;
+    }
+    Ok(bytes)
+}
+
+fn tell_end(
+    alloc: Global,
+    status: u8,
+    out: HabitWriter,
+    err: HabitWriter,
+    told: &mut Vec<u8>,
+) -> Result<(), Stop> {
+    tell(told, format!(in alloc; "status {status}, out ")?)?;
+    tell_flushes(alloc, &out, told)?;
+    let out = out.into_bytes();
+    let length = out.len();
+    tell(told, format!(in alloc; "{length}, err ")?)?;
+    tell_flushes(alloc, &err, told)?;
+    let err = err.into_bytes();
+    let length = err.len();
+    tell(told, format!(in alloc; "{length}\n")?)?;
+    told.extend_from_slice(out.as_slice())?;
+    told.extend_from_slice(err.as_slice())?;
+    Ok(())
+}
+
+fn tell_flushes(alloc: Global, writer: &HabitWriter, told: &mut Vec<u8>) -> Result<(), AllocError> {
+    match writer.told_flushes() {
+        Some(count) => tell(told, format!(in alloc; "flushed {count} times ")?),
+        None => Ok(()),
+    }
+}

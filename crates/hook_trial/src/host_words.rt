@@ -1,0 +1,48 @@
+//! The words of a row of commands over a repository.
+
+use hook_base::Mode;
+use std::alloc::AllocError;
+use trial_rows::{Stop, number_of, text_of};
+
+/// The words of a row that are still to be read.
+#[derive(Drop)]
+pub(crate) struct Words<'a> {
+    pub(crate) left: &'a [Vec<u8>],
+}
+
+impl<'a> Words<'a> {
+    pub(crate) fn next(&mut self) -> Option<&'a [u8]> {
+        let [word, others @ ..] = self.left else {
+            return None;
+        };
+        self.left = others;
+        Some(word.as_slice())
+    }
+
+    pub(crate) fn bytes(&mut self) -> Result<&'a [u8], Stop> {
+        self.next().ok_or(Stop::BadLine)
+    }
+
+    pub(crate) fn text(&mut self) -> Result<&'a str, Stop> {
+        text_of(self.bytes()?)
+    }
+
+    pub(crate) fn number(&mut self) -> Result<u32, Stop> {
+        number_of(self.bytes()?)
+    }
+}
+
+/// The mode that a word names, if any.
+pub(crate) fn mode_of(words: &mut Words<'_>) -> Result<Option<Mode>, Stop> {
+    match words.text()? {
+        "plain" => Ok(Some(Mode::Plain)),
+        "executable" => Ok(Some(Mode::Executable)),
+        "none" => Ok(None),
+        _ => Err(Stop::BadLine),
+    }
+}
+
+/// Puts a text behind the answer.
+pub(crate) fn tell(told: &mut Vec<u8>, text: String) -> Result<(), AllocError> {
+    told.extend_from_slice(text.as_bytes())
+}
