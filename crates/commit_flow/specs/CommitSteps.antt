@@ -28,7 +28,7 @@ use Rattle.commit_flow.specs.Runs.{changed_paths}
 use Rattle.commit_flow.specs.RunSteps.{IsUnset}
 use Rattle.commit_flow.specs.Steps.{Step}
 
--- these are the parts that children told, in order, between these counts, each by a child that was started
+-- these are the parts that children told, in order, between these counts, and none is another answer than the remembered one
 pub record AreTold (tells : List (List ℕ) → List File → Outcome → Type 0) (calls calls_after faults faults_after : ℕ) (parts : List Part) : Type 0 where
   pub told : AllTold tells parts
   pub steady : All (λ part. part.unsteady ≡ false) parts
@@ -63,8 +63,9 @@ pub record HasFurtherBehind (before : Repository) (skip : List (List ℕ)) (part
   pub configured : IsConfigured before config
   pub needs : NeedsPart config (ask_in (changed_paths before) skip stage.PostCommit) before.staged parts
 
--- The parts that the reply doesn't stand on. Where hooks are stopped, they are theirs, and those of the hooks before them
--- where nothing is committed; where the store refuses, those of all stages that were run. Else there are none. Children are spent only where one is needed.
+-- The parts that the reply doesn't stand on. Where the store refuses, they are those of all stages that were run, and where
+-- children are spent those before the one that is needed. For want of memory they may be any, behind a commit too. Else there
+-- are none.
 abbrev pub AreLeftOut : Kept → List ℕ → Bool → List (List ℕ) → List Part → Reply → Type 0
 AreLeftOut kept message no_verify skip parts (Refused OutOfMemory) = Unit {0}
 AreLeftOut kept message no_verify skip parts (Refused Spent) = HasFurtherBefore kept.repo message no_verify skip parts

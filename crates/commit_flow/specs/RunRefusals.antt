@@ -9,13 +9,13 @@ use Rattle.commit_flow.specs.declared.host_refusal.HostRefusal.TheVariants.{OutO
 use Rattle.commit_flow.specs.Configured.{HasReadableConfig, IsMisconfigured, LacksConfig}
 use Rattle.commit_flow.specs.Runs.{HasNoSuchHook, IsNamesRefusal, IsRunnable, names_in}
 
--- the database refuses, or a child's file is larger than the store takes
+-- the database refuses, or a file or a message that hooks left is larger than the store takes
 abbrev pub IsOfFixes : StoreFault → Type 0
 IsOfFixes (Sql error) = Unit {0}
 IsOfFixes TooLarge = Unit {0}
 IsOfFixes fault = ⊥
 
--- Why hooks of a configuration that can be read are stopped, or the fixes that they leave aren't set.
+-- Why hooks of a configuration that can be read are stopped, or what they leave isn't kept as fixes or committed.
 abbrev pub IsStop : HostRefusal → Type 0
 IsStop (Store fault) = IsOfFixes fault
 IsStop Collision = Unit {0}

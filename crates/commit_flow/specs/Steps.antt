@@ -18,8 +18,7 @@ use Rattle.commit_flow.specs.declared.host_refusal.HostRefusal.{HostRefusal}
 use Rattle.commit_flow.specs.declared.host_refusal.HostRefusal.TheVariants.{OutOfMemory, Store, BadPath, NotStaged, TooLarge, TooMany, NoFixes, Collision, Clash}
 use Rattle.commit_flow.specs.declared.reply.Reply.{Reply}
 use Rattle.commit_flow.specs.declared.reply.Reply.TheVariants.{Added, Removed, Accepted, Ran, Committed, HooksFailed, Forgot, Refused}
-use Rattle.child_port.specs.declared.answer.Outcome.{Outcome}
-use Rattle.hook_run.specs.Parts.{AllTold, Part, faults_of}
+use Rattle.hook_run.specs.Parts.{Part}
 use Rattle.commit_flow.specs.Commits.{HaveHooksFailed, IsCommitted, IsCommitRefusal}
 use Rattle.commit_flow.specs.RunRefusals.{IsRunRefusal}
 use Rattle.commit_flow.specs.Runs.{IsRan}
@@ -118,7 +117,7 @@ IsForgetRefusal refusal = ⊥
 
 -- ---- the steps
 
--- The refusal may answer the command, whose runs had these parts.
+-- The refusal may answer the command, and stands on these parts.
 abbrev pub IsRefused : Repository → Command → List Part → HostRefusal → Type 0
 IsRefused before (Add path bytes asked) parts refusal = IsAddRefusal before path bytes asked refusal × (parts ≡ [])
 IsRefused before (Remove path) parts refusal = IsRemoveRefusal before path refusal × (parts ≡ [])
@@ -127,9 +126,10 @@ IsRefused before (Run ask) parts refusal = IsRunRefusal before ask refusal × (p
 IsRefused before (Commit message no_verify skip) parts refusal = IsCommitRefusal before message no_verify skip parts refusal
 IsRefused before Forget parts refusal = IsForgetRefusal refusal × (parts ≡ [])
 
--- The command may answer so, and then leaves this repository: any refusal leaves the one before. The parts are those of the
--- runs that it made, in order, but for those of a run that was stopped: they say which children's outcomes the reply stands on
--- and how many of them were faults. How many answers were forgotten is said by what is remembered.
+-- The command may answer so, and then leaves this repository: any refusal leaves the one before. The parts are those that the
+-- reply stands on, in order: none of a run that was stopped, and none of a run whose fixes or commit memory or the store refused.
+-- They say which children's outcomes the reply tells of, and how many of them were faults. How many answers were forgotten is
+-- said by what is remembered.
 abbrev pub Step : Repository → Command → Reply → List Part → Repository → Type 0
 Step before (Add path bytes asked) Added parts after = IsAdded before path bytes asked after × (parts ≡ [])
 Step before (Remove path) Removed parts after = IsRemoved before path after × (parts ≡ [])
@@ -140,10 +140,3 @@ Step before (Commit message no_verify skip) (HooksFailed stage reports) parts af
 Step before Forget (Forgot number) parts after = (after ≡ before) × (parts ≡ [])
 Step before command (Refused refusal) parts after = IsRefused before command parts refusal × (after ≡ before)
 Step before command reply parts after = ⊥
-
--- a step over children: they told its parts, and so many of these were faults
-pub record IsStep (tells : List (List ℕ) → List File → Outcome → Type 0) (before : Repository) (command : Command) (reply : Reply) (faults : ℕ) (after : Repository) : Type 0 where
-  pub parts : List Part
-  pub step : Step before command reply parts after
-  pub told : AllTold tells parts
-  pub counted : faults ≡ faults_of parts
