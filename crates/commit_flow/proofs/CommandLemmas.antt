@@ -1,5 +1,5 @@
 -- What a command leaves, from what the store's call leaves.
-use Rattle.std.proofs.Common.{◌≡◌, ℕ, List, [], length, Option, Ok, Err, inl, refl, sym, subst, arith}
+use Rattle.std.proofs.Common.{◌≡◌, ℕ, List, [], length, Option, Result, Ok, Err, inl, refl, sym, subst, arith}
 use Rattle.sqlite_trees.specs.declared.store.Store.{Ghosts}
 use Rattle.sqlite_trees.specs.Tree.{Trees}
 use Rattle.sqlite.specs.Held.{state}
@@ -14,7 +14,6 @@ use Rattle.commit_flow.specs.declared.command.Command.TheVariants.{Add, Remove, 
 use Rattle.commit_flow.specs.declared.host_refusal.HostRefusal.{HostRefusal}
 use Rattle.commit_flow.specs.declared.reply.Reply.TheVariants.{Added, Removed, Accepted}
 use Rattle.commit_flow.specs.Crashes.{IsOneCommand, LeavesDone}
-use Rattle.commit_flow.specs.Hosts.{Hosted}
 use Rattle.commit_flow.specs.StagedPaths.{IsLegal, IsStaged}
 use Rattle.commit_flow.specs.Steps.{HasFixes, IsAddable, entry_to_add, mode_to_add}
 
@@ -29,12 +28,21 @@ survives_itself s P = record {
 }
 
 -- a command that is refused before the store is asked
-pub unchanged : {S A : Type 0} (g : Ghosts S) (host : Hosted S) (command : Command) (refusal : HostRefusal) → IsOneCommand {A = A} g host host command (Err refusal)
-unchanged g host command refusal = record {
+pub unchanged : {S A : Type 0} (g : Ghosts S) (shown : Shown S) (command : Command) (refusal : HostRefusal) → IsOneCommand {A = A} g shown shown command (Err refusal)
+unchanged g shown command refusal = record {
   stands = λ stands. stands;
-  crash = survives_itself (state g host.store.conn) (LeavesDone host.store.kept.repo command);
+  crash = survives_itself (state g shown.conn) (LeavesDone shown.kept.repo command);
   durable = tt;
 }
+
+-- a command that leaves the store as it was
+pub untouched : {S A : Type 0} (g : Ghosts S) (shown : Shown S) (command : Command) (result : Result A HostRefusal) → LeavesOnly g shown.conn shown.kept → IsOneCommand g shown shown command result
+untouched g shown command (Ok x) leaves = record {
+  stands = λ stands. stands;
+  crash = survives_itself (state g shown.conn) (LeavesDone shown.kept.repo command);
+  durable = leaves;
+}
+untouched g shown command (Err refusal) leaves = unchanged g shown command refusal
 
 -- a command that asks the store for one change
 module _ {S : Type 0} (g : Ghosts S) (old new : Shown S) (command : Command) (asked after : Kept) (is : asked ≡ after) (reached : (trees : Trees) → Leaves after trees → LeavesDone old.kept.repo command trees) where
@@ -42,10 +50,10 @@ module _ {S : Type 0} (g : Ghosts S) (old new : Shown S) (command : Command) (as
   leaves_done =
       survives_weaker (state g old.conn) (state g new.conn) (Leaves asked) (LeavesDone old.kept.repo command) (λ _ trees leaves. reached trees (subst (λ (kept : Kept). Leaves kept trees) is leaves))
 
-  pub refused_command : {A B E : Type 0} (fault : E) (refusal : HostRefusal) → IsOneTransaction {A = A} g old new (Err fault) asked → IsOneCommand {A = B} g (record { store = old }) (record { store = new }) command (Err refusal)
+  pub refused_command : {A B E : Type 0} (fault : E) (refusal : HostRefusal) → IsOneTransaction {A = A} g old new (Err fault) asked → IsOneCommand {A = B} g old new command (Err refusal)
   refused_command fault refusal one = record { stands = λ _. one.stands; crash = leaves_done one.crash; durable = tt }
 
-  pub done_command : {A B E : Type 0} (x : A) (y : B) → new.kept ≡ asked → IsOneTransaction {E = E} g old new (Ok x) asked → IsOneCommand {A = B} g (record { store = old }) (record { store = new }) command (Ok y)
+  pub done_command : {A B E : Type 0} (x : A) (y : B) → new.kept ≡ asked → IsOneTransaction {E = E} g old new (Ok x) asked → IsOneCommand {A = B} g old new command (Ok y)
   done_command x y same one = record { stands = λ _. one.stands; crash = leaves_done one.crash; durable = subst (LeavesOnly g new.conn) (sym same) one.durable }
 
 -- what the commands ask the store for, and what they reach
@@ -84,16 +92,16 @@ accept_reached kept some trees leaves = record {
 }
 
 -- the fixes are accepted, whatever number is answered
-module _ {S : Type 0} (g : Ghosts S) (host : Hosted S) (old new : Shown S) (is : record { store = old } ≡ host) (some : HasFixes host.store.kept.repo) where
+module _ {S : Type 0} (g : Ghosts S) (before old new : Shown S) (is : old ≡ before) (some : HasFixes before.kept.repo) where
   kept_fixes : HasFixes old.kept.repo
-  kept_fixes = subst (λ (at : Hosted S). HasFixes at.store.kept.repo) (sym is) some
+  kept_fixes = subst (λ (at : Shown S). HasFixes at.kept.repo) (sym is) some
 
-  pub accept_refused : {A B E : Type 0} (fault : E) (refusal : HostRefusal) → IsOneTransaction {A = A} g old new (Err fault) (accepting old.kept) → IsOneCommand {A = B} g host (record { store = new }) Accept (Err refusal)
+  pub accept_refused : {A B E : Type 0} (fault : E) (refusal : HostRefusal) → IsOneTransaction {A = A} g old new (Err fault) (accepting old.kept) → IsOneCommand {A = B} g before new Accept (Err refusal)
   accept_refused {B = B} fault refusal one =
-      subst (λ (at : Hosted S). IsOneCommand {A = B} g at (record { store = new }) Accept (Err refusal)) is
+      subst (λ (at : Shown S). IsOneCommand {A = B} g at new Accept (Err refusal)) is
       (refused_command g old new Accept (accepting old.kept) (accepting old.kept) refl (accept_reached old.kept kept_fixes) fault refusal one)
 
-  pub accept_done : {A B E : Type 0} (x : A) → new.kept ≡ accepting old.kept → IsOneTransaction {E = E} g old new (Ok x) (accepting old.kept) → (y : B) → IsOneCommand {A = B} g host (record { store = new }) Accept (Ok y)
+  pub accept_done : {A B E : Type 0} (x : A) → new.kept ≡ accepting old.kept → IsOneTransaction {E = E} g old new (Ok x) (accepting old.kept) → (y : B) → IsOneCommand {A = B} g before new Accept (Ok y)
   accept_done {B = B} x same one y =
-      subst (λ (at : Hosted S). IsOneCommand {A = B} g at (record { store = new }) Accept (Ok y)) is
+      subst (λ (at : Shown S). IsOneCommand {A = B} g at new Accept (Ok y)) is
       (done_command g old new Accept (accepting old.kept) (accepting old.kept) refl (accept_reached old.kept kept_fixes) x y same one)

@@ -89,8 +89,8 @@ module _ (tells : List (List ℕ) → List File → Outcome → Type 0) (calls c
 -- where the cleaned message is empty, the store isn't asked
 pub uncommitted_command : {S A B : Type 0} (g : Ghosts S) (old new : Shown S) (command : Command) (first second : HostRefusal) (cleaned : List ℕ) → (cleaned ≡ [] → new ≡ old)
     → ((cleaned ≡ [] → ⊥) → (trees : Trees) → Leaves (committing cleaned old.kept) trees → LeavesDone old.kept.repo command trees)
-    → IsOneChange {A = A} g old new (Err first) (committing cleaned old.kept) → IsOneCommand {A = B} g (record { store = old }) (record { store = new }) command (Err second)
+    → IsOneChange {A = A} g old new (Err first) (committing cleaned old.kept) → IsOneCommand {A = B} g old new command (Err second)
 uncommitted_command {S} {A} {B} g old new command first second [] unasked reached one =
-    subst (λ (at : Shown S). IsOneCommand {A = B} g (record { store = old }) (record { store = at }) command (Err second)) (sym (unasked refl)) (unchanged g (record { store = old }) command second)
+    subst (λ (at : Shown S). IsOneCommand {A = B} g old at command (Err second)) (sym (unasked refl)) (unchanged g old command second)
 uncommitted_command {S} {A} {B} g old new command first second (byte ∷ bytes) unasked reached one =
     command_refused g old new (committing (byte ∷ bytes) old.kept) command (reached (λ is. cc)) first second one

@@ -67,14 +67,14 @@ module _ {S : Type 0} (g : Ghosts S) (old new : Shown S) (after : Kept) where
 
   -- a command that asks the store for this change
   module _ (command : Command) (reached : (trees : Trees) → Leaves after trees → LeavesDone old.kept.repo command trees) where
-    pub command_refused : {A B : Type 0} (first second : HostRefusal) → IsOneChange {A = A} g old new (Err first) after → IsOneCommand {A = B} g (record { store = old }) (record { store = new }) command (Err second)
+    pub command_refused : {A B : Type 0} (first second : HostRefusal) → IsOneChange {A = A} g old new (Err first) after → IsOneCommand {A = B} g old new command (Err second)
     command_refused first second one = record {
       stands = one.stands;
       crash = survives_weaker (state g old.conn) (state g new.conn) (Leaves after) (LeavesDone old.kept.repo command) (λ _ trees leaves. reached trees leaves) one.crash;
       durable = tt;
     }
 
-    pub command_done : {A B : Type 0} (x : A) (y : B) → IsOneChange g old new (Ok x) after → IsOneCommand g (record { store = old }) (record { store = new }) command (Ok y)
+    pub command_done : {A B : Type 0} (x : A) (y : B) → IsOneChange g old new (Ok x) after → IsOneCommand g old new command (Ok y)
     command_done x y one = record {
       stands = one.stands;
       crash = survives_weaker (state g old.conn) (state g new.conn) (Leaves after) (LeavesDone old.kept.repo command) (λ _ trees leaves. reached trees leaves) one.crash;

@@ -6,6 +6,7 @@ use Rattle.hook_base.specs.declared.file.File.{File}
 use Rattle.hook_base.specs.Trees.{changes_between}
 use Rattle.child_port.specs.declared.answer.Outcome.{Outcome}
 use Rattle.hook_config.specs.declared.configuration.Config.{Config}
+use Rattle.result_book.specs.Contents.{Contents}
 use Rattle.hook_run.specs.declared.run_ask.RunAsk.{RunAsk}
 use Rattle.hook_run.specs.declared.run_out.RunOut.{RunOut}
 use Rattle.hook_run.specs.declared.run_refusal.RunRefusal.{RunRefusal}
@@ -94,8 +95,8 @@ module _ (kept : Kept) (ask : HostAsk) (calls : ℕ) where
 no_parts : (calls faults : ℕ) → IsCounted calls calls faults faults []
 no_parts calls faults = record { called = omega arith; faulted = omega arith }
 
-pub unready : (tells : List (List ℕ) → List File → Outcome → Type 0) (calls faults : ℕ) (kept : Kept) (ask : HostAsk) (refusal : HostRefusal) → IsUnprepared kept.repo ask refusal → IsStoppedStep tells calls calls faults faults kept ask refusal
-unready tells calls faults kept ask refusal why =
+pub unready : (tells : List (List ℕ) → List File → Outcome → Type 0) (calls faults : ℕ) (book : Contents) (kept : Kept) (ask : HostAsk) (refusal : HostRefusal) → IsUnprepared kept.repo ask refusal → IsStoppedStep tells calls calls faults faults book book kept ask refusal
+unready tells calls faults book kept ask refusal why =
     let p = early kept ask calls refusal why in
     record {
       parts = [];
@@ -109,9 +110,9 @@ unready tells calls faults kept ask refusal why =
 -- ---- a run of hooks
 
 -- it is lost where memory is refused behind it
-pub lost : (tells : List (List ℕ) → List File → Outcome → Type 0) (calls calls_after faults faults_after : ℕ) (config : Config) (ask : RunAsk) (tree : List File) (out : RunOut)
-    → HaveRun tells calls calls_after faults faults_after config ask tree out → HaveStopped tells calls calls_after faults faults_after config ask tree run.OutOfMemory
-lost tells calls calls_after faults faults_after config ask tree out have =
+pub lost : (tells : List (List ℕ) → List File → Outcome → Type 0) (calls calls_after faults faults_after : ℕ) (book book_after : Contents) (config : Config) (ask : RunAsk) (tree : List File) (out : RunOut)
+    → HaveRun tells calls calls_after faults faults_after book book_after config ask tree out → HaveStopped tells calls calls_after faults faults_after book book_after config ask tree run.OutOfMemory
+lost tells calls calls_after faults faults_after book book_after config ask tree out have =
     let parts = all_parts have.over.trace in
     record {
       unknown = λ is. absurd (cc);
@@ -137,7 +138,7 @@ prepared_with config ask tree = record { config = config; ask = ask; tree = tree
 same_prepared : (config : Config) (first second : RunAsk) (tree other : List File) → first ≡ second → tree ≡ other → prepared_with config first tree ≡ prepared_with config second other
 same_prepared config first second tree other asked same = cc
 
-module _ (tells : List (List ℕ) → List File → Outcome → Type 0) (calls calls_after faults faults_after : ℕ) (kept : Kept) (ask : HostAsk) (ready : Prepared) (is : IsPrepared kept.repo ask ready) where
+module _ (tells : List (List ℕ) → List File → Outcome → Type 0) (calls calls_after faults faults_after : ℕ) (book book_after : Contents) (kept : Kept) (ask : HostAsk) (ready : Prepared) (is : IsPrepared kept.repo ask ready) where
   abbrev whole : Prepared
   whole = prepared_with ready.config (run_ask_of ask kept.repo) kept.repo.staged
 
@@ -147,19 +148,19 @@ module _ (tells : List (List ℕ) → List File → Outcome → Type 0) (calls c
   runnable : names_no_hook ready.config (run_ask_of ask kept.repo) ≡ false → IsRunnable kept.repo ask ready.config
   runnable known = record { configured = is.configured; named = is.named; known = known }
 
-  ran_whole : (ran : StagedRun) → HasRunReady tells calls calls_after faults faults_after ready ran → HasRunReady tells calls calls_after faults faults_after whole ran
-  ran_whole ran has = subst (λ (r : Prepared). HasRunReady tells calls calls_after faults faults_after r ran) ready_is has
+  ran_whole : (ran : StagedRun) → HasRunReady tells calls calls_after faults faults_after book book_after ready ran → HasRunReady tells calls calls_after faults faults_after book book_after whole ran
+  ran_whole ran has = subst (λ (r : Prepared). HasRunReady tells calls calls_after faults faults_after book book_after r ran) ready_is has
 
-  changes_of : (ran : StagedRun) (has : HasRunReady tells calls calls_after faults faults_after whole ran) → ran.changes ≡ changes_between kept.repo.staged has.out.tree
+  changes_of : (ran : StagedRun) (has : HasRunReady tells calls calls_after faults faults_after book book_after whole ran) → ran.changes ≡ changes_between kept.repo.staged has.out.tree
   changes_of ran has = ap (λ (r : StagedRun). r.changes) has.gives
 
-  staged_fixes : (ran : StagedRun) (has : HasRunReady tells calls calls_after faults faults_after whole ran) → staged_changes ran.changes kept.repo.staged ≡ changes_between kept.repo.staged has.out.tree
+  staged_fixes : (ran : StagedRun) (has : HasRunReady tells calls calls_after faults faults_after book book_after whole ran) → staged_changes ran.changes kept.repo.staged ≡ changes_between kept.repo.staged has.out.tree
   staged_fixes ran has = ap (λ (l : List Change). staged_changes l kept.repo.staged) (changes_of ran has) ∙ changes_are_staged kept.repo.staged has.out.tree
 
-  pub all_staged : (ran : StagedRun) → HasRunReady tells calls calls_after faults faults_after ready ran → staged_changes ran.changes kept.repo.staged ≡ ran.changes
+  pub all_staged : (ran : StagedRun) → HasRunReady tells calls calls_after faults faults_after book book_after ready ran → staged_changes ran.changes kept.repo.staged ≡ ran.changes
   all_staged ran has = let w = ran_whole ran has in staged_fixes ran w ∙ sym (changes_of ran w)
 
-  is_ran : (ran : StagedRun) (has : HasRunReady tells calls calls_after faults faults_after whole ran) → staged_changes ran.changes kept.repo.staged ≡ ran.changes
+  is_ran : (ran : StagedRun) (has : HasRunReady tells calls calls_after faults faults_after book book_after whole ran) → staged_changes ran.changes kept.repo.staged ≡ ran.changes
       → IsRan kept.repo ask ran.passed ran.report ran.changes ran.unsteady (all_parts has.run.over.trace) (setting ran.changes kept).repo
   is_ran ran has staged = record {
     config = ready.config;
@@ -175,7 +176,7 @@ module _ (tells : List (List ℕ) → List File → Outcome → Type 0) (calls c
     made = setting_is_fixing kept ran.changes staged;
   }
 
-  pub run_step : (ran : StagedRun) → HasRunReady tells calls calls_after faults faults_after ready ran → IsRunStep tells calls calls_after faults faults_after kept.repo ask ran (setting ran.changes kept).repo
+  pub run_step : (ran : StagedRun) → HasRunReady tells calls calls_after faults faults_after book book_after ready ran → IsRunStep tells calls calls_after faults faults_after book book_after kept.repo ask ran (setting ran.changes kept).repo
   run_step ran has =
       let w = ran_whole ran has in
       record {
@@ -186,12 +187,12 @@ module _ (tells : List (List ℕ) → List File → Outcome → Type 0) (calls c
         counted = w.run.over.counted;
       }
 
-  pub run_reached : (ran : StagedRun) → HasRunReady tells calls calls_after faults faults_after ready ran → (trees : Trees) → Leaves (setting ran.changes kept) trees → LeavesDone kept.repo (Run ask) trees
+  pub run_reached : (ran : StagedRun) → HasRunReady tells calls calls_after faults faults_after book book_after ready ran → (trees : Trees) → Leaves (setting ran.changes kept) trees → LeavesDone kept.repo (Run ask) trees
   run_reached ran has trees leaves =
       let s = run_step ran has in
       record { kept = setting ran.changes kept; reply = reply_of_run ran; done = tt; parts = s.parts; step = s.step; leaves = leaves }
 
-  begun_all : (ran : StagedRun) (has : HasRunReady tells calls calls_after faults faults_after whole ran) → HasBegun kept.repo ask (all_parts has.run.over.trace)
+  begun_all : (ran : StagedRun) (has : HasRunReady tells calls calls_after faults faults_after book book_after whole ran) → HasBegun kept.repo ask (all_parts has.run.over.trace)
   begun_all ran has =
       let over = has.run.over in
       record {
@@ -200,7 +201,7 @@ module _ (tells : List (List ℕ) → List File → Outcome → Type 0) (calls c
         begun = record { trace = over.trace; rest = []; out = has.out; joined = sym (append-nil (all_parts over.trace)); run = over.run };
       }
 
-  run_but : (ran : StagedRun) (has : HasRunReady tells calls calls_after faults faults_after whole ran) (reason : List Change → Type 0) → reason (staged_changes ran.changes kept.repo.staged) → HasRunBut kept.repo ask (all_parts has.run.over.trace) reason
+  run_but : (ran : StagedRun) (has : HasRunReady tells calls calls_after faults faults_after book book_after whole ran) (reason : List Change → Type 0) → reason (staged_changes ran.changes kept.repo.staged) → HasRunBut kept.repo ask (all_parts has.run.over.trace) reason
   run_but ran has reason why = record {
     config = ready.config;
     trace = has.run.over.trace;
@@ -211,7 +212,7 @@ module _ (tells : List (List ℕ) → List File → Outcome → Type 0) (calls c
     why = subst reason (staged_fixes ran has) why;
   }
 
-  at_store : (ran : StagedRun) (has : HasRunReady tells calls calls_after faults faults_after whole ran) (fault : StoreFault)
+  at_store : (ran : StagedRun) (has : HasRunReady tells calls calls_after faults faults_after book book_after whole ran) (fault : StoreFault)
       → IsRefusal (HasLarge (staged_changes ran.changes kept.repo.staged)) ⊥ (FixCollides (staged_changes ran.changes kept.repo.staged) kept.contents) fault
       → IsRunRefusal kept.repo ask (of_store fault) × IsStoppedAt kept ask (all_parts has.run.over.trace) calls_after (of_store fault)
   at_store ran has store.NotAStore why = absurd why
@@ -222,9 +223,9 @@ module _ (tells : List (List ℕ) → List File → Outcome → Type 0) (calls c
   at_store ran has store.TooLarge why = (((ready.config, runnable has.run.known), tt), run_but ran has (IsUnset store.TooLarge) why)
   at_store ran has store.TooMany why = absurd why
 
-  pub set_refused : (ran : StagedRun) → HasRunReady tells calls calls_after faults faults_after ready ran → (fault : StoreFault)
+  pub set_refused : (ran : StagedRun) → HasRunReady tells calls calls_after faults faults_after book book_after ready ran → (fault : StoreFault)
       → IsRefusal (HasLarge (staged_changes ran.changes kept.repo.staged)) ⊥ (FixCollides (staged_changes ran.changes kept.repo.staged) kept.contents) fault
-      → IsStoppedStep tells calls calls_after faults faults_after kept ask (of_store fault)
+      → IsStoppedStep tells calls calls_after faults faults_after book book_after kept ask (of_store fault)
   set_refused ran has fault why =
       let w = ran_whole ran has in
       let p = at_store ran w fault why in
@@ -237,7 +238,7 @@ module _ (tells : List (List ℕ) → List File → Outcome → Type 0) (calls c
         stopped = p.1;
       }
 
-  by_inner : (inner : RunRefusal) (have : HaveStopped tells calls calls_after faults faults_after ready.config (run_ask_of ask kept.repo) kept.repo.staged inner)
+  by_inner : (inner : RunRefusal) (have : HaveStopped tells calls calls_after faults faults_after book book_after ready.config (run_ask_of ask kept.repo) kept.repo.staged inner)
       → IsRunRefusal kept.repo ask (of_run inner) × IsStoppedAt kept ask have.over.parts calls_after (of_run inner)
   by_inner run.OutOfMemory have = (tt, inr (record { config = ready.config; runnable = runnable (have.known (λ h. cc)); begun = have.over.begins (λ h. cc) }))
   by_inner (run.Book fault) have = let isnt = have.not_book in absurd (cc)
@@ -245,15 +246,15 @@ module _ (tells : List (List ℕ) → List File → Outcome → Type 0) (calls c
   by_inner run.Spent have =
       (((ready.config, runnable (have.known (λ h. cc))), tt), (record { config = ready.config; runnable = runnable (have.known (λ h. cc)); needs = have.over.needs refl }, have.over.spent refl))
 
-  by_whole : (refusal : HostRefusal) → HasStoppedReady tells calls calls_after faults faults_after whole refusal → IsStoppedStep tells calls calls_after faults faults_after kept ask refusal
+  by_whole : (refusal : HostRefusal) → HasStoppedReady tells calls calls_after faults faults_after book book_after whole refusal → IsStoppedStep tells calls calls_after faults faults_after book book_after kept ask refusal
   by_whole refusal has =
       let over = has.stopped.over in
       let p = by_inner has.inner has.stopped in
-      subst (λ (r : HostRefusal). IsStoppedStep tells calls calls_after faults faults_after kept ask r) (sym has.is)
+      subst (λ (r : HostRefusal). IsStoppedStep tells calls calls_after faults faults_after book book_after kept ask r) (sym has.is)
       (record { parts = over.parts; step = ((p.0, refl), refl); told = over.told; starts = over.starts; counted = over.counted; stopped = p.1 })
 
-  pub run_refused : (refusal : HostRefusal) → HasStoppedReady tells calls calls_after faults faults_after ready refusal → IsStoppedStep tells calls calls_after faults faults_after kept ask refusal
-  run_refused refusal has = by_whole refusal (subst (λ (r : Prepared). HasStoppedReady tells calls calls_after faults faults_after r refusal) ready_is has)
+  pub run_refused : (refusal : HostRefusal) → HasStoppedReady tells calls calls_after faults faults_after book book_after ready refusal → IsStoppedStep tells calls calls_after faults faults_after book book_after kept ask refusal
+  run_refused refusal has = by_whole refusal (subst (λ (r : Prepared). HasStoppedReady tells calls calls_after faults faults_after book book_after r refusal) ready_is has)
 
 -- ---- the fixes are set
 

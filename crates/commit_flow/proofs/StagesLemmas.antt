@@ -7,6 +7,7 @@ use Rattle.child_port.specs.declared.answer.Outcome.{Outcome}
 use Rattle.child_port.specs.Telling.{SameTells}
 use Rattle.hook_config.specs.declared.configuration.Config.{Config}
 use Rattle.hook_config.specs.declared.stage.Stage.{Stage}
+use Rattle.result_book.specs.Contents.{Contents}
 use Rattle.hook_run.specs.declared.run_ask.RunAsk.{RunAsk}
 use Rattle.hook_run.specs.declared.run_out.RunOut.{RunOut}
 use Rattle.hook_run.specs.declared.run_refusal.RunRefusal.{RunRefusal}
@@ -58,10 +59,10 @@ told_then tells next calls calls_now calls_after faults faults_now faults_after 
 
 -- ---- what stops hooks
 
-pub run_stopped : (tells : List (List ℕ) → List File → Outcome → Type 0) (calls calls_after faults faults_after : ℕ) (config : Config) (changed skip : List (List ℕ)) (stage : Stage) (tree : List File) (refusal : RunRefusal)
-    → HaveStopped tells calls calls_after faults faults_after config (ask_in changed skip stage) tree refusal
+pub run_stopped : (tells : List (List ℕ) → List File → Outcome → Type 0) (calls calls_after faults faults_after : ℕ) (book book_after : Contents) (config : Config) (changed skip : List (List ℕ)) (stage : Stage) (tree : List File) (refusal : RunRefusal)
+    → HaveStopped tells calls calls_after faults faults_after book book_after config (ask_in changed skip stage) tree refusal
     → IsRunStopped tells calls calls_after faults faults_after config (ask_in changed skip stage) tree refusal
-run_stopped tells calls calls_after faults faults_after config changed skip stage tree refusal stopped = record {
+run_stopped tells calls calls_after faults faults_after book book_after config changed skip stage tree refusal stopped = record {
   untold = stopped.over.parts;
   told = record { told = stopped.over.told; steady = stopped.over.starts.steady; counted = stopped.over.counted };
   not_named = λ is. let named = stopped.unknown is in cc;
@@ -70,12 +71,12 @@ run_stopped tells calls calls_after faults faults_after config changed skip stag
   spent = stopped.over.spent;
 }
 
-pub run_stopped_if : {T : Type 0} (tells : List (List ℕ) → List File → Outcome → Type 0) (calls calls_after faults faults_after : ℕ) (config : Config) (changed skip : List (List ℕ)) (stage : Stage) (tree : List File) (result : Result T RunRefusal)
-    → IfErr result (HaveStopped tells calls calls_after faults faults_after config (ask_in changed skip stage) tree)
+pub run_stopped_if : {T : Type 0} (tells : List (List ℕ) → List File → Outcome → Type 0) (calls calls_after faults faults_after : ℕ) (book book_after : Contents) (config : Config) (changed skip : List (List ℕ)) (stage : Stage) (tree : List File) (result : Result T RunRefusal)
+    → IfErr result (HaveStopped tells calls calls_after faults faults_after book book_after config (ask_in changed skip stage) tree)
     → IfErr result (IsRunStopped tells calls calls_after faults faults_after config (ask_in changed skip stage) tree)
-run_stopped_if tells calls calls_after faults faults_after config changed skip stage tree (Ok out) stopped = tt
-run_stopped_if tells calls calls_after faults faults_after config changed skip stage tree (Err refusal) stopped =
-    run_stopped tells calls calls_after faults faults_after config changed skip stage tree refusal stopped
+run_stopped_if tells calls calls_after faults faults_after book book_after config changed skip stage tree (Ok out) stopped = tt
+run_stopped_if tells calls calls_after faults faults_after book book_after config changed skip stage tree (Err refusal) stopped =
+    run_stopped tells calls calls_after faults faults_after book book_after config changed skip stage tree refusal stopped
 
 pub halted_run : (tells : List (List ℕ) → List File → Outcome → Type 0) (calls calls_after faults faults_after : ℕ) (config : Config) (ask : RunAsk) (tree on : List File) (refusal : RunRefusal) → tree ≡ on
     → IsRunStopped tells calls calls_after faults faults_after config ask tree refusal → IsHalted tells calls calls_after faults faults_after (NeedsPart config ask on) (of_run refusal)
@@ -94,16 +95,16 @@ halted_for_memory tells calls calls_after faults faults_after further parts told
 
 -- ---- one stage
 
-pub told_run : (tells : List (List ℕ) → List File → Outcome → Type 0) (calls calls_after faults faults_after : ℕ) (config : Config) (ask : RunAsk) (tree : List File) (out : RunOut)
-    → (ran : HaveRun tells calls calls_after faults faults_after config ask tree out) → AreTold tells calls calls_after faults faults_after (all_parts ran.over.trace)
-told_run tells calls calls_after faults faults_after config ask tree out ran = record { told = ran.over.told; steady = ran.over.starts.steady; counted = ran.over.counted }
+pub told_run : (tells : List (List ℕ) → List File → Outcome → Type 0) (calls calls_after faults faults_after : ℕ) (book book_after : Contents) (config : Config) (ask : RunAsk) (tree : List File) (out : RunOut)
+    → (ran : HaveRun tells calls calls_after faults faults_after book book_after config ask tree out) → AreTold tells calls calls_after faults faults_after (all_parts ran.over.trace)
+told_run tells calls calls_after faults faults_after book book_after config ask tree out ran = record { told = ran.over.told; steady = ran.over.starts.steady; counted = ran.over.counted }
 
-pub stage_over : (tells : List (List ℕ) → List File → Outcome → Type 0) (calls calls_after faults faults_after : ℕ) (config : Config) (changed skip : List (List ℕ)) (stage : Stage) (course begun left : Course) (out : RunOut)
+pub stage_over : (tells : List (List ℕ) → List File → Outcome → Type 0) (calls calls_after faults faults_after : ℕ) (book book_after : Contents) (config : Config) (changed skip : List (List ℕ)) (stage : Stage) (course begun left : Course) (out : RunOut)
     → begun.tree ≡ tree_in stage course → ((tree : List File) → course_after stage begun tree ≡ course_after stage course tree)
-    → HaveRun tells calls calls_after faults faults_after config (ask_in changed skip stage) begun.tree out → left ≡ course_after stage begun out.tree
+    → HaveRun tells calls calls_after faults faults_after book book_after config (ask_in changed skip stage) begun.tree out → left ≡ course_after stage begun out.tree
     → IsStageOver tells calls calls_after faults faults_after config changed skip stage course (record { passed = out.passed; report = out.report; course = left })
-stage_over tells calls calls_after faults faults_after config changed skip stage course begun left out on same ran is =
-    let over = subst (λ (tree : List File). HaveRun tells calls calls_after faults faults_after config (ask_in changed skip stage) tree out) on ran in
+stage_over tells calls calls_after faults faults_after book book_after config changed skip stage course begun left out on same ran is =
+    let over = subst (λ (tree : List File). HaveRun tells calls calls_after faults faults_after book book_after config (ask_in changed skip stage) tree out) on ran in
     record {
       told = record { trace = over.over.trace; out = out };
       run = over.over.run;

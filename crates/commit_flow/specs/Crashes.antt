@@ -7,12 +7,11 @@ use Rattle.sqlite.specs.State.{Survives}
 use Rattle.hook_run.specs.Parts.{Part}
 use Rattle.repo_store.specs.Kept.{Kept}
 use Rattle.repo_store.specs.Repository.{Repository}
-use Rattle.repo_store.specs.Shown.{Leaves, LeavesOnly, Stands}
+use Rattle.repo_store.specs.Shown.{Leaves, LeavesOnly, Shown, Stands}
 use Rattle.commit_flow.specs.declared.command.Command.{Command}
 use Rattle.commit_flow.specs.declared.host_refusal.HostRefusal.{HostRefusal}
 use Rattle.commit_flow.specs.declared.reply.Reply.{Reply}
 use Rattle.commit_flow.specs.Commands.{IsDone}
-use Rattle.commit_flow.specs.Hosts.{Hosted}
 use Rattle.commit_flow.specs.Steps.{Step}
 
 -- opened again, the trees are a store that keeps a repository which the command, done, makes of this one
@@ -27,7 +26,7 @@ pub record LeavesDone (before : Repository) (command : Command) (trees : Trees) 
 -- A command changes the store in one transaction, or not at all: where what the store showed stood in its tables, what it
 -- shows after the command stands there, after a refusal too. A crash leaves what it could leave before, or all that the
 -- command makes; once the command is done, on a clean disk, only what the store shows.
-pub record IsOneCommand {S A : Type 0} (g : Ghosts S) (old new : Hosted S) (command : Command) (result : Result A HostRefusal) : Type 0 where
-  pub stands : Stands g old.store.conn old.store.kept → Stands g new.store.conn new.store.kept
-  pub crash : Survives (state g old.store.conn) (state g new.store.conn) (LeavesDone old.store.kept.repo command)
-  pub durable : OnOk result (LeavesOnly g new.store.conn new.store.kept)
+pub record IsOneCommand {S A : Type 0} (g : Ghosts S) (old new : Shown S) (command : Command) (result : Result A HostRefusal) : Type 0 where
+  pub stands : Stands g old.conn old.kept → Stands g new.conn new.kept
+  pub crash : Survives (state g old.conn) (state g new.conn) (LeavesDone old.kept.repo command)
+  pub durable : OnOk result (LeavesOnly g new.conn new.kept)

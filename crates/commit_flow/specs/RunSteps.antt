@@ -5,7 +5,7 @@ use Rattle.hook_base.specs.declared.file.File.{File}
 use Rattle.hook_base.specs.Trees.{changes_between}
 use Rattle.child_port.specs.declared.answer.Outcome.{Outcome}
 use Rattle.hook_config.specs.declared.configuration.Config.{Config}
-use Rattle.result_book.specs.Contents.{Contents, unlimited}
+use Rattle.result_book.specs.Contents.{Contents}
 use Rattle.hook_run.specs.declared.run_out.RunOut.{RunOut}
 use Rattle.hook_run.specs.Parts.{AllTold, Part, all_parts}
 use Rattle.hook_run.specs.RunOuts.{IsBegun, IsCounted, IsRunOut, NeedsPart}
@@ -24,10 +24,6 @@ use Rattle.commit_flow.specs.declared.staged_run.StagedRun.{StagedRun}
 use Rattle.commit_flow.specs.Runs.{IsRunnable, run_ask_of}
 use Rattle.commit_flow.specs.Steps.{Step}
 
--- no answer is remembered
-abbrev pub nothing : Contents
-nothing = unlimited []
-
 -- the reply that this is
 abbrev pub reply_of_run : StagedRun → Reply
 reply_of_run ran = Ran ran.passed ran.report ran.changes ran.unsteady
@@ -37,12 +33,13 @@ abbrev pub changes_in : Result StagedRun HostRefusal → List Change
 changes_in (Ok ran) = ran.changes
 changes_in (Err refusal) = []
 
--- The run is a step of the machine, over parts that the children told and counted. Each part started a child.
-pub record IsRunStep (tells : List (List ℕ) → List File → Outcome → Type 0) (calls calls_after faults faults_after : ℕ) (before : Repository) (ask : HostAsk) (ran : StagedRun) (after : Repository) : Type 0 where
+-- The run is a step of the machine, over parts that the children told and counted, where `book` and `book_after` are
+-- remembered before it and after it.
+pub record IsRunStep (tells : List (List ℕ) → List File → Outcome → Type 0) (calls calls_after faults faults_after : ℕ) (book book_after : Contents) (before : Repository) (ask : HostAsk) (ran : StagedRun) (after : Repository) : Type 0 where
   pub parts : List Part
   pub step : Step before (Run ask) (reply_of_run ran) parts after
   pub told : AllTold tells parts
-  pub starts : Starts ask.fresh nothing nothing parts
+  pub starts : Starts ask.fresh book book_after parts
   pub counted : IsCounted calls calls_after faults faults_after parts
 
 -- ---- a run that is refused
@@ -86,10 +83,10 @@ IsStoppedAt kept ask parts calls refusal = parts ≡ []
 
 -- The refused run is a step of the machine that leaves the repository as it was. The children told and counted the parts
 -- that it came to.
-pub record IsStoppedStep (tells : List (List ℕ) → List File → Outcome → Type 0) (calls calls_after faults faults_after : ℕ) (kept : Kept) (ask : HostAsk) (refusal : HostRefusal) : Type 0 where
+pub record IsStoppedStep (tells : List (List ℕ) → List File → Outcome → Type 0) (calls calls_after faults faults_after : ℕ) (book book_after : Contents) (kept : Kept) (ask : HostAsk) (refusal : HostRefusal) : Type 0 where
   pub parts : List Part
   pub step : Step kept.repo (Run ask) (Refused refusal) [] kept.repo
   pub told : AllTold tells parts
-  pub starts : Starts ask.fresh nothing nothing parts
+  pub starts : Starts ask.fresh book book_after parts
   pub counted : IsCounted calls calls_after faults faults_after parts
   pub stopped : IsStoppedAt kept ask parts calls_after refusal

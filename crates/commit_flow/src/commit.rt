@@ -1,6 +1,6 @@
 //! A commit of the staged files, through its hooks.
 
-ghost use Rattle.std.specs.Prelude.{IfOk, IfErr};
+ghost use Rattle.std.specs.Prelude.{◌≡◌, IfOk, IfErr};
 ghost use Rattle.child_port.specs.Telling.{SameTells};
 ghost use Rattle.commit_flow.specs.declared.command.Command.TheVariants.{Commit};
 ghost use Rattle.commit_flow.specs.Commands.{reply_of, reply_of_ending};
@@ -18,6 +18,7 @@ use child_port::Children;
 use hook_base::Text;
 use hook_config::Config;
 use repo_store::Store;
+use result_book::Book;
 use sqlite::Alter;
 use std::alloc::Global;
 
@@ -56,17 +57,27 @@ impl<S: Alter> Host<S> {
     ) -> Result<CommitEnding, HostRefusal>
         ensures step { IsCommitStep (C.tells children.old) (C.call_count children.old) (C.call_count children.new) (C.fault_count children.old) (C.fault_count children.new) self.old.store.kept message.now no_verify skip.now (reply_of reply_of_ending result) self.new.store.kept.repo }
         ensures kept { KeepsFor self.old.store.kept self.new.store.kept result }
-        ensures command { IsOneCommand S.Store self.old self.new (Commit message.now no_verify skip.now) result }
+        ensures command { IsOneCommand S.Store self.old.store self.new.store (Commit message.now no_verify skip.now) result }
         ensures same { SameTells (C.tells children.old) (C.tells children.new) }
+        ensures book { self.new.book ≡ self.old.book }
     {
-        commit_in(alloc, children, &mut self.store, message, no_verify, skip)
+        commit_in(
+            alloc,
+            children,
+            &mut self.book,
+            &mut self.store,
+            message,
+            no_verify,
+            skip,
+        )
     }
 }
 
 // The commit, on the host's store.
-fn commit_in<C: Children, S: Alter>(
+fn commit_in<C: Children, B: Book, S: Alter>(
     alloc: Global,
     children: &mut C,
+    book: &mut B,
     store: &mut Store<S>,
     message: &[u8],
     no_verify: bool,
@@ -74,10 +85,11 @@ fn commit_in<C: Children, S: Alter>(
 ) -> Result<CommitEnding, HostRefusal>
     ensures step { IsCommitStep (C.tells children.old) (C.call_count children.old) (C.call_count children.new) (C.fault_count children.old) (C.fault_count children.new) store.old.kept message.now no_verify skip.now (reply_of reply_of_ending result) store.new.kept.repo }
     ensures kept { KeepsFor store.old.kept store.new.kept result }
-    ensures command { IsOneCommand S.Store (record { store = store.old }) (record { store = store.new }) (Commit message.now no_verify skip.now) result }
+    ensures command { IsOneCommand S.Store store.old store.new (Commit message.now no_verify skip.now) result }
     ensures same { SameTells (C.tells children.old) (C.tells children.new) }
+    ensures book { book.new ≡ book.old }
 {
-    let through = go_through(alloc, children, store, message, no_verify, skip)?;
+    let through = go_through(alloc, children, book, store, message, no_verify, skip)?;
     let Through { config, end } = through;
     match end {
         StagesEnd::Failed {
@@ -90,7 +102,7 @@ fn commit_in<C: Children, S: Alter>(
         }
         StagesEnd::Passed { reports, course } => {
             let number = commit_staged(alloc, store, course.message.as_slice())?;
-            let post = run_post_commit(alloc, children, store, &config, skip);
+            let post = run_post_commit(alloc, children, book, store, &config, skip);
             Ok(CommitEnding::Committed {
                 number,
                 reports,
@@ -101,9 +113,10 @@ fn commit_in<C: Children, S: Alter>(
 }
 
 // Runs the hooks before the commit.
-fn go_through<C: Children, S: Alter>(
+fn go_through<C: Children, B: Book, S: Alter>(
     alloc: Global,
     children: &mut C,
+    book: &mut B,
     store: &Store<S>,
     message: &[u8],
     no_verify: bool,
@@ -112,6 +125,7 @@ fn go_through<C: Children, S: Alter>(
     ensures through { IfOk result (IsThrough (C.tells children.old) (C.call_count children.old) (C.call_count children.new) (C.fault_count children.old) (C.fault_count children.new) store.now.kept.repo message.now no_verify skip.now) }
     ensures refused { IfErr result (IsUnthrough (C.tells children.old) (C.call_count children.old) (C.call_count children.new) (C.fault_count children.old) (C.fault_count children.new) store.now.kept.repo message.now no_verify skip.now) }
     ensures same { SameTells (C.tells children.old) (C.tells children.new) }
+    ensures book { book.new ≡ book.old }
 {
     let begun = begin_commit(alloc, store, message)?;
     let CommitBegun {
@@ -123,6 +137,7 @@ fn go_through<C: Children, S: Alter>(
     let end = run_stages(
         alloc,
         children,
+        book,
         &config,
         changed.as_slice(),
         skip,

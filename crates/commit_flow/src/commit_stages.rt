@@ -10,11 +10,12 @@ ghost use Rattle.commit_flow.specs.Preparations.{HaveRun};
 
 use crate::HostRefusal;
 use crate::course::Course;
-use crate::hooks::run_without_book;
+use crate::hooks::run_with_book;
 use child_port::Children;
 use hook_base::{Bytes, Items, OutOfMemory, RepoPath, Text, Tree, copy_texts};
 use hook_config::{Config, Stage};
 use hook_run::{RunAsk, RunOut, RunRefusal};
+use result_book::Book;
 use std::alloc::Global;
 
 /// How a stage of a commit ended.
@@ -61,9 +62,10 @@ pub(crate) fn stages_before_commit(no_verify: bool) -> &'static [Stage]
 }
 
 /// Runs the hooks of the stages in order, each on what the one before it passes on, up to the first in which a hook fails.
-pub(crate) fn run_stages<C: Children>(
+pub(crate) fn run_stages<C: Children, B: Book>(
     alloc: Global,
     children: &mut C,
+    book: &mut B,
     config: &Config,
     changed: &[RepoPath],
     skip: &[Text],
@@ -73,11 +75,12 @@ pub(crate) fn run_stages<C: Children>(
     ensures run { IfOk result (AreRunOver (C.tells children.old) (C.call_count children.old) (C.call_count children.new) (C.fault_count children.old) (C.fault_count children.new) config.now changed.now skip.now stages.now course) }
     ensures halted { IfErr result (IsHalted (C.tells children.old) (C.call_count children.old) (C.call_count children.new) (C.fault_count children.old) (C.fault_count children.new) (HaveFurther config.now changed.now skip.now stages.now course)) }
     ensures same { SameTells (C.tells children.old) (C.tells children.new) }
+    ensures book { book.new ≡ book.old }
 {
     let mut reports = Vec::new(alloc);
     let mut course = course;
     'stages: for stage in stages {
-        let end = run_stage(alloc, children, config, changed, skip, *stage, course)?;
+        let end = run_stage(alloc, children, book, config, changed, skip, *stage, course)?;
         let StageEnd {
             passed,
             report,
@@ -107,9 +110,10 @@ fn add_report(reports: &mut Vec<Bytes>, report: Bytes) -> Result<(), OutOfMemory
 }
 
 // Runs the hooks of a stage on what is passed to it.
-fn run_stage<C: Children>(
+fn run_stage<C: Children, B: Book>(
     alloc: Global,
     children: &mut C,
+    book: &mut B,
     config: &Config,
     changed: &[RepoPath],
     skip: &[Text],
@@ -119,9 +123,19 @@ fn run_stage<C: Children>(
     ensures run { IfOk result (IsStageOver (C.tells children.old) (C.call_count children.old) (C.call_count children.new) (C.fault_count children.old) (C.fault_count children.new) config.now changed.now skip.now stage course) }
     ensures halted { IfErr result (IsHalted (C.tells children.old) (C.call_count children.old) (C.call_count children.new) (C.fault_count children.old) (C.fault_count children.new) (NeedsPart config.now (ask_in changed.now skip.now stage) (tree_in stage course))) }
     ensures same { SameTells (C.tells children.old) (C.tells children.new) }
+    ensures book { book.new ≡ book.old }
 {
     let begun = course.into_stage(alloc, stage)?;
-    let out = run_hooks_of(alloc, children, config, changed, skip, stage, &begun.tree)?;
+    let out = run_hooks_of(
+        alloc,
+        children,
+        book,
+        config,
+        changed,
+        skip,
+        stage,
+        &begun.tree,
+    )?;
     let RunOut {
         passed,
         report,
@@ -138,21 +152,23 @@ fn run_stage<C: Children>(
 }
 
 /// Runs the hooks of a stage on the files of the tree.
-pub(crate) fn run_hooks_of<C: Children>(
+pub(crate) fn run_hooks_of<C: Children, B: Book>(
     alloc: Global,
     children: &mut C,
+    book: &mut B,
     config: &Config,
     changed: &[RepoPath],
     skip: &[Text],
     stage: Stage,
     tree: &Tree,
 ) -> Result<RunOut, RunRefusal>
-    ensures run { IfOk result (HaveRun (C.tells children.old) (C.call_count children.old) (C.call_count children.new) (C.fault_count children.old) (C.fault_count children.new) config.now (ask_in changed.now skip.now stage) tree.now) }
+    ensures run { IfOk result (HaveRun (C.tells children.old) (C.call_count children.old) (C.call_count children.new) (C.fault_count children.old) (C.fault_count children.new) (B.contents book.old) (B.contents book.new) config.now (ask_in changed.now skip.now stage) tree.now) }
     ensures stopped { IfErr result (IsRunStopped (C.tells children.old) (C.call_count children.old) (C.call_count children.new) (C.fault_count children.old) (C.fault_count children.new) config.now (ask_in changed.now skip.now stage) tree.now) }
     ensures same { SameTells (C.tells children.old) (C.tells children.new) }
+    ensures book { book.new ≡ book.old }
 {
     let ask = ask_in(alloc, changed, skip, stage)?;
-    run_without_book(alloc, children, config, &ask, tree)
+    run_with_book(alloc, children, book, config, &ask, tree)
 }
 
 fn ask_in(

@@ -1,15 +1,17 @@
 //! The commands of a host. Each looks for what the host itself refuses, in a fixed order, and then makes at most one call
-//! that changes the store.
+//! that changes the store, or one that changes what is remembered.
 
-ghost use Rattle.std.specs.Prelude.{◌≡◌, ◌↔◌, [], IsTrue, IfOk, IfErr, IfSome, OnOk, option_map};
+ghost use Rattle.std.specs.Prelude.{◌≡◌, ◌↔◌, [], IsTrue, IfOk, IfErr, IfSome, OnOk, OnErr, option_map};
 ghost use Rattle.hook_base.specs.Trees.{IsRising, IsRisingChanges, entry_of};
 ghost use Rattle.repo_store.specs.AllOrNothing.{IsAllOrNothing};
 ghost use Rattle.repo_store.specs.Contents.{Collides};
 ghost use Rattle.repo_store.specs.Kept.{accepting, staging, unstaging};
 ghost use Rattle.repo_store.specs.Log.{log_from};
 ghost use Rattle.repo_store.specs.Repository.{Commit, commit_at, last_tree};
-ghost use Rattle.commit_flow.specs.declared.command.Command.TheVariants.{Add, Remove, Accept};
-ghost use Rattle.commit_flow.specs.declared.reply.Reply.TheVariants.{Added, Removed, Accepted};
+ghost use Rattle.repo_store.specs.Shown.{LeavesOnly};
+ghost use Rattle.result_book.specs.Contents.{count_of, unlimited};
+ghost use Rattle.commit_flow.specs.declared.command.Command.TheVariants.{Add, Remove, Accept, Forget};
+ghost use Rattle.commit_flow.specs.declared.reply.Reply.TheVariants.{Added, Removed, Accepted, Forgot};
 ghost use Rattle.commit_flow.specs.Commands.{reply_of};
 ghost use Rattle.commit_flow.specs.Crashes.{IsOneCommand};
 ghost use Rattle.commit_flow.specs.StagedPaths.{IsLegal, IsStaged};
@@ -18,20 +20,22 @@ ghost use Rattle.commit_flow.specs.Steps.{IsAddable, IsRemoveRefusal, IsUnaddabl
 use crate::HostRefusal;
 use hook_base::{Change, Mode, OutOfMemory, RepoPath, Tree};
 use repo_store::{LogEntry, MOST_CONTENT_BYTES, Store};
+use result_book::{Book, ListBook};
 use sqlite::Alter;
 use std::alloc::Global;
 use std::marker::Model;
 
-/// The host of a repository, which stands in a store. Each command changes the repository as a whole or not at all, whatever
-/// stops it.
+/// The host of a repository, which stands in a store, and of the remembered answers of children, which stand in memory. Each
+/// command changes the repository as a whole or not at all, whatever stops it.
 pub struct Host<S: Alter> {
     pub(crate) store: Store<S>,
+    pub(crate) book: ListBook,
 }
 
 // It is written out, so that a caller doesn't prove again how each part is dropped.
 impl<S: Alter + Drop> Drop for Host<S> {
     fn drop(self) {
-        let Host { store: _ } = self;
+        let Host { store: _, book: _ } = self;
     }
 }
 
@@ -42,22 +46,26 @@ impl<S: Alter> Model for Host<S> {
 
     ghost coded = { hosted_code S.code };
 
-    ghost view = { λ host. record { store = host.store } };
+    ghost view = { λ host. record { store = host.store; book = ⟦<ListBook as Book>⟧.contents host.book } };
 }
 
 impl<S: Alter> Host<S> {
-    /// The host of the repository in a store. It takes no memory.
-    pub fn over(store: Store<S>) -> Host<S>
-        ensures { result ≡ record { store = store } }
+    /// The host of the repository in a store, which remembers nothing yet. It takes no memory: what it remembers later comes
+    /// from the allocator.
+    pub fn over(alloc: Global, store: Store<S>) -> Host<S>
+        ensures { result ≡ record { store = store; book = unlimited [] } }
     {
-        Host { store }
+        Host {
+            store,
+            book: ListBook::new(alloc),
+        }
     }
 
-    /// The store, as the host leaves it. It takes no memory.
+    /// The store, as the host leaves it; what is remembered is let go. It takes no memory.
     pub fn into_store(self) -> Store<S>
         ensures { result ≡ self.store }
     {
-        let Host { store } = self;
+        let Host { store, book: _ } = self;
         store
     }
 
@@ -82,7 +90,8 @@ impl<S: Alter> Host<S> {
     ) -> Result<(), HostRefusal>
         ensures step { Step self.old.store.kept.repo (Add path.now bytes.now mode) (reply_of (λ _. Added) result) [] self.new.store.kept.repo }
         ensures change { IsAllOrNothing self.old.store.kept self.new.store.kept result (staging path.now (entry_to_add self.old.store.kept.repo path.now bytes.now mode) self.old.store.kept) }
-        ensures command { IsOneCommand S.Store self.old self.new (Add path.now bytes.now mode) result }
+        ensures command { IsOneCommand S.Store self.old.store self.new.store (Add path.now bytes.now mode) result }
+        ensures book { self.new.book ≡ self.old.book }
         ensures apart { OnOk result (¬ Collides bytes.now self.old.store.kept.contents) }
         ensures collides { IfErr result (λ refusal. refusal ≡ HostRefusal.Collision → Collides bytes.now self.old.store.kept.contents) }
     {
@@ -98,7 +107,8 @@ impl<S: Alter> Host<S> {
     pub fn remove(&mut self, alloc: Global, path: &str) -> Result<(), HostRefusal>
         ensures step { Step self.old.store.kept.repo (Remove path.now) (reply_of (λ _. Removed) result) [] self.new.store.kept.repo }
         ensures change { IsAllOrNothing self.old.store.kept self.new.store.kept result (unstaging path.now self.old.store.kept) }
-        ensures command { IsOneCommand S.Store self.old self.new (Remove path.now) result }
+        ensures command { IsOneCommand S.Store self.old.store self.new.store (Remove path.now) result }
+        ensures book { self.new.book ≡ self.old.book }
     {
         let path = self.removable(alloc, path)?;
         self.store.unstage(&path)?;
@@ -111,13 +121,34 @@ impl<S: Alter> Host<S> {
     pub fn accept(&mut self) -> Result<u32, HostRefusal>
         ensures step { Step self.old.store.kept.repo Accept (reply_of Accepted result) [] self.new.store.kept.repo }
         ensures change { IsAllOrNothing self.old.store.kept self.new.store.kept result (accepting self.old.store.kept) }
-        ensures command { IsOneCommand S.Store self.old self.new Accept result }
+        ensures command { IsOneCommand S.Store self.old.store self.new.store Accept result }
+        ensures book { self.new.book ≡ self.old.book }
     {
         if self.has_no_fixes() {
             return Err(HostRefusal::NoFixes);
         }
         let number = self.store.accept()?;
         Ok(number)
+    }
+
+    /// Forgets all remembered answers, and answers how many there were. `OutOfMemory` comes where memory is refused, and `Store`
+    /// where the database refuses. A refusal leaves what is remembered as it was, and the repository stays in any case.
+    pub fn forget(&mut self) -> Result<u64, HostRefusal>
+        ensures step { Step self.old.store.kept.repo Forget (reply_of Forgot result) [] self.new.store.kept.repo }
+        ensures store { self.new.store ≡ self.old.store }
+        ensures command { LeavesOnly S.Store self.old.store.conn self.old.store.kept → IsOneCommand S.Store self.old.store self.new.store Forget result }
+        ensures number { IfOk result (λ number. number ≡ count_of self.old.book) }
+        ensures forgotten { OnOk result (self.new.book.rows ≡ []) }
+        ensures refused { OnErr result (self.new.book ≡ self.old.book) }
+    {
+        Ok(self.book.forget()?)
+    }
+
+    /// How many answers are remembered. It takes no memory.
+    pub fn remembered(&self) -> u64
+        ensures { result ≡ count_of self.now.book }
+    {
+        self.book.len()
     }
 
     /// The staged files. It fails for want of memory alone.

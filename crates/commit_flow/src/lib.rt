@@ -1,8 +1,9 @@
 //! The host of a repository: the commands by which files are staged, and what each answers.
 //!
-//! A [`Host`] works on a store. A [`HostAsk`] says what is asked of a run of hooks on the staged files, and a [`StagedRun`]
-//! what it gave; a [`CommitEnding`] says how a commit through its hooks ended. A [`HostRefusal`] says why a command is refused;
-//! [`Command`] and [`Reply`] are the commands and their answers as values.
+//! A [`Host`] works on a store, and has a book of remembered answers, which no run reads or changes yet. A [`HostAsk`] says what
+//! is asked of a run of hooks on the staged files, and a [`StagedRun`] what it gave; a [`CommitEnding`] says how a commit through
+//! its hooks ended. A [`HostRefusal`] says why a command is refused; [`Command`] and [`Reply`] are the commands and their answers
+//! as values.
 //!
 //! The contracts cite `Step` of `specs/Steps.antt` (what each command may answer, and what it makes of the repository),
 //! `specs/Commands.antt` (the reply that a call's answer is), `IsOneCommand` of `specs/Crashes.antt` (what a crash leaves),

@@ -9,17 +9,19 @@ ghost use Rattle.commit_flow.specs.Crashes.{IsOneCommand};
 ghost use Rattle.commit_flow.specs.Preparations.{HasRunReady, HasStoppedReady};
 ghost use Rattle.commit_flow.specs.RunSteps.{IsRunStep, IsStoppedStep, changes_in};
 
-use crate::hooks::run_without_book;
+use crate::hooks::run_with_book;
 use crate::prepared::{Prepared, prepare};
 use crate::{Host, HostAsk, HostRefusal, StagedRun};
 use child_port::Children;
 use hook_run::RunOut;
+use result_book::Book;
 use sqlite::Alter;
 use std::alloc::Global;
 
 impl<S: Alter> Host<S> {
     /// Runs hooks on the staged files, with the children's outcomes, and sets the fixes to what they did to the staged files:
-    /// where they did nothing, earlier fixes are forgotten. The staged files stay.
+    /// where they did nothing, earlier fixes are forgotten. The staged files stay. Each part starts a child: no answer is
+    /// remembered yet.
     ///
     /// Refused is, in this order, that no configuration is staged (`NoConfig`), that it can't be read (`BadConfig`), the first
     /// name that is no path (`BadPath`) or isn't staged (`NotStaged`), and a name that no hook of the stage has
@@ -33,32 +35,33 @@ impl<S: Alter> Host<S> {
         children: &mut C,
         ask: &HostAsk,
     ) -> Result<StagedRun, HostRefusal>
-        ensures step { IfOk result (λ ran. IsRunStep (C.tells children.old) (C.call_count children.old) (C.call_count children.new) (C.fault_count children.old) (C.fault_count children.new) self.old.store.kept.repo ask.now ran self.new.store.kept.repo) }
-        ensures stopped { IfErr result (IsStoppedStep (C.tells children.old) (C.call_count children.old) (C.call_count children.new) (C.fault_count children.old) (C.fault_count children.new) self.old.store.kept ask.now) }
+        ensures step { IfOk result (λ ran. IsRunStep (C.tells children.old) (C.call_count children.old) (C.call_count children.new) (C.fault_count children.old) (C.fault_count children.new) self.old.book self.new.book self.old.store.kept.repo ask.now ran self.new.store.kept.repo) }
+        ensures stopped { IfErr result (IsStoppedStep (C.tells children.old) (C.call_count children.old) (C.call_count children.new) (C.fault_count children.old) (C.fault_count children.new) self.old.book self.new.book self.old.store.kept ask.now) }
         ensures fixed { IfOk result (λ ran. self.new.store.kept.repo.fixes ≡ ran.changes) }
         ensures kept { IsAllOrNothing self.old.store.kept self.new.store.kept result (setting (changes_in result) self.old.store.kept) }
-        ensures command { IsOneCommand S.Store self.old self.new (Run ask.now) result }
+        ensures command { IsOneCommand S.Store self.old.store self.new.store (Run ask.now) result }
         ensures same { SameTells (C.tells children.old) (C.tells children.new) }
     {
         let prepared = prepare(alloc, &self.store, ask)?;
-        let ran = run_prepared(alloc, children, &prepared)?;
+        let ran = run_prepared(alloc, children, &mut self.book, &prepared)?;
         self.store.set_fixes(ran.changes.as_slice())?;
         Ok(ran)
     }
 }
 
 // Runs the hooks that are made ready.
-fn run_prepared<C: Children>(
+fn run_prepared<C: Children, B: Book>(
     alloc: Global,
     children: &mut C,
+    book: &mut B,
     prepared: &Prepared,
 ) -> Result<StagedRun, HostRefusal>
-    ensures run { IfOk result (HasRunReady (C.tells children.old) (C.call_count children.old) (C.call_count children.new) (C.fault_count children.old) (C.fault_count children.new) prepared.now) }
-    ensures stopped { IfErr result (HasStoppedReady (C.tells children.old) (C.call_count children.old) (C.call_count children.new) (C.fault_count children.old) (C.fault_count children.new) prepared.now) }
+    ensures run { IfOk result (HasRunReady (C.tells children.old) (C.call_count children.old) (C.call_count children.new) (C.fault_count children.old) (C.fault_count children.new) (B.contents book.old) (B.contents book.new) prepared.now) }
+    ensures stopped { IfErr result (HasStoppedReady (C.tells children.old) (C.call_count children.old) (C.call_count children.new) (C.fault_count children.old) (C.fault_count children.new) (B.contents book.old) (B.contents book.new) prepared.now) }
     ensures same { SameTells (C.tells children.old) (C.tells children.new) }
 {
     let Prepared { config, ask, tree } = prepared;
-    let out = run_without_book(alloc, children, config, ask, tree)?;
+    let out = run_with_book(alloc, children, book, config, ask, tree)?;
     let changes = tree.changes_to(&out.tree)?;
     let RunOut {
         passed,

@@ -10,7 +10,7 @@ pub returns-clause-run : goal.returns-clause-run
 returns-clause-run g c =
     let children = g.C.Children in
     stage_over (children.tells c.args.children.now) (children.call_count c.args.children.now) (children.call_count c.run_hooks_of.new.children)
-    (children.fault_count c.args.children.now) (children.fault_count c.run_hooks_of.new.children) c.args.config.now c.args.changed.now c.args.skip.now c.args.stage
+    (children.fault_count c.args.children.now) (children.fault_count c.run_hooks_of.new.children) (g.B.Book.contents c.args.book.now) (g.B.Book.contents c.run_hooks_of.new.book) c.args.config.now c.args.changed.now c.args.skip.now c.args.stage
     c.args.course c.in_ok-begun.begun c.in_ok-course.course c.in_ok-out.out c.in_ok-begun.ensures.tree c.in_ok-begun.ensures.after c.in_ok-out.ensures.run c.in_ok-course.ensures
 
 pub returns-in_err-begun-clause-halted : goal.returns-in_err-begun-clause-halted
@@ -39,4 +39,4 @@ returns-in_err-course-clause-halted g c =
     (children.fault_count c.args.children.now) (children.fault_count c.run_hooks_of.new.children)
     (NeedsPart c.args.config.now ask (tree_in c.args.stage c.args.course)) (all_parts c.in_ok-out.ensures.run.over.trace)
     (told_run (children.tells c.args.children.now) (children.call_count c.args.children.now) (children.call_count c.run_hooks_of.new.children)
-    (children.fault_count c.args.children.now) (children.fault_count c.run_hooks_of.new.children) c.args.config.now ask c.in_ok-begun.begun.tree c.in_ok-out.out c.in_ok-out.ensures.run))
+    (children.fault_count c.args.children.now) (children.fault_count c.run_hooks_of.new.children) (g.B.Book.contents c.args.book.now) (g.B.Book.contents c.run_hooks_of.new.book) c.args.config.now ask c.in_ok-begun.begun.tree c.in_ok-out.out c.in_ok-out.ensures.run))

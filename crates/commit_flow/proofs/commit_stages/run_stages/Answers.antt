@@ -1,4 +1,4 @@
-use Rattle.std.proofs.Common.{◌+◌, ◌∷◌, ◌++◌, [], drop, refl, arith, rules}
+use Rattle.std.proofs.Common.{◌+◌, ◌∙◌, ◌∷◌, ◌++◌, [], drop, refl, arith, rules}
 use Rattle.std.proofs.lemmas.Grind.{common_steps}
 use Rattle.std.proofs.lemmas.Result.{err_from_is_err_and}
 use Rattle.child_port.specs.TellingLemmas.{SameTells-refl, SameTells-trans}
@@ -12,6 +12,7 @@ stages-init g c =
       so_far = none_so_far (children.tells c.args.children.now) (children.call_count c.args.children.now) (children.fault_count c.args.children.now)
           c.args.config.now c.args.changed.now c.args.skip.now c.args.stages.now c.args.course c.new-reports.result.items c.new-reports.ensures.items;
       same = SameTells-refl (children.tells c.args.children.now);
+      book = refl;
     }
 
 pub returns-in_err-end-clause-halted : goal.returns-in_err-end-clause-halted
@@ -53,6 +54,7 @@ stages-preserved g c =
           _ c.stages.course c.stages.reports.items c.add_report.new.reports.items c.in_ok-end.end c.stages.invariant.same c.stages.invariant.so_far
           (rest_after c.args.stages.now c.stages.stage-index _ (omega (arith, c.stages-test.true))) c.in_ok-end.ensures.run c.in_ok-add_report.ensures (search rules);
       same = SameTells-trans (children.tells c.args.children.now) (children.tells c.stages.children) (children.tells c.run_stage.new.children) c.stages.invariant.same c.run_stage.ensures.same;
+      book = c.run_stage.ensures.book ∙ c.stages.invariant.book;
     }
 
 pub returns-clause-run : goal.returns-clause-run

@@ -1,4 +1,4 @@
-use Rattle.std.specs.Prelude.{drop}
+use Rattle.std.specs.Prelude.{◌≡◌, drop}
 use Rattle.child_port.specs.Telling.{SameTells}
 use Rattle.commit_flow.proofs.StagesLemmas.{AreSoFar}
 use Rattle.commit_flow.proofs.commit_stages.run_stages.Given as goal
@@ -10,4 +10,5 @@ invariant-stages g l =
       so_far : AreSoFar (children.tells l.fn.children) (children.call_count l.fn.children) (children.call_count l.children)
           (children.fault_count l.fn.children) (children.fault_count l.children) l.config l.changed l.skip l.stages l.fn.course (drop l.stage-index l.stages) l.course l.reports.items;
       same : SameTells (children.tells l.fn.children) (children.tells l.children);
+      book : l.book ≡ l.fn.book;
     }

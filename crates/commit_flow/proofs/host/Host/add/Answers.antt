@@ -25,7 +25,7 @@ returns-in_err-stage-clause-command g c =
     let addable = subst (λ (host : Hosted g.row.S.Denot). IsAddable host.store.kept.repo path bytes) (sym c.self.view_is) c.in_ok-path.ensures.addable in
     let same = same_staging kept path bytes asked c.in_ok-path.path c.mode_to_add-mode.result c.in_ok-path.ensures.same moded in
     let p = err_from_is_err_and c.from_residual-in_err-stage.result c.from_residual-in_err-stage.ensures.1 in
-    rw p.1 (subst (λ (host : Hosted g.row.S.Denot). IsOneCommand g.S.Store host (record { store = c.stage.new.self }) (Add path bytes asked) (Err p.0)) c.self.view_is
+    rw p.1 (subst (λ (host : Hosted g.row.S.Denot). IsOneCommand g.S.Store host.store c.stage.new.self (Add path bytes asked) (Err p.0)) c.self.view_is
     (refused_command g.S.Store c.self.inside.store c.stage.new.self (Add path bytes asked) (staging c.in_ok-path.path entry kept) (staging path (entry_to_add kept.repo path bytes asked) kept) same (add_reached kept path bytes asked addable)
     c.in_err-stage.field-0.0 p.0 c.in_err-stage.ensures.transaction))
 
@@ -39,6 +39,6 @@ returns-clause-command g c =
     let moded = subst (λ (host : Hosted g.row.S.Denot). c.mode_to_add-mode.result ≡ mode_to_add asked (entry_of c.in_ok-path.path host.store.kept.repo.staged)) (sym c.self.view_is) c.mode_to_add-mode.ensures in
     let addable = subst (λ (host : Hosted g.row.S.Denot). IsAddable host.store.kept.repo path bytes) (sym c.self.view_is) c.in_ok-path.ensures.addable in
     let same = same_staging kept path bytes asked c.in_ok-path.path c.mode_to_add-mode.result c.in_ok-path.ensures.same moded in
-    subst (λ (host : Hosted g.row.S.Denot). IsOneCommand g.S.Store host (record { store = c.stage.new.self }) (Add path bytes asked) (Ok tt)) c.self.view_is
+    subst (λ (host : Hosted g.row.S.Denot). IsOneCommand g.S.Store host.store c.stage.new.self (Add path bytes asked) (Ok tt)) c.self.view_is
     (done_command g.S.Store c.self.inside.store c.stage.new.self (Add path bytes asked) (staging c.in_ok-path.path entry kept) (staging path (entry_to_add kept.repo path bytes asked) kept) same (add_reached kept path bytes asked addable)
     tt tt c.in_ok-stage.ensures.change.done c.in_ok-stage.ensures.transaction)

@@ -20,5 +20,5 @@ returns-clause-kept g c =
 
 pub returns-clause-command : goal.returns-clause-command
 returns-clause-command g c =
-    subst (λ (host : Hosted g.row.S.Denot). IsOneCommand g.S.Store host (record { store = c.commit_in.new.store }) (Commit c.args.message.now c.args.no_verify c.args.skip.now) c.commit_in.result)
+    subst (λ (host : Hosted g.row.S.Denot). IsOneCommand g.S.Store host.store c.commit_in.new.store (Commit c.args.message.now c.args.no_verify c.args.skip.now) c.commit_in.result)
     c.self.view_is c.commit_in.ensures.command

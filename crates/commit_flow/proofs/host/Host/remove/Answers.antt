@@ -15,7 +15,7 @@ returns-in_err-unstage-clause-command g c =
     let same = ap (λ (taken : List ℕ). unstaging taken kept) c.in_ok-path.ensures.same in
     let staged = subst (λ (host : Hosted g.row.S.Denot). IsStaged path host.store.kept.repo) (sym c.self.view_is) c.in_ok-path.ensures.removable.1 in
     let p = err_from_is_err_and c.from_residual-in_err-unstage.result c.from_residual-in_err-unstage.ensures.1 in
-    rw p.1 (subst (λ (host : Hosted g.row.S.Denot). IsOneCommand g.S.Store host (record { store = c.unstage.new.self }) (Remove path) (Err p.0)) c.self.view_is
+    rw p.1 (subst (λ (host : Hosted g.row.S.Denot). IsOneCommand g.S.Store host.store c.unstage.new.self (Remove path) (Err p.0)) c.self.view_is
     (refused_command g.S.Store c.self.inside.store c.unstage.new.self (Remove path) (unstaging c.in_ok-path.path kept) (unstaging path kept) same (remove_reached kept path c.in_ok-path.ensures.removable.0 staged)
     c.in_err-unstage.field-0.0 p.0 c.in_err-unstage.ensures.transaction))
 
@@ -25,6 +25,6 @@ returns-clause-command g c =
     let path = c.args.path.now in
     let same = ap (λ (taken : List ℕ). unstaging taken kept) c.in_ok-path.ensures.same in
     let staged = subst (λ (host : Hosted g.row.S.Denot). IsStaged path host.store.kept.repo) (sym c.self.view_is) c.in_ok-path.ensures.removable.1 in
-    subst (λ (host : Hosted g.row.S.Denot). IsOneCommand g.S.Store host (record { store = c.unstage.new.self }) (Remove path) (Ok tt)) c.self.view_is
+    subst (λ (host : Hosted g.row.S.Denot). IsOneCommand g.S.Store host.store c.unstage.new.self (Remove path) (Ok tt)) c.self.view_is
     (done_command g.S.Store c.self.inside.store c.unstage.new.self (Remove path) (unstaging c.in_ok-path.path kept) (unstaging path kept) same (remove_reached kept path c.in_ok-path.ensures.removable.0 staged)
     tt tt c.in_ok-unstage.ensures.change.done c.in_ok-unstage.ensures.transaction)
