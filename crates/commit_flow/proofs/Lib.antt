@@ -7,6 +7,8 @@ pub mod ConfigLemmas
 pub mod FixLemmas
 pub mod MessageLemmas
 pub mod PathLemmas
+pub mod PlayLawLemmas
+pub mod PlayLemmas
 pub mod RunLemmas
 pub mod StagesLemmas
 pub mod StepLemmas

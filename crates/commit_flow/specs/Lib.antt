@@ -8,6 +8,8 @@ pub mod Configured
 pub mod Crashes
 pub mod Hosts
 pub mod Messages
+pub mod PlayLaws
+pub mod Plays
 pub mod Preparations
 pub mod Refusals
 pub mod RunRefusals

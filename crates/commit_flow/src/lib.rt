@@ -12,8 +12,9 @@
 //! of runs and of commits, and the stages of these), `specs/CommitKept.antt` (what a commit makes of what is kept),
 //! `specs/Hosts.antt` (what is seen of a host), `specs/Messages.antt` (how the message of a commit is cleaned) and
 //! `specs/Refusals.antt`; of the repository and its files they cite definitions of `repo_store` and `hook_base`.
-//! `specs/Preparations.antt` and `specs/CommitCalls.antt` serve private functions alone. [`laws`] says that a step has one
-//! answer at most.
+//! [`Host::play`] makes a list of commands, and its contract cites `specs/Plays.antt` (a run of the machine of `Step`, and how
+//! it stands to what the children told). `specs/Preparations.antt` and `specs/CommitCalls.antt` serve private functions alone.
+//! [`laws`] says that a step has one answer at most, and what follows for a list of commands.
 #![tactic(auto)]
 
 mod candidates;
@@ -31,6 +32,7 @@ mod host_ask;
 mod host_refusal;
 pub mod laws;
 mod message;
+mod play;
 mod prepared;
 mod reply;
 mod run;

@@ -1,0 +1,156 @@
+//! A list of commands, made one after another.
+
+ghost use Rattle.std.specs.Prelude.{◌≡◌, [], IfOk, OnErr};
+ghost use Rattle.child_port.specs.Telling.{SameTells};
+ghost use Rattle.commit_flow.specs.declared.command.Command.TheVariants.{Add, Remove, Accept, Run, Commit, Forget};
+ghost use Rattle.commit_flow.specs.Commands.{reply_of_ending};
+ghost use Rattle.commit_flow.specs.Plays.{IsPlay, IsPlayed};
+ghost use Rattle.commit_flow.specs.Steps.{Step};
+
+use crate::{Command, CommitEnding, Host, HostAsk, Reply, StagedRun};
+use child_port::Children;
+use hook_base::{Bytes, Items, Mode, OutOfMemory, Text};
+use sqlite::Alter;
+use std::alloc::Global;
+
+impl<S: Alter> Host<S> {
+    /// Makes the commands, in order, each on what the one before it left, and answers their replies. A command that is refused
+    /// has a reply like any other, and those behind it are made too.
+    ///
+    /// `OutOfMemory` comes where there is no room for the replies. Nothing is done then.
+    pub fn play<C: Children>(
+        &mut self,
+        alloc: Global,
+        children: &mut C,
+        commands: &[Command],
+    ) -> Result<Vec<Reply>, OutOfMemory>
+        ensures run { IfOk result (λ replies. IsPlay (C.tells children.old) (C.call_count children.old) (C.call_count children.new) (C.fault_count children.old) (C.fault_count children.new) self.old.store.kept.repo commands.now replies.items self.new.store.kept.repo) }
+        ensures refused { OnErr result (self.new ≡ self.old) }
+        ensures uncalled { OnErr result (children.new ≡ children.old) }
+        ensures same { SameTells (C.tells children.old) (C.tells children.new) }
+    {
+        let mut replies = Vec::with_capacity(alloc, commands.len())?;
+        'commands: for command in commands {
+            let reply = self.played(alloc, children, command);
+            replies.push_reserved(reply);
+        }
+        Ok(replies)
+    }
+
+    // Makes a command.
+    fn played<C: Children>(&mut self, alloc: Global, children: &mut C, command: &Command) -> Reply
+        ensures played { IsPlayed (C.tells children.old) (C.call_count children.old) (C.call_count children.new) (C.fault_count children.old) (C.fault_count children.new) self.old.store.kept.repo command.now result self.new.store.kept.repo }
+        ensures same { SameTells (C.tells children.old) (C.tells children.new) }
+    {
+        match command {
+            Command::Add { path, bytes, mode } => self.play_add(alloc, path, bytes, *mode),
+            Command::Remove { path } => self.play_remove(alloc, path),
+            Command::Accept => self.play_accept(),
+            Command::Run { ask } => self.play_run(alloc, children, ask),
+            Command::Commit {
+                message,
+                no_verify,
+                skip,
+            } => self.play_commit(alloc, children, message, *no_verify, skip),
+            Command::Forget => self.play_forget(),
+        }
+    }
+
+    fn play_add(&mut self, alloc: Global, path: &Text, bytes: &Bytes, mode: Option<Mode>) -> Reply
+        ensures { Step self.old.store.kept.repo (Add path.now bytes.now mode) result [] self.new.store.kept.repo }
+    {
+        match self.add(alloc, path.as_str(), bytes.as_slice(), mode) {
+            Ok(()) => Reply::Added,
+            Err(refusal) => Reply::Refused(refusal),
+        }
+    }
+
+    fn play_remove(&mut self, alloc: Global, path: &Text) -> Reply
+        ensures { Step self.old.store.kept.repo (Remove path.now) result [] self.new.store.kept.repo }
+    {
+        match self.remove(alloc, path.as_str()) {
+            Ok(()) => Reply::Removed,
+            Err(refusal) => Reply::Refused(refusal),
+        }
+    }
+
+    fn play_accept(&mut self) -> Reply
+        ensures { Step self.old.store.kept.repo Accept result [] self.new.store.kept.repo }
+    {
+        match self.accept() {
+            Ok(number) => Reply::Accepted(number),
+            Err(refusal) => Reply::Refused(refusal),
+        }
+    }
+
+    fn play_run<C: Children>(&mut self, alloc: Global, children: &mut C, ask: &HostAsk) -> Reply
+        ensures played { IsPlayed (C.tells children.old) (C.call_count children.old) (C.call_count children.new) (C.fault_count children.old) (C.fault_count children.new) self.old.store.kept.repo (Run ask.now) result self.new.store.kept.repo }
+        ensures same { SameTells (C.tells children.old) (C.tells children.new) }
+    {
+        match self.run(alloc, children, ask) {
+            Ok(
+                StagedRun {
+                    passed,
+                    report,
+                    changes,
+                    unsteady,
+                },
+            ) => Reply::Ran {
+                passed,
+                report,
+                changes,
+                unsteady,
+            },
+            Err(refusal) => Reply::Refused(refusal),
+        }
+    }
+
+    fn play_commit<C: Children>(
+        &mut self,
+        alloc: Global,
+        children: &mut C,
+        message: &Bytes,
+        no_verify: bool,
+        skip: &Items<Text>,
+    ) -> Reply
+        ensures played { IsPlayed (C.tells children.old) (C.call_count children.old) (C.call_count children.new) (C.fault_count children.old) (C.fault_count children.new) self.old.store.kept.repo (Commit message.now no_verify skip.now) result self.new.store.kept.repo }
+        ensures same { SameTells (C.tells children.old) (C.tells children.new) }
+    {
+        match self.commit(
+            alloc,
+            children,
+            message.as_slice(),
+            no_verify,
+            skip.as_slice(),
+        ) {
+            Ok(ending) => reply_of_ending(ending),
+            Err(refusal) => Reply::Refused(refusal),
+        }
+    }
+
+    fn play_forget(&mut self) -> Reply
+        ensures { Step self.old.store.kept.repo Forget result [] self.new.store.kept.repo }
+    {
+        match self.forget() {
+            Ok(number) => Reply::Forgot(number),
+            Err(refusal) => Reply::Refused(refusal),
+        }
+    }
+}
+
+fn reply_of_ending(ending: CommitEnding) -> Reply
+    ensures { result ≡ reply_of_ending ending }
+{
+    match ending {
+        CommitEnding::Committed {
+            number,
+            reports,
+            post,
+        } => Reply::Committed {
+            number,
+            reports,
+            post,
+        },
+        CommitEnding::HooksFailed { stage, reports } => Reply::HooksFailed { stage, reports },
+    }
+}
