@@ -1,5 +1,5 @@
 -- How the commands over a repository end.
-use Rattle.std.proofs.Common.{subst, refl, inl, inr, ℕ, List, [], Option, Ok, Err}
+use Rattle.std.proofs.Common.{◌≡◌, subst, refl, inl, inr, ℕ, List, [], Option, Ok, Err}
 use Rattle.sqlite_trees.specs.declared.store.Store.{Ghosts}
 use Rattle.repo_store.specs.AllOrNothing.{IsAllOrNothing}
 use Rattle.repo_store.specs.Kept.{accepting}
@@ -36,13 +36,15 @@ silent-itself held = keeps-itself held
 pub accepted-said : {S : Type 0} (g : Ghosts S) (old new : Hosted S) (out err : Output) (ending : CommandEnding) (number : ℕ)
     → Step old.store.kept.repo command.Accept (Accepted number) [] new.store.kept.repo
     → IsAllOrNothing {E = HostRefusal} old.store.kept new.store.kept (Ok number) (accepting old.store.kept)
-    → IsOneCommand g old new command.Accept (Ok number)
+    → IsOneCommand g old.store new.store command.Accept (Ok number)
+    → new.book ≡ old.book
     → IsSaid out (accepted_text number) ending → IsSilent err → IsAcceptOver g old new out err ending
-accepted-said g old new out err ending number step change one said silent = record {
+accepted-said g old new out err ending number step change one book said silent = record {
   answer = Ok tt;
   step = (record { some = step.0.some; counted = refl; made = step.0.made }, refl);
   change = record { done = change.done; same = tt };
   one = record { stands = one.stands; crash = one.crash; durable = one.durable };
+  book = book;
   apart = λ h. h;
   collides = tt;
   replied = (subst (λ (number : ℕ). IsSaid out (accepted_text number) ending) step.0.counted said, silent);
@@ -51,13 +53,15 @@ accepted-said g old new out err ending number step change one said silent = reco
 pub accept-refused : {S : Type 0} (g : Ghosts S) (old new : Hosted S) (out err : Output) (ending : CommandEnding) (refusal : HostRefusal)
     → Step old.store.kept.repo command.Accept (Refused refusal) [] new.store.kept.repo
     → IsAllOrNothing {A = ℕ} old.store.kept new.store.kept (Err refusal) (accepting old.store.kept)
-    → IsOneCommand {A = ℕ} g old new command.Accept (Err refusal)
+    → IsOneCommand {A = ℕ} g old.store new.store command.Accept (Err refusal)
+    → new.book ≡ old.book
     → IsTold err (refusal_text refusal) ending → IsSilent out → IsAcceptOver g old new out err ending
-accept-refused g old new out err ending refusal step change one told silent = record {
+accept-refused g old new out err ending refusal step change one book told silent = record {
   answer = Err refusal;
   step = step;
   change = record { done = tt; same = change.same };
   one = record { stands = one.stands; crash = one.crash; durable = tt };
+  book = book;
   apart = tt;
   collides = λ is. subst (λ (r : HostRefusal). IsAcceptRefusal old.store.kept.repo r) is step.0.0;
   replied = (silent, told);

@@ -9,6 +9,7 @@ use Rattle.child_port.specs.declared.answer.Outcome.{Outcome}
 use Rattle.child_port.specs.Telling.{SameTells}
 use Rattle.repo_store.specs.AllOrNothing.{IsAllOrNothing}
 use Rattle.repo_store.specs.Kept.{setting}
+use Rattle.repo_store.specs.Shown.{Shown}
 use Rattle.commit_flow.specs.declared.command.Command.{Command}
 use Rattle.commit_flow.specs.declared.command.Command.TheVariants as command
 use Rattle.commit_flow.specs.declared.commit_ending.CommitEnding.{CommitEnding}
@@ -41,18 +42,18 @@ survives-itself s P = record {
   crash = λ _ trees left. inl left;
 }
 
-unchanged : {S A : Type 0} (g : Ghosts S) (host : Hosted S) (command : Command) (refusal : HostRefusal) → IsOneCommand {A = A} g host host command (Err refusal)
-unchanged g host command refusal = record {
+unchanged : {S A : Type 0} (g : Ghosts S) (shown : Shown S) (command : Command) (refusal : HostRefusal) → IsOneCommand {A = A} g shown shown command (Err refusal)
+unchanged g shown command refusal = record {
   stands = λ stands. stands;
-  crash = survives-itself (state g host.store.conn) (LeavesDone host.store.kept.repo command);
+  crash = survives-itself (state g shown.conn) (LeavesDone shown.kept.repo command);
   durable = tt;
 }
 
 module _ {S : Type 0} (g : Ghosts S) (tells : List (List ℕ) → List File → Outcome → Type 0) (counts : Counts) (old new : Hosted S) (ask : HostAsk) (out err : Output) (ending : CommandEnding) where
   pub run-said : (ran : StagedRun) (report : List ℕ) (unsteady : List (List ℕ)) → report ≡ ran.report → unsteady ≡ ran.unsteady
-      → IsRunStep tells counts.calls counts.calls_after counts.faults counts.faults_after old.store.kept.repo ask ran new.store.kept.repo
+      → IsRunStep tells counts.calls counts.calls_after counts.faults counts.faults_after old.book new.book old.store.kept.repo ask ran new.store.kept.repo
       → IsAllOrNothing {E = HostRefusal} old.store.kept new.store.kept (Ok ran) (setting ran.changes old.store.kept)
-      → IsOneCommand g old new (command.Run ask) (Ok ran)
+      → IsOneCommand g old.store new.store (command.Run ask) (Ok ran)
       → IsRunSaid ran.passed out (run_text report unsteady) ending → IsSilent err
       → IsRunOverHost g tells counts old new ask out err ending
   run-said ran report unsteady reported named step change one said silent = record {
@@ -69,9 +70,9 @@ module _ {S : Type 0} (g : Ghosts S) (tells : List (List ℕ) → List File → 
   }
 
   pub run-refused : (refusal : HostRefusal)
-      → IsStoppedStep tells counts.calls counts.calls_after counts.faults counts.faults_after old.store.kept ask refusal
+      → IsStoppedStep tells counts.calls counts.calls_after counts.faults counts.faults_after old.book new.book old.store.kept ask refusal
       → IsAllOrNothing {A = StagedRun} old.store.kept new.store.kept (Err refusal) (setting [] old.store.kept)
-      → IsOneCommand {A = StagedRun} g old new (command.Run ask) (Err refusal)
+      → IsOneCommand {A = StagedRun} g old.store new.store (command.Run ask) (Err refusal)
       → IsTold err (refusal_text refusal) ending → IsSilent out
       → IsRunOverHost g tells counts old new ask out err ending
   run-refused refusal stopped change one told silent = record {
@@ -99,7 +100,7 @@ run-unasked g tells calls faults host ask out err ending told silent = record {
     stopped = inl refl;
   };
   change = record { done = tt; same = refl };
-  one = unchanged g host (command.Run ask) OutOfMemory;
+  one = unchanged g host.store (command.Run ask) OutOfMemory;
   replied = (silent, told);
 }
 
@@ -108,9 +109,10 @@ pub commit-answered : {S : Type 0} (g : Ghosts S) (tells : List (List ℕ) → L
     (answer : Result CommitEnding HostRefusal) → bytes ≡ message
     → IsCommitStep tells counts.calls counts.calls_after counts.faults counts.faults_after old.store.kept bytes no_verify skip (reply_of reply_of_ending answer) new.store.kept.repo
     → KeepsFor old.store.kept new.store.kept answer
-    → IsOneCommand g old new (command.Commit bytes no_verify skip) answer
+    → IsOneCommand g old.store new.store (command.Commit bytes no_verify skip) answer
+    → new.book ≡ old.book
     → IsReplied out err (reply_of reply_of_ending answer) ending
     → IsCommitOverHost g tells counts old new message no_verify skip out err ending
-commit-answered g tells counts old new bytes message no_verify skip out err ending answer is step change one replied =
+commit-answered g tells counts old new bytes message no_verify skip out err ending answer is step change one book replied =
     subst (λ (message : List ℕ). IsCommitOverHost g tells counts old new message no_verify skip out err ending) is
-    (record { answer = answer; step = step; change = change; one = one; replied = replied })
+    (record { answer = answer; step = step; change = change; one = one; book = book; replied = replied })

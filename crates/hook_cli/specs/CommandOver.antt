@@ -80,7 +80,8 @@ pub record IsChanged {S : Type 0} (g : Ghosts S) (old new : Hosted S) (command :
   pub answer : Result (Unit {0}) HostRefusal
   pub step : Step old.store.kept.repo command (reply_of (λ _. reply) answer) [] new.store.kept.repo
   pub change : IsAllOrNothing old.store.kept new.store.kept answer after
-  pub one : IsOneCommand g old new command answer
+  pub one : IsOneCommand g old.store new.store command answer
+  pub book : new.book ≡ old.book
   pub apart : OnOk answer (¬ BringsCollision)
   pub collides : IfErr answer (λ refusal. refusal ≡ Collision → BringsCollision)
   pub replied : IsReplied out err (reply_of (λ _. reply) answer) ending
@@ -117,10 +118,10 @@ ask_of which only stage fresh skip = record { which = which; only = only; stage 
 -- machine over the children, or stays as it is, and a writer's error undoes none of it.
 pub record IsRunOverHost {S : Type 0} (g : Ghosts S) (tells : List (List ℕ) → List File → Outcome → Type 0) (counts : Counts) (old new : Hosted S) (ask : HostAsk) (out err : Output) (ending : CommandEnding) : Type 0 where
   pub answer : Result StagedRun HostRefusal
-  pub step : IfOk answer (λ ran. IsRunStep tells counts.calls counts.calls_after counts.faults counts.faults_after old.store.kept.repo ask ran new.store.kept.repo)
-  pub stopped : IfErr answer (IsStoppedStep tells counts.calls counts.calls_after counts.faults counts.faults_after old.store.kept ask)
+  pub step : IfOk answer (λ ran. IsRunStep tells counts.calls counts.calls_after counts.faults counts.faults_after old.book new.book old.store.kept.repo ask ran new.store.kept.repo)
+  pub stopped : IfErr answer (IsStoppedStep tells counts.calls counts.calls_after counts.faults counts.faults_after old.book new.book old.store.kept ask)
   pub change : IsAllOrNothing old.store.kept new.store.kept answer (setting (changes_in answer) old.store.kept)
-  pub one : IsOneCommand g old new (command.Run ask) answer
+  pub one : IsOneCommand g old.store new.store (command.Run ask) answer
   pub replied : IsReplied out err (reply_of reply_of_run answer) ending
 
 -- The staged files are committed through their hooks by one call of the host, whose answer is printed. The repository takes a
@@ -129,7 +130,8 @@ pub record IsCommitOverHost {S : Type 0} (g : Ghosts S) (tells : List (List ℕ)
   pub answer : Result CommitEnding HostRefusal
   pub step : IsCommitStep tells counts.calls counts.calls_after counts.faults counts.faults_after old.store.kept message no_verify skip (reply_of reply_of_ending answer) new.store.kept.repo
   pub change : KeepsFor old.store.kept new.store.kept answer
-  pub one : IsOneCommand g old new (command.Commit message no_verify skip) answer
+  pub one : IsOneCommand g old.store new.store (command.Commit message no_verify skip) answer
+  pub book : new.book ≡ old.book
   pub replied : IsReplied out err (reply_of reply_of_ending answer) ending
 
 -- ---- the commands that look something up

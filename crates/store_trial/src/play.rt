@@ -129,7 +129,7 @@ impl<S: Alter + Drop> Play<S> {
             None => answer.begin("no store"),
             Some(store) => {
                 let (word, rest) = parted(line);
-                let mut host = Host::over(store);
+                let mut host = Host::over(answer.alloc(), store);
                 let played = play_command(&mut host, word, rest, answer);
                 self.store = Some(host.into_store());
                 played
