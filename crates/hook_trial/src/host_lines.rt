@@ -31,7 +31,7 @@ pub(crate) fn line_played(
     let line = line_of(alloc, command, words)?;
     let bytes = bytes_of(alloc, command, words)?;
     let skip = skip_of(alloc, command, words)?;
-    let mut host = Host::over(store);
+    let mut host = Host::over(alloc, store);
     let status = command_over(
         alloc,
         &line,

@@ -34,7 +34,7 @@ pub(crate) fn host_command(rt: &HostRuntime, line: &Line) -> Result<u8, Stop>
     let bytes = read_file_of(rt, line)?;
     let mut runs = runs_of(rt, line)?;
     let before = Before::found(rt)?;
-    let mut host = Host::over(open_store(rt, &lock, &before)?);
+    let mut host = Host::over(rt.alloc(), open_store(rt, &lock, &before)?);
     let status = answer(rt, line, bytes.as_slice(), &mut runs, &mut host);
     leave(rt, host, &before, status != REFUSED && changes(line));
     Ok(status)
