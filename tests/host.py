@@ -275,7 +275,7 @@ class Killed:
 
     def play(self, words, given, seconds):
         """Plays a command on a copy, and kills it after so many seconds. Answers the copy, whether the command ended by
-        itself, with 0 or as a run with 1, and what it printed."""
+        itself, with 0 or where a hook failed with 1, and what it printed."""
         work = self.copy()
         child = subprocess.Popen(words, cwd=work, stdin=subprocess.PIPE, stdout=subprocess.PIPE, stderr=subprocess.PIPE)
         try:
@@ -326,24 +326,31 @@ def filled(folder):
     return base
 
 
+def check_kills(killed, words, wanted):
+    """A command that changes the repository and ends with the wanted status leaves it, killed, as it was before or after."""
+    before = state(killed.copy())
+    work = killed.copy()
+    status, _, err = run(work, *words)
+    check((status, err) == (wanted, b""), f"{words!r} ends with {status} and says {err!r}")
+    after = state(work)
+    check(before != after, f"{words!r} changes nothing")
+    for work, is_ended, _ in killed.each([PROGRAM, *words]):
+        found = state(work)
+        check(found == after or (found == before and not is_ended), f"after a kill of {words!r} it shows {found!r:.1000}")
+
+
 def is_left_whole_by_kills_of_add_rm_and_accept(folder):
     killed = Killed(folder, filled(folder))
-    before = state(killed.copy())
     for words in (["add", "b"], ["add", "new"], ["rm", "a"], ["accept"]):
-        work = killed.copy()
-        do(work, *words)
-        after = state(work)
-        check(before != after, f"{words!r} changes nothing")
-        for work, is_ended, _ in killed.each([PROGRAM, *words]):
-            found = state(work)
-            check(found == after or (found == before and not is_ended), f"after a kill of {words!r} it shows {found!r:.1000}")
+        check_kills(killed, words, 0)
 
 
-# Hooks of each stage of a commit. That of the stage `manual` modifies files.
+# Hooks of each stage of a commit. That of the stage `manual` modifies files, and so does one before a commit, of the file `bad`.
 HOOKS = b"""repos:
 - repo: local
   hooks:
   - {id: look, name: Look, language: system, entry: cat, stages: [pre-commit]}
+  - {id: mend, name: Mend, language: system, entry: "sed -i 's/x/y/'", files: '^bad$', stages: [pre-commit]}
   - {id: write, name: Write, language: system, entry: "sh -c 'echo a line >> $1' --", stages: [prepare-commit-msg, commit-msg]}
   - {id: behind, name: Behind, language: system, entry: 'true', stages: [post-commit], always_run: true}
   - {id: change, name: Change, language: system, entry: "sed -i 's/x/y/'", stages: [manual]}
@@ -351,22 +358,19 @@ HOOKS = b"""repos:
 
 
 def is_left_whole_by_kills_of_runs_and_commits(folder):
+    """A run that sets fixes, a commit that is made, and one that a hook refuses and whose fixes are set."""
     base = filled(folder)
+    killed = Killed(folder, base)
     for name, held in ((".pre-commit-config.yaml", HOOKS), ("x", b"x" * 100000)):
         write(base, name, held)
         do(base, "add", name)
     play(base, ["fix a 2", "set"])
-    killed = Killed(folder, base)
-    before = state(killed.copy())
-    for words, wanted in ((["run", "--hook-stage", "manual"], 1), (["commit", "-m", "second"], 0)):
-        work = killed.copy()
-        status, _, err = run(work, *words)
-        check((status, err) == (wanted, b""), f"{words!r} ends with {status} and says {err!r}")
-        after = state(work)
-        check(before != after, f"{words!r} changes nothing")
-        for work, is_ended, _ in killed.each([PROGRAM, *words]):
-            found = state(work)
-            check(found == after or (found == before and not is_ended), f"after a kill of {words!r} it shows {found!r:.1000}")
+    check_kills(killed, ["run", "--hook-stage", "manual"], 1)
+    check_kills(killed, ["commit", "-m", "second"], 0)
+    write(base, "bad", b"x" * 100000)
+    do(base, "add", "bad")
+    play(base, ["fix a 2", "set"])
+    check_kills(killed, ["commit", "-m", "refused"], 1)
 
 
 def is_left_whole_by_kills_of_init(folder):

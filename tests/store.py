@@ -4,7 +4,7 @@
 Usage: tests/store.py [PROGRAM]   (default: crates/store_trial/out/store_trial)
 
 A store is played by lines, each answered by a line of fields that tabs part. Beside it runs a model of a store, as a few
-dictionaries. The files are read, and damaged, by the program sqlite3. A play is killed at random moments, each allocation
+dictionaries (tests/store_model.py). The files are read, and damaged, by the program sqlite3. A play is killed at random moments, each allocation
 of a play is refused in turn (tests/refuse_allocation.c), and a disk in memory stops at each of its operations in turn.
 """
 import copy
@@ -19,9 +19,10 @@ import tempfile
 import time
 from concurrent.futures import ThreadPoolExecutor
 
-from store_cases import (ANSWER_ROWS, ANSWER_ROWS_LEFT, BAD_LINES, COMMITTED_ROWS, DAMAGED, FACTS, FAULTS, FILLING, FIXES_AFTER, HOST_STORY, KEPT_ROWS, META_ROWS,
-                         NOT_A_STORE, ONE, ONE_STAGED, OTHER_PATHS, OTHER_SCHEMAS, OTHER_TABLES, PLANTS, REFUSED_ROWS, REPLACED_META_ROWS, SCHEMA, SHOWN, SQL, STORY, TAKEN_ROWS,
-                         TOO_LARGE, TOO_MANY, UNSTAGED_STORY)
+from store_cases import (ANSWER_ROWS, ANSWER_ROWS_LEFT, BAD_LINES, CHILDREN, COMMITTED_ROWS, CONFIG, DAMAGED, FACTS, FAULTS, FILLING, FIXES_AFTER, HOOKS_STORY,
+                         HOST_STORY, KEPT_ROWS, META_ROWS, NOT_A_STORE, ONE, ONE_STAGED, OTHER_SCHEMAS, OTHER_TABLES, PLANTS, REFUSED_ROWS, REPLACED_META_ROWS,
+                         SCHEMA, SHOWN, SQL, STOPPED_CALLS, STOPPED_COMMANDS, STORY, TAKEN_ROWS, TOO_LARGE, TOO_MANY, UNSTAGED_STORY)
+from store_model import Model, digest_of, random_play, unescaped
 
 HERE = os.path.dirname(os.path.abspath(__file__))
 PROGRAM = os.path.abspath(sys.argv[1] if len(sys.argv) > 1 else os.path.join(HERE, "..", "crates/store_trial/out/store_trial"))
@@ -62,203 +63,6 @@ def shown(path):
     given = answers(path, ["open", *SHOWN, "close"])
     check(given[0] == given[-1] == "ok", f"it isn't opened: {given[0]!r} .. {given[-1]!r}")
     return given[1:-1]
-
-
-# ---- the model
-
-def unescaped(text):
-    return text.replace("\\\\", "\0").replace("\\n", "\n").replace("\\t", "\t").replace("\0", "\\").encode()
-
-
-def digest_of(text):
-    return hashlib.sha256(unescaped(text)).hexdigest()
-
-
-def path_fault(path):
-    """The number of the first fault that a text has as a path, in the order in which they are looked for, or none."""
-    parts = path.split("/")
-    faults = {1: not path, 5: len(path.encode()) > 4096, 6: any(ord(c) < 32 or ord(c) == 127 for c in path), 2: path.startswith("/"),
-              4: "" in parts, 3: "." in parts or ".." in parts, 7: parts[0] == ".git"}
-    return next((number for number, is_so in faults.items() if is_so), None)
-
-
-class Model:
-    """What a store holds, and what it answers to a line. Contents and messages stay as the lines write them."""
-
-    def __init__(self):
-        self.store, self.is_open, self.waiting = None, False, {}
-
-    def play(self, line):
-        word, blank, rest = line.partition(" ")
-        if word in ("create", "open", "close"):
-            return getattr(self, word)()
-        if not self.is_open:
-            return "no store"
-        return getattr(self, word.replace("-", "_"))(*rest.split(" ", {"stage": 2, "add": 2, "fix": 1}.get(word, 0))) if blank else getattr(self, word)()
-
-    def create(self):
-        if self.store is not None:
-            return "refused\t3\tSql\tthere is already an object of this name"
-        self.store, self.is_open = {"staged": {}, "fixes": {}, "history": [], "blobs": set()}, True
-        return "ok"
-
-    def open(self):
-        if self.store is None:
-            return "refused\t1\tNotAStore\tthe database holds no store of this version"
-        self.is_open = True
-        return "ok"
-
-    def close(self):
-        was_open, self.is_open = self.is_open, False
-        return "ok" if was_open else "no store"
-
-    def stage(self, mode, path, content):
-        self.store["staged"][path] = (mode, content)
-        self.store["fixes"] = {}
-        self.store["blobs"].add(content)
-        return "ok"
-
-    def unstage(self, path):
-        self.store["staged"].pop(path, None)
-        self.store["fixes"] = {}
-        return "ok"
-
-    def add(self, mode, path, content):
-        staged = self.store["staged"]
-        others = [each for each in staged if each != path]
-        if number := path_fault(path):
-            return f"refused\t3\tBadPath\t{number}"
-        if len(unescaped(content)) > 16777216:
-            return "refused\t5\tTooLarge\tnone"
-        if self.clashes(path):
-            return "refused\t15\tClash\tnone"
-        if len(others) >= 100000 or sum(len(each.encode()) for each in [*others, path]) > 8388608:
-            return "refused\t6\tTooMany\tnone"
-        return self.stage(staged.get(path, ("plain", ""))[0] if mode == "-" else mode, path, content)
-
-    def remove(self, path):
-        if number := path_fault(path):
-            return f"refused\t3\tBadPath\t{number}"
-        return self.unstage(path) if path in self.store["staged"] else "refused\t4\tNotStaged\tnone"
-
-    def clashes(self, path):
-        return any(path.startswith(each + "/") or each.startswith(path + "/") for each in self.store["staged"])
-
-    def fix(self, path, content):
-        self.waiting[path] = content
-        return "ok"
-
-    def fix_gone(self, path):
-        self.waiting[path] = None
-        return "ok"
-
-    def set(self):
-        self.store["fixes"] = {path: now for path, now in self.waiting.items() if path in self.store["staged"]}
-        self.store["blobs"].update(now for now in self.store["fixes"].values() if now is not None)
-        self.waiting = {}
-        return "ok"
-
-    def accept(self):
-        fixes, self.store["fixes"] = self.store["fixes"], {}
-        for path, now in fixes.items():
-            if now is None:
-                del self.store["staged"][path]
-            else:
-                self.store["staged"][path] = (self.store["staged"][path][0], now)
-        return f"ok\t{len(fixes)}"
-
-    def commit(self, message):
-        self.store["history"].append((message, dict(self.store["staged"])))
-        self.store["fixes"] = {}
-        return f"ok\t{len(self.store['history'])}"
-
-    def blob(self, content):
-        self.store["blobs"].add(content)
-        return "ok\t" + digest_of(content)
-
-    def staged(self):
-        return self.tree_line(self.store["staged"])
-
-    def head(self):
-        return self.tree_line(self.last_tree())
-
-    def tree(self, number):
-        at = int(number)
-        return self.tree_line(self.store["history"][at - 1][1]) if 0 < at <= len(self.store["history"]) else "ok\tnone"
-
-    def files(self, number):
-        return self.tree_line(self.tree_at(int(number)))
-
-    def trees(self):
-        return "".join(["ok"] + [f"\t{at + 1}{self.files_of(tree)}" for at, (_, tree) in enumerate(self.store["history"])])
-
-    def log(self):
-        return "".join(["ok"] + [f"\t{at + 1}\t{message}" for at, (message, _) in enumerate(self.store["history"])])
-
-    def fixes(self):
-        rows = sorted(self.store["fixes"].items())
-        return "".join(["ok"] + [f"\t{path}\tgone" if now is None else f"\t{path}\tnow\t{now}" for path, now in rows])
-
-    def tree_at(self, number):
-        return self.store["history"][number - 1][1] if 0 < number <= len(self.store["history"]) else {}
-
-    def last_tree(self):
-        return self.store["history"][-1][1] if self.store["history"] else {}
-
-    def look(self, path):
-        staged = self.store["staged"]
-        mode, content = staged.get(path, ("none", "none"))
-        head = self.last_tree()
-        facts = path in staged, mode, content, self.clashes(path), path in head, staged.get(path) != head.get(path)
-        return "\t".join(["ok", *(str(fact).lower() if isinstance(fact, bool) else fact for fact in facts)])
-
-    def count(self):
-        return f"ok\t{len(self.store['fixes'])}\t{len(self.store['history'])}\t{str(self.store['staged'] != self.last_tree()).lower()}"
-
-    def message(self, number):
-        at = int(number)
-        return "ok\t" + (self.store["history"][at - 1][0] if 0 < at <= len(self.store["history"]) else "none")
-
-    def walk(self):
-        return f"ok{self.files_of(self.store['staged'])}\thead{self.files_of(self.last_tree())}"
-
-    @staticmethod
-    def files_of(tree):
-        return "".join(f"\t{mode}\t{path}\t{content}" for path, (mode, content) in sorted(tree.items()))
-
-    @staticmethod
-    def tree_line(tree):
-        return "ok" + Model.files_of(tree)
-
-    def shown(self):
-        """All that an open store shows, or none where there is no store."""
-        return None if self.store is None else [getattr(self, word)() for word in SHOWN]
-
-
-def random_play(seed, length):
-    """A play of every call, over few paths and contents so that they meet."""
-    chance = random.Random(seed)
-    paths, contents = ["a", "b.txt", "dir/c", "dir/d", "e"], [str(n) for n in range(8)] + ["\\n", "x" * 300, ""]
-    lines = ["create"]
-    while len(lines) < length:
-        path, content = chance.choice(paths), chance.choice(contents)
-        kind = chance.randrange(13)
-        if kind < 4:
-            lines.append(f"stage {chance.choice(['plain', 'executable'])} {path} {content}")
-        elif kind == 4:
-            lines.append(f"unstage {path}")
-        elif kind == 5:
-            lines.append(f"blob {content}" if content else "log")
-        elif kind < 8:
-            chosen = chance.sample(paths, chance.randrange(1, 4))
-            lines += [chance.choice([f"fix-gone {each}", f"fix {each} {content}"]) for each in chosen] + ["set"]
-        elif kind < 10:
-            lines.append(chance.choice(["accept", "accept", f"commit {content or 'm'}"]))
-        elif kind < 12:
-            lines.append(f"add {chance.choice(['-', 'plain', 'executable'])} {chance.choice([*paths, *OTHER_PATHS])} {content}")
-        else:
-            lines.append(f"remove {chance.choice([*paths, *OTHER_PATHS])}")
-    return lines
 
 
 # ---- sqlite3
@@ -353,6 +157,15 @@ def plays_the_story_of_a_host(folder):
     given = answers(path, [line for line, _ in story])
     for (line, wanted), answer in zip(story, given):
         check(answer == wanted, f"{line[:80]!r} is answered {answer[:200]!r}, wanted {wanted!r}")
+
+
+def plays_the_story_of_hooks(folder):
+    path, model = os.path.join(folder, "store.db"), Model()
+    story = [*((line, "ok") for line in CHILDREN), *HOOKS_STORY]
+    given = answers(path, [line for line, _ in story])
+    for (line, wanted), answer in zip(story, given):
+        check(answer == wanted, f"{line!r} is answered {answer!r}, wanted {wanted!r}")
+        check(model.play(line) == wanted, f"the model answers {line!r} otherwise")
 
 
 def keeps_fixes_of_staged_files_until_the_next_stage(folder):
@@ -582,8 +395,8 @@ def is_left_whole_by_a_kill(folder):
 
 # ---- memory that is refused
 
-REFUSED_PLAY = ["create", "stage plain a.txt 1", "fix a.txt 2", "set", "accept", "commit m\\n", "blob abc", "add - h 1", "remove h", "unstage a.txt", "close", "open",
-                *SHOWN, "tree 1"]
+REFUSED_PLAY = [*CHILDREN, "create", "stage plain a.txt 1", "fix a.txt 2", "set", "accept", "commit m\\n", "blob abc", "add - h 1", "remove h", "unstage a.txt",
+                f"stage plain {CONFIG}", "add - b.txt 1", "run-hooks all", "accept-fixes", "commit-verified m", "close", "open", *SHOWN, "tree 1"]
 
 
 def refusing_library(folder):
@@ -604,13 +417,15 @@ def states_after(given, status):
     for line, answer in zip(REFUSED_PLAY, given):
         after = copy.deepcopy(model)
         right = after.play(line)
+        # A commit stands also where the hooks behind it are stopped.
+        is_done = answer in (right, right.replace("\ttold", "\tstopped"))
         if answer != right:
-            check(not is_refused and is_want(answer), f"{line!r} is answered {answer!r}, wanted {right!r}")
+            check(not is_refused and (is_done or is_want(answer)), f"{line!r} is answered {answer!r}, wanted {right!r}")
             is_refused = True
             # A store that can't be closed is closed all the same, and fixes that can't be set wait no more.
             model.is_open = after.is_open if line == "close" else model.is_open
             model.waiting = after.waiting
-        else:
+        if is_done:
             model = after
     if len(given) == len(REFUSED_PLAY):
         check(status == 0, f"status {status}")
@@ -655,20 +470,20 @@ def refuses_for_want_of_memory(folder):
 
 # ---- a disk that stops
 
-STOPPED_PLAY = ["create", "stage plain a.txt 1", "stage executable tools/run 2", "blob 3", "fix a.txt 4", "set", "accept", "commit m\\n",
-                "unstage a.txt", "fix-gone tools/run", "set", "stage plain tools/run 5", "commit n\\n"]
+# What a call answers where the disk stops, and what a command of a host does.
+STOPPED = (SQL, "refused\t2\tStore\t3")
 
 
-def model_before_the_stop(which, number, given):
-    """The model after the calls before the first that was refused, and their number."""
+def model_before_the_stop(play, which, number, given):
+    """The model after the lines before the first that was refused, and their number."""
     model = Model()
-    for count, (line, answer) in enumerate(zip(STOPPED_PLAY, given)):
+    for count, (line, answer) in enumerate(zip(play, given)):
         after = copy.deepcopy(model)
         if answer != after.play(line):
-            check(answer.startswith(SQL), f"{which} {number}: {line!r} is answered {answer!r}")
+            check(answer.startswith(STOPPED), f"{which} {number}: {line!r} is answered {answer!r}")
             return model, count
         model = after
-    return model, len(STOPPED_PLAY)
+    return model, len(play)
 
 
 def counts_of(store):
@@ -684,10 +499,10 @@ def state_of(model):
     return None if model.store is None else [*model.shown(), counts_of(model.store)]
 
 
-def state_after_the_stop(which, number, answered, before):
-    """What a store shows, and how many rows it has, that is opened after a crash, and crashes again before its rows are
-    counted. Until the first crash it has to show what it showed before the call that was stopped."""
-    played = STOPPED_PLAY[:len(answered)]
+def state_after_the_stop(played, which, number, answered, before):
+    """What a store shows, and how many rows it has, that is opened after a crash behind the lines that were played, and
+    crashes again before its rows are counted. Until the first crash it has to show what it showed before the line that was
+    stopped."""
     lines = [*played, *(SHOWN if before else []), "crash", "open", *SHOWN, "crash", "read-tables"]
     given, status, _ = run_words([which, str(number)], lines)
     check(status == 0 and len(given) == len(lines) and given[:len(played)] == answered, f"{which} {number}: played again it answers {given!r}, status {status}")
@@ -703,41 +518,57 @@ def state_after_the_stop(which, number, answered, before):
     return None
 
 
-def play_stopped(which, number):
-    """Plays up to the call at which the disk stops, crashes, and opens the store again. Answers whether a call was stopped."""
-    given, status, _ = run_words([which, str(number)], STOPPED_PLAY)
-    check(status == 0 and len(given) == len(STOPPED_PLAY), f"{which} {number}: status {status} after {len(given)} answers")
-    model, count = model_before_the_stop(which, number, given)
+def play_stopped(play, which, number):
+    """Plays up to the line at which the disk stops, crashes, and opens the store again. Answers how many lines stand before
+    that one, or none where no line was stopped."""
+    given, status, _ = run_words([which, str(number)], play)
+    check(status == 0 and len(given) == len(play), f"{which} {number}: status {status} after {len(given)} answers")
+    model, count = model_before_the_stop(play, which, number, given)
     before = state_of(model)
     states = [before]
-    if count < len(STOPPED_PLAY):
-        model.play(STOPPED_PLAY[count])
+    if count < len(play):
+        model.play(play[count])
         states.append(state_of(model))
-    found = state_after_the_stop(which, number, given[:count + 1], before)
+    found = state_after_the_stop(play[:count + 1], which, number, given[:count + 1], before)
     check(found in states, f"{which} {number}: {found!r} is none of {states!r}")
-    return count < len(STOPPED_PLAY)
+    return None if count == len(play) else count
+
+
+def stops_of(play, which):
+    """Where a play stops, as `play_stopped` says it, while the disk stops at each of its operations on a file in turn."""
+    with ThreadPoolExecutor(max_workers=len(os.sched_getaffinity(0))) as pool:
+        stops = []
+        while None not in stops:
+            stops += pool.map(lambda number: play_stopped(play, which, number), range(len(stops), len(stops) + 64))
+    ended = stops.index(None)
+    check(stops[ended:].count(None) == len(stops) - ended, f"a play that was stopped at more operations on the {which} ended")
+    return stops[:ended]
+
+
+def is_left_before_or_after_a_line_by_a_stop(play):
+    """The disk stops at each operation on the log, and at each on the database file, and loses what wasn't synchronized. Each
+    line that writes to the disk has to be stopped."""
+    stops = {which: stops_of(play, which) for which in ("log", "database")}
+    unstopped = [line for at, line in enumerate(play) if at not in stops["log"] and line.partition(" ")[0] not in ("child", "fix", "fix-gone")]
+    check(not unstopped, f"lines that no stop met: {unstopped!r}")
+    check(len(stops["log"]) > 40 and len(stops["database"]) > 10, f"too few stops: {stops!r}")
+    print(f"stops: at {len(stops['log'])} operations on the log and {len(stops['database'])} on the database file")
 
 
 def is_left_before_or_after_a_call_by_a_stop(_folder):
-    """The disk stops at each operation on the log, and at each on the database file, and loses what wasn't synchronized."""
-    counts = {}
-    with ThreadPoolExecutor(max_workers=len(os.sched_getaffinity(0))) as pool:
-        for which in ("log", "database"):
-            stopped = []
-            while not stopped or stopped[-1]:
-                stopped += pool.map(lambda number: play_stopped(which, number), range(len(stopped), len(stopped) + 64))
-            counts[which] = sum(stopped)
-            check(stopped == sorted(stopped, reverse=True), f"a play that was stopped at more operations on the {which} ended")
-    check(counts["log"] > 40 and counts["database"] > 10, f"too few stops: {counts!r}")
-    print(f"stops: at {counts['log']} operations on the log and {counts['database']} on the database file")
+    is_left_before_or_after_a_line_by_a_stop(STOPPED_CALLS)
 
 
-CASES = [plays_the_story, plays_the_story_of_an_unstaged_file, plays_the_story_of_a_host, keeps_fixes_of_staged_files_until_the_next_stage,
+def is_left_before_or_after_a_command_by_a_stop(_folder):
+    is_left_before_or_after_a_line_by_a_stop(STOPPED_COMMANDS)
+
+
+CASES = [plays_the_story, plays_the_story_of_an_unstaged_file, plays_the_story_of_a_host, plays_the_story_of_hooks, keeps_fixes_of_staged_files_until_the_next_stage,
          numbers_and_says_each_refusal, reads_rows_in_the_order_of_their_keys, keeps_each_content_once, plays_as_the_model,
          refuses_bad_lines, refuses_a_second_store, refuses_planted_files, refuses_rows_of_contents_and_commits_that_are_not_there,
          refuses_files_that_hold_no_store, refuses_files_with_other_tables, refuses_what_is_too_large,
          refuses_more_files_than_a_tree_may_have, refuses_more_commits_than_a_store_may_have, is_left_whole_by_a_kill,
-         is_left_before_or_after_a_call_by_a_stop, refuses_for_want_of_memory]
+         is_left_before_or_after_a_call_by_a_stop, is_left_before_or_after_a_command_by_a_stop, refuses_for_want_of_memory]
 
 
 def main():

@@ -113,6 +113,88 @@ HOST_STORY = [
     ("count", "ok\t0\t1\tfalse"),
     ("add - a.txt 1", "ok"),
 ]
+# A configuration with a hook of each stage that counts, and by the stages before a commit the word of its hook and how the
+# paths end that this gets. What the hook behind a commit does is told and no more.
+CONFIG_PATH, MESSAGE = ".pre-commit-config.yaml", ".git/COMMIT_EDITMSG"
+CONFIG = CONFIG_PATH + " " + "".join(line + "\\n" for line in [
+    "repos:",
+    "- repo: local",
+    "  hooks:",
+    "  - {id: tidy, name: Tidy, language: system, entry: tidy, files: '[.]txt$', stages: [pre-commit]}",
+    "  - {id: sign, name: Sign, language: system, entry: sign, stages: [commit-msg]}",
+    "  - {id: tell, name: Tell, language: system, entry: tell, always_run: true, stages: [post-commit]}",
+])
+HOOKS = {"pre-commit": ("tidy", ".txt"), "commit-msg": ("sign", MESSAGE)}
+# What the children of the hooks answer: the words, the seen files, which are plain, the changes and the status.
+CHILDREN = [
+    "child tidy b.txt | b.txt=0 | | 0",
+    "child tidy b.txt | b.txt=1 | b.txt=0 | 0",
+    "child tidy b.txt | b.txt=2 | b.txt | 0",
+    "child tidy b.txt | b.txt=3 | | 1",
+    "child tidy b.txt | b.txt=4 | b.txt=\\n | 7",
+    f"child sign {MESSAGE} | {MESSAGE}=m\\n | {MESSAGE}=m\\nsigned\\n | 0",
+    f"child sign {MESSAGE} | {MESSAGE}=1\\n | | 0",
+    f"child sign {MESSAGE} | {MESSAGE}=2\\n | {MESSAGE} | 0",
+    f"child sign {MESSAGE} | {MESSAGE}=3\\n | {MESSAGE}=m\\n | 1",
+    "child tell | | | 0",
+]
+# A host's runs, acceptances and commits: what each answers, and what stands there then. No row answers for the message n, for
+# the contents 5 or for an executable file.
+HOOKS_STORY = [
+    ("accept-fixes", "no store"),
+    ("run-hooks all", "no store"),
+    ("commit-verified m", "no store"),
+    ("create", "ok"),
+    ("accept-fixes", "refused\t11\tNoFixes\tnone"),
+    ("run-hooks changed", "refused\t7\tNoConfig\tnone"),
+    ("commit-verified m", "refused\t10\tNothingStaged\tnone"),
+    ("add - b.txt 1", "ok"),
+    ("commit-unverified m", "refused\t7\tNoConfig\tnone"),
+    (f"stage plain {CONFIG}", "ok"),
+    ("commit-unverified  ", "refused\t12\tEmptyMessage\tnone"),
+    ("run-hooks changed", "ok\tfailed\tb.txt\tnow\t0"),
+    ("fixes", "ok\tb.txt\tnow\t0"),
+    ("accept-fixes", "ok\t1"),
+    ("fixes", "ok"),
+    ("look b.txt", "ok\ttrue\tplain\t0\tfalse\tfalse\ttrue"),
+    ("fix b.txt 7", "ok"),
+    ("set", "ok"),
+    ("run-hooks changed", "ok\tpassed"),
+    ("fixes", "ok"),
+    ("add - b.txt 1", "ok"),
+    ("commit-verified m", "ok\tfailed\tpre-commit"),
+    ("fixes", "ok\tb.txt\tnow\t0"),
+    ("log", "ok"),
+    ("commit-unverified n", "ok\tcommitted\t1\ttold"),
+    ("fixes", "ok"),
+    ("run-hooks changed", "ok\tpassed"),
+    ("run-hooks all", "ok\tfailed\tb.txt\tnow\t0"),
+    ("accept-fixes", "ok\t1"),
+    ("fix b.txt 7", "ok"),
+    ("set", "ok"),
+    ("commit-verified n", "ok\tfailed\tcommit-msg"),
+    ("fixes", "ok"),
+    ("commit-verified 2", "refused\t12\tEmptyMessage\tnone"),
+    ("commit-verified 3", "ok\tfailed\tcommit-msg"),
+    ("commit-verified m", "ok\tcommitted\t2\ttold"),
+    ("commit-verified m", "refused\t10\tNothingStaged\tnone"),
+    ("log", "ok\t1\tn\\n\t2\tm\\nsigned\\n"),
+    ("add - b.txt 2", "ok"),
+    ("run-hooks changed", "ok\tfailed\tb.txt\tgone"),
+    ("add - b.txt 3", "ok"),
+    ("run-hooks changed", "ok\tfailed"),
+    ("add - b.txt 4", "ok"),
+    ("run-hooks changed", "ok\tfailed\tb.txt\tnow\t\\n"),
+    ("add - b.txt 5", "ok"),
+    ("run-hooks changed", "ok\tfailed"),
+    ("add executable b.txt 1", "ok"),
+    ("run-hooks changed", "ok\tfailed"),
+]
+# Plays in which a disk stops: of the store's calls, and of a host's commands.
+STOPPED_CALLS = ["create", "stage plain a.txt 1", "stage executable tools/run 2", "blob 3", "fix a.txt 4", "set", "accept", "commit m\\n",
+                 "unstage a.txt", "fix-gone tools/run", "set", "stage plain tools/run 5", "commit n\\n"]
+STOPPED_COMMANDS = [*CHILDREN, "create", f"stage plain {CONFIG}", "add - b.txt 1", "commit-verified m", "commit-unverified n", "run-hooks all",
+                    "run-hooks changed", "run-hooks all", "accept-fixes", "commit-verified m"]
 # Paths that clash with those of the random plays, and texts that are none.
 OTHER_PATHS = ["a/b", "dir", "dir/c/x", "b.txt.old", "", "/a", "a/", "./a", ".git/a", "e\x7f"]
 # Calls on a store that has a.txt staged, and the fixes that it has then.
@@ -175,7 +257,9 @@ ANSWER_ROWS = [
 ANSWER_ROWS_LEFT = ANSWER_ROWS[1:]
 # Lines that end the program with status 2, on an open store.
 BAD_LINES = ["", "stag", "stage", "staged ", "staged a.txt", "create a", "set a", "execute", "faults a", "stage plain a.txt", "stage odd a.txt 1", "stage plain ../a.txt 1", "stage plain .git/COMMIT_EDITMSG 1",
-             "stage plain a.txt \\x", "stage plain a.txt \\", "unstage /a", "tree x", "create", "open", "stage-many 1 1"]
+             "stage plain a.txt \\x", "stage plain a.txt \\", "unstage /a", "tree x", "create", "open", "stage-many 1 1",
+             "accept-fixes ", "run-hooks", "run-hooks b.txt", "commit-verified", "commit-unverified", "commit-verified \\x", "child", "child tidy | |", "child tidy | | | ",
+             "child tidy | | | 256", "child tidy | a.txt | | 0", "child tidy | ../a=1 | | 0", "child tidy | a=\\x | | 0", "child tidy | | b a | 0", "child tidy | | .git/a | 0"]
 FILLING = ["create", "stage plain a.txt 1", "stage plain b.txt 2", "commit m\\n", "commit n\\n", "fix a.txt 2", "set", "close"]
 # The digests of the contents 1 and 2.
 ONE, TWO = (hashlib.sha256(text).hexdigest() for text in (b"1", b"2"))

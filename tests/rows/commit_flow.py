@@ -1,9 +1,12 @@
-"""The messages of commits. The calls are
+"""The messages of commits, and lists of commands that a host makes. The calls are
 
 begun_message MESSAGE
 cleaned_message MESSAGE
+play COMMAND..
 
-and each answers the message that is made of it. The definitions say the same by lines; these rows are those of users."""
+The first two answer the message that is made of it; the third what `crates/hook_trial/src/plays.rt` names, on a repository that
+is empty at first. The definitions say the same, the message's by lines; these rows are those of users, and show that memory is
+enough for them."""
 
 PROGRAM = "hook_trial"
 
@@ -25,6 +28,104 @@ CLEANED = [
     ("\n" * 100_000 + "a" + "\n" * 100_000 + "b" + "\n" * 100_000, "a\n\nb\n"),
 ]
 
+CONFIGURATION = """repos:
+- repo: local
+  hooks:
+  - {id: trim, name: Trim, language: system, entry: trim, files: '\\.txt$', stages: [pre-commit]}
+  - {id: ticket, name: Ticket, language: system, entry: ticket, stages: [commit-msg]}
+  - {id: tell, name: Tell, language: system, entry: tell, always_run: true, pass_filenames: false, stages: [post-commit]}
+"""
+
+CONFIGURED = ("add", "plain", ".pre-commit-config.yaml", CONFIGURATION)
+MESSAGE = ".git/COMMIT_EDITMSG"
+
+
+def child(status, words, seen="", changes="", output=""):
+    """A row by which a child answers. The byte 1 stands for the line ends within a file."""
+    return ("child", f"answer {status}\n{words}\n{seen}\n{changes}\n{output}")
+
+
+def line(name, word):
+    return f"{name}{'.' * (79 - len(name) - len(word))}{word}\n"
+
+
+def told(name, text):
+    """A text behind the line that tells what it is and how long."""
+    return f"{name} {len(text)}\n{text}"
+
+
+def ended(calls=0, faults=0):
+    return f"{calls} calls, {faults} faults, 0 remembered\n0 forgotten\n"
+
+
+def files(name, *files):
+    return "".join(told(f"{name} {mode} {path}", contents) for mode, path, contents in files)
+
+
+# Children that take the blank off a.txt, ask that a message names a ticket, and are told of a commit.
+TRIM = child(1, "trim\ta.txt", "a.txt=x ", "a.txt=x", "trimmed\n")
+TRIMMED = child(0, "trim\ta.txt", "a.txt=x")
+NO_TICKET = child(3, f"ticket\t{MESSAGE}", f"{MESSAGE}=first", output="no ticket\n")
+TICKET = child(0, f"ticket\t{MESSAGE}", f"{MESSAGE}=T1 first")
+TELL = child(0, "tell", f"a.txt=x\t.pre-commit-config.yaml={CONFIGURATION[:-1]}".replace("\n", "\1"))
+
+TRIM_FAILED = line("Trim", "Failed") + "- hook id: trim\n- exit code: 1\n- files were modified by this hook\n\ntrimmed\n\n"
+TRIM_PASSED, TICKET_PASSED = line("Trim", "Passed"), line("Ticket", "Passed")
+TICKET_FAILED = line("Ticket", "Failed") + "- hook id: ticket\n- exit code: 3\n\nno ticket\n\n"
+NOT_STARTED = line("Tell", "Failed") + "- hook id: tell\n- fault: could not be started\n"
+
+CONFIGURATION_FILE = ("plain", ".pre-commit-config.yaml", CONFIGURATION)
+A = ("plain", "a.txt", "x\n")
+
+PLAYS = [
+    # No command, and each kind of command on a repository with nothing in it.
+    (ended(),),
+    (
+        "rm", "a", "accept", "run", "manual", "all", "", "", "commit", "m", "verified", "", "forget", "add", "none", "a/../b", "x",
+        "refused 4 NotStaged\nrefused 11 NoFixes\nrefused 7 NoConfig\nrefused 10 NothingStaged\nforgot 0\nrefused 3 BadPath 3\n" + ended(),
+    ),
+    # What is staged is told, and a command that is refused stops none of those behind it.
+    (
+        "add", "executable", "b", "1", "add", "none", "a", "22", "add", "none", "b/c", "x", "add", "none", "b", "", "rm", "a", "rm", "a",
+        "added\nadded\nrefused 15 Clash\nadded\nremoved\nrefused 4 NotStaged\n" + ended() + files("staged", ("executable", "b", "")),
+    ),
+    # A run that keeps a fix, which is told and then accepted.
+    (
+        *TRIM, *CONFIGURED, "add", "none", "a.txt", "x \n", "run", "pre-commit", "changed", "", "",
+        "added\nadded\nran, failed, 0 unsteady\n" + told("change a.txt", "x\n") + told("report", TRIM_FAILED) + ended(1)
+        + files("staged", CONFIGURATION_FILE, ("plain", "a.txt", "x \n")) + told("fix a.txt", "x\n"),
+    ),
+    # A day: the same, a message without a ticket, a commit that leaves hooks out, one with a ticket, and nothing behind it to tell.
+    (
+        *TRIM, *TRIMMED, *NO_TICKET, *TICKET, *TELL, *CONFIGURED, "add", "none", "a.txt", "x \n", "run", "pre-commit", "changed", "", "", "accept",
+        "commit", "first", "verified", "", "commit", "T1 first \n\n", "unverified", "",
+        "rm", "a.txt", "commit", "T1 first", "verified", "", "commit", "T1 first", "verified", "", "forget",
+        "added\nadded\nran, failed, 0 unsteady\n" + told("change a.txt", "x\n") + told("report", TRIM_FAILED) + "accepted 1\n"
+        + "failed at CommitMsg\n" + told("report", TRIM_PASSED) + told("report", "") + told("report", TICKET_FAILED)
+        + "committed 1\n" + told("report", "") + told("post", line("Tell", "Passed"))
+        + "removed\ncommitted 2\n" + told("report", line("Trim", "(no files to check)Skipped")) + told("report", "") + told("report", TICKET_PASSED)
+        + told("post", NOT_STARTED) + "refused 10 NothingStaged\nforgot 0\n" + ended(6, 1)
+        + files("staged", CONFIGURATION_FILE) + files("head", CONFIGURATION_FILE)
+        + told("commit 1", "T1 first\n") + files("committed", CONFIGURATION_FILE, A) + told("commit 2", "T1 first\n") + files("committed", CONFIGURATION_FILE),
+    ),
+    # Hooks that are skipped aren't asked, by a commit and by a run.
+    (
+        *CONFIGURED, "add", "none", "a.txt", "x \n", "run", "pre-commit", "all", "trim", "trim", "commit", "first", "verified", "ticket,trim, tell",
+        "added\nadded\nran, passed, 0 unsteady\n" + told("report", line("Trim", "Skipped"))
+        + "committed 1\n" + told("report", line("Trim", "Skipped")) + told("report", "") + told("report", line("Ticket", "Skipped"))
+        + told("post", line("Tell", "Skipped")) + ended() + files("staged", CONFIGURATION_FILE, ("plain", "a.txt", "x \n"))
+        + files("head", CONFIGURATION_FILE, ("plain", "a.txt", "x \n")) + told("commit 1", "first\n") + files("committed", CONFIGURATION_FILE, ("plain", "a.txt", "x \n")),
+    ),
+    # Where no more children can be counted, what needs one is refused, and a commit that stands tells that its last hooks were stopped.
+    (
+        "spent", *CONFIGURED, "add", "none", "a.txt", "x\n", "run", "pre-commit", "named.txt", "", "", "run", "pre-commit", "a.txt", "", "",
+        "commit", "first", "verified", "", "commit", "first", "unverified", "",
+        "added\nadded\nrefused 4 NotStaged\nrefused 14 Spent\nrefused 14 Spent\ncommitted 1\n" + told("report", "") + "post stopped 4 Spent\n"
+        + ended(2**64 - 1) + files("staged", CONFIGURATION_FILE, A) + files("head", CONFIGURATION_FILE, A)
+        + told("commit 1", "first\n") + files("committed", CONFIGURATION_FILE, A),
+    ),
+]
+
 ROWS = [
     *(("cleaned_message", message, cleaned) for message, cleaned in CLEANED),
     ("begun_message", "", ""),
@@ -33,4 +134,5 @@ ROWS = [
     ("begun_message", "a\n", "a\n"),
     ("begun_message", "a\nb", "a\nb\n"),
     ("begun_message", "a \n\n\n", "a \n\n\n"),
+    *(("play", *play) for play in PLAYS),
 ]

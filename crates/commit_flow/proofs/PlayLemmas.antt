@@ -1,5 +1,5 @@
 -- What a command that is played comes to, and a list of them.
-use Rattle.std.proofs.Common.{◌≡◌, ◌∙◌, inl, inr, sym, subst, refl, ap, arith, append_assoc, ℕ, ◌+◌, ◌-◌, ◌^◌, Bool, false, List, [], ◌∷◌, ◌++◌, Result, Ok, Err}
+use Rattle.std.proofs.Common.{◌≡◌, ◌∙◌, inl, inr, sym, subst, refl, ap, arith, append_assoc, ℕ, ◌+◌, ◌-◌, ◌^◌, Bool, false, List, [], ◌∷◌, ◌++◌}
 use Rattle.std.specs.Prelude.{All}
 use Rattle.std.proofs.lemmas.List.{append-nil}
 use Rattle.std.proofs.lemmas.List.Elements.{All-nil}
@@ -8,7 +8,6 @@ use Rattle.child_port.specs.declared.answer.Outcome.{Outcome}
 use Rattle.child_port.specs.Telling.{SameTells}
 use Rattle.hook_run.specs.declared.run_refusal.RunRefusal.TheVariants as run
 use Rattle.hook_run.specs.Parts.{AllTold, Part}
-use Rattle.hook_run.specs.RunOuts.{IsCounted}
 use Rattle.result_book.specs.Contents.{Contents}
 use Rattle.repo_store.specs.Kept.{Kept}
 use Rattle.repo_store.specs.Repository.{Repository}
@@ -21,7 +20,7 @@ use Rattle.commit_flow.specs.declared.reply.PostCommit.TheVariants.{Stopped}
 use Rattle.commit_flow.specs.declared.reply.Reply.{Reply}
 use Rattle.commit_flow.specs.declared.reply.Reply.TheVariants.{Committed, Refused}
 use Rattle.commit_flow.specs.declared.staged_run.StagedRun.{StagedRun}
-use Rattle.commit_flow.specs.CommitSteps.{AreLeftOut, AreTold, HasFurtherBefore, HasFurtherBehind, IsCommitStep, SaysSpent}
+use Rattle.commit_flow.specs.CommitSteps.{AreLeftOut, AreTold, IsCommitStep, SaysSpent}
 use Rattle.commit_flow.specs.Plays.{ArePlayed, IsPlay, IsPlayed, NeedsChild, RunsHooks, StandsOnAll}
 use Rattle.commit_flow.specs.RunSteps.{IsRunStep, IsStoppedAt, IsStoppedStep, reply_of_run}
 use Rattle.commit_flow.specs.Steps.{Step}

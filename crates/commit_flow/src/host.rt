@@ -132,7 +132,8 @@ impl<S: Alter> Host<S> {
     }
 
     /// Forgets all remembered answers, and answers how many there were. `OutOfMemory` comes where memory is refused, and `Store`
-    /// where the database refuses. A refusal leaves what is remembered as it was, and the repository stays in any case.
+    /// where the database refuses. A refusal leaves what is remembered as it was, and the repository stays in any case. The store
+    /// isn't touched: where a crash would leave what it shows, it still does.
     pub fn forget(&mut self) -> Result<u64, HostRefusal>
         ensures step { Step self.old.store.kept.repo Forget (reply_of Forgot result) [] self.new.store.kept.repo }
         ensures store { self.new.store ≡ self.old.store }

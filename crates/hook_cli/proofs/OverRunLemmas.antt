@@ -1,5 +1,5 @@
 -- How a run of hooks over a repository ends.
-use Rattle.std.proofs.Common.{rules, ◌≡◌, ℕ, Bool, Result, List, [], Ok, Err, inl, refl, subst, sym, arith}
+use Rattle.std.proofs.Common.{rules, ◌≡◌, ℕ, Bool, Result, List, [], Ok, Err, inl, refl, subst, arith}
 use Rattle.sqlite_trees.specs.declared.store.Store.{Ghosts}
 use Rattle.sqlite_trees.specs.Tree.{Trees}
 use Rattle.sqlite.specs.Held.{state}
@@ -21,7 +21,7 @@ use Rattle.commit_flow.specs.Commands.{reply_of, reply_of_ending}
 use Rattle.commit_flow.specs.CommitKept.{KeepsFor}
 use Rattle.commit_flow.specs.Crashes.{IsOneCommand, LeavesDone}
 use Rattle.commit_flow.specs.Hosts.{Hosted}
-use Rattle.commit_flow.specs.RunSteps.{IsRunStep, IsStoppedStep, changes_in}
+use Rattle.commit_flow.specs.RunSteps.{IsRunStep, IsStoppedStep}
 use Rattle.commit_flow.specs.CommitSteps.{IsCommitStep}
 use Rattle.hook_cli.specs.declared.command_ending.CommandEnding.{CommandEnding}
 use Rattle.hook_cli.specs.CommandOver.{Counts, IsCommitOverHost, IsReplied, IsRunOverHost}

@@ -10,7 +10,7 @@ use Rattle.std.proofs.lemmas.List.{map-append, append-nil}
 use Rattle.std.proofs.lemmas.List.Elements.{filter-append}
 use Rattle.std.proofs.lemmas.Str.{IsCharBoundary-after_ascii, IsCharBoundary-before_ascii, IsUtf8-drop, IsUtf8-take}
 use denote.Ref.{Bor}
-use Rattle.hook_cli.specs.SkipList.{before_rest, is_name, is_space, without_spaces, without_spaces_after, without_spaces_before}
+use Rattle.hook_cli.specs.SkipList.{before_rest, is_name, without_spaces, without_spaces_after, without_spaces_before}
 
 -- ---- spaces
 

@@ -2,7 +2,7 @@
 
 use crate::{
     checks, child_runs, command_lines, config_kinds, config_texts, configurations, host_commands,
-    messages, plans, report_texts, runs, stages, try_faults,
+    messages, plans, plays, report_texts, runs, stages, try_faults,
 };
 use std::alloc::Global;
 use trial_rows::{Row, Stop};
@@ -70,6 +70,7 @@ fn of_commit_flow(
     Some(match call {
         "begun_message" => messages::begun(alloc, arguments),
         "cleaned_message" => messages::cleaned(alloc, arguments),
+        "play" => plays::played(alloc, arguments),
         _ => return None,
     })
 }

@@ -6,16 +6,16 @@
 //! over writers of two habits (`host_writers.rt`), and is answered by the exit status and how many bytes stand on each writer,
 //! and after a line end by these bytes. `store` is answered by the staged files, those of HEAD, and how many fixes and commits
 //! there are. Before all of them may stand `child ROW`, once for each row of the table by which children answer
-//! (`child_rows.rt`); another child isn't started.
+//! (`child_rows.rt`); another child isn't started. Where `spent` is the first word, no child can be counted any more.
 
 ghost use Rattle.std.specs.Prelude.{◌≢◌, IfOk};
 ghost use Rattle.hook_base.specs.Paths.{message_path};
 
 use crate::child_rows::row_of;
 use crate::host_lines::line_played;
-use crate::host_words::{Words, mode_of, tell};
+use crate::host_words::{Words, mode_of, tell, tell_file};
 use child_port::TableChildren;
-use hook_base::{Bytes, Change, Changes, Items, Mode, RepoPath};
+use hook_base::{Bytes, Change, Changes, Items, RepoPath};
 use repo_store::{FileRef, Store, StoreFault};
 use sqlite::{Connection, MemStore};
 use std::alloc::Global;
@@ -42,23 +42,20 @@ pub(crate) fn played(alloc: Global, arguments: &[Vec<u8>]) -> Result<Vec<u8>, St
     Ok(told)
 }
 
-// The children by the rows that the first words give.
-fn children_of(alloc: Global, words: &mut Words<'_>) -> Result<TableChildren, Stop> {
+/// The children by the rows that the first words give.
+pub(crate) fn children_of(alloc: Global, words: &mut Words<'_>) -> Result<TableChildren, Stop> {
+    let calls = if words.take("spent")? { u64::MAX } else { 0 };
     let mut rows = Vec::new(alloc);
     for _ in 0..words.left.len() {
-        let [step, row, others @ ..] = words.left else {
-            break;
-        };
-        if text_of(step.as_slice())? != "child" {
+        if !words.take("child")? {
             break;
         }
-        rows.push(row_of(alloc, text_of(row.as_slice())?)?)?;
-        words.left = others;
+        rows.push(row_of(alloc, words.text()?)?)?;
     }
-    Ok(TableChildren::new(Items::from(rows)))
+    Ok(TableChildren::with_calls(Items::from(rows), calls))
 }
 
-fn empty_store(alloc: Global) -> Result<Kept, Stop> {
+pub(crate) fn empty_store(alloc: Global) -> Result<Kept, Stop> {
     let conn = Connection::open_in_memory(alloc)?;
     match Store::create(alloc, conn) {
         Ok(store) => Ok(store),
@@ -149,13 +146,13 @@ fn fix_of(alloc: Global, line: &str) -> Result<Change, Stop> {
 fn tell_store(alloc: Global, store: &Kept, told: &mut Vec<u8>) -> Result<(), Stop> {
     for index in 0..usize::MAX {
         match store.staged_file(index) {
-            Some(file) => tell_file(alloc, "staged", &file, told)?,
+            Some(file) => tell_file_of(alloc, "staged", &file, told)?,
             None => break,
         }
     }
     for index in 0..usize::MAX {
         match store.head_file(index) {
-            Some(file) => tell_file(alloc, "head", &file, told)?,
+            Some(file) => tell_file_of(alloc, "head", &file, told)?,
             None => break,
         }
     }
@@ -166,18 +163,11 @@ fn tell_store(alloc: Global, store: &Kept, told: &mut Vec<u8>) -> Result<(), Sto
     )?)
 }
 
-// A line with the mode, the path and the length of a file, and after it the contents.
-fn tell_file(
+fn tell_file_of(
     alloc: Global,
     list: &str,
     file: &FileRef<'_>,
     told: &mut Vec<u8>,
 ) -> Result<(), Stop> {
-    let mode = match file.mode {
-        Mode::Plain => "plain",
-        Mode::Executable => "executable",
-    };
-    let (path, length) = (file.path.as_str(), file.bytes.len());
-    tell(told, format!(in alloc; "{list} {mode} {path} {length}\n")?)?;
-    Ok(told.extend_from_slice(file.bytes)?)
+    tell_file(alloc, list, file.mode, file.path.as_str(), file.bytes, told)
 }

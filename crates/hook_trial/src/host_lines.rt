@@ -1,17 +1,17 @@
 //! Commands over a repository, from the words of a row: `add MODE PATH CONTENTS`, `add_zeros MODE PATH COUNT`, `rm PATH`,
 //! `status`, `fixes`, `accept`, `cat PATH`, `log`, `show NUMBER`, `run STAGE FILES ONLY SKIP` or `commit MESSAGE HOW SKIP`. MODE is
-//! `plain`, `executable` or `none`, and STAGE `pre-commit` or `manual`. FILES is `changed`, `all` or the path of the one that is
-//! named; ONLY names the hooks to run, or is empty; SKIP is a list of those that are skipped, with commas between them; HOW is
-//! `verified` or `unverified`.
+//! `plain`, `executable` or `none`; SKIP is a list of the hooks that are skipped, with commas between them; the others are those
+//! of `host_asks.rt`.
 
 ghost use Rattle.std.specs.Prelude.{IfOk};
 ghost use Rattle.hook_cli.specs.CommandOver.{IsOverHost};
 
+use crate::host_asks::{asked_name, files_of, is_unverified, stage_of};
 use crate::host_commands::Kept;
 use crate::host_words::{Words, mode_of, tell};
 use crate::host_writers::HabitWriter;
 use child_port::TableChildren;
-use commit_flow::{AskStage, Host, Which};
+use commit_flow::Host;
 use hook_base::{Items, Text};
 use hook_cli::{Line, command_over, skip_list_of};
 use std::alloc::{AllocError, Global};
@@ -85,41 +85,6 @@ fn line_of(alloc: Global, command: &str, words: &mut Words<'_>) -> Result<Line, 
 
 fn asked_path(alloc: Global, words: &mut Words<'_>) -> Result<Text, Stop> {
     Ok(Text::copy_of(alloc, words.text()?)?)
-}
-
-fn stage_of(words: &mut Words<'_>) -> Result<AskStage, Stop> {
-    match words.text()? {
-        "pre-commit" => Ok(AskStage::PreCommit),
-        "manual" => Ok(AskStage::Manual),
-        _ => Err(Stop::BadLine),
-    }
-}
-
-fn is_unverified(words: &mut Words<'_>) -> Result<bool, Stop> {
-    match words.text()? {
-        "verified" => Ok(false),
-        "unverified" => Ok(true),
-        _ => Err(Stop::BadLine),
-    }
-}
-
-fn files_of(alloc: Global, words: &mut Words<'_>) -> Result<Which, Stop> {
-    match words.text()? {
-        "changed" => Ok(Which::Changed),
-        "all" => Ok(Which::All),
-        path => {
-            let mut paths = Vec::new(alloc);
-            paths.push(Text::copy_of(alloc, path)?)?;
-            Ok(Which::Named(Items::from(paths)))
-        }
-    }
-}
-
-fn asked_name(alloc: Global, words: &mut Words<'_>) -> Result<Option<Text>, Stop> {
-    match words.text()? {
-        "" => Ok(None),
-        name => Ok(Some(Text::copy_of(alloc, name)?)),
-    }
 }
 
 fn skip_of(alloc: Global, command: &str, words: &mut Words<'_>) -> Result<Items<Text>, Stop> {

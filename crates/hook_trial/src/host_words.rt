@@ -1,7 +1,7 @@
 //! The words of a row of commands over a repository.
 
 use hook_base::Mode;
-use std::alloc::AllocError;
+use std::alloc::{AllocError, Global};
 use trial_rows::{Stop, number_of, text_of};
 
 /// The words of a row that are still to be read.
@@ -17,6 +17,18 @@ impl<'a> Words<'a> {
         };
         self.left = others;
         Some(word.as_slice())
+    }
+
+    /// Takes the next word if it is this one.
+    pub(crate) fn take(&mut self, word: &str) -> Result<bool, Stop> {
+        let [next, others @ ..] = self.left else {
+            return Ok(false);
+        };
+        if text_of(next.as_slice())? != word {
+            return Ok(false);
+        }
+        self.left = others;
+        Ok(true)
     }
 
     pub(crate) fn bytes(&mut self) -> Result<&'a [u8], Stop> {
@@ -45,4 +57,22 @@ pub(crate) fn mode_of(words: &mut Words<'_>) -> Result<Option<Mode>, Stop> {
 /// Puts a text behind the answer.
 pub(crate) fn tell(told: &mut Vec<u8>, text: String) -> Result<(), AllocError> {
     told.extend_from_slice(text.as_bytes())
+}
+
+/// Puts a line with the mode, the path and the length of a file behind the answer, and then its bytes.
+pub(crate) fn tell_file(
+    alloc: Global,
+    list: &str,
+    mode: Mode,
+    path: &str,
+    bytes: &[u8],
+    told: &mut Vec<u8>,
+) -> Result<(), Stop> {
+    let mode = match mode {
+        Mode::Plain => "plain",
+        Mode::Executable => "executable",
+    };
+    let length = bytes.len();
+    tell(told, format!(in alloc; "{list} {mode} {path} {length}\n")?)?;
+    Ok(told.extend_from_slice(bytes)?)
 }

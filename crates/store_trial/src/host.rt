@@ -2,37 +2,50 @@
 
 use crate::answer::Answer;
 use crate::calls::read_mode;
+use crate::children::children_of;
 use crate::stop::Stop;
 use crate::text::read_text;
-use commit_flow::{Host, HostRefusal};
+use commit_flow::{
+    AskStage, CommitEnding, Host, HostAsk, HostRefusal, PostCommit, StagedRun, Which,
+};
+use hook_base::{Items, Text};
+use hook_config::Stage;
 use sqlite::Alter;
+use std::alloc::Global;
 
-/// The commands, whose word something follows.
-pub(crate) const COMMANDS: &[&str] = &["add", "remove"];
+/// The command that is a line by itself.
+pub(crate) const COMMANDS: &[&str] = &["accept-fixes"];
 
-/// Plays a command. A refusal is answered by its number, its name, and the number of the fault that it hands on or `none`.
+/// The commands whose word something follows.
+pub(crate) const COMMANDS_OF: &[&str] = &[
+    "add",
+    "remove",
+    "run-hooks",
+    "commit-verified",
+    "commit-unverified",
+];
+
+/// Plays a command, with children that answer by these rows. A refusal is answered by its number, its name, and the number
+/// of the fault that it hands on or `none`.
 pub(crate) fn play_command<S: Alter>(
     host: &mut Host<S>,
+    rows: &[Text],
     word: &str,
     rest: &str,
     answer: &mut Answer,
 ) -> Result<(), Stop> {
-    let done = match word {
-        "add" => add(host, rest, answer)?,
-        _ => host.remove(answer.alloc(), rest),
-    };
-    match done {
-        Ok(()) => answer.begin("ok"),
-        Err(refusal) => refused(&refusal, answer),
+    match word {
+        "add" => add(host, rest, answer),
+        "remove" => done(host.remove(answer.alloc(), rest), answer),
+        "accept-fixes" => accept(host, answer),
+        "run-hooks" => run(host, rows, rest, answer),
+        "commit-verified" => commit(host, rows, rest, false, answer),
+        _ => commit(host, rows, rest, true, answer),
     }
 }
 
 // Adds a file of a mode, or of none where its word is `-`.
-fn add<S: Alter>(
-    host: &mut Host<S>,
-    rest: &str,
-    answer: &mut Answer,
-) -> Result<Result<(), HostRefusal>, Stop> {
+fn add<S: Alter>(host: &mut Host<S>, rest: &str, answer: &mut Answer) -> Result<(), Stop> {
     let (mode, rest) = rest.split_once(' ').ok_or(Stop::BadLine)?;
     let (path, text) = rest.split_once(' ').ok_or(Stop::BadLine)?;
     let mode = match mode {
@@ -40,7 +53,116 @@ fn add<S: Alter>(
         word => Some(read_mode(word)?),
     };
     let bytes = read_text(answer.alloc(), text)?;
-    Ok(host.add(answer.alloc(), path, bytes.as_slice(), mode))
+    let added = host.add(answer.alloc(), path, bytes.as_slice(), mode);
+    done(added, answer)
+}
+
+fn done(given: Result<(), HostRefusal>, answer: &mut Answer) -> Result<(), Stop> {
+    match given {
+        Ok(()) => answer.begin("ok"),
+        Err(refusal) => refused(&refusal, answer),
+    }
+}
+
+fn accept<S: Alter>(host: &mut Host<S>, answer: &mut Answer) -> Result<(), Stop> {
+    match host.accept() {
+        Ok(number) => {
+            answer.begin("ok")?;
+            answer.show(number)
+        }
+        Err(refusal) => refused(&refusal, answer),
+    }
+}
+
+// Runs the hooks of `pre-commit` on the files that a word names.
+fn run<S: Alter>(
+    host: &mut Host<S>,
+    rows: &[Text],
+    which: &str,
+    answer: &mut Answer,
+) -> Result<(), Stop> {
+    let ask = read_ask(answer.alloc(), which)?;
+    let mut children = children_of(answer.alloc(), rows)?;
+    match host.run(answer.alloc(), &mut children, &ask) {
+        Ok(ran) => add_run(&ran, answer),
+        Err(refusal) => refused(&refusal, answer),
+    }
+}
+
+fn read_ask(alloc: Global, which: &str) -> Result<HostAsk, Stop> {
+    let which = match which {
+        "changed" => Which::Changed,
+        "all" => Which::All,
+        _ => return Err(Stop::BadLine),
+    };
+    Ok(HostAsk {
+        which,
+        only: None,
+        stage: AskStage::PreCommit,
+        skip: Items::new(alloc),
+        fresh: false,
+    })
+}
+
+// Whether no hook failed, and the fixes.
+fn add_run(ran: &StagedRun, answer: &mut Answer) -> Result<(), Stop> {
+    answer.begin("ok")?;
+    answer.add(if ran.passed { b"passed" } else { b"failed" })?;
+    answer.add_fixes(ran.changes.as_slice())
+}
+
+fn commit<S: Alter>(
+    host: &mut Host<S>,
+    rows: &[Text],
+    text: &str,
+    no_verify: bool,
+    answer: &mut Answer,
+) -> Result<(), Stop> {
+    let message = read_text(answer.alloc(), text)?;
+    let mut children = children_of(answer.alloc(), rows)?;
+    match host.commit(
+        answer.alloc(),
+        &mut children,
+        message.as_slice(),
+        no_verify,
+        &[],
+    ) {
+        Ok(ending) => add_ending(&ending, answer),
+        Err(refusal) => refused(&refusal, answer),
+    }
+}
+
+// The commit's number, and whether the hooks behind it were told of or stopped; or the stage in which a hook failed.
+fn add_ending(ending: &CommitEnding, answer: &mut Answer) -> Result<(), Stop> {
+    answer.begin("ok")?;
+    match ending {
+        CommitEnding::Committed { number, post, .. } => {
+            answer.add(b"committed")?;
+            answer.show(*number)?;
+            answer.add(word_of_post(post).as_bytes())
+        }
+        CommitEnding::HooksFailed { stage, .. } => {
+            answer.add(b"failed")?;
+            answer.add(word_of_stage(*stage).as_bytes())
+        }
+    }
+}
+
+fn word_of_post(post: &PostCommit) -> &'static str {
+    match post {
+        PostCommit::Told(_) => "told",
+        PostCommit::Stopped(_) => "stopped",
+    }
+}
+
+// The word for a stage before a commit.
+fn word_of_stage(stage: Stage) -> &'static str {
+    match stage {
+        Stage::PreCommit => "pre-commit",
+        Stage::PrepareCommitMsg => "prepare-commit-msg",
+        Stage::CommitMsg => "commit-msg",
+        _ => "another stage",
+    }
 }
 
 fn refused(refusal: &HostRefusal, answer: &mut Answer) -> Result<(), Stop> {

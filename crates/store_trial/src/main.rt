@@ -7,6 +7,7 @@ mod answer;
 mod ask;
 mod bulk;
 mod calls;
+mod children;
 mod fixes;
 mod host;
 mod look_ups;

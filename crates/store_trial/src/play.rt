@@ -4,20 +4,22 @@ use crate::alone::{COMMANDS, COMMANDS_OF, add_faults, play_alone};
 use crate::answer::Answer;
 use crate::ask::Ask;
 use crate::calls::{CALLS, CALLS_OF, play_call};
+use crate::children::read_row;
 use crate::fixes::{collect, set};
 use crate::host::{self, play_command};
 use crate::stop::Stop;
 use commit_flow::Host;
-use hook_base::Change;
+use hook_base::{Change, Text};
 use repo_store::{Store, StoreFault};
 use sqlite::{Alter, Connection, Error};
 use std::alloc::Global;
 
-/// The store that is open, if one is, and the fixes that wait.
+/// The store that is open, if one is, the fixes that wait, and the rows by which children answer, as their lines say them.
 #[derive(Drop)]
 pub(crate) struct Play<S: Alter + Drop> {
     store: Option<Store<S>>,
     fixes: Vec<Change>,
+    rows: Vec<Text>,
 }
 
 impl<S: Alter + Drop> Play<S> {
@@ -25,6 +27,7 @@ impl<S: Alter + Drop> Play<S> {
         Play {
             store: None,
             fixes: Vec::new(alloc),
+            rows: Vec::new(alloc),
         }
     }
 
@@ -106,7 +109,10 @@ impl<S: Alter + Drop> Play<S> {
         if line == "faults" {
             return add_faults(answer);
         }
-        if is_of(line, &[], host::COMMANDS) {
+        if is_of(line, &[], &["child"]) {
+            return self.child(line, answer);
+        }
+        if is_of(line, host::COMMANDS, host::COMMANDS_OF) {
             return self.command(line, answer);
         }
         if !is_of(line, CALLS, CALLS_OF) {
@@ -123,6 +129,14 @@ impl<S: Alter + Drop> Play<S> {
         }
     }
 
+    /// Keeps a row by which children answer. It needs no store.
+    fn child(&mut self, line: &str, answer: &mut Answer) -> Result<(), Stop> {
+        let (_word, rest) = parted(line);
+        let _row = read_row(answer.alloc(), rest)?;
+        self.rows.push(Text::copy_of(answer.alloc(), rest)?)?;
+        answer.begin("ok")
+    }
+
     /// Hands the store to a host for one command.
     fn command(&mut self, line: &str, answer: &mut Answer) -> Result<(), Stop> {
         match self.store.take() {
@@ -130,7 +144,7 @@ impl<S: Alter + Drop> Play<S> {
             Some(store) => {
                 let (word, rest) = parted(line);
                 let mut host = Host::over(answer.alloc(), store);
-                let played = play_command(&mut host, word, rest, answer);
+                let played = play_command(&mut host, self.rows.as_slice(), word, rest, answer);
                 self.store = Some(host.into_store());
                 played
             }

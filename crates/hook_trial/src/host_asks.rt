@@ -1,0 +1,43 @@
+//! The words by which a row asks for runs and commits: STAGE is `pre-commit` or `manual`; FILES is `changed`, `all` or the path of
+//! the one that is named; ONLY names the hooks to run, or is empty; HOW is `verified` or `unverified`.
+
+use crate::host_words::Words;
+use commit_flow::{AskStage, Which};
+use hook_base::{Items, Text};
+use std::alloc::Global;
+use trial_rows::Stop;
+
+pub(crate) fn stage_of(words: &mut Words<'_>) -> Result<AskStage, Stop> {
+    match words.text()? {
+        "pre-commit" => Ok(AskStage::PreCommit),
+        "manual" => Ok(AskStage::Manual),
+        _ => Err(Stop::BadLine),
+    }
+}
+
+pub(crate) fn is_unverified(words: &mut Words<'_>) -> Result<bool, Stop> {
+    match words.text()? {
+        "verified" => Ok(false),
+        "unverified" => Ok(true),
+        _ => Err(Stop::BadLine),
+    }
+}
+
+pub(crate) fn files_of(alloc: Global, words: &mut Words<'_>) -> Result<Which, Stop> {
+    match words.text()? {
+        "changed" => Ok(Which::Changed),
+        "all" => Ok(Which::All),
+        path => {
+            let mut paths = Vec::new(alloc);
+            paths.push(Text::copy_of(alloc, path)?)?;
+            Ok(Which::Named(Items::from(paths)))
+        }
+    }
+}
+
+pub(crate) fn asked_name(alloc: Global, words: &mut Words<'_>) -> Result<Option<Text>, Stop> {
+    match words.text()? {
+        "" => Ok(None),
+        name => Ok(Some(Text::copy_of(alloc, name)?)),
+    }
+}

@@ -1,0 +1,286 @@
+"""The model of a store and of a host over it, which tests/store.py plays beside the program."""
+import hashlib
+import random
+
+from store_cases import CHILDREN, CONFIG, CONFIG_PATH, HOOKS, MESSAGE, OTHER_PATHS, SHOWN
+
+NO_CONFIG, NOTHING_STAGED = "refused\t7\tNoConfig\tnone", "refused\t10\tNothingStaged\tnone"
+NO_FIXES, EMPTY_MESSAGE = "refused\t11\tNoFixes\tnone", "refused\t12\tEmptyMessage\tnone"
+
+
+def unescaped(text):
+    return text.replace("\\\\", "\0").replace("\\n", "\n").replace("\\t", "\t").replace("\0", "\\").encode()
+
+
+def digest_of(text):
+    return hashlib.sha256(unescaped(text)).hexdigest()
+
+
+def path_fault(path):
+    """The number of the first fault that a text has as a path, in the order in which they are looked for, or none."""
+    parts = path.split("/")
+    faults = {1: not path, 5: len(path.encode()) > 4096, 6: any(ord(c) < 32 or ord(c) == 127 for c in path), 2: path.startswith("/"),
+              4: "" in parts, 3: "." in parts or ".." in parts, 7: parts[0] == ".git"}
+    return next((number for number, is_so in faults.items() if is_so), None)
+
+
+def files_in(texts):
+    """Contents by their paths, and none where a file is gone, of the files that a line of children names."""
+    return {path: content if equals else None for path, equals, content in (text.partition("=") for text in texts)}
+
+
+def begun_message(message):
+    return message if not message or message.endswith("\\n") else message + "\\n"
+
+
+class Model:
+    """What a store holds, and what it answers to a line. Contents and messages stay as the lines write them."""
+
+    def __init__(self):
+        self.store, self.is_open, self.waiting, self.children = None, False, {}, []
+
+    def play(self, line):
+        word, blank, rest = line.partition(" ")
+        if word == "child":
+            return self.child(rest)
+        if word in ("create", "open", "close"):
+            return getattr(self, word)()
+        if not self.is_open:
+            return "no store"
+        call = getattr(self, word.replace("-", "_"))
+        return call(*rest.split(" ", {"stage": 2, "add": 2, "fix": 1}.get(word, 0))) if blank else call()
+
+    def create(self):
+        if self.store is not None:
+            return "refused\t3\tSql\tthere is already an object of this name"
+        self.store, self.is_open = {"staged": {}, "fixes": {}, "history": [], "blobs": set()}, True
+        return "ok"
+
+    def open(self):
+        if self.store is None:
+            return "refused\t1\tNotAStore\tthe database holds no store of this version"
+        self.is_open = True
+        return "ok"
+
+    def close(self):
+        was_open, self.is_open = self.is_open, False
+        return "ok" if was_open else "no store"
+
+    def stage(self, mode, path, content):
+        self.store["staged"][path] = (mode, content)
+        self.store["fixes"] = {}
+        self.store["blobs"].add(content)
+        return "ok"
+
+    def unstage(self, path):
+        self.store["staged"].pop(path, None)
+        self.store["fixes"] = {}
+        return "ok"
+
+    def add(self, mode, path, content):
+        staged = self.store["staged"]
+        others = [each for each in staged if each != path]
+        if number := path_fault(path):
+            return f"refused\t3\tBadPath\t{number}"
+        if len(unescaped(content)) > 16777216:
+            return "refused\t5\tTooLarge\tnone"
+        if self.clashes(path):
+            return "refused\t15\tClash\tnone"
+        if len(others) >= 100000 or sum(len(each.encode()) for each in [*others, path]) > 8388608:
+            return "refused\t6\tTooMany\tnone"
+        return self.stage(staged.get(path, ("plain", ""))[0] if mode == "-" else mode, path, content)
+
+    def remove(self, path):
+        if number := path_fault(path):
+            return f"refused\t3\tBadPath\t{number}"
+        return self.unstage(path) if path in self.store["staged"] else "refused\t4\tNotStaged\tnone"
+
+    def clashes(self, path):
+        return any(path.startswith(each + "/") or each.startswith(path + "/") for each in self.store["staged"])
+
+    def fix(self, path, content):
+        self.waiting[path] = content
+        return "ok"
+
+    def fix_gone(self, path):
+        self.waiting[path] = None
+        return "ok"
+
+    def set(self):
+        self.set_fixes(self.waiting)
+        self.waiting = {}
+        return "ok"
+
+    def set_fixes(self, fixes):
+        self.store["fixes"] = {path: now for path, now in fixes.items() if path in self.store["staged"]}
+        self.store["blobs"].update(now for now in self.store["fixes"].values() if now is not None)
+
+    def accept(self):
+        fixes, self.store["fixes"] = self.store["fixes"], {}
+        for path, now in fixes.items():
+            if now is None:
+                del self.store["staged"][path]
+            else:
+                self.store["staged"][path] = (self.store["staged"][path][0], now)
+        return f"ok\t{len(fixes)}"
+
+    def commit(self, message):
+        self.store["history"].append((message, dict(self.store["staged"])))
+        self.store["fixes"] = {}
+        return f"ok\t{len(self.store['history'])}"
+
+    def child(self, text):
+        words, seen, changes, status = (part.split() for part in text.split("|"))
+        self.children.append((words, files_in(seen), files_in(changes), int(status[0])))
+        return "ok"
+
+    def hook(self, stage, files):
+        """What the hook of a stage changes that may get these files, and whether it passes: where it gets none it does, else
+        its child has to end with 0 and to change no file but the message's. A child that has no row isn't started; the rows
+        are of plain files."""
+        word, ending = HOOKS[stage]
+        seen = {path: file for path, file in sorted(files.items()) if path.endswith(ending)}
+        if not seen:
+            return {}, True
+        answers = [(changes, status) for words, rows, changes, status in self.children
+                   if words == [word, *seen] and seen == {path: ("plain", content) for path, content in rows.items()}]
+        changes, status = answers[0] if answers else ({}, 1)
+        return changes, status == 0 and (stage == "commit-msg" or not changes)
+
+    def candidates(self, which):
+        """The staged files that the hooks of a run may get."""
+        head = self.last_tree()
+        return {path: file for path, file in self.store["staged"].items() if which == "all" or file != head.get(path)}
+
+    def run_hooks(self, which):
+        if CONFIG_PATH not in self.store["staged"]:
+            return NO_CONFIG
+        changes, is_passed = self.hook("pre-commit", self.candidates(which))
+        self.set_fixes(changes)
+        return ("ok\tpassed" if is_passed else "ok\tfailed") + self.fixes().removeprefix("ok")
+
+    def accept_fixes(self):
+        return self.accept() if self.store["fixes"] else NO_FIXES
+
+    def commit_verified(self, message):
+        return self.uncommittable() or self.commit_behind_hooks(begun_message(message))
+
+    def commit_unverified(self, message):
+        return self.uncommittable() or self.commit_filled(begun_message(message))
+
+    def uncommittable(self):
+        """The refusal of a commit before its hooks, or none."""
+        if self.store["staged"] == self.last_tree():
+            return NOTHING_STAGED
+        return None if CONFIG_PATH in self.store["staged"] else NO_CONFIG
+
+    def commit_behind_hooks(self, message):
+        changes, is_passed = self.hook("pre-commit", self.candidates("changed"))
+        if not is_passed:
+            self.set_fixes(changes)
+            return "ok\tfailed\tpre-commit"
+        changes, is_passed = self.hook("commit-msg", {MESSAGE: ("plain", message)})
+        if not is_passed:
+            self.set_fixes({})
+            return "ok\tfailed\tcommit-msg"
+        return self.commit_filled(changes.get(MESSAGE, message) or "")
+
+    def commit_filled(self, message):
+        """Commits, unless the message is blank. The plays have no message but those, in which there is nothing to clean."""
+        if not message.replace("\\n", "").strip():
+            return EMPTY_MESSAGE
+        return self.commit(message).replace("ok", "ok\tcommitted") + "\ttold"
+
+    def blob(self, content):
+        self.store["blobs"].add(content)
+        return "ok\t" + digest_of(content)
+
+    def staged(self):
+        return self.tree_line(self.store["staged"])
+
+    def head(self):
+        return self.tree_line(self.last_tree())
+
+    def tree(self, number):
+        at = int(number)
+        return self.tree_line(self.store["history"][at - 1][1]) if 0 < at <= len(self.store["history"]) else "ok\tnone"
+
+    def files(self, number):
+        return self.tree_line(self.tree_at(int(number)))
+
+    def trees(self):
+        return "".join(["ok"] + [f"\t{at + 1}{self.files_of(tree)}" for at, (_, tree) in enumerate(self.store["history"])])
+
+    def log(self):
+        return "".join(["ok"] + [f"\t{at + 1}\t{message}" for at, (message, _) in enumerate(self.store["history"])])
+
+    def fixes(self):
+        rows = sorted(self.store["fixes"].items())
+        return "".join(["ok"] + [f"\t{path}\tgone" if now is None else f"\t{path}\tnow\t{now}" for path, now in rows])
+
+    def tree_at(self, number):
+        return self.store["history"][number - 1][1] if 0 < number <= len(self.store["history"]) else {}
+
+    def last_tree(self):
+        return self.store["history"][-1][1] if self.store["history"] else {}
+
+    def look(self, path):
+        staged = self.store["staged"]
+        mode, content = staged.get(path, ("none", "none"))
+        head = self.last_tree()
+        facts = path in staged, mode, content, self.clashes(path), path in head, staged.get(path) != head.get(path)
+        return "\t".join(["ok", *(str(fact).lower() if isinstance(fact, bool) else fact for fact in facts)])
+
+    def count(self):
+        return f"ok\t{len(self.store['fixes'])}\t{len(self.store['history'])}\t{str(self.store['staged'] != self.last_tree()).lower()}"
+
+    def message(self, number):
+        at = int(number)
+        return "ok\t" + (self.store["history"][at - 1][0] if 0 < at <= len(self.store["history"]) else "none")
+
+    def walk(self):
+        return f"ok{self.files_of(self.store['staged'])}\thead{self.files_of(self.last_tree())}"
+
+    @staticmethod
+    def files_of(tree):
+        return "".join(f"\t{mode}\t{path}\t{content}" for path, (mode, content) in sorted(tree.items()))
+
+    @staticmethod
+    def tree_line(tree):
+        return "ok" + Model.files_of(tree)
+
+    def shown(self):
+        """All that an open store shows, or none where there is no store."""
+        return None if self.store is None else [getattr(self, word)() for word in SHOWN]
+
+
+def random_play(seed, length):
+    """A play of every call and command, over few paths and contents so that they meet."""
+    chance = random.Random(seed)
+    paths, contents = ["a", "b.txt", "dir/c", "dir/d", "e"], [str(n) for n in range(8)] + ["\\n", "x" * 300, ""]
+    lines = ["create", *CHILDREN, f"stage plain {CONFIG}"]
+    while len(lines) < length:
+        path, content = chance.choice(paths), chance.choice(contents)
+        kind = chance.randrange(17)
+        if kind < 4:
+            lines.append(f"stage {chance.choice(['plain', 'executable'])} {path} {content}")
+        elif kind == 4:
+            lines.append(f"unstage {path}")
+        elif kind == 5:
+            lines.append(f"blob {content}" if content else "log")
+        elif kind < 8:
+            chosen = chance.sample(paths, chance.randrange(1, 4))
+            lines += [chance.choice([f"fix-gone {each}", f"fix {each} {content}"]) for each in chosen] + ["set"]
+        elif kind < 10:
+            lines.append(chance.choice(["accept", "accept", f"commit {content or 'm'}"]))
+        elif kind < 12:
+            lines.append(f"add {chance.choice(['-', 'plain', 'executable'])} {chance.choice([*paths, *OTHER_PATHS])} {content}")
+        elif kind == 12:
+            lines.append(f"remove {chance.choice([*paths, *OTHER_PATHS])}")
+        elif kind == 13:
+            lines += [f"add - b.txt {chance.randrange(6)}", chance.choice(["run-hooks changed", "run-hooks all"])]
+        elif kind == 14:
+            lines.append(chance.choice(["run-hooks changed", "run-hooks all", "accept-fixes"]))
+        else:
+            lines.append(f"{chance.choice(['commit-verified', 'commit-unverified'])} {chance.choice(['m', 'm', content])}")
+    return lines
