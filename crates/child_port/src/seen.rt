@@ -11,8 +11,8 @@ use hook_base::{OutOfMemory, Text, Tree};
 use std::alloc::{AllocError, Global};
 
 /// The files of the tree that a child of this command has seen: those whose path is one of the words, one leading `./`
-/// of the word apart, or all of them where it sees the `whole`. They are copies in memory of their own; `OutOfMemory`
-/// where that is refused.
+/// of the word apart, or all of them where it sees the `whole`. The tree shares them; `OutOfMemory` where memory is
+/// refused.
 pub fn seen_of(alloc: Global, words: &[Text], whole: bool, tree: &Tree) -> Result<Tree, OutOfMemory>
     ensures { IfOk result (λ seen. seen ≡ seen_of words.now [] whole tree.now) }
 {
@@ -36,7 +36,7 @@ fn add_file(seen: &mut Tree, tree: &Tree, path: &str) -> Result<(), OutOfMemory>
     if seen.get(&row.path).is_some() {
         return Ok(());
     }
-    seen.put(row.path.clone()?, row.entry.clone()?)
+    seen.put_from(tree, &row.path)
 }
 
 /// Whether an answer strays: it names a file in its changes that its child hasn't seen, be it with the bytes that stand

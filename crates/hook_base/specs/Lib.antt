@@ -5,5 +5,6 @@ pub mod PathFaults
 pub mod Places
 pub mod Rising
 pub mod RisingLemmas
+pub mod SharedFiles
 pub mod TreeLemmas
 pub mod Trees

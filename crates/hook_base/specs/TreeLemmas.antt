@@ -9,7 +9,7 @@ use Rattle.hook_base.specs.declared.file.File.{File}
 use Rattle.hook_base.specs.declared.file.FileEntry.{FileEntry}
 use Rattle.hook_base.specs.Rising.{IsBelow, IsBelowAll, path_cmp}
 use Rattle.hook_base.specs.RisingLemmas.{below_all_later, below_all_filter, greater_from_below, path_itself, below_differs, above_differs, bytes_same, path_cases}
-use Rattle.hook_base.specs.Trees.{IsPartOf, IsRising, IsRisingChanges, change_to, changes_between, path_of, entry_of, remove_file, put_before, put_row, with_bytes, rewrite_file, apply_at, apply_changes}
+use Rattle.hook_base.specs.Trees.{IsPartOf, IsRising, IsRisingChanges, change_to, changes_between, path_of, entry_of, remove_file, put_before, put_file, put_found, put_row, with_bytes, rewrite_file, apply_at, apply_changes}
 use Rattle.hook_base.specs.Places.{IsAt, IsGap}
 
 -- where the path has a row
@@ -29,6 +29,14 @@ put_row-at new [] k at = absurd at
 put_row-at new (row ∷ rows) zero at = rw (path_itself new.path row.path at)
 put_row-at new (row ∷ rows) (suc k) at =
     rw (greater_from_below row.path new.path at.0) (ap (λ (rest : List File). row ∷ rest) (put_row-at new rows k at.1))
+
+-- to put what another tree holds at a path is to put the row that stands there
+pub put_found-at : (path : List ℕ) (others rows : List File) (k : ℕ) (d : File) → IsAt path others k → put_found path (entry_of path others) rows ≡ put_row (get_or others k d) rows
+put_found-at path [] rows k d at = absurd at
+put_found-at path (row ∷ others) rows zero d at =
+    rw (bytes_same path row.path at) (ap (λ (path : List ℕ). put_file path row.entry rows) at)
+put_found-at path (row ∷ others) rows (suc k) d at =
+    rw (above_differs path row.path at.0) (put_found-at path others rows k d at.1)
 
 -- an edit of the rows of one path leaves rows of later paths
 

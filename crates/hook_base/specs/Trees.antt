@@ -42,6 +42,11 @@ put_row new (row ∷ rows) = put_before (path_cmp new.path row.path) new row row
 abbrev pub put_file : List ℕ → FileEntry → List File → List File
 put_file path entry rows = put_row (record { path = path; entry = entry }) rows
 
+-- the rows with what another tree holds at a path, where it holds anything there
+abbrev pub put_found : List ℕ → Option FileEntry → List File → List File
+put_found path None rows = rows
+put_found path (Some entry) rows = put_file path entry rows
+
 -- the row with other bytes: its path and mode stay
 abbrev pub with_bytes : List ℕ → File → File
 with_bytes bytes row = record { path = row.path; entry = record { mode = row.entry.mode; bytes = bytes } }

@@ -1,9 +1,6 @@
-//! One change of a file, and copies of changes.
+//! One change of a file.
 
-ghost use Rattle.std.specs.Prelude.{◌≡◌, IfOk};
-
-use crate::{Bytes, OutOfMemory, RepoPath};
-use std::alloc::Global;
+use crate::{Bytes, RepoPath};
 
 /// What became of a file: its new bytes, or `None` where it is gone.
 #[derive(Clone, Debug, Drop, PartialEq, Eq)]
@@ -12,11 +9,4 @@ pub struct Change {
     pub path: RepoPath,
     /// Its bytes now, or `None` where it is gone.
     pub now: Option<Bytes>,
-}
-
-/// The same changes, or `OutOfMemory` where memory is refused.
-pub(crate) fn copy_changes(alloc: Global, changes: &[Change]) -> Result<Vec<Change>, OutOfMemory>
-    ensures { IfOk result (λ copy. copy.items ≡ changes.now) }
-{
-    Ok(changes.to_vec(alloc)?)
 }

@@ -4,6 +4,7 @@ ghost use Rattle.std.specs.Prelude.{◌≡◌, ◌↔◌, [], length, option_to_
 ghost use Rattle.std.specs.Option.{option_copied};
 ghost use Rattle.hook_base.specs.Trees.{IsRising, IsRisingChanges, change_to, changes_between};
 
+use crate::shared_file::SharedFile;
 use crate::{Change, File, FileEntry, OutOfMemory, Tree};
 use std::alloc::{AllocError, Global};
 use std::cmp::Ordering;
@@ -40,12 +41,13 @@ impl Changes {
     }
 
     /// What became of the rows in `after`, or `OutOfMemory` where memory is refused.
-    pub(crate) fn between(rows: &Vec<File>, after: &Tree) -> Result<Changes, OutOfMemory>
+    pub(crate) fn between(rows: &Vec<SharedFile>, after: &Tree) -> Result<Changes, OutOfMemory>
         requires { IsRising rows.now.items }
         ensures { IfOk result (λ changes. changes ≡ changes_between rows.now.items after.now) }
     {
         let mut changes = Vec::new(*rows.allocator());
         'rows: for row in rows {
+            let row = row.as_file();
             if let Some(change) = change_to(row, after.get(&row.path))? {
                 changes.push(change)?;
             }

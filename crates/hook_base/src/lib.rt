@@ -22,6 +22,7 @@ mod path_fault;
 mod place;
 mod repo_path;
 mod rows;
+mod shared_file;
 mod text;
 mod tree;
 

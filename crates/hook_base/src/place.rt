@@ -3,7 +3,8 @@
 ghost use Rattle.hook_base.specs.Trees.{IsRising};
 ghost use Rattle.hook_base.specs.Places.{IsPlace};
 
-use crate::{File, RepoPath};
+use crate::RepoPath;
+use crate::shared_file::SharedFile;
 use std::cmp::Ordering;
 
 /// Where a path stands in a list of rows.
@@ -16,7 +17,7 @@ pub(crate) enum Place {
 }
 
 /// Where a path stands in rows that rise, by halves.
-pub(crate) fn place_of(rows: &[File], path: &RepoPath) -> Place
+pub(crate) fn place_of(rows: &[SharedFile], path: &RepoPath) -> Place
     requires { IsRising rows.now }
     ensures { IsPlace path.now rows.now result }
 {
@@ -24,7 +25,7 @@ pub(crate) fn place_of(rows: &[File], path: &RepoPath) -> Place
     let mut high = rows.len();
     'halves: while low < high {
         let middle = low + (high - low) / 2;
-        match rows[middle].path.cmp(path) {
+        match rows[middle].as_file().path.cmp(path) {
             Ordering::Less => low = middle + 1,
             Ordering::Equal => return Place::At(middle),
             Ordering::Greater => high = middle,

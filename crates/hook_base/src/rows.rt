@@ -4,16 +4,17 @@ ghost use Rattle.std.specs.Prelude.{◌≡◌, is_some, IfOk, OnOk, OnErr};
 ghost use Rattle.hook_base.specs.Trees.{IsRising, entry_of, put_row, remove_file, rewrite_file, apply_change, apply_changes};
 
 use crate::place::{Place, place_of};
-use crate::{Bytes, Change, File, OutOfMemory, RepoPath};
+use crate::shared_file::SharedFile;
+use crate::{Bytes, Change, OutOfMemory, RepoPath};
 
 /// Puts a row in place of the one of its path, or adds it. A refusal leaves the rows as they were.
-pub(crate) fn put_row(rows: &mut Vec<File>, row: File) -> Result<(), OutOfMemory>
+pub(crate) fn put_row(rows: &mut Vec<SharedFile>, row: SharedFile) -> Result<(), OutOfMemory>
     requires { IsRising rows.old.items }
     ensures put { OnOk result (rows.new.items ≡ put_row row rows.old.items) }
     ensures kept { OnErr result (rows.new.items ≡ rows.old.items) }
     ensures rising { IsRising rows.new.items }
 {
-    match place_of(rows.as_slice(), &row.path) {
+    match place_of(rows.as_slice(), &row.as_file().path) {
         Place::At(index) => rows[index] = row,
         Place::Before(index) => rows.insert(index, row)?,
     }
@@ -21,7 +22,7 @@ pub(crate) fn put_row(rows: &mut Vec<File>, row: File) -> Result<(), OutOfMemory
 }
 
 /// Removes the row of a path. Answers whether there was one.
-pub(crate) fn remove_row(rows: &mut Vec<File>, path: &RepoPath) -> bool
+pub(crate) fn remove_row(rows: &mut Vec<SharedFile>, path: &RepoPath) -> bool
     requires { IsRising rows.old.items }
     ensures found { result ≡ is_some (entry_of path.now rows.old.items) }
     ensures removed { rows.new.items ≡ remove_file path.now rows.old.items }
@@ -36,48 +37,56 @@ pub(crate) fn remove_row(rows: &mut Vec<File>, path: &RepoPath) -> bool
     }
 }
 
-/// Puts other bytes into the row of a path, if there is one.
-pub(crate) fn rewrite_row(rows: &mut Vec<File>, path: &RepoPath, bytes: Bytes)
+/// Puts other bytes into the row of a path, if there is one. A refusal leaves the rows as they were.
+pub(crate) fn rewrite_row(
+    rows: &mut Vec<SharedFile>,
+    path: &RepoPath,
+    bytes: &Bytes,
+) -> Result<(), OutOfMemory>
     requires { IsRising rows.old.items }
-    ensures rewritten { rows.new.items ≡ rewrite_file path.now bytes rows.old.items }
+    ensures rewritten { OnOk result (rows.new.items ≡ rewrite_file path.now bytes.now rows.old.items) }
     ensures rising { IsRising rows.new.items }
 {
     if let Place::At(index) = place_of(rows.as_slice(), path) {
-        let row = &mut rows[index];
-        row.entry.bytes = bytes;
+        let row = rows[index].with_bytes(*rows.allocator(), bytes)?;
+        rows[index] = row;
     }
+    Ok(())
 }
 
 /// The same rows, or `OutOfMemory` where memory is refused.
-pub(crate) fn copy_rows(rows: &Vec<File>) -> Result<Vec<File>, OutOfMemory>
+pub(crate) fn copy_rows(rows: &Vec<SharedFile>) -> Result<Vec<SharedFile>, OutOfMemory>
     ensures { IfOk result (λ copy. copy.items ≡ rows.now.items) }
 {
     Ok(rows.clone()?)
 }
 
-/// Applies one change.
-pub(crate) fn apply_to_row(rows: &mut Vec<File>, change: Change)
+/// Applies one change. A refusal leaves rows that rise.
+pub(crate) fn apply_to_row(rows: &mut Vec<SharedFile>, change: &Change) -> Result<(), OutOfMemory>
     requires { IsRising rows.old.items }
-    ensures applied { rows.new.items ≡ apply_change change rows.old.items }
+    ensures applied { OnOk result (rows.new.items ≡ apply_change change.entry.now rows.old.items) }
     ensures rising { IsRising rows.new.items }
 {
-    let Change { path, now } = change;
-    match now {
-        Some(bytes) => rewrite_row(rows, &path, bytes),
+    match &change.now {
+        Some(bytes) => rewrite_row(rows, &change.path, bytes),
         None => {
-            remove_row(rows, &path);
+            remove_row(rows, &change.path);
+            Ok(())
         }
     }
 }
 
-/// Applies changes, each to what the earlier ones left.
-pub(crate) fn apply_to_rows(rows: &mut Vec<File>, mut changes: Vec<Change>)
+/// Applies changes, each to what the earlier ones left. After a refusal some may be applied.
+pub(crate) fn apply_to_rows(
+    rows: &mut Vec<SharedFile>,
+    changes: &[Change],
+) -> Result<(), OutOfMemory>
     requires { IsRising rows.old.items }
-    ensures applied { rows.new.items ≡ apply_changes changes.items rows.old.items }
-    ensures rising { IsRising rows.new.items }
+    ensures applied { OnOk result (rows.new.items ≡ apply_changes changes.now rows.old.items) }
+    ensures rising { OnOk result (IsRising rows.new.items) }
 {
-    changes.reverse();
-    'changes: while let Some(change) = changes.pop() {
-        apply_to_row(rows, change);
+    'changes: for change in changes {
+        apply_to_row(rows, change)?;
     }
+    Ok(())
 }

@@ -2,19 +2,20 @@
 
 ghost use Rattle.std.specs.Prelude.{◌≡◌, ◌↔◌, ◌<◌, [], length, is_some, slice_get, IfOk, OnOk, OnErr, IsTrue};
 ghost use Rattle.std.specs.Option.{option_copied};
-ghost use Rattle.hook_base.specs.Trees.{IsRising, entry_of, put_file, remove_file, apply_changes, changes_between};
+ghost use Rattle.hook_base.specs.Trees.{IsRising, entry_of, put_file, put_found, remove_file, apply_changes, changes_between};
 
-use crate::change::copy_changes;
 use crate::place::{Place, place_of};
 use crate::rows::{apply_to_rows, copy_rows, put_row, remove_row};
+use crate::shared_file::SharedFile;
 use crate::{Change, Changes, File, FileEntry, OutOfMemory, RepoPath};
 use std::alloc::{AllocError, Global};
 use std::marker::Model;
 
-/// The files of one moment, one a path, in the order of their paths. Contracts see the list of its rows.
+/// The files of one moment, one a path, in the order of their paths. A tree and its copies share their files, so that a
+/// copy costs an address for each of them. Contracts see the list of its rows.
 #[derive(Debug, Drop)]
 pub struct Tree {
-    rows: Vec<File>,
+    rows: Vec<SharedFile>,
 }
 
 impl Model for Tree {
@@ -61,7 +62,7 @@ impl Tree {
         ensures row { slice_get self.now index ≡ Some result.now }
         ensures rising { IsRising self.now }
     {
-        &self.rows[index]
+        self.rows[index].as_file()
     }
 
     /// What stands at a path, or `None` where nothing does.
@@ -69,7 +70,7 @@ impl Tree {
         ensures { option_copied result ≡ entry_of path.now self.now }
     {
         match place_of(self.rows.as_slice(), path) {
-            Place::At(index) => Some(&self.rows[index].entry),
+            Place::At(index) => Some(&self.rows[index].as_file().entry),
             Place::Before(_) => None,
         }
     }
@@ -81,7 +82,21 @@ impl Tree {
         ensures kept { OnErr result (self.new ≡ self.old) }
         ensures rising { IsRising self.new }
     {
-        put_row(&mut self.rows, File { path, entry })
+        let row = SharedFile::of(*self.rows.allocator(), File { path, entry })?;
+        put_row(&mut self.rows, row)
+    }
+
+    /// Puts what stands at a path of another tree, which both trees share then, in place of the file at that path, or adds
+    /// it. Nothing is changed where nothing stands there, nor by `OutOfMemory`, where memory is refused.
+    pub fn put_from(&mut self, other: &Tree, path: &RepoPath) -> Result<(), OutOfMemory>
+        ensures put { OnOk result (self.new ≡ put_found path.now (entry_of path.now other.now) self.old) }
+        ensures kept { OnErr result (self.new ≡ self.old) }
+        ensures rising { IsRising self.new }
+    {
+        match place_of(other.rows.as_slice(), path) {
+            Place::At(index) => put_row(&mut self.rows, other.rows[index].clone()?),
+            Place::Before(_) => Ok(()),
+        }
     }
 
     /// Removes the file at a path. Answers whether there was one.
@@ -93,7 +108,7 @@ impl Tree {
         remove_row(&mut self.rows, path)
     }
 
-    /// The same files, in memory of their own, or `OutOfMemory` where that is refused.
+    /// The same files, which both trees share, or `OutOfMemory` where memory is refused.
     pub fn copy(&self) -> Result<Tree, OutOfMemory>
         ensures { IfOk result (λ copy. copy ≡ self.now) }
     {
@@ -116,8 +131,13 @@ impl Tree {
         ensures kept { OnErr result (self.new ≡ self.old) }
         ensures rising { IsRising self.new }
     {
-        let changes = copy_changes(*self.rows.allocator(), changes)?;
-        apply_to_rows(&mut self.rows, changes);
+        let before = &self.rows;
+        if changes.is_empty() {
+            return Ok(());
+        }
+        let mut rows = copy_rows(before)?;
+        apply_to_rows(&mut rows, changes)?;
+        self.rows = rows;
         Ok(())
     }
 }

@@ -3,24 +3,14 @@ use Rattle.std.specs.Option.{option_copied}
 use Rattle.child_port.specs.SeenLemmas.{files_where}
 use Rattle.hook_base.specs.declared.file.File.{File}
 use Rattle.hook_base.specs.declared.file.FileEntry.{FileEntry}
-use Rattle.hook_base.specs.declared.file.Mode.{Mode}
 use Rattle.hook_base.specs.declared.memory.OutOfMemory.{OutOfMemory}
-use Rattle.hook_base.specs.Trees.{entry_of, put_file}
+use Rattle.hook_base.specs.Trees.{entry_of, put_file, put_found}
 use Rattle.child_port.proofs.AddLemmas.{added_none, added_again, added_file}
 use Rattle.child_port.proofs.seen.add_file.Goals as goal
 
 copied_some : (there : Option (Bor FileEntry)) → is_some (option_copied there) ≡ is_some there
 copied_some None = refl
 copied_some (Some entry) = refl
-
-abbrev entry_with : Mode → List ℕ → FileEntry
-entry_with mode bytes = record { mode = mode; bytes = bytes }
-
-made_of : (m n : Mode) (x y : List ℕ) → m ≡ n → x ≡ y → entry_with m x ≡ entry_with n y
-made_of m n x y mode bytes = cc
-
-same_entry : (a b : FileEntry) → a.mode ≡ b.mode → a.bytes ≡ b.bytes → a ≡ b
-same_entry a b mode bytes = made_of a.mode b.mode a.bytes b.bytes mode bytes
 
 where_ok : (P Q : Type 0) (result : Result (Unit {0}) OutOfMemory) → OnOk result P → (P → Q) → OnOk result Q
 where_ok P Q (Ok done) held gives = gives held
@@ -40,7 +30,7 @@ returns-then-is_some c = λ keeps before.
 pub returns : goal.returns
 returns c =
     let here = c.in-Some.ensures.row in
-    let path = c.in_ok-clone.ensures.cases ∙ sym here.0 in
-    let entry = same_entry c.in_ok-clone-2.field-0 c.in-Some.row.now.entry c.in_ok-clone-2.ensures.cases.0 c.in_ok-clone-2.ensures.cases.1 in
-    where_ok _ _ c.put.result c.put.ensures.put (λ put keeps before.
-    put ∙ (ap (λ (path : List ℕ). put_file path c.in_ok-clone-2.field-0 c.args.seen.now) path ∙ (ap (λ (entry : FileEntry). put_file c.args.path.now entry c.args.seen.now) entry ∙ (ap (λ (files : List File). put_file c.args.path.now c.in-Some.row.now.entry files) before ∙ added_file keeps c.args.path.now c.in-Some.row.now.entry c.args.tree.now c.file_at.ensures.rising here.1))))
+    let found = ap (λ (path : List ℕ). entry_of path c.args.tree.now) (sym here.0) ∙ here.1 in
+    let put = ap (λ (there : Option FileEntry). put_found c.in-Some.row.now.path there c.args.seen.now) found ∙ ap (λ (path : List ℕ). put_file path c.in-Some.row.now.entry c.args.seen.now) (sym here.0) in
+    where_ok _ _ c.put_from.result c.put_from.ensures.put (λ put_there keeps before.
+    put_there ∙ (put ∙ (ap (λ (files : List File). put_file c.args.path.now c.in-Some.row.now.entry files) before ∙ added_file keeps c.args.path.now c.in-Some.row.now.entry c.args.tree.now c.file_at.ensures.rising here.1)))

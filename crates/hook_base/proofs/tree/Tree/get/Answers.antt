@@ -12,7 +12,7 @@ index-requires c =
 pub returns-in-At : goal.returns-in-At
 returns-in-At c =
     let at = subst (λ (rows : List File). IsAt c.args.path.now rows c.in-At.index) (c.as_slice.ensures.value ∙ c.self.view_is) c.in-At.ensures in
-    let row = c.index.ensures ∙ ap (λ (rows : List File). get_or rows c.in-At.index c.index.result.now) c.self.view_is in
+    let row = c.as_file.ensures ∙ (c.index.ensures ∙ ap (λ (rows : List File). get_or rows c.in-At.index c.index.result.now) c.self.view_is) in
     ap (λ (row : File). Some row.entry) row ∙ sym (entry_of-at c.args.path.now c.args.self.now c.in-At.index c.index.result.now at)
 
 pub returns-in-Before : goal.returns-in-Before
