@@ -84,19 +84,17 @@ pub(crate) fn open_database(
     }
 }
 
-/// Copies the log into the database and takes it away. Where that fails, it stays, and nothing is lost.
-pub(crate) fn close_database(rt: &HostRuntime, conn: Database) {
-    match conn.close_files() {
-        // The files are open until the log is gone, so that nobody else writes to it.
-        Ok(_files) => {
-            let _gone = fs::remove_file(rt, LOG);
-        }
-        Err((_, store)) => mem::forget(store),
+/// Copies the log into the database, which is all of the repository then. The log stays beside it, without a change in it:
+/// where its file has to be made anew, the next command waits for the disk many times as long. Where the copying fails, the
+/// log keeps its changes, and nothing is lost.
+pub(crate) fn close_database(conn: Database) {
+    if let Err((_, store)) = conn.close_files() {
+        mem::forget(store);
     }
 }
 
-/// Leaves the database of a host, of which a command may have made a change. Its log is copied into the database and taken
-/// away; where there was no change, the log is as before.
+/// Leaves the database of a host, of which a command may have made a change. Its log is copied into the database; where there
+/// was no change, the log is as before.
 pub(crate) fn leave(
     rt: &HostRuntime,
     host: Host<FileStore<File>>,
@@ -105,7 +103,7 @@ pub(crate) fn leave(
 ) {
     let had_log = before.log == Found::Filled || before.log == Found::Other;
     if is_changed || !(had_log || is_log_bare(rt)) {
-        close_database(rt, host.into_store().into_connection());
+        close_database(host.into_store().into_connection());
     } else {
         put_back(rt, LOG, before.log);
         // The process ends next: its files and memory go with it.

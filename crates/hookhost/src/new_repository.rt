@@ -21,7 +21,7 @@ pub(crate) fn init(rt: &HostRuntime) -> Result<(), Stop>
     let conn = open_database(rt, &lock, &before)?;
     match Store::create(rt.alloc(), conn) {
         Ok(store) => {
-            close_database(rt, store.into_connection());
+            close_database(store.into_connection());
             Ok(())
         }
         Err((fault, conn)) => {
