@@ -99,5 +99,7 @@ fn read_up_to<R: Files + AllocGlobal>(rt: &R, path: &str, most: usize) -> io::Re
     fs::open(rt, path)?
         .take(most as u64)
         .read_to_end(&mut bytes)?;
+    // A run keeps the bytes of all its files, and reading leaves room behind them.
+    bytes.shrink_to_fit();
     Ok(bytes)
 }

@@ -47,18 +47,28 @@ fn main(rt: HostRuntime) -> ExitCode {
 
 // Does what the process's words ask for, and answers its exit status.
 fn run(rt: &HostRuntime) -> Result<u8, Stop> {
+    match line_of_process(rt)? {
+        Some(line) => do_line(rt, line),
+        None => {
+            let passed = report(rt, &mut rt.reader(), &Tree::new(rt.alloc()))?;
+            Ok(status_of_run(passed))
+        }
+    }
+}
+
+// The line that the process's words make, or `None` where there are none. The words, of which there may be many, aren't kept.
+fn line_of_process(rt: &HostRuntime) -> Result<Option<Line>, Stop> {
     let mut words = env::args(rt).map_err(Stop::of_words)?;
     let _program = words.next();
     let words: Vec<String> = words.collect(rt.alloc())?;
     if words.is_empty() {
-        let passed = report(rt, &mut rt.reader(), &Tree::new(rt.alloc()))?;
-        return Ok(status_of_run(passed));
+        return Ok(None);
     }
     let mut texts = Vec::with_capacity(rt.alloc(), words.len())?;
     for word in &words {
         texts.push(word.as_str())?;
     }
-    do_line(rt, line_of(rt.alloc(), texts.as_slice())?)
+    Ok(Some(line_of(rt.alloc(), texts.as_slice())?))
 }
 
 fn do_line(rt: &HostRuntime, line: Line) -> Result<u8, Stop> {
