@@ -85,8 +85,8 @@ pub(crate) fn open_database(
 }
 
 /// Copies the log into the database, which is all of the repository then. The log stays beside it, without a change in it:
-/// where its file has to be made anew, the next command waits for the disk many times as long. Where the copying fails, the
-/// log keeps its changes, and nothing is lost.
+/// the next command waits longer for the disk where it has to make that file. Where the copying fails, the log keeps its
+/// changes, and nothing is lost.
 pub(crate) fn close_database(conn: Database) {
     if let Err((_, store)) = conn.close_files() {
         mem::forget(store);
