@@ -17,7 +17,8 @@ A command on a repository is played on a new copy of one each time. After a refu
 and else what it shows after the command with ample memory.
 
 Of the allocations of these two the first and the last are refused, and of those between one in so many; with --each, which
-takes long, each is refused in turn.
+takes long, each is refused in turn. The folder of the children is new for each run then: a run that gives up while it clears
+the folder leaves one more to be cleared there, so that each would need more allocations than the number that is refused.
 """
 import itertools
 import os
@@ -201,7 +202,7 @@ def run(play, refused, shared, folder):
     mark, work = os.path.join(folder, "refused"), os.path.join(folder, "work")
     if os.path.exists(mark):
         os.remove(mark)
-    if play.repository or play.children == "new":
+    if play.repository or play.children == "new" or (play.children and EACH):
         lay_repository(play, shared, work)
     env = dict(os.environ, LD_PRELOAD=os.path.join(shared, "refuse.so"), REFUSE_ALLOCATION=str(refused), REFUSED_FILE=mark)
     said = end_of([PROGRAM, *play.words], work, play.stdin, env)
