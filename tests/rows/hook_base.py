@@ -3,6 +3,7 @@
 `trees` plays on two trees, `one` and `other`, and on changes that wait, a step an argument:
 
     put TREE MODE PATH BYTES    change PATH BYTES, change PATH (it is gone)    copy (one to other)    apply (to one)
+    absorb (as apply, and none waits any longer)
 
 Others show what their line below has, and a semicolon:
 
@@ -77,6 +78,24 @@ ROWS = [
         "same",
         "count one",
         "2 true a=3 b gone;true false;1 false;",
+    ),
+    # The same where the tree keeps the changes, which then wait no longer; a copy of the tree stays as it was.
+    (
+        "trees",
+        "put one executable a 1",
+        "put one plain b 2",
+        "put one plain c 3",
+        "copy",
+        "absorb",
+        "change a 4",
+        "change b",
+        "change a 5",
+        "change d 6",
+        "absorb",
+        "take",
+        "files one",
+        "files other",
+        "taken; a:executable=5 c:plain=3; a:executable=1 b:plain=2 c:plain=3;",
     ),
     # A mode alone is no change, and `put` takes the new mode.
     (

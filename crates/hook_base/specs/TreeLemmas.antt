@@ -19,6 +19,11 @@ at_within path [] k at = absurd at
 at_within path (row ∷ rows) zero at = omega arith
 at_within path (row ∷ rows) (suc k) at = let within = at_within path rows k at.1 in omega arith
 
+pub path-at : (path : List ℕ) (rows : List File) (k : ℕ) (d : File) → IsAt path rows k → path ≡ (get_or rows k d).path
+path-at path [] k d at = absurd at
+path-at path (row ∷ rows) zero d at = at
+path-at path (row ∷ rows) (suc k) d at = path-at path rows k d at.1
+
 pub entry_of-at : (path : List ℕ) (rows : List File) (k : ℕ) (d : File) → IsAt path rows k → entry_of path rows ≡ Some (get_or rows k d).entry
 entry_of-at path [] k d at = absurd at
 entry_of-at path (row ∷ rows) zero d at = rw (bytes_same path row.path at)

@@ -5,7 +5,7 @@ ghost use Rattle.hook_base.specs.Trees.{IsRising, entry_of, put_row, remove_file
 
 use crate::place::{Place, place_of};
 use crate::shared_file::SharedFile;
-use crate::{Bytes, Change, OutOfMemory, RepoPath};
+use crate::{Bytes, Change, File, FileEntry, OutOfMemory, RepoPath};
 
 /// Puts a row in place of the one of its path, or adds it. A refusal leaves the rows as they were.
 pub(crate) fn put_row(rows: &mut Vec<SharedFile>, row: SharedFile) -> Result<(), OutOfMemory>
@@ -40,15 +40,17 @@ pub(crate) fn remove_row(rows: &mut Vec<SharedFile>, path: &RepoPath) -> bool
 /// Puts other bytes into the row of a path, if there is one. A refusal leaves the rows as they were.
 pub(crate) fn rewrite_row(
     rows: &mut Vec<SharedFile>,
-    path: &RepoPath,
-    bytes: &Bytes,
+    path: RepoPath,
+    bytes: Bytes,
 ) -> Result<(), OutOfMemory>
     requires { IsRising rows.old.items }
-    ensures rewritten { OnOk result (rows.new.items ≡ rewrite_file path.now bytes.now rows.old.items) }
+    ensures rewritten { OnOk result (rows.new.items ≡ rewrite_file path bytes rows.old.items) }
     ensures rising { IsRising rows.new.items }
 {
-    if let Place::At(index) = place_of(rows.as_slice(), path) {
-        let row = rows[index].with_bytes(*rows.allocator(), bytes)?;
+    if let Place::At(index) = place_of(rows.as_slice(), &path) {
+        let mode = rows[index].as_file().entry.mode;
+        let entry = FileEntry { mode, bytes };
+        let row = SharedFile::of(*rows.allocator(), File { path, entry })?;
         rows[index] = row;
     }
     Ok(())
@@ -62,15 +64,16 @@ pub(crate) fn copy_rows(rows: &Vec<SharedFile>) -> Result<Vec<SharedFile>, OutOf
 }
 
 /// Applies one change. A refusal leaves rows that rise.
-pub(crate) fn apply_to_row(rows: &mut Vec<SharedFile>, change: &Change) -> Result<(), OutOfMemory>
+pub(crate) fn apply_to_row(rows: &mut Vec<SharedFile>, change: Change) -> Result<(), OutOfMemory>
     requires { IsRising rows.old.items }
-    ensures applied { OnOk result (rows.new.items ≡ apply_change change.entry.now rows.old.items) }
+    ensures applied { OnOk result (rows.new.items ≡ apply_change change rows.old.items) }
     ensures rising { IsRising rows.new.items }
 {
-    match &change.now {
-        Some(bytes) => rewrite_row(rows, &change.path, bytes),
+    let Change { path, now } = change;
+    match now {
+        Some(bytes) => rewrite_row(rows, path, bytes),
         None => {
-            remove_row(rows, &change.path);
+            remove_row(rows, &path);
             Ok(())
         }
     }
@@ -79,10 +82,10 @@ pub(crate) fn apply_to_row(rows: &mut Vec<SharedFile>, change: &Change) -> Resul
 /// Applies changes, each to what the earlier ones left. After a refusal some may be applied.
 pub(crate) fn apply_to_rows(
     rows: &mut Vec<SharedFile>,
-    changes: &[Change],
+    changes: Vec<Change>,
 ) -> Result<(), OutOfMemory>
     requires { IsRising rows.old.items }
-    ensures applied { OnOk result (rows.new.items ≡ apply_changes changes.now rows.old.items) }
+    ensures applied { OnOk result (rows.new.items ≡ apply_changes changes.items rows.old.items) }
     ensures rising { OnOk result (IsRising rows.new.items) }
 {
     'changes: for change in changes {

@@ -1,9 +1,8 @@
 //! Files that trees share.
 
 ghost use Rattle.std.specs.Prelude.{◌≡◌, IfOk};
-ghost use Rattle.hook_base.specs.Trees.{with_bytes};
 
-use crate::{Bytes, File, FileEntry, OutOfMemory};
+use crate::{File, OutOfMemory};
 use std::alloc::{AllocError, Global};
 use std::marker::Model;
 use std::rc::Rc;
@@ -40,19 +39,6 @@ impl SharedFile {
         ensures { result.now ≡ self.now }
     {
         self.file.as_ref()
-    }
-
-    /// The file with other bytes: its path and mode stay.
-    pub(crate) fn with_bytes(&self, alloc: Global, bytes: &Bytes) -> Result<SharedFile, OutOfMemory>
-        ensures { IfOk result (λ shared. shared ≡ with_bytes bytes.now self.now) }
-    {
-        let file = self.as_file();
-        let entry = FileEntry {
-            mode: file.entry.mode,
-            bytes: bytes.clone()?,
-        };
-        let path = file.path.clone()?;
-        SharedFile::of(alloc, File { path, entry })
     }
 }
 

@@ -131,6 +131,17 @@ impl Tree {
         ensures kept { OnErr result (self.new ≡ self.old) }
         ensures rising { IsRising self.new }
     {
+        let changes = changes.to_vec(*self.rows.allocator())?;
+        self.absorb(changes)
+    }
+
+    /// Applies changes as [`apply`](Tree::apply) does, and keeps their paths and bytes, so that none is copied.
+    /// `OutOfMemory` where memory is refused, which leaves the tree as it was; the changes are gone then.
+    pub fn absorb(&mut self, changes: Vec<Change>) -> Result<(), OutOfMemory>
+        ensures applied { OnOk result (self.new ≡ apply_changes changes.items self.old) }
+        ensures kept { OnErr result (self.new ≡ self.old) }
+        ensures rising { IsRising self.new }
+    {
         let before = &self.rows;
         if changes.is_empty() {
             return Ok(());

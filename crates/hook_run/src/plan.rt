@@ -117,7 +117,7 @@ impl<'a> RunPlan<'a> {
         requires { need_of self ≡ Need.Child }
         ensures { IfOk result (IsPlanAfter self.entry outcome false) }
     {
-        plan_after(self, &outcome, false)
+        plan_after(self, outcome, false)
     }
 
     /// What the run gives. It takes no memory.
@@ -177,11 +177,11 @@ fn plan_of<'a>(
 // the remembered one.
 fn plan_after<'a>(
     plan: RunPlan<'a>,
-    outcome: &Outcome,
+    outcome: Outcome,
     unsteady: bool,
 ) -> Result<RunPlan<'a>, OutOfMemory>
     requires { need_of plan ≡ Need.Child }
-    ensures { IfOk result (IsPlanAfter plan.entry outcome.now unsteady) }
+    ensures { IfOk result (IsPlanAfter plan.entry outcome unsteady) }
 {
     let RunPlan {
         course,
@@ -202,19 +202,19 @@ fn told<'a>(
     done: Progress,
     place: usize,
     waiting: Waiting<'a>,
-    outcome: &Outcome,
+    outcome: Outcome,
     unsteady: bool,
 ) -> Result<RunPlan<'a>, OutOfMemory>
     requires course { IsCourse course }
     requires fits { FitsResults course done.results }
     requires fits_at { FitsName course waiting.work.hook.now.name }
-    ensures { IfOk result (IsToldFrom course.entry done place waiting.entry outcome.now unsteady) }
+    ensures { IfOk result (IsToldFrom course.entry done place waiting.entry outcome unsteady) }
 {
     let alloc = *course.hooks.allocator();
-    let done = progress_after(done, outcome)?;
     let Waiting { work, .. } = waiting;
     let hook = work.hook;
-    let work = work_with(work, outcome, unsteady)?;
+    let work = work_with(work, &outcome, unsteady)?;
+    let done = progress_after(done, outcome)?;
     match go_on(alloc, work, &done.tree)? {
         Begun::Waits(waiting) => Ok(RunPlan {
             course,

@@ -60,9 +60,9 @@ fn result_of(alloc: Global, hook: &Hook, ending: Ending) -> Result<HookResult, O
     })
 }
 
-/// What is left behind a part with this outcome: its changes are applied.
-pub(crate) fn progress_after(done: Progress, outcome: &Outcome) -> Result<Progress, OutOfMemory>
-    ensures { IfOk result (λ after. after ≡ on_tree done (after_outcome done.tree outcome.now)) }
+/// What is left behind a part with this outcome: its changes are applied, and the tree keeps their bytes.
+pub(crate) fn progress_after(done: Progress, outcome: Outcome) -> Result<Progress, OutOfMemory>
+    ensures { IfOk result (λ after. after ≡ on_tree done (after_outcome done.tree outcome)) }
 {
     let Progress {
         results,
@@ -70,7 +70,7 @@ pub(crate) fn progress_after(done: Progress, outcome: &Outcome) -> Result<Progre
         mut tree,
     } = done;
     if let Outcome::Done(answer) = outcome {
-        tree.apply(answer.changes.as_slice())?;
+        tree.absorb(answer.changes.into_vec())?;
     }
     Ok(Progress {
         results,

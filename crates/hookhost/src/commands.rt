@@ -4,7 +4,7 @@ ghost use Rattle.std.specs.Prelude.{◌≡◌, ◌⊎◌, IfErr, IfOk};
 ghost use Rattle.hook_cli.specs.CommandOver.{IsOverHost};
 ghost use Rattle.hookhost.specs.Stops.{IsStopOfCommand, IsStopOfOpening};
 
-use crate::database::{Before, leave, open_database};
+use crate::database::{Before, DatabaseStore, leave, open_database};
 use crate::files::read_file_of;
 use crate::repository::{Found, Lock, look_at_store, take_lock};
 use crate::runs::{Runs, runs_of};
@@ -14,7 +14,6 @@ use commit_flow::Host;
 use hook_base::Items;
 use hook_cli::{Line, command_over};
 use repo_store::{Store, StoreFault};
-use sqlite::{File, FileStore};
 use std::{io, mem};
 
 // The exit status of a refusal.
@@ -45,7 +44,7 @@ fn answer(
     line: &Line,
     bytes: &[u8],
     runs: &mut Option<Runs>,
-    host: &mut Host<FileStore<File>>,
+    host: &mut Host<DatabaseStore>,
 ) -> u8
     requires { IsOverHost line.now }
     ensures { (result ≡ 0) ⊎ (result ≡ 1) ⊎ (result ≡ 3) }
@@ -92,11 +91,7 @@ fn changes(line: &Line) -> bool {
 }
 
 // Opens the store, as it stood under the lock. An empty file is none, and isn't opened.
-fn open_store(
-    rt: &HostRuntime,
-    lock: &Lock,
-    before: &Before,
-) -> Result<Store<FileStore<File>>, Stop>
+fn open_store(rt: &HostRuntime, lock: &Lock, before: &Before) -> Result<Store<DatabaseStore>, Stop>
     ensures { IfErr result IsStopOfOpening }
 {
     match before.store {

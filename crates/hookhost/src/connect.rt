@@ -9,6 +9,11 @@ use std::fs;
 use std::hash::{BuildHasher, RandomState};
 use std::io::ErrorKind;
 use std::rt::Files;
+use sync_if_dirty::{SyncIfDirty, settled_files};
+
+/// A file of the database, for which the disk is waited only where something was written. The library waits for both files
+/// several times while it opens them, and to open them has waited for all that is in them already.
+pub(crate) type DatabaseFile = SyncIfDirty<File>;
 
 /// The bytes of a page of the databases that the library makes.
 const PAGE_BYTES: u64 = 4_096;
@@ -25,7 +30,7 @@ const MOST_PAGES: u64 = 2_000;
 pub(crate) fn connect(
     rt: &HostRuntime,
     path: &str,
-) -> Result<Connection<FileStore<File>>, (Error, Option<Leftover<File>>)>
+) -> Result<Connection<FileStore<DatabaseFile>>, (Error, Option<Leftover<DatabaseFile>>)>
     ensures outside { IfOk result (λ conn. conn.in_transaction ≡ false) }
     ensures refused { IfErr result (λ failed. IsTrue (is_open_error failed.0)) }
 {
@@ -40,7 +45,7 @@ pub(crate) fn connect(
         Ok(files) => files,
         Err(error) => return Err((error_of(error), None)),
     };
-    match Connection::open_files(rt.alloc(), files, options) {
+    match Connection::open_files(rt.alloc(), settled_files(files), options) {
         Ok(conn) => Ok(conn),
         Err((error, left)) => Err((error, Some(left))),
     }

@@ -1,25 +1,29 @@
 //! The database of the store: how it is opened under the lock, and what is left of its files afterwards.
 
-ghost use Rattle.std.specs.Prelude.{◌≡◌, false, IfErr, IfOk};
+ghost use Rattle.std.specs.Prelude.{◌≡◌, false, IsTrue, IfErr, IfOk};
 ghost use Rattle.hookhost.specs.Stops.{IsStopOfDatabase};
 ghost use Rattle.hookhost.specs.declared.stop.Stop.TheVariants.{CannotUseStore};
 
-use crate::connect::connect;
+use crate::connect::{DatabaseFile, connect};
 use crate::repository::{Found, Lock, STORE, found_at};
 use crate::stop::Stop;
 use commit_flow::Host;
-use sqlite::{Connection, File, FileStore};
+use sqlite::{Connection, FileStore};
+use sqlite_disk::Disk;
 use std::rt::Files;
 use std::{fs, mem};
 
 /// The log that the library writes beside the database.
 const LOG: &str = ".hookhost/store.db-wal";
 
-// A log of fewer bytes has no room for its header and the header of a page, and so holds no change.
-const LEAST_CHANGED_LOG: u64 = 56;
+// The bytes of a log with its header and that of a page. It holds no change, which takes the page as well.
+const BARE_LOG: usize = 56;
+
+/// What the store's rows are kept in.
+pub(crate) type DatabaseStore = FileStore<DatabaseFile>;
 
 /// A connection to the store's database.
-pub(crate) type Database = Connection<FileStore<File>>;
+pub(crate) type Database = Connection<DatabaseStore>;
 
 /// What stood at the names of the database and of its log before it was opened.
 #[derive(Clone, Copy, Debug)]
@@ -88,16 +92,25 @@ pub(crate) fn open_database(
 /// the next command waits longer for the disk where it has to make that file. Where the copying fails, the log keeps its
 /// changes, and nothing is lost.
 pub(crate) fn close_database(conn: Database) {
-    if let Err((_, store)) = conn.close_files() {
-        mem::forget(store);
+    match conn.close_files() {
+        Ok(mut files) => lengthen(&mut files.log),
+        Err((_, store)) => mem::forget(store),
     }
+}
+
+// The library cuts the log to its header, and would write one so short anew when it opens it, with six waits for the disk.
+// As long as this it is taken as it is. Nothing rests on it, so that a failure does no harm.
+fn lengthen(log: &mut DatabaseFile)
+    requires { IsTrue (⟦<DatabaseFile as Disk>⟧.is_usable log.old) }
+{
+    let _longer = log.set_len(BARE_LOG);
 }
 
 /// Leaves the database of a host, of which a command may have made a change. Its log is copied into the database; where there
 /// was no change, the log is as before.
 pub(crate) fn leave(
     rt: &HostRuntime,
-    host: Host<FileStore<File>>,
+    host: Host<DatabaseStore>,
     before: &Before,
     is_changed: bool,
 ) {
@@ -114,7 +127,7 @@ pub(crate) fn leave(
 // Whether the log holds no change.
 fn is_log_bare<R: Files>(rt: &R) -> bool {
     match fs::symlink_metadata(rt, LOG) {
-        Ok(found) => found.len() < LEAST_CHANGED_LOG,
+        Ok(found) => found.len() <= BARE_LOG as u64,
         Err(_) => false,
     }
 }

@@ -57,7 +57,13 @@ fn settle<R: Files>(
 ) -> io::Result<()> {
     make_folder(files, folder)?;
     let trash = Trash::make_in(files, alloc, folder)?;
-    let fresh = Fresh::of(&fs::symlink_metadata(files, trash.place())?);
+    let fresh = match fs::symlink_metadata(files, trash.place()) {
+        Ok(found) => Fresh::of(&found),
+        Err(e) => {
+            trash.leave(files);
+            return Err(e);
+        }
+    };
     let mut keeping = Keeping {
         files,
         alloc,
@@ -65,9 +71,11 @@ fn settle<R: Files>(
         trash,
         fresh,
     };
-    keeping.take_strays("", folder, tree)?;
-    keeping.settle_files(tree, piece)?;
-    keeping.finish()
+    let settled = keeping.settle(tree, piece);
+    if settled.is_err() {
+        keeping.trash.leave(files);
+    }
+    settled
 }
 
 // Makes the folder where it isn't one, and makes one that is there usable.
@@ -107,6 +115,12 @@ struct Keeping<'a, R: Files> {
 }
 
 impl<'a, R: Files> Keeping<'a, R> {
+    fn settle(&mut self, tree: &Tree, piece: &mut [u8]) -> io::Result<()> {
+        self.take_strays("", self.folder, tree)?;
+        self.settle_files(tree, piece)?;
+        self.finish()
+    }
+
     // Each file, and before the first of each folder that folder.
     fn settle_files(&mut self, tree: &Tree, piece: &mut [u8]) -> io::Result<()> {
         let mut before = "";

@@ -44,6 +44,11 @@ impl Trash {
         self.place.as_str()
     }
 
+    /// Removes the folder, where nothing was moved into it. Else it stays, and is a stray of the scratch folder.
+    pub(crate) fn leave<R: Files>(&self, files: &R) {
+        let _gone = fs::remove_dir(files, self.place());
+    }
+
     /// Takes away what stands at a place: a folder is moved here, anything else is removed. A link is not followed.
     pub(crate) fn take(&mut self, place: &[u8]) -> io::Result<()> {
         if os::unlink(place) == 0 {

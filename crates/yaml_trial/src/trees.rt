@@ -38,6 +38,10 @@ impl Trees {
             }
             "change" => Ok(self.waiting.push(read_change(alloc, rest)?)?),
             "apply" => Ok(self.one.apply(self.waiting.as_slice())?),
+            "absorb" => {
+                let waiting = mem::replace(&mut self.waiting, Vec::new(alloc));
+                Ok(self.one.absorb(waiting)?)
+            }
             _ => {
                 self.show(alloc, out, word, rest)?;
                 Ok(out.push(';')?)

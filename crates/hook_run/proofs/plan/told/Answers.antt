@@ -7,7 +7,7 @@ use Rattle.hook_run.proofs.plan.told.Goals as goal
 pub returns-in-Waits : goal.returns-in-Waits
 returns-in-Waits c =
     λ parts out on. told-waits c.args.course c.args.done c.in_ok-done.done c.args.place c.args.waiting c.in-Waits.waiting c.in_ok-work.work c.in_ok-waiting.field-0
-    c.args.outcome.now c.args.unsteady parts out c.in_ok-done.ensures c.in_ok-work.ensures c.in-Waits.is c.in_ok-waiting.ensures on
+    c.args.outcome c.args.unsteady parts out c.in_ok-done.ensures c.in_ok-work.ensures c.in-Waits.is c.in_ok-waiting.ensures on
 
 pub advance-requires-clause-fits : goal.advance-requires-clause-fits
 advance-requires-clause-fits c =
@@ -18,5 +18,5 @@ advance-requires-clause-fits c =
 pub returns : goal.returns
 returns c =
     told-ended_if c.args.course c.args.done c.in_ok-done.done c.in_ok-done-in-Ended.done c.args.place c.place_behind-place.result c.args.waiting c.in_ok-work.work
-    c.in_ok-waiting.field-0 c.args.outcome.now c.args.unsteady c.in-Ended.ending c.in-Ended.unsteady c.advance.result c.in_ok-done.ensures c.in_ok-work.ensures
+    c.in_ok-waiting.field-0 c.args.outcome c.args.unsteady c.in-Ended.ending c.in-Ended.unsteady c.advance.result c.in_ok-done.ensures c.in_ok-work.ensures
     c.in-Ended.is c.in_ok-waiting.ensures c.place_behind-place.ensures.left c.in_ok-done-in-Ended.ensures c.advance.ensures
