@@ -1,6 +1,6 @@
 #!/usr/bin/env python3
 """Plays the commands on a repository with the built program: files with hard names, files and folders that can't be used,
-several programs at once, and kills.
+several programs at once, kills, and how often the disk is waited for.
 
 Usage: tests/host.py [KILLS [PROGRAM [STORE_TRIAL]]]   (default: 30 kills of each command, and the built programs)
 
@@ -399,10 +399,33 @@ def is_left_whole_by_kills_of_commits(folder):
         state(work)
 
 
+def waits_for(folder, helper, *words):
+    """How many times the program waits for the disk while it does the command."""
+    count = os.path.join(folder, "waits")
+    status, _, err = run(folder, *words, env={**os.environ, "LD_PRELOAD": helper, "WAITS_FILE": count})
+    check((status, err) == (0, b""), f"{words!r} ends with {status} and says {err!r}")
+    waits = os.path.getsize(count)
+    os.remove(count)
+    return waits
+
+
+def waits_for_the_disk_only_where_something_is_written(folder):
+    """Each of both files is waited for, with its folder, when it is opened. A change waits for the log twice, once for the
+    database, and three times until the log is empty again."""
+    helper = os.path.join(folder, "waits.so")
+    subprocess.run(["cc", "-shared", "-fPIC", "-O1", "-o", helper, str(Path(__file__).resolve().parent / "count_waits.c"), "-ldl"], check=True)
+    do(folder, "init")
+    write(folder, "a", b"1")
+    write(folder, "b", b"2")
+    counts = [waits_for(folder, helper, *words) for words in (["add", "a"], ["add", "b"], ["status"], ["cat", "a"], ["rm", "b"], ["log"], ["fixes"])]
+    check(counts == [10, 10, 4, 4, 10, 4, 4], f"the disk is waited for {counts} times")
+
+
 CASES = [keeps_files_of_hard_names, keeps_the_longest_path_that_the_system_opens, refuses_control_bytes, takes_no_mode_from_the_working_file,
          refuses_what_may_not_be_read_or_written, refuses_fifos_and_waits_for_none, lets_one_program_work_at_a_time,
          loses_nothing_of_programs_at_once, is_left_whole_by_kills_of_init, is_left_whole_by_kills_of_add_rm_and_accept,
-         is_left_whole_by_kills_of_commits, is_left_whole_by_kills_of_runs_and_commits]
+         is_left_whole_by_kills_of_commits, is_left_whole_by_kills_of_runs_and_commits,
+         waits_for_the_disk_only_where_something_is_written]
 
 
 def main():
