@@ -3,6 +3,7 @@
 ghost use Rattle.std.specs.Prelude.{◌≡◌, false, IsTrue, IfErr, IfOk};
 ghost use Rattle.sqlite.specs.Opening.{is_open_error};
 
+use crate::bare_log::fit;
 use sqlite::{Connection, Error, ErrorCode, File, FileStore, Leftover, Options, Unknown};
 use sqlite_std_file::OpenError;
 use std::fs;
@@ -45,7 +46,9 @@ pub(crate) fn connect(
         Ok(files) => files,
         Err(error) => return Err((error_of(error), None)),
     };
-    match Connection::open_files(rt.alloc(), settled_files(files), options) {
+    let mut files = settled_files(files);
+    fit(&mut files);
+    match Connection::open_files(rt.alloc(), files, options) {
         Ok(conn) => Ok(conn),
         Err((error, left)) => Err((error, Some(left))),
     }

@@ -1,23 +1,20 @@
 //! The database of the store: how it is opened under the lock, and what is left of its files afterwards.
 
-ghost use Rattle.std.specs.Prelude.{◌≡◌, false, IsTrue, IfErr, IfOk};
+ghost use Rattle.std.specs.Prelude.{◌≡◌, false, IfErr, IfOk};
 ghost use Rattle.hookhost.specs.Stops.{IsStopOfDatabase};
 ghost use Rattle.hookhost.specs.declared.stop.Stop.TheVariants.{CannotUseStore};
 
+use crate::bare_log::{BARE_LOG, lengthen};
 use crate::connect::{DatabaseFile, connect};
 use crate::repository::{Found, Lock, STORE, found_at};
 use crate::stop::Stop;
 use commit_flow::Host;
 use sqlite::{Connection, FileStore};
-use sqlite_disk::Disk;
 use std::rt::Files;
 use std::{fs, mem};
 
 /// The log that the library writes beside the database.
 const LOG: &str = ".hookhost/store.db-wal";
-
-// The bytes of a log with its header and that of a page. It holds no change, which takes the page as well.
-const BARE_LOG: usize = 56;
 
 /// What the store's rows are kept in.
 pub(crate) type DatabaseStore = FileStore<DatabaseFile>;
@@ -96,14 +93,6 @@ pub(crate) fn close_database(conn: Database) {
         Ok(mut files) => lengthen(&mut files.log),
         Err((_, store)) => mem::forget(store),
     }
-}
-
-// The library cuts the log to its header, and would write one so short anew when it opens it, with six waits for the disk.
-// As long as this it is taken as it is. Nothing rests on it, so that a failure does no harm.
-fn lengthen(log: &mut DatabaseFile)
-    requires { IsTrue (⟦<DatabaseFile as Disk>⟧.is_usable log.old) }
-{
-    let _longer = log.set_len(BARE_LOG);
 }
 
 /// Leaves the database of a host, of which a command may have made a change. Its log is copied into the database; where there

@@ -5,6 +5,7 @@
 ghost use Rattle.std.specs.Prelude.{◌≡◌};
 ghost use Rattle.hookhost.specs.Stops.{status_of_run};
 
+mod bare_log;
 mod commands;
 mod connect;
 mod database;
