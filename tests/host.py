@@ -419,13 +419,35 @@ def waits_for_the_disk_only_where_something_is_written(folder):
     write(folder, "b", b"2")
     counts = [waits_for(folder, helper, *words) for words in (["add", "a"], ["add", "b"], ["status"], ["cat", "a"], ["rm", "b"], ["log"], ["fixes"])]
     check(counts == [10, 10, 4, 4, 10, 4, 4], f"the disk is waited for {counts} times")
+    # Without the log a command makes it, and one that reads takes it away again.
+    os.remove(os.path.join(folder, STORE + "-wal"))
+    counts = [waits_for(folder, helper, *words) for words in (["status"], ["rm", "a"], ["status"])]
+    check(counts == [10, 16, 4], f"the disk is waited for {counts} times, at first without a log")
+
+
+def takes_a_store_with_pages_of_another_size(folder):
+    """A store that was written out and read in with other pages is taken in place of the one that the log lies beside."""
+    do(folder, "init")
+    write(folder, "a", b"1")
+    do(folder, "add", "a")
+    dumped = subprocess.run(["sqlite3", "-batch", os.path.join(folder, STORE), ".dump"], capture_output=True, timeout=60, check=True).stdout
+    for size in (512, 1024, 65536, 4096):
+        # Another command leaves the log, which sqlite3 takes away.
+        write(folder, "b", str(size).encode())
+        do(folder, "add", "b")
+        check(os.path.getsize(os.path.join(folder, STORE + "-wal")) == 56, "a command left no bare log")
+        os.remove(os.path.join(folder, STORE))
+        made = subprocess.run(["sqlite3", "-batch", os.path.join(folder, "made")], input=b"PRAGMA page_size = %d;\n%s" % (size, dumped), capture_output=True, timeout=60)
+        check((made.returncode, made.stderr) == (0, b""), f"sqlite3 says {made.stderr!r}")
+        os.rename(os.path.join(folder, "made"), os.path.join(folder, STORE))
+        check(do(folder, "status") == b"A a\n" and do(folder, "cat", "a") == b"1", f"pages of {size} bytes: the files are others")
 
 
 CASES = [keeps_files_of_hard_names, keeps_the_longest_path_that_the_system_opens, refuses_control_bytes, takes_no_mode_from_the_working_file,
          refuses_what_may_not_be_read_or_written, refuses_fifos_and_waits_for_none, lets_one_program_work_at_a_time,
          loses_nothing_of_programs_at_once, is_left_whole_by_kills_of_init, is_left_whole_by_kills_of_add_rm_and_accept,
          is_left_whole_by_kills_of_commits, is_left_whole_by_kills_of_runs_and_commits,
-         waits_for_the_disk_only_where_something_is_written]
+         waits_for_the_disk_only_where_something_is_written, takes_a_store_with_pages_of_another_size]
 
 
 def main():
