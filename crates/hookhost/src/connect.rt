@@ -4,7 +4,7 @@ ghost use Rattle.std.specs.Prelude.{◌≡◌, false, IsTrue, IfErr, IfOk};
 ghost use Rattle.sqlite.specs.Opening.{is_open_error};
 
 use crate::bare_log::fit;
-use sqlite::{Connection, Error, ErrorCode, File, FileStore, Leftover, Options, Unknown};
+use sqlite::{Connection, Error, ErrorCode, FileFrom, FileStore, Leftover, Options, Wary};
 use sqlite_std_file::OpenError;
 use std::fs;
 use std::hash::{BuildHasher, RandomState};
@@ -13,8 +13,10 @@ use std::rt::Files;
 use sync_if_dirty::{SyncIfDirty, settled_files};
 
 /// A file of the database, for which the disk is waited only where something was written. The library waits for both files
-/// several times while it opens them, and to open them has waited for all that is in them already.
-pub(crate) type DatabaseFile = SyncIfDirty<File>;
+/// several times while it opens them, and to open them has waited for all that is in them already. `Wary` supposes nothing of
+/// the bytes that a write leaves where the power fails within it; a library that supposes more prepares its log for many
+/// commits, and a command makes one.
+pub(crate) type DatabaseFile = SyncIfDirty<FileFrom<Wary>>;
 
 /// The bytes of a page of the databases that the library makes.
 const PAGE_BYTES: u64 = 4_096;
@@ -42,7 +44,7 @@ pub(crate) fn connect(
         cache_pages: pages_for(bytes_at(rt, path)),
         ..Options::new(seed)
     };
-    let files = match sqlite_std_file::open(rt, path, Unknown) {
+    let files = match sqlite_std_file::open(rt, path, Wary) {
         Ok(files) => files,
         Err(error) => return Err((error_of(error), None)),
     };
