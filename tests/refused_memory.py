@@ -16,11 +16,11 @@ it left it, one that gave up among them.
 A command on a repository is played on a new copy of one each time. After a refusal it has to show what it showed before,
 and else what it shows after the command with ample memory.
 
-Neither may leave the folder in which what doesn't belong to the children's folder is gathered, to be removed: with one more
-for each run that gave up, a run would need more and more allocations.
+Neither may leave an empty folder in which what doesn't belong to the children's folder was to be gathered.
 
 Of the allocations of these two the first and the last are refused, and of those between one in so many; with --each, which
-takes long, each is refused in turn.
+takes long, each is refused in turn. The folder of the children is new for each run then: a run that gives up while it removes
+what it gathered leaves that for the next one, so that each would need more allocations than the number that is refused.
 """
 import itertools
 import os
@@ -204,7 +204,7 @@ def run(play, refused, shared, folder):
     mark, work = os.path.join(folder, "refused"), os.path.join(folder, "work")
     if os.path.exists(mark):
         os.remove(mark)
-    if play.repository or play.children == "new":
+    if play.repository or play.children == "new" or (play.children and EACH):
         lay_repository(play, shared, work)
     env = dict(os.environ, LD_PRELOAD=os.path.join(shared, "refuse.so"), REFUSE_ALLOCATION=str(refused), REFUSED_FILE=mark)
     said = end_of([PROGRAM, *play.words], work, play.stdin, env)
@@ -228,13 +228,15 @@ def shown_before(play, shared, folder):
 def shown_after(play, work):
     """What the folder of a play shows: what its repository does, or the files that the children got copies of."""
     shown = shown_in(work) if play.repository else files_in(work) if play.children else None
-    return shown, gathered_in(work)
+    return shown, empty_in(work)
 
 
-def gathered_in(work):
-    """The folders of what doesn't belong in the folder of children: their names begin with a byte that no path has."""
+def empty_in(work):
+    """The empty ones of the folders in which a run gathers what doesn't belong in the folder of children. Their names begin
+    with a byte that no path has."""
     scratch = os.path.join(work, ".hookhost", "scratch")
-    return [name for name in os.listdir(scratch) if name.startswith("\x01")] if os.path.isdir(scratch) else []
+    names = [name for name in os.listdir(scratch) if name.startswith("\x01")] if os.path.isdir(scratch) else []
+    return [name for name in names if not os.listdir(os.path.join(scratch, name))]
 
 
 def files_in(work):
