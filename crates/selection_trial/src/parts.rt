@@ -74,12 +74,24 @@ pub(crate) fn candidates_of(alloc: Global, argument: &Vec<u8>) -> Result<Vec<Rep
 pub(crate) fn tree_of(alloc: Global, argument: &Vec<u8>) -> Result<Tree, Stop> {
     let mut tree = Tree::new(alloc);
     for line in text_of(argument.as_slice())?.lines() {
-        let (mode, rest) = line.split_once(' ').ok_or(Stop::BadLine)?;
-        let (path, bytes) = rest.split_once(' ').ok_or(Stop::BadLine)?;
-        let entry = entry_of(alloc, mode, bytes)?;
-        tree.put(RepoPath::read(alloc, path)?, entry)?;
+        put_file(alloc, &mut tree, line)?;
     }
     Ok(tree)
+}
+
+// Puts the file of a line into the tree.
+fn put_file(alloc: Global, tree: &mut Tree, line: &str) -> Result<(), Stop> {
+    let (mode, path, bytes) = words_of(line)?;
+    let entry = entry_of(alloc, mode, bytes)?;
+    tree.put(RepoPath::read(alloc, path)?, entry)?;
+    Ok(())
+}
+
+// The mode, the path and the bytes of a line.
+fn words_of(line: &str) -> Result<(&str, &str, &str), Stop> {
+    let (mode, rest) = line.split_once(' ').ok_or(Stop::BadLine)?;
+    let (path, bytes) = rest.split_once(' ').ok_or(Stop::BadLine)?;
+    Ok((mode, path, bytes))
 }
 
 // What stands at a path: a mode, `-` or `x`, and bytes.

@@ -1,6 +1,6 @@
 //! Calls on the tags of files.
 
-use file_tags::{MOST_SHEBANG_BYTES, shebang, tags_of};
+use file_tags::{MOST_SHEBANG_BYTES, Tags, shebang, tags_of};
 use hook_base::{Bytes, FileEntry, Mode, RepoPath};
 use std::alloc::Global;
 use trial_rows::{Stop, only, text_of};
@@ -10,12 +10,20 @@ pub(crate) fn among(alloc: Global, arguments: &[Vec<u8>]) -> Result<Vec<u8>, Sto
     let [mode, path, bytes, asked @ ..] = arguments else {
         return Err(Stop::BadLine);
     };
-    let path = RepoPath::read(alloc, text_of(path.as_slice())?)?;
-    let entry = FileEntry {
-        mode: mode_of(text_of(mode.as_slice())?)?,
-        bytes: Bytes::copy_of(alloc, bytes.as_slice())?,
-    };
-    let tags = tags_of(alloc, &path, &entry)?;
+    let tags = tags_at(alloc, text_of(path.as_slice())?, mode, bytes)?;
+    lines_among(alloc, &tags, asked)
+}
+
+// The tags of a file.
+fn tags_at(alloc: Global, path: &str, mode: &Vec<u8>, bytes: &Vec<u8>) -> Result<Tags, Stop> {
+    let path = RepoPath::read(alloc, path)?;
+    let mode = mode_of(text_of(mode.as_slice())?)?;
+    let bytes = Bytes::copy_of(alloc, bytes.as_slice())?;
+    Ok(tags_of(alloc, &path, &FileEntry { mode, bytes })?)
+}
+
+// Those of the asked tags that are among the tags, a line each.
+fn lines_among(alloc: Global, tags: &Tags, asked: &[Vec<u8>]) -> Result<Vec<u8>, Stop> {
     let mut lines = Vec::new(alloc);
     for tag in asked {
         if tags.has(text_of(tag.as_slice())?) {

@@ -40,6 +40,8 @@ fn answer_to_two(alloc: Global, name: &str, one: &[u8], other: &[u8]) -> Result<
     }
 }
 
+// The calls of one argument stand in several functions, each of which knows the next, since one with many arms takes the
+// checker long.
 fn answer_to_bytes(alloc: Global, name: &str, bytes: &[u8]) -> Result<String, Stop> {
     match name {
         "characters" => lines::decode(alloc, bytes),
@@ -47,6 +49,12 @@ fn answer_to_bytes(alloc: Global, name: &str, bytes: &[u8]) -> Result<String, St
         "count_lines" => lines::count_lines(alloc, bytes),
         "read_content" => contents::shown_content(alloc, bytes),
         "read_quoted" => contents::shown_quoted(alloc, bytes),
+        _ => answer_to_yaml(alloc, name, bytes),
+    }
+}
+
+fn answer_to_yaml(alloc: Global, name: &str, bytes: &[u8]) -> Result<String, Stop> {
+    match name {
         "read_yaml" => texts::read_text(alloc, bytes),
         "debug_yaml" => texts::debug_text(alloc, bytes),
         "read_twice" => texts::read_twice(alloc, bytes),
@@ -61,6 +69,12 @@ fn answer_to_text(alloc: Global, name: &str, text: &str) -> Result<String, Stop>
         "read_path" => paths::read(alloc, text),
         "path_fault" => path_faults::told(alloc, text),
         "copy_text" => copies::copy_text(alloc, text),
+        _ => answer_to_kind(alloc, name, text),
+    }
+}
+
+fn answer_to_kind(alloc: Global, name: &str, text: &str) -> Result<String, Stop> {
+    match name {
         "count_flow_beginnings" => flows::count_beginnings(alloc, text),
         "yaml_kind" => kinds::told(alloc, text),
         "yaml_fault_of" => kinds::fault_of(alloc, text),

@@ -33,7 +33,8 @@ fn changes_of(alloc: Global, text: &str) -> Result<Changes, Stop> {
     if text.is_empty() {
         return Ok(Changes::new(alloc));
     }
-    let changes = vec![in alloc; read_change(alloc, text)?]?;
+    let mut changes = Vec::new(alloc);
+    changes.push(read_change(alloc, text)?)?;
     Changes::from_rising(changes).ok().ok_or(Stop::BadLine)
 }
 

@@ -22,8 +22,11 @@ pub(crate) fn read(alloc: Global, text: &str) -> Result<String, Stop> {
 /// The path of a message, and whether its copy is the same.
 pub(crate) fn message(alloc: Global) -> Result<String, Stop> {
     let path = RepoPath::message(alloc)?;
-    let is_same = path.clone()? == path;
-    let text = path.as_str();
+    let copy = path.clone()?;
+    shown(alloc, path.as_str(), copy == path)
+}
+
+fn shown(alloc: Global, text: &str, is_same: bool) -> Result<String, Stop> {
     Ok(format!(in alloc; "{text} {is_same}")?)
 }
 
