@@ -25,7 +25,7 @@ from concurrent.futures import ThreadPoolExecutor
 # What the whole gate may take, in processor minutes: 130, 8 for each of file_tags, path_select, builtin_hooks and report_text,
 # 20 for hook_run, 8 for what hook_config, hook_cli and the scripts grew with it, 35 for commit_flow, 8 for what the
 # store's crates grew for it, 5 for its commands in the program and 8 for the scripts that play them, and 8 for each of
-# arg_partition, result_book, process_children, child_display and sync_if_dirty. Who adds a crate says what it adds.
+# arg_partition, result_book, process_children, child_display and lazy_disk. Who adds a crate says what it adds.
 BUDGET = 130 + 4 * 8 + 20 + 8 + 35 + 8 + 5 + 8 + 5 * 8
 PAUSE = 0.5
 START = time.monotonic()

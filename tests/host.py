@@ -425,29 +425,96 @@ def waits_for_the_disk_only_where_something_is_written(folder):
     check(counts == [10, 16, 4], f"the disk is waited for {counts} times, at first without a log")
 
 
+def log_of(folder):
+    """How long the log is that a command left."""
+    return os.path.getsize(os.path.join(folder, STORE + "-wal"))
+
+
 def takes_a_store_with_pages_of_another_size(folder):
-    """A store that was written out and read in with other pages is taken in place of the one that the log lies beside."""
+    """A store that was written out and read in with other pages is taken in place of the one that the log lies beside, be
+    that log as long as a small change made it, or short behind a large one."""
     do(folder, "init")
     write(folder, "a", b"1")
     do(folder, "add", "a")
     dumped = subprocess.run(["sqlite3", "-batch", os.path.join(folder, STORE), ".dump"], capture_output=True, timeout=60, check=True).stdout
-    for size in (512, 1024, 65536, 4096):
-        # Another command leaves the log, which sqlite3 takes away.
-        write(folder, "b", str(size).encode())
-        do(folder, "add", "b")
-        check(os.path.getsize(os.path.join(folder, STORE + "-wal")) == 56, "a command left no bare log")
-        os.remove(os.path.join(folder, STORE))
-        made = subprocess.run(["sqlite3", "-batch", os.path.join(folder, "made")], input=b"PRAGMA page_size = %d;\n%s" % (size, dumped), capture_output=True, timeout=60)
-        check((made.returncode, made.stderr) == (0, b""), f"sqlite3 says {made.stderr!r}")
-        os.rename(os.path.join(folder, "made"), os.path.join(folder, STORE))
-        check(do(folder, "status") == b"A a\n" and do(folder, "cat", "a") == b"1", f"pages of {size} bytes: the files are others")
+    pages = 4096
+    for length in (1, 1_000_000):
+        for size in (512, 1024, 65536, 4096):
+            write(folder, "b", str(size).encode().ljust(length, b" "))
+            do(folder, "add", "b")
+            found = log_of(folder)
+            # A change of a few large pages is long too.
+            check(found == 56 if length > 262_144 or pages > 32_768 else 512 < found <= 262_144, f"a file of {length} bytes leaves a log of {found}")
+            pages = size
+            os.remove(os.path.join(folder, STORE))
+            made = subprocess.run(["sqlite3", "-batch", os.path.join(folder, "made")], input=b"PRAGMA page_size = %d;\n%s" % (size, dumped), capture_output=True, timeout=60)
+            check((made.returncode, made.stderr) == (0, b""), f"sqlite3 says {made.stderr!r}")
+            os.rename(os.path.join(folder, "made"), os.path.join(folder, STORE))
+            check(do(folder, "status") == b"A a\n" and do(folder, "cat", "a") == b"1", f"pages of {size} bytes: the files are others")
+
+
+def read_in_a_copy(folder, copy, store):
+    """The staged files as sqlite3 reads them in a copy of the folder, which takes its log away; with another file as the
+    database, if one is given."""
+    shutil.rmtree(copy, ignore_errors=True)
+    shutil.copytree(os.path.join(folder, ".hookhost"), os.path.join(copy, ".hookhost"))
+    if store:
+        shutil.copyfile(store, os.path.join(copy, STORE))
+    return staged_rows(copy)
+
+
+def leaves_a_log_without_a_change(folder):
+    """The log that a change leaves, however long, has nothing that the database lacks, and changes nothing where an older file
+    of the database is put beside it."""
+    work, copy = os.path.join(folder, "work"), os.path.join(folder, "copy")
+    store, older, newer = os.path.join(work, STORE), os.path.join(folder, "older"), os.path.join(folder, "newer")
+    os.mkdir(work)
+    do(work, "init")
+    before = {}
+    for at, length in enumerate((1, 90_000, 1, 70_000, 300_000, 1, 2)):
+        held = str(at).encode().ljust(length, b" ")
+        write(work, "a", held)
+        shutil.copyfile(store, older)
+        do(work, "add", "a")
+        check(log_of(work) == 56 if length > 262_144 else length < log_of(work) <= 262_144, f"a change of {length} bytes leaves a log of {log_of(work)}")
+        check(read_in_a_copy(work, copy, None) == {b"a": (0, held)}, "sqlite3 finds other files")
+        check(read_in_a_copy(work, copy, older) == before, "sqlite3 finds a change in the log")
+        shutil.copyfile(store, newer)
+        check(read_alone(newer, copy) == {b"a": (0, held)}, "the database alone has other files")
+        shutil.copyfile(older, store)
+        check(do(work, "status") == b"".join(b"A " + path + b"\n" for path in before), "the log brings a change back")
+        shutil.copyfile(newer, store)
+        check(do(work, "cat", "a") == held, "the staged file is another")
+        before = {b"a": (0, held)}
+
+
+def read_alone(store, copy):
+    """The staged files as sqlite3 reads them in a file of the database without a log."""
+    shutil.rmtree(copy, ignore_errors=True)
+    os.makedirs(os.path.join(copy, ".hookhost"))
+    shutil.copyfile(store, os.path.join(copy, STORE))
+    return staged_rows(copy)
+
+
+def cuts_the_long_log_of_a_change_that_was_not_made(folder):
+    """A log that a large change left when the power failed, or the disk was full, is cut by the next small one."""
+    do(folder, "init")
+    write(folder, "a", b"1")
+    with open(os.path.join(folder, STORE + "-wal"), "ab") as log:
+        log.write(bytes(3_000_000))
+    for count in range(2):
+        write(folder, "a", b"%d" % count)
+        do(folder, "add", "a")
+        check(log_of(folder) <= 262_144, f"the log has {log_of(folder)} bytes")
+    check(do(folder, "cat", "a") == b"1", "the staged file is another")
 
 
 CASES = [keeps_files_of_hard_names, keeps_the_longest_path_that_the_system_opens, refuses_control_bytes, takes_no_mode_from_the_working_file,
          refuses_what_may_not_be_read_or_written, refuses_fifos_and_waits_for_none, lets_one_program_work_at_a_time,
          loses_nothing_of_programs_at_once, is_left_whole_by_kills_of_init, is_left_whole_by_kills_of_add_rm_and_accept,
          is_left_whole_by_kills_of_commits, is_left_whole_by_kills_of_runs_and_commits,
-         waits_for_the_disk_only_where_something_is_written, takes_a_store_with_pages_of_another_size]
+         waits_for_the_disk_only_where_something_is_written, takes_a_store_with_pages_of_another_size,
+         leaves_a_log_without_a_change, cuts_the_long_log_of_a_change_that_was_not_made]
 
 
 def main():

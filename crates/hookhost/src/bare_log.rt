@@ -1,8 +1,8 @@
 //! The log of the database while it holds no change.
 
-ghost use Rattle.std.specs.Prelude.{IsTrue};
+ghost use Rattle.std.specs.Prelude.{◌<◌, IsTrue};
 
-use crate::connect::DatabaseFile;
+use lazy_disk::LazyDisk;
 use sqlite::Files;
 use sqlite_disk::Disk;
 use std::io;
@@ -10,46 +10,80 @@ use std::io;
 /// The bytes of a log with its header and that of a page. It holds no change, which takes the page as well.
 pub(crate) const BARE_LOG: usize = 56;
 
-// Where the number of a page's bytes stands in the header of a database and in that of a log.
+// The most bytes of a log that stays as long as it is.
+const MOST_BYTES: u64 = 262_144;
+
+// Where the number of a page's bytes stands in the header of a database.
 const PAGE_IN_DATABASE: usize = 16;
+
+// How the header of a log begins, but for the lowest bit, and where it has the number of a page's bytes and its mark. Each page
+// of a change has the same mark: a log holds none where the first page has another.
+const SIGNATURE: u32 = 0x377f_0682;
 
 const PAGE_IN_LOG: usize = 8;
 
-/// Lengthens a log that the library has cut to its header. It would begin one so short anew when it opens it, with six waits
-/// for the disk, and takes one of this length as it is. Nothing rests on it, so that a failure does no harm.
-pub(crate) fn lengthen(log: &mut DatabaseFile)
-    requires { IsTrue (⟦<DatabaseFile as Disk>⟧.is_usable log.old) }
+const MARK: usize = 16;
+
+const MARK_OF_FIRST_PAGE: usize = 40;
+
+/// Leaves the log of a database that was closed, which the library has cut to 41 bytes. It would begin a log so short anew
+/// when it opens it, with six waits for the disk, and takes a longer one as it is. So a log whose cut is still to be done
+/// stays as it is, unless its file has too many bytes by now, since to cut it takes as long as to write a change; another one
+/// is lengthened, behind its cut. Nothing rests on that, so a failure does no harm.
+pub(crate) fn leave<D: Disk>(log: &mut LazyDisk<D>, bytes_now: Option<u64>)
+    requires { IsTrue (⟦<LazyDisk<D> as Disk>⟧.is_usable log.old) }
 {
-    let _longer = log.set_len(BARE_LOG);
+    if !may_stay(log.uncut_len(), bytes_now) {
+        let _longer = log.set_len(BARE_LOG);
+    }
 }
 
-/// Empties a bare log whose pages have another size than the database's, which was put beside it since. The library takes
-/// the size from the log, where there is one, and would refuse the database. A failure does no harm: the library meets it too.
-pub(crate) fn fit(files: &mut Files<DatabaseFile>)
-    requires log { IsTrue (⟦<DatabaseFile as Disk>⟧.is_usable files.old.log) }
-    requires db { IsTrue (⟦<DatabaseFile as Disk>⟧.is_usable files.old.db) }
-    ensures log { IsTrue (⟦<DatabaseFile as Disk>⟧.is_usable files.new.log) }
-    ensures db { IsTrue (⟦<DatabaseFile as Disk>⟧.is_usable files.new.db) }
+// Whether a log may stay as it is, whose cut is still to be done where it is known to have so many bytes.
+fn may_stay(uncut: Option<usize>, bytes_now: Option<u64>) -> bool {
+    match (uncut, bytes_now) {
+        (Some(known), Some(bytes)) => known >= BARE_LOG && bytes <= MOST_BYTES,
+        _ => false,
+    }
+}
+
+/// Empties a log without a change whose pages have another size than the database's, which was put beside it since. The
+/// library takes the size from the log, where there is one, and would refuse the database. A failure does no harm: the
+/// library meets it too.
+pub(crate) fn fit<D: Disk>(files: &mut Files<LazyDisk<D>>)
+    requires log { IsTrue (⟦<LazyDisk<D> as Disk>⟧.is_usable files.old.log) }
+    requires db { IsTrue (⟦<LazyDisk<D> as Disk>⟧.is_usable files.old.db) }
+    ensures log { IsTrue (⟦<LazyDisk<D> as Disk>⟧.is_usable files.new.log) }
+    ensures db { IsTrue (⟦<LazyDisk<D> as Disk>⟧.is_usable files.new.db) }
 {
     if let Ok(true) = is_of_another_database(files) {
         let _emptied = files.log.set_len(0);
     }
 }
 
-fn is_of_another_database(files: &mut Files<DatabaseFile>) -> io::Result<bool>
-    requires log { IsTrue (⟦<DatabaseFile as Disk>⟧.is_usable files.old.log) }
-    requires db { IsTrue (⟦<DatabaseFile as Disk>⟧.is_usable files.old.db) }
-    ensures log { IsTrue (⟦<DatabaseFile as Disk>⟧.is_usable files.new.log) }
-    ensures db { IsTrue (⟦<DatabaseFile as Disk>⟧.is_usable files.new.db) }
+fn is_of_another_database<D: Disk>(files: &mut Files<LazyDisk<D>>) -> io::Result<bool>
+    requires log { IsTrue (⟦<LazyDisk<D> as Disk>⟧.is_usable files.old.log) }
+    requires db { IsTrue (⟦<LazyDisk<D> as Disk>⟧.is_usable files.old.db) }
+    ensures log { IsTrue (⟦<LazyDisk<D> as Disk>⟧.is_usable files.new.log) }
+    ensures db { IsTrue (⟦<LazyDisk<D> as Disk>⟧.is_usable files.new.db) }
 {
-    if files.log.len()? != BARE_LOG {
+    if files.log.len()? < BARE_LOG {
         return Ok(false);
     }
-    let mut of_log = [0; 4];
-    files.log.read_at(PAGE_IN_LOG, &mut of_log)?;
+    let mut log = [0; BARE_LOG];
+    files.log.read_at(0, &mut log)?;
+    if number_at(&log, 0) & !1 != SIGNATURE || log[MARK_OF_FIRST_PAGE] == log[MARK] {
+        return Ok(false);
+    }
     let mut of_database = [0; 2];
     files.db.read_at(PAGE_IN_DATABASE, &mut of_database)?;
-    Ok(u32::from_be_bytes(of_log) != page_bytes(of_database))
+    Ok(number_at(&log, PAGE_IN_LOG) != page_bytes(of_database))
+}
+
+// The number in four bytes of a log, the highest first.
+fn number_at(log: &[u8; BARE_LOG], at: usize) -> u32
+    requires { at < 53 }
+{
+    u32::from_be_bytes([log[at], log[at + 1], log[at + 2], log[at + 3]])
 }
 
 // The number has no room for 65,536, for which 1 stands.

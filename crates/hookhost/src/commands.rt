@@ -1,10 +1,10 @@
 //! The commands on the repository of the working folder.
 
-ghost use Rattle.std.specs.Prelude.{◌≡◌, ◌⊎◌, IfErr, IfOk};
+ghost use Rattle.std.specs.Prelude.{◌≡◌, ◌⊎◌, false, IfErr, IfOk};
 ghost use Rattle.hook_cli.specs.CommandOver.{IsOverHost};
 ghost use Rattle.hookhost.specs.Stops.{IsStopOfCommand, IsStopOfOpening};
 
-use crate::database::{Before, DatabaseStore, leave, open_database};
+use crate::database::{Before, Database, DatabaseOver, StoreOver, leave, open_database};
 use crate::files::read_file_of;
 use crate::repository::{Found, Lock, look_at_store, take_lock};
 use crate::runs::{Runs, runs_of};
@@ -14,6 +14,7 @@ use commit_flow::Host;
 use hook_base::Items;
 use hook_cli::{Line, command_over};
 use repo_store::{Store, StoreFault};
+use sqlite_disk::Disk;
 use std::{io, mem};
 
 // The exit status of a refusal.
@@ -33,18 +34,50 @@ pub(crate) fn host_command(rt: &HostRuntime, line: &Line) -> Result<u8, Stop>
     let bytes = read_file_of(rt, line)?;
     let mut runs = runs_of(rt, line)?;
     let before = Before::found(rt)?;
-    let mut host = Host::over(rt.alloc(), open_store(rt, &lock, &before)?);
-    let status = answer(rt, line, bytes.as_slice(), &mut runs, &mut host);
-    leave(rt, host, &before, status != REFUSED && changes(line));
-    Ok(status)
+    let conn = open_filled(rt, &lock, &before)?;
+    do_over(rt, line, bytes.as_slice(), &mut runs, &before, conn)
 }
 
-fn answer(
+// Opens the store's database, as it stood under the lock. An empty file is none, and isn't opened.
+fn open_filled(rt: &HostRuntime, lock: &Lock, before: &Before) -> Result<Database, Stop>
+    ensures outside { IfOk result (λ conn. conn.in_transaction ≡ false) }
+    ensures refused { IfErr result IsStopOfOpening }
+{
+    match before.store {
+        Found::Filled => {}
+        Found::Empty => return Err(Stop::NoStore(StoreFault::NotAStore)),
+        Found::Nothing | Found::Other => return Err(Stop::CannotUseStore),
+    }
+    Ok(open_database(rt, lock, before)?)
+}
+
+// Does what a line asks of the store in a database, and leaves the database. This and what it calls say it of files of any
+// kind: what is said of those that the program has takes the checker minutes.
+fn do_over<D: Disk + Drop>(
     rt: &HostRuntime,
     line: &Line,
     bytes: &[u8],
     runs: &mut Option<Runs>,
-    host: &mut Host<DatabaseStore>,
+    before: &Before,
+    conn: DatabaseOver<D>,
+) -> Result<u8, Stop>
+    requires over { IsOverHost line.now }
+    requires outside { conn.in_transaction ≡ false }
+    ensures status { IfOk result (λ status. (status ≡ 0) ⊎ (status ≡ 1) ⊎ (status ≡ 3)) }
+    ensures stopped { IfErr result IsStopOfOpening }
+{
+    let mut host = Host::over(rt.alloc(), open_store(rt, before, conn)?);
+    let status = answer(rt, line, bytes, runs, &mut host);
+    leave(rt, host, before, status != REFUSED && changes(line));
+    Ok(status)
+}
+
+fn answer<D: Disk + Drop>(
+    rt: &HostRuntime,
+    line: &Line,
+    bytes: &[u8],
+    runs: &mut Option<Runs>,
+    host: &mut Host<StoreOver<D>>,
 ) -> u8
     requires { IsOverHost line.now }
     ensures { (result ≡ 0) ⊎ (result ≡ 1) ⊎ (result ≡ 3) }
@@ -90,16 +123,15 @@ fn changes(line: &Line) -> bool {
     }
 }
 
-// Opens the store, as it stood under the lock. An empty file is none, and isn't opened.
-fn open_store(rt: &HostRuntime, lock: &Lock, before: &Before) -> Result<Store<DatabaseStore>, Stop>
+// Opens the store in a database.
+fn open_store<D: Disk + Drop>(
+    rt: &HostRuntime,
+    before: &Before,
+    conn: DatabaseOver<D>,
+) -> Result<Store<StoreOver<D>>, Stop>
+    requires { conn.in_transaction ≡ false }
     ensures { IfErr result IsStopOfOpening }
 {
-    match before.store {
-        Found::Filled => {}
-        Found::Empty => return Err(Stop::NoStore(StoreFault::NotAStore)),
-        Found::Nothing | Found::Other => return Err(Stop::CannotUseStore),
-    }
-    let conn = open_database(rt, lock, before)?;
     match Store::open(rt.alloc(), conn) {
         Ok(store) => Ok(store),
         Err((fault, conn)) => {

@@ -4,19 +4,24 @@ ghost use Rattle.std.specs.Prelude.{◌≡◌, false, IsTrue, IfErr, IfOk};
 ghost use Rattle.sqlite.specs.Opening.{is_open_error};
 
 use crate::bare_log::fit;
-use sqlite::{Connection, Error, ErrorCode, FileFrom, FileStore, Leftover, Options, Wary};
+use lazy_disk::{LazyDisk, settled_files};
+use sqlite::{
+    Connection, Error, ErrorCode, FileFrom, FileStore, Files as DatabaseFiles, Leftover, Options,
+    Wary,
+};
+use sqlite_disk::Disk;
 use sqlite_std_file::OpenError;
+use std::alloc::Global;
 use std::fs;
 use std::hash::{BuildHasher, RandomState};
 use std::io::ErrorKind;
 use std::rt::Files;
-use sync_if_dirty::{SyncIfDirty, settled_files};
 
 /// A file of the database, for which the disk is waited only where something was written. The library waits for both files
 /// several times while it opens them, and to open them has waited for all that is in them already. `Wary` supposes nothing of
 /// the bytes that a write leaves where the power fails within it; a library that supposes more prepares its log for many
 /// commits, and a command makes one.
-pub(crate) type DatabaseFile = SyncIfDirty<FileFrom<Wary>>;
+pub(crate) type DatabaseFile = LazyDisk<FileFrom<Wary>>;
 
 /// The bytes of a page of the databases that the library makes.
 const PAGE_BYTES: u64 = 4_096;
@@ -48,9 +53,23 @@ pub(crate) fn connect(
         Ok(files) => files,
         Err(error) => return Err((error_of(error), None)),
     };
-    let mut files = settled_files(files);
+    connect_over(rt.alloc(), settled_files(files), options)
+}
+
+// Opens the database in its files, or makes it where they are empty.
+fn connect_over<D: Disk + Drop>(
+    alloc: Global,
+    files: DatabaseFiles<LazyDisk<D>>,
+    options: Options,
+) -> Result<Connection<FileStore<LazyDisk<D>>>, (Error, Option<Leftover<LazyDisk<D>>>)>
+    requires log { IsTrue (⟦<LazyDisk<D> as Disk>⟧.is_usable files.log) }
+    requires db { IsTrue (⟦<LazyDisk<D> as Disk>⟧.is_usable files.db) }
+    ensures outside { IfOk result (λ conn. conn.in_transaction ≡ false) }
+    ensures refused { IfErr result (λ failed. IsTrue (is_open_error failed.0)) }
+{
+    let mut files = files;
     fit(&mut files);
-    match Connection::open_files(rt.alloc(), files, options) {
+    match Connection::open_files(alloc, files, options) {
         Ok(conn) => Ok(conn),
         Err((error, left)) => Err((error, Some(left))),
     }

@@ -4,23 +4,28 @@ ghost use Rattle.std.specs.Prelude.{◌≡◌, false, IfErr, IfOk};
 ghost use Rattle.hookhost.specs.Stops.{IsStopOfDatabase};
 ghost use Rattle.hookhost.specs.declared.stop.Stop.TheVariants.{CannotUseStore};
 
-use crate::bare_log::{BARE_LOG, lengthen};
+use crate::bare_log;
 use crate::connect::{DatabaseFile, connect};
 use crate::repository::{Found, Lock, STORE, found_at};
 use crate::stop::Stop;
 use commit_flow::Host;
+use lazy_disk::LazyDisk;
 use sqlite::{Connection, FileStore};
+use sqlite_disk::Disk;
 use std::rt::Files;
 use std::{fs, mem};
 
 /// The log that the library writes beside the database.
 const LOG: &str = ".hookhost/store.db-wal";
 
-/// What the store's rows are kept in.
-pub(crate) type DatabaseStore = FileStore<DatabaseFile>;
+/// What the store's rows are kept in, over files of this kind.
+pub(crate) type StoreOver<D> = FileStore<LazyDisk<D>>;
+
+/// A connection to the store's database, over files of this kind.
+pub(crate) type DatabaseOver<D> = Connection<StoreOver<D>>;
 
 /// A connection to the store's database.
-pub(crate) type Database = Connection<DatabaseStore>;
+pub(crate) type Database = Connection<FileStore<DatabaseFile>>;
 
 /// What stood at the names of the database and of its log before it was opened.
 #[derive(Clone, Copy, Debug)]
@@ -88,24 +93,24 @@ pub(crate) fn open_database(
 /// Copies the log into the database, which is all of the repository then. The log stays beside it, without a change in it:
 /// the next command waits longer for the disk where it has to make that file. Where the copying fails, the log keeps its
 /// changes, and nothing is lost.
-pub(crate) fn close_database(conn: Database) {
+pub(crate) fn close_database<R: Files, D: Disk + Drop>(rt: &R, conn: DatabaseOver<D>) {
     match conn.close_files() {
-        Ok(mut files) => lengthen(&mut files.log),
+        Ok(mut files) => bare_log::leave(&mut files.log, bytes_of_log(rt)),
         Err((_, store)) => mem::forget(store),
     }
 }
 
 /// Leaves the database of a host, of which a command may have made a change. Its log is copied into the database; where there
 /// was no change, the log is as before.
-pub(crate) fn leave(
-    rt: &HostRuntime,
-    host: Host<DatabaseStore>,
+pub(crate) fn leave<R: Files, D: Disk + Drop>(
+    rt: &R,
+    host: Host<StoreOver<D>>,
     before: &Before,
     is_changed: bool,
 ) {
     let had_log = before.log == Found::Filled || before.log == Found::Other;
     if is_changed || !(had_log || is_log_bare(rt)) {
-        close_database(host.into_store().into_connection());
+        close_database(rt, host.into_store().into_connection());
     } else {
         put_back(rt, LOG, before.log);
         // The process ends next: its files and memory go with it.
@@ -113,10 +118,18 @@ pub(crate) fn leave(
     }
 }
 
-// Whether the log holds no change.
+// Whether the log, which was begun when the database was opened, holds no change.
 fn is_log_bare<R: Files>(rt: &R) -> bool {
+    match bytes_of_log(rt) {
+        Some(bytes) => bytes <= bare_log::BARE_LOG as u64,
+        None => false,
+    }
+}
+
+// The bytes of the log's file, or `None` where that can't be told.
+fn bytes_of_log<R: Files>(rt: &R) -> Option<u64> {
     match fs::symlink_metadata(rt, LOG) {
-        Ok(found) => found.len() <= BARE_LOG as u64,
-        Err(_) => false,
+        Ok(found) => Some(found.len()),
+        Err(_) => None,
     }
 }

@@ -42,8 +42,21 @@ pub(crate) fn play_call<S: Alter>(
         "stage-many" => stage_many(store, rest, answer),
         "unstage" => unstage(store, rest, answer),
         "accept" => answer.numbered(store.accept()),
+        _ => play_further(store, word, rest, answer),
+    }
+}
+
+// The calls that keep something, and those that only read. They stand in several functions, since one with many arms takes
+// the checker long.
+fn play_further<S: Alter>(
+    store: &mut Store<S>,
+    word: &str,
+    rest: &str,
+    answer: &mut Answer,
+) -> Result<(), Stop> {
+    match word {
         "commit" => commit(store, rest, answer),
-        "blob" => keep(store, read_text(answer.alloc(), rest)?.as_slice(), answer),
+        "blob" => keep_text(store, rest, answer),
         "blob-of" => keep_of(store, rest, answer),
         _ => {
             answer.begin("ok")?;
@@ -64,14 +77,36 @@ fn show<S: Alter>(
         "head" => answer.add_tree(&store.head()?),
         "fixes" => answer.add_fixes(store.fixes()?.as_slice()),
         "log" => answer.add_log(store.log()?.as_slice()),
-        "tree" => add_tree_of(store, number(rest)?, answer),
+        _ => show_facts(store, word, rest, answer),
+    }
+}
+
+fn show_facts<S: Alter>(
+    store: &Store<S>,
+    word: &str,
+    rest: &str,
+    answer: &mut Answer,
+) -> Result<(), Stop> {
+    match word {
         "trees" => add_trees(store, answer),
         "weigh" => weigh(store, answer),
-        "files" => add_files(store, number(rest)?, answer),
         "look" => look(store, rest, answer),
         "count" => count(store, answer),
-        "message" => add_message(store, number(rest)?, answer),
         "walk" => walk(store, answer),
+        _ => show_commit(store, word, number(rest)?, answer),
+    }
+}
+
+fn show_commit<S: Alter>(
+    store: &Store<S>,
+    word: &str,
+    number: u32,
+    answer: &mut Answer,
+) -> Result<(), Stop> {
+    match word {
+        "tree" => add_tree_of(store, number, answer),
+        "files" => add_files(store, number, answer),
+        "message" => add_message(store, number, answer),
         _ => Err(Stop::BadLine),
     }
 }
@@ -130,6 +165,11 @@ fn unstage<S: Alter>(store: &mut Store<S>, path: &str, answer: &mut Answer) -> R
 fn commit<S: Alter>(store: &mut Store<S>, text: &str, answer: &mut Answer) -> Result<(), Stop> {
     let message = read_text(answer.alloc(), text)?;
     answer.numbered(store.commit(message.as_slice()))
+}
+
+fn keep_text<S: Alter>(store: &mut Store<S>, text: &str, answer: &mut Answer) -> Result<(), Stop> {
+    let bytes = read_text(answer.alloc(), text)?;
+    keep(store, bytes.as_slice(), answer)
 }
 
 fn keep_of<S: Alter>(store: &mut Store<S>, size: &str, answer: &mut Answer) -> Result<(), Stop> {

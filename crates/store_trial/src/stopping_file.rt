@@ -1,22 +1,22 @@
 //! A disk that stops: two files in memory, one of which takes so many operations and then none, until the machine
-//! crashes and comes back. As those of `hookhost`, they are waited for only where something was written.
+//! crashes and comes back. As those of `hookhost`, they are waited for only where something was written, and cut late.
 
 use crate::answer::Answer;
 use crate::ask::Ask;
 use crate::play::Play;
 use crate::print;
 use crate::stop::Stop;
+use lazy_disk::LazyDisk;
 use repo_store::StoreFault;
 use sqlite::{Connection, Error, FileStore, Files, Options};
 use sqlite_disk::{Crash, Fuse, Memory};
 use std::alloc::Global;
 use std::io::{BufRead, BufReader};
-use sync_if_dirty::SyncIfDirty;
 
 /// Few, so that the log is copied into the database file within a short play.
 const CHECKPOINT_FRAMES: usize = 8;
 
-type StoppingFile = SyncIfDirty<Fuse<Memory>>;
+type StoppingFile = LazyDisk<Fuse<Memory>>;
 
 /// The files, while no database is open in them.
 type Kept = Option<Files<StoppingFile>>;
@@ -40,8 +40,8 @@ fn files_of(alloc: Global, which: &str, at: &str) -> Result<Files<StoppingFile>,
 
 fn files_with(alloc: Global, log: u64, db: u64) -> Files<StoppingFile> {
     Files {
-        log: SyncIfDirty::new(Fuse::new(Memory::new(alloc), log)),
-        db: SyncIfDirty::new(Fuse::new(Memory::new(alloc), db)),
+        log: LazyDisk::new(Fuse::new(Memory::new(alloc), log)),
+        db: LazyDisk::new(Fuse::new(Memory::new(alloc), db)),
     }
 }
 

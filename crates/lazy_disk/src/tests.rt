@@ -1,10 +1,10 @@
-//! Tests of what no clause says: how many syncs are handed on.
+//! Tests of what no clause says: which calls are handed on.
 
 ghost use Rattle.std.specs.Prelude.{IsTrue};
 ghost use Rattle.sqlite_disk.specs.Disk.{Only};
 
 use crate::counted::Counted;
-use crate::{SyncIfDirty, settled_files};
+use crate::{LazyDisk, settled_files};
 use sqlite_disk::{Crash, Disk, Files, Fuse, Memory, digest_of};
 use sqlite_std_file::{Unknown, open};
 use std::alloc::Global;
@@ -25,7 +25,7 @@ fn fused(alloc: Global, calls: u64) -> Counted<Fuse<Memory>>
 
 #[test]
 fn hands_one_sync_on_after_each_write(rt: HostRuntime) -> Result<(), Fail> {
-    let mut disk = SyncIfDirty::over_synced(fused(rt.alloc(), 4));
+    let mut disk = LazyDisk::over_synced(fused(rt.alloc(), 4));
     disk.write_at(0, b"ab")?;
     disk.sync()?;
     disk.sync()?;
@@ -44,12 +44,12 @@ fn hands_one_sync_on_after_each_write(rt: HostRuntime) -> Result<(), Fail> {
 
 #[test]
 fn hands_the_first_sync_on_where_it_may_tell_something(rt: HostRuntime) -> Result<(), Fail> {
-    let mut unknown = SyncIfDirty::new(fused(rt.alloc(), 1));
+    let mut unknown = LazyDisk::new(fused(rt.alloc(), 1));
     unknown.sync()?;
     assert_eq!(rt; unknown.inner().syncs, 1);
     unknown.sync()?;
     assert_eq!(rt; unknown.inner().syncs, 1);
-    let mut synced = SyncIfDirty::over_synced(fused(rt.alloc(), 0));
+    let mut synced = LazyDisk::over_synced(fused(rt.alloc(), 0));
     synced.sync()?;
     assert_eq!(rt; synced.inner().syncs, 0);
     Ok(())
@@ -57,11 +57,11 @@ fn hands_the_first_sync_on_where_it_may_tell_something(rt: HostRuntime) -> Resul
 
 #[test]
 fn counts_a_failed_write_as_written(rt: HostRuntime) {
-    let mut disk = SyncIfDirty::over_synced(fused(rt.alloc(), 0));
+    let mut disk = LazyDisk::over_synced(fused(rt.alloc(), 0));
     assert!(rt; disk.write_at(0, b"ab").is_err());
     assert!(rt; disk.sync().is_err());
     assert_eq!(rt; disk.inner().syncs, 1);
-    let mut disk = SyncIfDirty::over_synced(fused(rt.alloc(), 0));
+    let mut disk = LazyDisk::over_synced(fused(rt.alloc(), 0));
     assert!(rt; disk.set_len(1).is_err());
     assert!(rt; disk.sync().is_err());
     assert_eq!(rt; disk.inner().syncs, 1);
@@ -69,7 +69,7 @@ fn counts_a_failed_write_as_written(rt: HostRuntime) {
 
 #[test]
 fn hands_no_sync_on_after_reads(rt: HostRuntime) -> Result<(), Fail> {
-    let mut disk = SyncIfDirty::new(fused(rt.alloc(), 6));
+    let mut disk = LazyDisk::new(fused(rt.alloc(), 6));
     disk.write_at(0, b"ab")?;
     disk.sync()?;
     assert_eq!(rt; disk.len()?, 2);
@@ -87,7 +87,7 @@ fn hands_no_sync_on_after_reads(rt: HostRuntime) -> Result<(), Fail> {
 
 #[test]
 fn hands_a_sync_on_after_a_crash(rt: HostRuntime) -> Result<(), Fail> {
-    let mut disk = SyncIfDirty::new(fused(rt.alloc(), 3));
+    let mut disk = LazyDisk::new(fused(rt.alloc(), 3));
     disk.write_at(0, b"ab")?;
     disk.sync()?;
     disk.write_at(0, b"cd")?;
@@ -107,9 +107,9 @@ fn hands_a_sync_on_after_a_crash(rt: HostRuntime) -> Result<(), Fail> {
     Ok(())
 }
 
-const FOLDER: &str = "sync_if_dirty_test";
+const FOLDER: &str = "lazy_disk_test";
 
-const PATH: &str = "sync_if_dirty_test/a.db";
+const PATH: &str = "lazy_disk_test/a.db";
 
 #[test]
 fn keeps_what_is_written_to_the_files_of_a_database(rt: HostRuntime) -> Result<(), Fail> {
@@ -133,5 +133,64 @@ fn keeps_what_is_written_to_the_files_of_a_database(rt: HostRuntime) -> Result<(
     assert_eq!(rt; back, *b"db");
     drop((log, db));
     fs::remove_dir_all(&rt, FOLDER)?;
+    Ok(())
+}
+
+#[test]
+fn cuts_before_the_next_write(rt: HostRuntime) -> Result<(), Fail> {
+    let mut disk = LazyDisk::new(fused(rt.alloc(), 3));
+    disk.write_at(0, b"abcd")?;
+    disk.set_len(1)?;
+    assert_eq!(rt; disk.uncut_len(), Some(4));
+    assert_eq!(rt; disk.inner().inner.inner().bytes(), b"abcd".as_slice());
+    disk.write_at(2, b"z")?;
+    assert_eq!(rt; disk.inner().inner.inner().bytes(), b"a\0z".as_slice());
+    Ok(())
+}
+
+#[test]
+fn cuts_before_a_longer_length(rt: HostRuntime) -> Result<(), Fail> {
+    let mut disk = LazyDisk::new(fused(rt.alloc(), 3));
+    disk.write_at(0, b"abcd")?;
+    disk.set_len(2)?;
+    disk.set_len(3)?;
+    assert_eq!(rt; disk.inner().inner.inner().bytes(), b"ab\0".as_slice());
+    Ok(())
+}
+
+#[test]
+fn cuts_before_a_sync(rt: HostRuntime) -> Result<(), Fail> {
+    let mut disk = LazyDisk::new(fused(rt.alloc(), 3));
+    disk.write_at(0, b"abcd")?;
+    disk.set_len(3)?;
+    disk.set_len(2)?;
+    disk.sync()?;
+    assert_eq!(rt; disk.inner().inner.inner().bytes(), b"ab".as_slice());
+    // The write, one cut and the sync were handed on, so the fuse is blown.
+    assert!(rt; disk.len().is_err());
+    Ok(())
+}
+
+#[test]
+fn keeps_a_cut_due_that_fails(rt: HostRuntime) -> Result<(), Fail> {
+    let mut disk = LazyDisk::new(fused(rt.alloc(), 1));
+    disk.write_at(0, b"abcd")?;
+    disk.set_len(2)?;
+    assert!(rt; disk.sync().is_err());
+    assert!(rt; !disk.may_be_used());
+    assert_eq!(rt; disk.uncut_len(), Some(2));
+    Ok(())
+}
+
+#[test]
+fn reads_only_what_is_not_cut(rt: HostRuntime) -> Result<(), Fail> {
+    let mut disk = LazyDisk::new(fused(rt.alloc(), 2));
+    disk.write_at(0, b"abcd")?;
+    disk.set_len(3)?;
+    let mut back = [0; 2];
+    assert!(rt; disk.read_at(2, &mut back).is_err());
+    // Just one read was handed on, since the fuse isn't blown yet.
+    disk.read_at(1, &mut back)?;
+    assert_eq!(rt; back, *b"bc");
     Ok(())
 }

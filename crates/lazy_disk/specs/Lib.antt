@@ -1,0 +1,3 @@
+pub mod DueCut
+pub mod DueCutLemmas
+pub mod LazyDisk

@@ -1,0 +1,253 @@
+//! The disk that hands on only what has to be done.
+
+ghost use Rattle.std.specs.Prelude.{◌≡◌, ◌≤◌, ◌+◌, ◌↔◌, ◌&&◌, not, false, length, List, ℕ, None, IsTrue, IsOk, IfSome, OnOk};
+ghost use Rattle.sqlite_disk.specs.Disk.{CountsFault, Only};
+ghost use Rattle.sqlite_disk.specs.Tally.{CountsRefusal};
+ghost use Rattle.sqlite_disk.specs.Refusal.{finds_no_room};
+ghost use Rattle.lazy_disk.specs.DueCut.{shown_bytes, MayLeaveDue, EndsWithin, shown_len};
+ghost use Rattle.lazy_disk.specs.DueCutLemmas.{shown_may_stay};
+
+use sqlite_disk::{Crash, Disk, Tally};
+use std::io;
+
+/// A disk that hands each call on to another, but for two.
+///
+/// It hands a sync on only where something may have been written since the last one that passed. Where nothing was, the disk
+/// below has just what a read returns, so to wait for it again tells nothing new: such a sync answers `Ok`.
+///
+/// It puts a cut of the file off: a length that the file is known to have is only kept as due, and is handed on before the next
+/// write, a longer length or a sync. Each answer is as if the file were cut. Where nothing more is written or synced, the file
+/// below stays longer, which is what a cut that wasn't synced may leave anyway.
+#[derive(Drop)]
+pub struct LazyDisk<D: Disk> {
+    inner: D,
+    // The file below has at least so many bytes, by what passed here.
+    known_len: usize,
+    // The length to which it is still to be cut.
+    cut: Option<usize>,
+    // The calls that failed here, and not below.
+    refused: u64,
+    // A sync failed before it reached the disk below.
+    is_sync_refused: bool,
+    // Whether something may have been written below since the last sync that passed.
+    is_dirty: bool,
+    ghost known: { known_len ≤ length (D.Disk.seen inner) },
+    ghost due: { shown_len cut known_len ≤ known_len },
+    ghost synced: { is_dirty ≡ false → Only (D.Disk.seen inner) (D.Disk.may_leave inner) },
+    ghost steady: { (a b : D) → D.Disk.is_mixing a ≡ D.Disk.is_mixing b },
+}
+
+impl<D: Disk> LazyDisk<D> {
+    ghost use Rattle.lazy_disk.specs.LazyDisk.{inner_of, is_dirty, cut_of, uncut_of, IsFresh};
+
+    /// Over a disk of which it isn't known what is written: the first sync is handed on. Its torn writes mix in all of its
+    /// states or in none: a write may bring a cut with it here, and no contract says that a cut leaves this as it was.
+    pub fn new(inner: D) -> Self
+        requires { (a b : D) → D.Disk.is_mixing a ≡ D.Disk.is_mixing b }
+        ensures inner { inner_of result ≡ inner }
+        ensures dirty { IsTrue (is_dirty result) }
+        ensures uncut { cut_of result ≡ None }
+        ensures fresh { IsFresh result }
+    {
+        LazyDisk {
+            inner,
+            known_len: 0,
+            cut: None,
+            refused: 0,
+            is_sync_refused: false,
+            is_dirty: true,
+        }
+    }
+
+    /// Over a disk of which all that was written is synced: a sync is handed on only after the next write. Its torn writes
+    /// mix in all of its states or in none, as above.
+    pub fn over_synced(inner: D) -> Self
+        requires mixing { (a b : D) → D.Disk.is_mixing a ≡ D.Disk.is_mixing b }
+        requires synced { Only (D.Disk.seen inner) (D.Disk.may_leave inner) }
+        ensures inner { inner_of result ≡ inner }
+        ensures clean { is_dirty result ≡ false }
+        ensures uncut { cut_of result ≡ None }
+        ensures fresh { IsFresh result }
+    {
+        LazyDisk {
+            inner,
+            known_len: 0,
+            cut: None,
+            refused: 0,
+            is_sync_refused: false,
+            is_dirty: false,
+        }
+    }
+
+    /// The disk below.
+    pub fn inner(&self) -> &D
+        ensures { result.now ≡ inner_of self.now }
+    {
+        &self.inner
+    }
+
+    /// Where a cut is due, how many bytes the file below is known to have: those that the cut leaves, where it has failed
+    /// already. Else `None`.
+    pub fn uncut_len(&self) -> Option<usize>
+        ensures known { result ≡ uncut_of self.now }
+        ensures within { IfSome result (λ n. n ≤ length (D.Disk.seen (inner_of self.now))) }
+    {
+        match self.cut {
+            Some(_) => Some(self.known_len),
+            None => None,
+        }
+    }
+
+    // How long the file shows at least, by what passed here.
+    fn shown_len(&self) -> usize
+        ensures { result ≡ shown_len self.now.cut self.now.known_len }
+    {
+        self.cut.unwrap_or(self.known_len)
+    }
+
+    // Does the cut that is due. Where that fails, it stays due, and the file shows as before.
+    fn settle(&mut self) -> io::Result<()>
+        requires { IsTrue (D.Disk.is_usable self.old.inner) }
+        ensures settled { OnOk result ((self.new.cut ≡ None) × (self.new.known_len ≡ shown_len self.old.cut self.old.known_len)) }
+        ensures refused { self.new.refused ≡ self.old.refused }
+        ensures is_sync_refused { self.new.is_sync_refused ≡ self.old.is_sync_refused }
+        ensures faults { CountsFault result (D.Disk.faults self.old.inner) (D.Disk.faults self.new.inner) }
+        ensures calm { D.Disk.is_clean self.new.inner ≡ D.Disk.is_clean self.old.inner }
+        ensures fair { D.Disk.is_fair self.new.inner ≡ D.Disk.is_fair self.old.inner }
+        ensures tally { CountsRefusal result (D.Disk.tally_of self.old.inner) (D.Disk.tally_of self.new.inner) }
+        ensures key { D.Disk.key_of self.new.inner ≡ D.Disk.key_of self.old.inner }
+        ensures usable { IsTrue (D.Disk.is_usable self.new.inner) }
+        ensures seen { shown_bytes self.new.cut (D.Disk.seen self.new.inner) ≡ shown_bytes self.old.cut (D.Disk.seen self.old.inner) }
+        ensures crash { (c : List ℕ) → MayLeaveDue self.new.cut (D.Disk.may_leave self.new.inner) c
+            → MayLeaveDue self.old.cut (D.Disk.may_leave self.old.inner) c }
+    {
+        if let Some(len) = self.cut {
+            // Before the call, since a cut that fails may be done in part.
+            self.known_len = len;
+            self.is_dirty = true;
+            self.inner.set_len(len)?;
+            self.cut = None;
+        }
+        Ok(())
+    }
+}
+
+// A read past the cut fails, as one past the end of a file does.
+fn keep_within(cut: Option<usize>, at: usize, len: usize, refused: &mut u64) -> io::Result<()>
+    ensures within { IsOk result ↔ EndsWithin cut (at + len) }
+    ensures faults { CountsFault result refused.old refused.new }
+{
+    if let Some(end) = cut {
+        if at > end || len > end - at {
+            *refused = refused.saturating_add(1);
+            return Err(io::ErrorKind::UnexpectedEof.into());
+        }
+    }
+    Ok(())
+}
+
+// Never frozen: on a frozen disk each call fails, and a cut that is put off or a sync that isn't handed on passes. No bytes are promised to be damaged,
+// since no contract says that a cut leaves the damage as it was.
+impl<D: Disk> Disk for LazyDisk<D> {
+    ghost seen = { λ f. shown_bytes f.cut (D.Disk.seen f.inner) };
+
+    ghost may_leave = { λ f. MayLeaveDue f.cut (D.Disk.may_leave f.inner) };
+
+    ghost is_usable = { λ f. D.Disk.is_usable f.inner && not f.is_sync_refused };
+
+    ghost faults = { λ f. D.Disk.faults f.inner + f.refused };
+
+    ghost tally_of = { λ f. D.Disk.tally_of f.inner };
+
+    ghost is_clean = { λ f. D.Disk.is_clean f.inner };
+
+    ghost key_of = { λ f. D.Disk.key_of f.inner };
+
+    ghost is_fair = { λ f. D.Disk.is_fair f.inner };
+
+    ghost is_mixing = { λ f. D.Disk.is_mixing f.inner };
+
+    ghost seen_may_stay = { λ f. shown_may_stay f.cut (D.Disk.may_leave f.inner) (D.Disk.seen f.inner) (D.Disk.seen_may_stay f.inner) };
+
+    ghost fair_if_clean = { λ f. D.Disk.fair_if_clean f.inner };
+
+    fn mixes(&self) -> bool {
+        self.inner.mixes()
+    }
+
+    fn key(&self) -> u64 {
+        self.inner.key()
+    }
+
+    fn tally(&self) -> Tally {
+        self.inner.tally()
+    }
+
+    fn may_be_used(&self) -> bool {
+        self.inner.may_be_used() && !self.is_sync_refused
+    }
+
+    fn len(&mut self) -> io::Result<usize> {
+        match self.cut {
+            Some(len) => Ok(len),
+            None => self.inner.len(),
+        }
+    }
+
+    fn read_at(&mut self, at: usize, buf: &mut [u8]) -> io::Result<()> {
+        keep_within(self.cut, at, buf.len(), &mut self.refused)?;
+        self.inner.read_at(at, buf)
+    }
+
+    fn read_checked(&mut self, key: u64, want: u64, at: usize, buf: &mut [u8]) -> io::Result<()> {
+        keep_within(self.cut, at, buf.len(), &mut self.refused)?;
+        self.inner.read_checked(key, want, at, buf)
+    }
+
+    fn write_at(&mut self, at: usize, bytes: &[u8]) -> io::Result<()> {
+        self.settle()?;
+        // Before the call, since a write that fails may have changed its range.
+        self.is_dirty = true;
+        self.inner.write_at(at, bytes)?;
+        if !bytes.is_empty() {
+            self.known_len = self.known_len.max(at.saturating_add(bytes.len()));
+        }
+        Ok(())
+    }
+
+    fn set_len(&mut self, len: usize) -> io::Result<()> {
+        if len <= self.shown_len() {
+            self.cut = Some(len);
+            return Ok(());
+        }
+        self.settle()?;
+        self.is_dirty = true;
+        self.inner.set_len(len)?;
+        self.known_len = len;
+        Ok(())
+    }
+
+    fn sync(&mut self) -> io::Result<()> {
+        if let Err(error) = self.settle() {
+            self.is_sync_refused = true;
+            return Err(error);
+        }
+        if self.is_dirty {
+            self.inner.sync()?;
+            self.is_dirty = false;
+        }
+        Ok(())
+    }
+}
+
+// What a crash leaves may be shorter than anything that passed here, and with the machine the cut is gone. It is synced again
+// before anything rests on it, so the disk counts as written to.
+impl<D: Crash> Crash for LazyDisk<D> {
+    fn crash(&mut self) {
+        self.known_len = 0;
+        self.cut = None;
+        self.is_sync_refused = false;
+        self.is_dirty = true;
+        self.inner.crash();
+    }
+}
