@@ -1,1 +1,2 @@
+pub mod GitLemmas
 pub mod PlaceLemmas

@@ -1,6 +1,6 @@
 -- Paths inside a repository, as lists of bytes.
-use Rattle.std.specs.Prelude.{◌≡◌, ◌⊎◌, ℕ, Bool, false, ◌==◌, nat_eq, ◌||◌, nat_lt, if◌then◌else◌, List, [], ◌∷◌, length, Option, None, Some, codes}
-use Rattle.std.specs.List.{slice_split, list_any, starts_with}
+use Rattle.std.specs.Prelude.{◌≡◌, ◌⊎◌, ℕ, Bool, false, ◌==◌, ◌||◌, nat_lt, if◌then◌else◌, List, [], ◌∷◌, length, Option, None, Some, codes}
+use Rattle.std.specs.List.{slice_split, list_any}
 use Rattle.std.specs.Str.{bytes_eq}
 use Rattle.hook_base.specs.Limits.{most_path_bytes}
 use Rattle.hook_base.specs.declared.path_fault.PathFault.{PathFault}
@@ -23,9 +23,14 @@ is_dot_part part = bytes_eq part (46 ∷ []) || bytes_eq part (46 ∷ 46 ∷ [])
 abbrev pub parts_of : List ℕ → List (List ℕ)
 parts_of path = slice_split is_slash path
 
+-- the first part is this name
+abbrev pub begins_with_part : List ℕ → List (List ℕ) → Bool
+begins_with_part name [] = false
+begins_with_part name (part ∷ parts) = bytes_eq part name
+
 -- the first part is `.git`
 abbrev pub is_under_git : List ℕ → Bool
-is_under_git path = bytes_eq path (codes ".git") || starts_with nat_eq path (codes ".git/")
+is_under_git path = begins_with_part (codes ".git") (parts_of path)
 
 abbrev pub begins_with_slash : List ℕ → Bool
 begins_with_slash [] = false
