@@ -3,7 +3,8 @@
 //!
 //! A `HookResult` says how a hook ended by its `Ending`, and that what failed by `LineFault`s.
 //!
-//! `push` and `push_line` put bytes and lines at the end of a text, for callers that print lines of their own.
+//! `push` and `push_line` put bytes and lines at the end of a text, for callers that print lines of their own. A refusal of
+//! memory leaves that text as it was.
 //!
 //! The contracts cite `columns_of`, `width_of`, `hook_text`, `is_failed` and `line` of `specs/Report.antt`, and the limit
 //! of `specs/Limits.antt`. `report_text` there, the texts of all hooks in the columns of all names, is for callers.

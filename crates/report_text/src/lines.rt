@@ -1,6 +1,6 @@
 //! The lines behind a hook's first: its id, and how it ended.
 
-ghost use Rattle.std.specs.Prelude.{◌≡◌, ◌++◌, OnOk};
+ghost use Rattle.std.specs.Prelude.{◌≡◌, ◌++◌, OnErr, OnOk};
 ghost use Rattle.report_text.specs.Report.{block_of, child_fault_text, ending_lines, fault_lines, fault_text, id_line, line, modified_line, status_line, trimmed};
 
 use crate::hook_result::{Ending, LineFault};
@@ -102,17 +102,22 @@ fn push_block(report: &mut Vec<u8>, text: &[u8]) -> Result<(), OutOfMemory>
     Ok(())
 }
 
-/// Puts the text with a line feed at the report's end. `OutOfMemory` may leave a part of it there.
+/// Puts the text with a line feed at the report's end. `OutOfMemory` may come of any text, and leaves the report as it was.
 pub fn push_line(report: &mut Vec<u8>, text: &[u8]) -> Result<(), OutOfMemory>
-    ensures { OnOk result (report.new.items ≡ report.old.items ++ line text.now) }
+    ensures put { OnOk result (report.new.items ≡ report.old.items ++ line text.now) }
+    ensures refused { OnErr result (report.new.items ≡ report.old.items) }
 {
-    push(report, text)?;
-    push(report, b"\n")
+    // Room for both first, so that no part of the line is left.
+    report.reserve(text.len() + 1)?;
+    report.extend_from_slice(text)?;
+    report.push(b'\n')?;
+    Ok(())
 }
 
-/// Puts the bytes as they are at the report's end. `OutOfMemory` may come of any bytes.
+/// Puts the bytes as they are at the report's end. `OutOfMemory` may come of any bytes, and leaves the report as it was.
 pub fn push(report: &mut Vec<u8>, bytes: &[u8]) -> Result<(), OutOfMemory>
-    ensures { OnOk result (report.new.items ≡ report.old.items ++ bytes.now) }
+    ensures put { OnOk result (report.new.items ≡ report.old.items ++ bytes.now) }
+    ensures refused { OnErr result (report.new.items ≡ report.old.items) }
 {
     report.extend_from_slice(bytes)?;
     Ok(())
