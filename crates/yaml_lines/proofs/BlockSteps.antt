@@ -7,8 +7,9 @@ use Rattle.std.proofs.lemmas.Str.{encodes-append}
 use Rattle.std.specs.Char.{encode_utf8}
 use Rattle.std.specs.Str.{encode_utf8_all}
 use Rattle.yaml_lines.specs.Characters.{is_nil}
-use Rattle.yaml_lines.specs.BlockTexts.{LineText, all_spaces, spaces, margin_of, is_ragged, behind_margin, between, behind_last, begins_blank, joined}
+use Rattle.yaml_lines.specs.BlockTexts.{LineText, all_spaces, spaces, margin_of, is_ragged, behind_margin, without_margin, between, behind_last, begins_blank}
 use Rattle.yaml_lines.specs.declared.header.Header.{Header}
+use Rattle.yaml_lines.proofs.Passes.{passed, passed-nil, passed-cons, without_margins}
 
 line_left : (ls : List LineText) (i : ℕ) (l : LineText) → i < length ls → l ≡ get_or ls i l → drop i ls ≡ l ∷ drop (i + 1) ls
 line_left ls i l within is = drop_more ls i l within ∙ ap (λ (x : LineText). x ∷ drop (i + 1) ls) (sym is)
@@ -73,14 +74,6 @@ pub nil_or_not : (cs : List ℕ) (b : Bool) → eqb (length cs) 0 ≡ b → is_n
 nil_or_not [] b h = h
 nil_or_not (c ∷ cs) b h = sym (eqb-suc-zero (length cs)) ∙ h
 
-joined-cons : (h : Header) (m : Option ℕ) (before : Option Bool) (empties ends : ℕ) (l : LineText) (ls : List LineText) (part : List ℕ) (b : Bool) (ended : ℕ) → part ≡ behind_margin m l → is_nil part ≡ b → ended ≡ cond l.ended 1 0
-    → joined h m before empties ends (l ∷ ls)
-    ≡ cond b (joined h m before (suc empties) (ends + ended) ls) (between h.folded before empties (begins_blank part) ++ (encode_utf8_all part ++ joined h m (Some (begins_blank part)) 0 ended ls))
-unfolding joined
-joined-cons h m before empties ends l ls part b ended p n e =
-    let f : List ℕ → Bool → ℕ → List ℕ = λ cs b k. cond b (joined h m before (suc empties) (ends + k) ls) (between h.folded before empties (begins_blank cs) ++ (encode_utf8_all cs ++ joined h m (Some (begins_blank cs)) 0 k ls)) in
-    ap (λ (cs : List ℕ). f cs (is_nil cs) (cond l.ended 1 0)) (sym p) ∙ (ap (λ (b : Bool). f part b (cond l.ended 1 0)) n ∙ ap (f part b) (sym e))
-
 -- what the code knows of a line
 pub record At (ls : List LineText) (i : ℕ) (l : LineText) (m : Option ℕ) (part : List ℕ) (ended : ℕ) : Type 0 where
   pub within : i < length ls
@@ -88,25 +81,28 @@ pub record At (ls : List LineText) (i : ℕ) (l : LineText) (m : Option ℕ) (pa
   pub behind : part ≡ behind_margin m l
   pub end : ended ≡ cond l.ended 1 0
 
-pub joined-empty : (h : Header) (m : Option ℕ) (before : Option Bool) (empties ends : ℕ) (ls : List LineText) (i : ℕ) (l : LineText) (part : List ℕ) (ended : ℕ) → At ls i l m part ended → is_nil part ≡ true
-    → joined h m before empties ends (drop i ls) ≡ joined h m before (empties + 1) (ends + ended) (drop (i + 1) ls)
-joined-empty h m before empties ends ls i l part ended a n =
-    ap (joined h m before empties ends) (line_left ls i l a.within a.is)
-    ∙ (joined-cons h m before empties ends l (drop (i + 1) ls) part true ended a.behind n a.end
-    ∙ ap (λ (k : ℕ). joined h m before k (ends + ended) (drop (i + 1) ls)) (sym (add-one empties)))
+pub passed-empty : (h : Header) (m : Option ℕ) (before : Option Bool) (empties ends : ℕ) (ls : List LineText) (i : ℕ) (l : LineText) (part : List ℕ) (ended : ℕ) → At ls i l m part ended → is_nil part ≡ true
+    → passed h before empties ends (without_margins m (drop i ls)) ≡ passed h before (empties + 1) (ends + ended) (without_margins m (drop (i + 1) ls))
+passed-empty h m before empties ends ls i l part ended a n =
+    let left = without_margins m (drop (i + 1) ls) in
+    ap (λ (xs : List LineText). passed h before empties ends (without_margins m xs)) (line_left ls i l a.within a.is)
+    ∙ (passed-cons h before empties ends (without_margin m l) left true (ap is_nil (sym a.behind) ∙ n)
+    ∙ (ap (λ (k : ℕ). passed h before (suc empties) (ends + k) left) (sym a.end)
+    ∙ ap (λ (k : ℕ). passed h before k (ends + ended) left) (sym (add-one empties))))
 
-pub joined-text : (h : Header) (m : Option ℕ) (before : Option Bool) (empties ends : ℕ) (ls : List LineText) (i : ℕ) (l : LineText) (part : List ℕ) (ended : ℕ) → At ls i l m part ended → is_nil part ≡ false
-    → joined h m before empties ends (drop i ls) ≡ between h.folded before empties (begins_blank part) ++ (encode_utf8_all part ++ joined h m (Some (begins_blank part)) 0 ended (drop (i + 1) ls))
-joined-text h m before empties ends ls i l part ended a n =
-    ap (joined h m before empties ends) (line_left ls i l a.within a.is)
-    ∙ joined-cons h m before empties ends l (drop (i + 1) ls) part false ended a.behind n a.end
+pub passed-text : (h : Header) (m : Option ℕ) (before : Option Bool) (empties ends : ℕ) (ls : List LineText) (i : ℕ) (l : LineText) (part : List ℕ) (ended : ℕ) → At ls i l m part ended → is_nil part ≡ false
+    → passed h before empties ends (without_margins m (drop i ls))
+    ≡ between h.folded before empties (begins_blank part) ++ (encode_utf8_all part ++ passed h (Some (begins_blank part)) 0 ended (without_margins m (drop (i + 1) ls)))
+passed-text h m before empties ends ls i l part ended a n =
+    let left = without_margins m (drop (i + 1) ls) in
+    let f : List ℕ → ℕ → List ℕ = λ cs k. between h.folded before empties (begins_blank cs) ++ (encode_utf8_all cs ++ passed h (Some (begins_blank cs)) 0 k left) in
+    ap (λ (xs : List LineText). passed h before empties ends (without_margins m xs)) (line_left ls i l a.within a.is)
+    ∙ (passed-cons h before empties ends (without_margin m l) left false (ap is_nil (sym a.behind) ∙ n)
+    ∙ (ap (λ (cs : List ℕ). f cs (cond l.ended 1 0)) (sym a.behind) ∙ ap (f part) (sym a.end)))
 
-joined-nil : (h : Header) (m : Option ℕ) (before : Option Bool) (empties ends : ℕ) → joined h m before empties ends [] ≡ behind_last h.chomping before ends
-unfolding joined
-joined-nil h m before empties ends = refl
-
-pub joined-end : (h : Header) (m : Option ℕ) (before : Option Bool) (empties ends : ℕ) (ls : List LineText) (i : ℕ) → length ls ≤ i → joined h m before empties ends (drop i ls) ≡ behind_last h.chomping before ends
-joined-end h m before empties ends ls i past = ap (joined h m before empties ends) (drop_all i ls past) ∙ joined-nil h m before empties ends
+pub passed-end : (h : Header) (m : Option ℕ) (before : Option Bool) (empties ends : ℕ) (ls : List LineText) (i : ℕ) → length ls ≤ i → passed h before empties ends (without_margins m (drop i ls)) ≡ behind_last h.chomping before ends
+passed-end h m before empties ends ls i past =
+    ap (λ (xs : List LineText). passed h before empties ends (without_margins m xs)) (drop_all i ls past) ∙ passed-nil h before empties ends
 
 -- three pushes in a row
 pub pushed : (all old mid new first second rest : List ℕ) → all ≡ old ++ (first ++ (second ++ rest)) → mid ≡ old ++ first → new ≡ mid ++ second → all ≡ new ++ rest

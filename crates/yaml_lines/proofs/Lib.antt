@@ -11,6 +11,7 @@ mod KeyQuoting
 mod Left
 mod Literal
 pub mod QuotedSeams
+mod Passes
 mod QuotedSteps
 mod QuotedTrailing
 mod Quoting

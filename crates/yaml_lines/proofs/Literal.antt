@@ -1,14 +1,13 @@
 -- Lines that are indented alike are the lines of a literal block text, and its text.
-use Rattle.std.proofs.Common.{◌≡◌, ℕ, zero, suc, ◌+◌, ◌<◌, ◌≤◌, Bool, true, false, cond, not, ◌&&◌, ◌||◌, eqb, ltb, List, [], ◌∷◌, ◌++◌, length, drop, replicate, Option, Some, None, refl, sym, ap, ◌∙◌, arith, append_assoc}
+use Rattle.std.proofs.Common.{◌≡◌, ℕ, zero, suc, ◌+◌, ◌<◌, ◌≤◌, Bool, true, false, cond, not, ◌&&◌, ◌||◌, eqb, ltb, List, [], ◌∷◌, ◌++◌, length, drop, map, replicate, Option, Some, None, refl, sym, ap, ◌∙◌, arith, append_assoc}
 use Rattle.std.proofs.lemmas.Bool.{lt-ltb, le-leb}
-use Rattle.std.proofs.lemmas.List.{append-nil}
 use Rattle.std.specs.List.{prefix_len, list_all}
 use Rattle.std.specs.Str.{encode_utf8_all}
 use Rattle.yaml_lines.specs.BlockLaws.{literal, indented, all_indented, text_of_lines, begins_bare, ends_full}
-use Rattle.yaml_lines.specs.BlockTexts.{LineText, all_spaces, spaces, margin_of, belongs, extent, is_ragged, between, behind_last, begins_blank, joined, block_text}
-use Rattle.yaml_lines.specs.Characters.{is_space, is_nil}
+use Rattle.yaml_lines.specs.BlockTexts.{LineText, all_spaces, spaces, margin_of, belongs, extent, is_ragged, without_margin, has_text, feeds_of, joined, block_text}
+use Rattle.yaml_lines.specs.Characters.{is_space}
 use Rattle.yaml_lines.specs.declared.header.Chomping.TheVariants.{Clip, Keep}
-use Rattle.yaml_lines.specs.declared.header.Header.{Header}
+use Rattle.yaml_lines.proofs.Passes.{joined-nil, joined-cons}
 
 -- ---- a line behind its indentation
 
@@ -80,88 +79,55 @@ none_ragged margin ((c ∷ cs) ∷ lines) e =
 
 -- ---- the text
 
--- how many line feeds are due before the next text line, behind so many empty ones
-abbrev due : Option Bool → ℕ → ℕ
-due None empties = empties
-due (Some _) empties = suc empties
+-- the line without its indentation
+abbrev bare : List ℕ → LineText
+bare line = record { text = line; ended = true }
 
-abbrev feeds : ℕ → List ℕ
-feeds n = replicate n 10
+bare_again : (margin : ℕ) (lines : List (List ℕ)) → map (without_margin (Some margin)) (all_indented margin lines) ≡ map bare lines
+bare_again margin [] = refl
+bare_again margin (line ∷ lines) =
+    ap (λ (text : List ℕ). bare text ∷ map (without_margin (Some margin)) (all_indented margin lines)) (behind margin line)
+    ∙ ap (λ (ls : List LineText). bare line ∷ ls) (bare_again margin lines)
 
-between_feeds : (before : Option Bool) (empties : ℕ) (blank : Bool) → between false before empties blank ≡ feeds (due before empties)
-between_feeds None empties blank = refl
-between_feeds (Some b) empties blank = refl
+all_empty : (lines : List (List ℕ)) → has_text (map bare lines) ≡ false → feeds_of (map bare lines) ≡ text_of_lines lines
+all_empty [] e = refl
+all_empty ([] ∷ lines) e = ap (λ (bs : List ℕ). 10 ∷ bs) (all_empty lines e)
+all_empty ((c ∷ cs) ∷ lines) e = cc
 
-one_due : (before : Option Bool) (empties : ℕ) → due before empties + 1 ≡ due before (suc empties)
-one_due None empties = omega arith
-one_due (Some b) empties = omega arith
+-- a line with its line feed
+with_feed : (line rest all : List ℕ) → rest ≡ all → line ++ (10 ∷ rest) ≡ (line ++ 10 ∷ []) ++ all
+with_feed line rest all e = ap (λ (bs : List ℕ). line ++ (10 ∷ bs)) e ∙ sym (append_assoc line (10 ∷ []) all)
 
-more_feeds : (n : ℕ) (cs : List ℕ) → feeds (suc n) ++ cs ≡ feeds n ++ (10 ∷ cs)
-more_feeds zero cs = refl
-more_feeds (suc n) cs = ap (λ (bs : List ℕ). 10 ∷ bs) (more_feeds n cs)
+kept_line : (line : List ℕ) (lines : List (List ℕ)) (b : Bool) → has_text (map bare lines) ≡ b → joined (literal Keep) (map bare lines) ≡ text_of_lines lines
+    → joined (literal Keep) (map bare (line ∷ lines)) ≡ text_of_lines (line ∷ lines)
+kept_line line lines true some rest =
+    joined-cons (literal Keep) (bare line) (map bare lines) true some
+    ∙ with_feed (encode_utf8_all line) (joined (literal Keep) (map bare lines)) (text_of_lines lines) rest
+kept_line line lines false none rest =
+    joined-cons (literal Keep) (bare line) (map bare lines) false none
+    ∙ with_feed (encode_utf8_all line) (feeds_of (map bare lines)) (text_of_lines lines) (all_empty lines none)
 
-due_feeds : (before : Option Bool) (empties : ℕ) (cs : List ℕ) → feeds (due before (suc empties)) ++ cs ≡ feeds (due before empties) ++ (10 ∷ cs)
-due_feeds None empties cs = more_feeds empties cs
-due_feeds (Some b) empties cs = more_feeds (suc empties) cs
-
--- what the rest gives behind a line that is this part
-abbrev on_part : Header → ℕ → Option Bool → ℕ → ℕ → List LineText → List ℕ → List ℕ
-on_part header margin before empties ends ls part =
-    cond (is_nil part) (joined header (Some margin) before (suc empties) (ends + 1) ls)
-    (between header.folded before empties (begins_blank part) ++ (encode_utf8_all part ++ joined header (Some margin) (Some (begins_blank part)) 0 1 ls))
-
-joined_line : (header : Header) (margin : ℕ) (before : Option Bool) (empties ends : ℕ) (line : List ℕ) (ls : List LineText)
-    → joined header (Some margin) before empties ends (indented margin line ∷ ls) ≡ on_part header margin before empties ends ls line
-unfolding joined
-joined_line header margin before empties ends line ls = ap (on_part header margin before empties ends ls) (behind margin line)
-
-joined_end : (header : Header) (margin : ℕ) (before : Option Bool) (empties ends : ℕ) → joined header (Some margin) before empties ends [] ≡ behind_last header.chomping before ends
-unfolding joined
-joined_end header margin before empties ends = refl
-
--- a text line, with its own line feed still due
-line_done : (n : ℕ) (part : List ℕ) (more : List ℕ) → feeds n ++ (part ++ (10 ∷ more)) ≡ feeds n ++ ((part ++ 10 ∷ []) ++ more)
-line_done n part more = ap (λ (bs : List ℕ). feeds n ++ bs) (sym (append_assoc part (10 ∷ []) more))
-
-kept_from : (margin : ℕ) (before : Option Bool) (empties : ℕ) (lines : List (List ℕ))
-    → joined (literal Keep) (Some margin) before empties (due before empties) (all_indented margin lines) ≡ feeds (due before empties) ++ text_of_lines lines
-kept_from margin before empties [] = joined_end (literal Keep) margin before empties (due before empties) ∙ sym (append-nil (feeds (due before empties)))
-kept_from margin before empties ([] ∷ lines) =
-    joined_line (literal Keep) margin before empties (due before empties) [] (all_indented margin lines)
-    ∙ (ap (λ (n : ℕ). joined (literal Keep) (Some margin) before (suc empties) n (all_indented margin lines)) (one_due before empties)
-    ∙ (kept_from margin before (suc empties) lines ∙ due_feeds before empties (text_of_lines lines)))
-kept_from margin before empties ((c ∷ cs) ∷ lines) =
-    let blank : Bool = begins_blank (c ∷ cs) in
-    let part : List ℕ = encode_utf8_all (c ∷ cs) in
-    joined_line (literal Keep) margin before empties (due before empties) (c ∷ cs) (all_indented margin lines)
-    ∙ (ap (λ (bs : List ℕ). bs ++ (part ++ joined (literal Keep) (Some margin) (Some blank) 0 1 (all_indented margin lines))) (between_feeds before empties blank)
-    ∙ (ap (λ (bs : List ℕ). feeds (due before empties) ++ (part ++ bs)) (kept_from margin (Some blank) 0 lines)
-    ∙ line_done (due before empties) part (text_of_lines lines)))
+kept_lines : (lines : List (List ℕ)) → joined (literal Keep) (map bare lines) ≡ text_of_lines lines
+kept_lines [] = joined-nil (literal Keep)
+kept_lines (line ∷ lines) = kept_line line lines (has_text (map bare lines)) refl (kept_lines lines)
 
 pub kept_text : (margin : ℕ) (lines : List (List ℕ)) → block_text (literal Keep) (Some margin) (all_indented margin lines) ≡ text_of_lines lines
-kept_text margin lines = kept_from margin None 0 lines
+kept_text margin lines = ap (joined (literal Keep)) (bare_again margin lines) ∙ kept_lines lines
 
-clipped_from : (margin : ℕ) (before : Option Bool) (empties ends : ℕ) (lines : List (List ℕ)) → ends_full lines ≡ true
-    → joined (literal Clip) (Some margin) before empties ends (all_indented margin lines) ≡ feeds (due before empties) ++ text_of_lines lines
-clipped_from margin before empties ends [] full = cc
-clipped_from margin before empties ends ([] ∷ []) full = cc
-clipped_from margin before empties ends ([] ∷ (line ∷ lines)) full =
-    joined_line (literal Clip) margin before empties ends [] (all_indented margin (line ∷ lines))
-    ∙ (clipped_from margin before (suc empties) (ends + 1) (line ∷ lines) full ∙ due_feeds before empties (text_of_lines (line ∷ lines)))
-clipped_from margin before empties ends ((c ∷ cs) ∷ []) full =
-    let blank : Bool = begins_blank (c ∷ cs) in
-    let part : List ℕ = encode_utf8_all (c ∷ cs) in
-    joined_line (literal Clip) margin before empties ends (c ∷ cs) []
-    ∙ (ap (λ (bs : List ℕ). bs ++ (part ++ joined (literal Clip) (Some margin) (Some blank) 0 1 [])) (between_feeds before empties blank)
-    ∙ (ap (λ (bs : List ℕ). feeds (due before empties) ++ (part ++ bs)) (joined_end (literal Clip) margin (Some blank) 0 1)
-    ∙ line_done (due before empties) part []))
-clipped_from margin before empties ends ((c ∷ cs) ∷ (line ∷ lines)) full =
-    let blank : Bool = begins_blank (c ∷ cs) in
-    let part : List ℕ = encode_utf8_all (c ∷ cs) in
-    joined_line (literal Clip) margin before empties ends (c ∷ cs) (all_indented margin (line ∷ lines))
-    ∙ (ap (λ (bs : List ℕ). bs ++ (part ++ joined (literal Clip) (Some margin) (Some blank) 0 1 (all_indented margin (line ∷ lines)))) (between_feeds before empties blank)
-    ∙ (ap (λ (bs : List ℕ). feeds (due before empties) ++ (part ++ bs)) (clipped_from margin (Some blank) 0 1 (line ∷ lines) full)
-    ∙ line_done (due before empties) part (text_of_lines (line ∷ lines))))
+full_has_text : (lines : List (List ℕ)) → ends_full lines ≡ true → has_text (map bare lines) ≡ true
+full_has_text [] full = cc
+full_has_text ([] ∷ []) full = cc
+full_has_text ((c ∷ cs) ∷ lines) full = refl
+full_has_text ([] ∷ (line ∷ lines)) full = full_has_text (line ∷ lines) full
+
+clipped_lines : (lines : List (List ℕ)) → ends_full lines ≡ true → joined (literal Clip) (map bare lines) ≡ text_of_lines lines
+clipped_lines [] full = cc
+clipped_lines ([] ∷ []) full = cc
+clipped_lines ((c ∷ cs) ∷ []) full =
+    joined-cons (literal Clip) (bare (c ∷ cs)) [] false refl ∙ with_feed (encode_utf8_all (c ∷ cs)) [] [] refl
+clipped_lines (line ∷ (next ∷ lines)) full =
+    joined-cons (literal Clip) (bare line) (map bare (next ∷ lines)) true (full_has_text (next ∷ lines) full)
+    ∙ with_feed (encode_utf8_all line) (joined (literal Clip) (map bare (next ∷ lines))) (text_of_lines (next ∷ lines)) (clipped_lines (next ∷ lines) full)
 
 pub clipped_text : (margin : ℕ) (lines : List (List ℕ)) → ends_full lines ≡ true → block_text (literal Clip) (Some margin) (all_indented margin lines) ≡ text_of_lines lines
-clipped_text margin lines full = clipped_from margin None 0 0 lines full
+clipped_text margin lines full = ap (joined (literal Clip)) (bare_again margin lines) ∙ clipped_lines lines full

@@ -1,7 +1,7 @@
 -- Block texts: their headers, the lines that belong to them, and their text. (YAML 1.2.2, section 8.1 "Block Scalar
 -- Styles".)
-use Rattle.std.specs.Prelude.{ℕ, Bool, true, false, not, suc, ◌+◌, ◌&&◌, ◌||◌, ◌++◌, List, [], ◌∷◌, length, drop, replicate, Option, Some, None, nat_lt, nat_le, ◌==◌, if◌then◌else◌, encode_utf8_all}
-use Rattle.std.specs.List.{prefix_len, list_all}
+use Rattle.std.specs.Prelude.{ℕ, Bool, true, false, not, suc, ◌&&◌, ◌||◌, ◌++◌, List, [], ◌∷◌, map, length, take, drop, replicate, Option, Some, None, nat_lt, nat_le, ◌==◌, if◌then◌else◌, encode_utf8_all}
+use Rattle.std.specs.List.{prefix_len, list_all, list_any, flat_map}
 use Rattle.yaml_lines.specs.Characters.{is_space, is_blank, is_nil, is_over}
 use Rattle.yaml_lines.specs.declared.header.Chomping.{Chomping}
 use Rattle.yaml_lines.specs.declared.header.Chomping.TheVariants.{Strip, Clip, Keep}
@@ -62,7 +62,62 @@ abbrev pub behind_margin : Option ℕ → LineText → List ℕ
 behind_margin None line = []
 behind_margin (Some margin) line = drop margin line.text
 
--- what stands between two text lines with k empty lines between them, or before the first text line
+-- a line of a block text without its indentation: an empty line, or a text line
+abbrev pub without_margin : Option ℕ → LineText → LineText
+without_margin margin line = record { text = behind_margin margin line; ended = line.ended }
+
+-- one of the lines is a text line
+abbrev pub has_text : List LineText → Bool
+has_text lines = list_any (λ line. not (is_nil line.text)) lines
+
+-- the first of the lines is empty
+abbrev pub begins_empty : List LineText → Bool
+begins_empty [] = false
+begins_empty (line ∷ _) = is_nil line.text
+
+abbrev pub begins_blank : List ℕ → Bool
+begins_blank [] = false
+begins_blank (c ∷ _) = is_blank c
+
+-- the first text line of these begins with a blank
+abbrev pub next_begins_blank : List LineText → Bool
+next_begins_blank [] = false
+next_begins_blank (line ∷ lines) = if is_nil line.text then next_begins_blank lines else begins_blank line.text
+
+-- What the end of a line becomes where one of the lines behind it is a text line. It stays a line feed, but for that of a
+-- folded text line: if neither it nor the next text line begins with a blank, its end is a space, or nothing before empty
+-- lines, whose own ends stay. (Section 8.1.3 "Folded Style".)
+abbrev pub line_end : Bool → LineText → List LineText → List ℕ
+line_end folded line later =
+    if not folded || is_nil line.text || begins_blank line.text || next_begins_blank later then 10 ∷ []
+    else (if begins_empty later then [] else 32 ∷ [])
+
+-- a line feed for each of the lines that has an end
+abbrev pub feeds_of : List LineText → List ℕ
+feeds_of lines = flat_map (λ line. if line.ended then 10 ∷ [] else []) lines
+
+-- What the ends of the last text line and of the empty lines behind it become. Where there is no text line, these are the
+-- ends of all lines. (Section 8.1.1.2 "Block Chomping Indicator".)
+abbrev pub last_ends : Chomping → LineText → List LineText → List ℕ
+last_ends Strip line later = []
+last_ends Clip line later = if is_nil line.text then [] else take 1 (feeds_of (line ∷ later))
+last_ends Keep line later = feeds_of (line ∷ later)
+
+-- the text of the lines in UTF-8, each without its indentation
+unfoldable pub joined : Header → List LineText → List ℕ
+joined header [] = []
+joined header (line ∷ later) =
+    encode_utf8_all line.text
+    ++ (if has_text later then line_end header.folded line later ++ joined header later else last_ends header.chomping line later)
+
+-- the text of a block text with this header and margin, from the lines that belong to it
+abbrev pub block_text : Header → Option ℕ → List LineText → List ℕ
+block_text header margin ls = joined header (map (without_margin margin) ls)
+
+-- ---- for contracts of private functions alone
+
+-- What stands before a text line with k empty lines before it. `before` says of the text line before those whether it
+-- begins with a blank, none if there is none, and `blank` whether this one does.
 abbrev pub between : Bool → Option Bool → ℕ → Bool → List ℕ
 between folded None k blank = replicate k 10
 between folded (Some before) k blank =
@@ -74,22 +129,3 @@ behind_last Strip before ends = []
 behind_last Clip None ends = []
 behind_last Clip (Some _) ends = if ends == 0 then [] else 10 ∷ []
 behind_last Keep before ends = replicate ends 10
-
-abbrev pub begins_blank : List ℕ → Bool
-begins_blank [] = false
-begins_blank (c ∷ _) = is_blank c
-
--- The text of the lines in UTF-8. `before` says of the last text line whether it begins with a blank, none if there is
--- no text line yet; since then `empties` lines are empty, and `ends` lines, that text line among them, have an end.
-unfoldable pub joined : Header → Option ℕ → Option Bool → ℕ → ℕ → List LineText → List ℕ
-joined header margin before empties ends [] = behind_last header.chomping before ends
-joined header margin before empties ends (l ∷ ls) =
-    let ended = if l.ended then 1 else 0 in
-    let part = behind_margin margin l in
-    if is_nil part then joined header margin before (suc empties) (ends + ended) ls
-    else between header.folded before empties (begins_blank part)
-    ++ (encode_utf8_all part ++ joined header margin (Some (begins_blank part)) 0 ended ls)
-
--- the text of a block text with this header and margin, from the lines that belong to it
-abbrev pub block_text : Header → Option ℕ → List LineText → List ℕ
-block_text header margin ls = joined header margin None 0 0 ls

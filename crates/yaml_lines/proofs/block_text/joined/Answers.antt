@@ -1,8 +1,9 @@
-use Rattle.std.proofs.Common.{◌≡◌, ◌∙◌, ◌++◌, ◌+◌, sym, ap, Some, Bool, true, false, ℕ, List, drop, string_bytes, arith}
+use Rattle.std.proofs.Common.{◌≡◌, ◌∙◌, ◌++◌, ◌+◌, sym, ap, Some, None, Bool, true, false, ℕ, List, drop, string_bytes, arith}
 use Rattle.std.specs.Str.{encode_utf8_all}
 use Rattle.yaml_lines.specs.Characters.{is_nil}
-use Rattle.yaml_lines.specs.BlockTexts.{joined, block_text, begins_blank, between}
-use Rattle.yaml_lines.proofs.BlockSteps.{nil_or_not, At, joined-empty, joined-text, joined-end, pushed}
+use Rattle.yaml_lines.specs.BlockTexts.{begins_blank, between}
+use Rattle.yaml_lines.proofs.BlockSteps.{nil_or_not, At, passed-empty, passed-text, passed-end, pushed}
+use Rattle.yaml_lines.proofs.Passes.{passed, passed_gives, without_margins}
 use Rattle.yaml_lines.proofs.block_text.joined.Goals as goal
 use Rattle.yaml_lines.proofs.block_text.joined.Goals.{then-is_empty, else-is_empty+in_ok-push_between+in_ok-push_characters}
 
@@ -20,7 +21,7 @@ loop-line-preserved c =
           record {
             together =
                 c.loop-line.invariant.together
-                ∙ (ap (λ (xs : List ℕ). string_bytes c.loop-line.text ++ xs) (joined-empty h m c.loop-line.before c.loop-line.empties c.loop-line.ends ls i c.line-item.result part c.count_end-ended.result at none)
+                ∙ (ap (λ (xs : List ℕ). string_bytes c.loop-line.text ++ xs) (passed-empty h m c.loop-line.before c.loop-line.empties c.loop-line.ends ls i c.line-item.result part c.count_end-ended.result at none)
                 ∙ cc);
             empty = omega (arith, w.empties-is);
             ended = omega (arith, w.ends-is, c.count_end-ended.ensures.small);
@@ -33,8 +34,8 @@ loop-line-preserved c =
           w.in_ok-push_between.ensures ∙ ap (λ (b : Bool). old ++ between h.folded c.loop-line.before c.loop-line.empties b) w.begins_blank-blank.ensures in
           record {
             together =
-                pushed (block_text h m ls) old (string_bytes w.push_between.new.text) (string_bytes w.push_characters.new.text) first (encode_utf8_all part) (joined h m (Some (begins_blank part)) 0 c.count_end-ended.result (drop (i + 1) ls))
-                (c.loop-line.invariant.together ∙ ap (λ (xs : List ℕ). old ++ xs) (joined-text h m c.loop-line.before c.loop-line.empties c.loop-line.ends ls i c.line-item.result part c.count_end-ended.result at other))
+                pushed (passed h None 0 0 (without_margins m ls)) old (string_bytes w.push_between.new.text) (string_bytes w.push_characters.new.text) first (encode_utf8_all part) (passed h (Some (begins_blank part)) 0 c.count_end-ended.result (without_margins m (drop (i + 1) ls)))
+                (c.loop-line.invariant.together ∙ ap (λ (xs : List ℕ). old ++ xs) (passed-text h m c.loop-line.before c.loop-line.empties c.loop-line.ends ls i c.line-item.result part c.count_end-ended.result at other))
                 put w.in_ok-push_characters.ensures
                 ∙ cc;
             empty = omega (arith, w.empties-is);
@@ -45,4 +46,4 @@ loop-line-preserved c =
 pub returns : goal.returns
 returns c =
     c.in_ok-push_end.ensures
-    ∙ sym (c.loop-line.invariant.together ∙ ap (λ (xs : List ℕ). string_bytes c.loop-line.text ++ xs) (joined-end c.args.header c.args.margin c.loop-line.before c.loop-line.empties c.loop-line.ends c.args.lines.now c.loop-line.line-index c.loop-line-test.false))
+    ∙ sym (sym (passed_gives c.args.header (without_margins c.args.margin c.args.lines.now)) ∙ c.loop-line.invariant.together ∙ ap (λ (xs : List ℕ). string_bytes c.loop-line.text ++ xs) (passed-end c.args.header c.args.margin c.loop-line.before c.loop-line.empties c.loop-line.ends c.args.lines.now c.loop-line.line-index c.loop-line-test.false))
