@@ -3,14 +3,12 @@
 //! `specs/KnownKeys.antt`: the contracts of what compares a key with one of these hold only where both are the same.
 //!
 //! The keys of `TOP_KEYS` and `HOOK_KEYS` without a name of their own are read and ignored, whatever their value. Any other
-//! key is ignored, and listed in `Config::unknown`. A language of `LATER_LANGUAGES` is known and not served yet.
+//! key is ignored, and listed in `Config::unknown`.
 //!
-//! What a key of a hook touches that is to be served is listed in `docs/ARCHITECTURE.md`, "A hook key".
-//!
-//! To serve a language that comes later: take its word out of the later ones, here and in `specs/KnownKeys.antt`, and
-//! give it a name; give `Language` and `LanguageName` a variant, and the functions of `languages.rt` and of
-//! `specs/Languages.antt` a case. What it answers stands in `hook_run`: `IsLanguageRun` of its `specs/HookRun.antt`, and
-//! `ending_with` of its `ending.rt`.
+//! What a key of a hook touches that is to be served is listed in `docs/ARCHITECTURE.md`, "A hook key". A further language has
+//! its word here and in `specs/KnownKeys.antt`, a variant of `Language` and of `LanguageName`, and a case in the functions of
+//! `languages.rt` and of `specs/Languages.antt`. What its hooks answer stands in `hook_run`: `IsLanguageRun` of its
+//! `specs/HookRun.antt`, and `begin_language` of its `begin.rt`.
 
 // The table at the top.
 
