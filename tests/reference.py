@@ -1,6 +1,6 @@
 #!/usr/bin/env python3
-"""Compares docs/REFERENCE.md with the code: each refusal's number and name, what `--help` says of it, each limit, and each row
-of the tables of tags.
+"""Compares docs/REFERENCE.md with the code: each refusal's number and name, what `--help` says of it, each limit, the words of
+a configuration, and each row of the tables of tags; and docs/DEFINITIONS.md with the definitions.
 
 Usage: tests/reference.py [FOLDER]   (default: the repository that this file stands in)
 
@@ -9,8 +9,15 @@ where there is none the variants' own) have to be the rows of one table of the r
 each such table has to be of one enum. HELP says which enum's table the help of a command prints: a line of number, name and
 when, and below it one of what to do, in the words of the reference without its backticks. The help of each command on a repository
 prints the rows that name the command in the tables whose first column is `printed`. The help of the program prints the table
-of the exit statuses. No line of help is wider than 84 columns. A limit is a definition `NAME = NUMBER` in a crate's specs/; LIMITS says where the
-reference's table "Limits" names it, and every number of that table has to be a limit.
+of the exit statuses. No line of help is wider than 84 columns. A limit is a definition `most_.. = NUMBER` in a crate's specs/;
+LIMITS says where the reference's table "Limits" names each of them, and every number of that table has to be a limit. The keys,
+stages, languages and truths of the section on the configuration have to be those of hook_config's specs/.
+
+A table of the definitions whose first columns are `word` and `file` is of the crates that its section's heading names: each
+word is defined in one of these files of their specs/, or is a type of the code that such a file uses, and each module that a
+third column names is a file of src/. The laws of a table are those of the crates that it names, all of them. Each file of specs/,
+but for Lib.antt and the lemmas, stands in a table of its crate's sections; one that says in its first lines that it is for
+private functions or for laws alone may be named in their text instead.
 """
 import os
 import re
@@ -27,6 +34,8 @@ LIMITS = [
     ("file, message", "16 MiB ({} bytes)", "hook_base", "most_file_bytes", 0),
     ("first line of a script, behind `#!`", "{} bytes", "file_tags", "most_shebang_bytes", 0),
     ("name of a hook in a report", "1 MiB ({} bytes)", "report_text", "most_name_bytes", 0),
+    ("[command of a hook](#the-parts-of-a-command), with its names", "{} bytes", "hook_run", "most_command_bytes", 0),
+    ("[command of a hook](#the-parts-of-a-command), with its names", "{} names", "hook_run", "most_names", 0),
     ("output of a child", "1 MiB ({} bytes)", "child_port", "most_output_bytes", 0),
     ("staged tree of a store", "{} files", "repo_store", "most_files", 0),
     ("staged tree of a store", "8 MiB ({} bytes) together", "repo_store", "most_tree_path_bytes", 0),
@@ -114,6 +123,11 @@ def wrong_refusals(reference):
         yield f"{enum}: the reference has no table of its numbers"
 
 
+def section_of(text, title):
+    """The text of a document below a heading, up to the next one."""
+    return text.partition(f"\n## {title}\n")[2].partition("\n## ")[0]
+
+
 def help_of(constant):
     """The text of a constant of the help."""
     return re.search(rf'const {constant}: &str = "\\\n(.*?)";', read("crates", "hook_cli", "src", "help.rt"), re.DOTALL)[1]
@@ -188,8 +202,12 @@ def value_of(crate, name):
 
 
 def wrong_limits(reference):
-    section = reference.partition("\n## Limits\n")[2].partition("\n## ")[0]
-    rows = {row[0]: row[1] for rows in tables(section) for row in rows[2:]}
+    rows = {row[0]: row[1] for rows in tables(section_of(reference, "Limits")) for row in rows[2:]}
+    for path, text in sources("crates", ".antt"):
+        crate = path.split(os.sep)[1]
+        for name in re.findall(r"^(most_\w+) = [\d_]+$", text, re.MULTILINE):
+            if (crate, name) not in [limit[2:4] for limit in LIMITS]:
+                yield f"{name} of {path} is a limit that LIMITS doesn't name"
     told = []
     for row, words, crate, name, more in LIMITS:
         value = value_of(crate, name)
@@ -212,6 +230,48 @@ def wrong_limits(reference):
         yield f"{number} is none of the limits"
 
 
+def listed(texts, name):
+    """The words of a list in specs/: what follows `NAME =`, where another name stands for its own text."""
+    body = re.search(rf"^{name} =(.*?)\n(?=\n|\Z)", texts, re.MULTILINE | re.DOTALL)[1]
+    for word, other in re.findall(r'codes "([^"]*)"|(\w+)(?=\s*∷)', body):
+        yield word or re.search(rf'^{other} = codes "([^"]*)"$', texts, re.MULTILINE)[1]
+
+
+def quoted(text):
+    """The words in backticks."""
+    return re.findall(r"`([^`]+)`", text)
+
+
+def sentence(section, beginning):
+    """What follows a beginning, up to a full stop that isn't of a number or a word."""
+    return re.search(rf"{beginning}(.*?)\.(?= |\n)", section)[1]
+
+
+def wrong_configuration(reference):
+    """How the words of a configuration differ from those of hook_config's specs/."""
+    section = section_of(reference, "The configuration's keys")
+    words, stages = read("crates", "hook_config", "specs", "KnownKeys.antt"), read("crates", "hook_config", "specs", "Stages.antt")
+    languages = read("crates", "hook_config", "specs", "Languages.antt")
+    ignored = sentence(section, "Read and ignored, whatever the value: ").partition("; on a hook ")
+    rows = [row for rows in tables(section) for row in rows[2:]]
+    for where, name, more in [("top", "top_keys", ignored[0]), ("repository", "repository_keys", ""), ("hook", "hook_keys", ignored[2])]:
+        told = [key for row in rows if row[0] == where for key in quoted(row[1])] + quoted(more)
+        if sorted(told) != sorted(listed(words, name)):
+            yield f"the keys at {where!r} aren't {name}: {sorted({*told} ^ {*listed(words, name)})}"
+    names = dict(re.findall(r'\(codes "([^"]+)", (\w+)\)', stages))
+    told = quoted(sentence(section, "The stages are "))
+    older, meant = map(quoted, sentence(section, "The older names ").split(" are read as "))
+    read_as = {name: re.sub("-?([a-z]+)", lambda it: it[1].capitalize(), name) for name in told}
+    if {**read_as, **{old: read_as.get(new) for old, new in zip(older, meant)}} != names or len(older) != len(meant):
+        yield f"the stages are {sorted(names)} in Stages.antt"
+    served = [re.search(rf'^{word} = codes "([^"]*)"$', words, re.MULTILINE)[1] for word in re.findall(r"bytes_eq word (\w+)", languages)]
+    if sorted(quoted(sentence(section, "The languages are "))) != sorted(served):
+        yield f"the languages are {served} in Languages.antt"
+    truths = quoted(sentence(section, "A \\*truth\\* is "))
+    if sorted([*listed(words, "true_words"), *listed(words, "false_words")]) != sorted(form for it in truths for form in [it, it.capitalize(), it.upper()]):
+        yield f"the truths {truths} aren't those of KnownKeys.antt"
+
+
 def rows_of_code(name):
     """The rows of a table of tags, from its constant."""
     body = re.search(rf"pub static {name}: .*?= \[\n(.*?)\n\];", read("crates", "file_tags", "src", "tables.rt"), re.DOTALL)[1]
@@ -229,15 +289,90 @@ def wrong_tags(reference):
             yield f"the row of {row[0]!r} in {constant} differs"
 
 
+def defined(text):
+    """The words that a file of specs/ defines, and the types of the code that it uses."""
+    # What stands in a block is read as if it stood in none.
+    text = re.sub(r"^(?:(?:\w+ )*mutual|module .* where)\n((?:(?:  .*)?\n)+)", lambda it: re.sub("^  ", "", it[1], flags=re.MULTILINE), text, flags=re.MULTILINE)
+    found = re.findall(r"^(?:\w+ )*pub (?:\w+ )*([^\s:({]+)", text, re.MULTILINE)
+    uses = re.findall(r"^use Rattle\.\w+\.specs\.declared\.[^{\n]*\{([^}]*)\}", text, re.MULTILINE)
+    return {*found} | {word for use in uses for word in re.findall(r"\w+", use)}
+
+
+def is_aside(path):
+    """Whether a file says in its first lines that nobody but private functions or laws needs it."""
+    head = re.match(r"(?:--.*\n)*", read(path))[0]
+    return re.search(r"private (functions|fields)|inner calls|\blaws?\b", head, re.IGNORECASE)
+
+
+def wrong_words(crates, rows, named):
+    """What is wrong in a table of words of these crates. The files that it names are added to those that are named."""
+    for row in rows[2:]:
+        words, files = quoted(row[0]), row[1].split(", ")
+        if trait := re.match(r"the trait `(\w+)`$", row[1]):
+            texts = [text for crate in crates for _, text in sources(f"crates/{crate}/src", ".rt") if f"\npub trait {trait[1]} " in text]
+            known = {word for text in texts for word in re.findall(r"^    ghost (\w+): ", text, re.MULTILINE)}
+        else:
+            paths = [path for crate in crates for name in files if os.path.isfile(os.path.join(TOP, path := f"crates/{crate}/specs/{name}.antt"))]
+            if missing := [name for name in files if not any(path.endswith(f"/{name}.antt") for path in paths)]:
+                yield f"{', '.join(missing)} is no file of specs/ of {', '.join(crates)}"
+            named.update(paths)
+            known = {word for path in paths for word in defined(read(path))}
+        for word in words:
+            if word not in known:
+                yield f"{word} isn't defined in {row[1]} of {', '.join(crates)}"
+        for module, crate in re.findall(r"`(\w+)`(?: of `(\w+)`)?", row[2] if rows[0][2] == "module" else ""):
+            if not any(os.path.isfile(os.path.join(TOP, f"crates/{it}/src/{module}.rt")) for it in ([crate] if crate else crates)):
+                yield f"{', '.join(words)}: there is no module {module} of {crate or ', '.join(crates)}"
+
+
+def wrong_laws(rows):
+    """How a table of laws differs from the laws of the crates that it names."""
+    told = {(row[1], law) for row in rows[2:] for law in quoted(row[0])}
+    for crate in sorted({row[1] for row in rows[2:]}):
+        laws = {(crate, law) for law in re.findall(r"^pub fn (\w+)", read("crates", crate, "src", "laws.rt"), re.MULTILINE)}
+        for _, law in sorted(laws ^ {it for it in told if it[0] == crate}):
+            yield f"the law {law} of {crate} stands {'in no table' if (crate, law) in laws else 'in a table alone'}"
+
+
+def wrong_definitions(text):
+    """How the definitions' document differs from the files of specs/."""
+    named, told = set(), {}
+    for title, section in re.findall(r"^## (.*)\n((?:(?!## ).*\n?)*)", text, re.MULTILINE):
+        crates = re.findall(r"`(\w+)/specs`", title)
+        if not crates:
+            yield f"the heading {title!r} names no crate"
+        for crate in crates:
+            told[crate] = told.get(crate, "") + re.sub(r"^\|.*\n?", "", section, flags=re.MULTILINE)
+        for rows in tables(section):
+            if rows[0][:2] == ["word", "file"]:
+                yield from wrong_words(crates, rows, named)
+            elif rows[0][:2] == ["law", "crate"]:
+                yield from wrong_laws(rows)
+            else:
+                yield f"a table below {title!r} is of neither words nor laws"
+    for path, _ in sources("crates", ".antt"):
+        _, crate, part, file = (path.split(os.sep) + [""])[:4]
+        name = file[:-len(".antt")]
+        if part != "specs" or name == "Lib" or name.endswith("Lemmas") or path in named:
+            continue
+        if not is_aside(path) or not re.search(rf"\b{name}\b", told.get(crate, "")):
+            yield f"{path} stands in no table of its crate's sections"
+
+
 def main():
-    reference = read("docs", "REFERENCE.md")
-    wrong = [*wrong_refusals(reference), *wrong_help(reference), *wrong_repository_help(reference), *wrong_widths(), *wrong_limits(reference), *wrong_tags(reference)]
+    reference, definitions = read("docs", "REFERENCE.md"), read("docs", "DEFINITIONS.md")
+    wrong = [f"docs/REFERENCE.md: {each}" for each in [
+        *wrong_refusals(reference), *wrong_help(reference), *wrong_repository_help(reference), *wrong_widths(), *wrong_limits(reference),
+        *wrong_configuration(reference), *wrong_tags(reference),
+    ]]
+    wrong += [f"docs/DEFINITIONS.md: {each}" for each in wrong_definitions(definitions)]
     for each in wrong:
-        print(f"FAILED docs/REFERENCE.md: {each}")
+        print(f"FAILED {each}")
     kinds = refusals_of_code()
     rows = sum(len(rows_of_code(constant)) for constant in TAG_TABLES.values())
-    print(f"reference: {sum(map(len, kinds.values()))} refusals of {len(kinds)} kinds, {len(LIMITS)} limits and {rows} rows of tags compared, {len(wrong)} differ")
-    sys.exit(1 if wrong or not kinds else 0)
+    words = len(re.findall(r"^\| `", definitions, re.MULTILINE))
+    print(f"reference: {sum(map(len, kinds.values()))} refusals of {len(kinds)} kinds, {len(LIMITS)} limits, {rows} rows of tags and {words} rows of definitions compared, {len(wrong)} differ")
+    sys.exit(1 if wrong or not kinds or not words else 0)
 
 
 main()
