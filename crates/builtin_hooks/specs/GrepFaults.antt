@@ -1,7 +1,10 @@
 -- Why an entry and its arguments make no `Grep`: the numbers of the reasons, and the reason for an error of `regex`.
-use Rattle.std.specs.Prelude.{ℕ}
+use Rattle.std.specs.Prelude.{◌≡◌, ℕ}
 use Rattle.builtin_hooks.specs.declared.grep_fault.GrepFault.{GrepFault}
 use Rattle.builtin_hooks.specs.declared.grep_fault.GrepFault.TheVariants.{NotAPattern, BadArg, OutOfMemory}
+use Rattle.builtin_hooks.specs.Search.{Search, config_of}
+use Rattle.regex.specs.Failures.{IsRightKind}
+use Rattle.regex.specs.Sources.{IsRefusal}
 use Rattle.regex.specs.declared.error.Error.{Error}
 use Rattle.regex.specs.declared.error.Error.TheVariants as library
 
@@ -16,3 +19,9 @@ of_pattern (library.Syntax error) = NotAPattern
 of_pattern library.CompiledTooBig = NotAPattern
 of_pattern library.Internal = NotAPattern
 of_pattern library.OutOfMemory = OutOfMemory
+
+-- the fault is that of an error which `regex` may give for this text as it is to be read: one of syntax only where the
+-- grammar reads no pattern there or one that nests too deep, one of size only where there is a pattern
+abbrev pub IsGrepRefusal : Search → GrepFault → Type 0
+IsGrepRefusal search fault =
+    (error : Error) × IsRefusal (config_of search) search.text error × IsRightKind (config_of search) search.text error × (fault ≡ of_pattern error)

@@ -2,6 +2,7 @@
 
 ghost use Rattle.std.specs.Prelude.{◌≡◌, ◌≢◌, ◌↔◌, IfErr, IfOk, IsSome, false, true, map};
 ghost use Rattle.builtin_hooks.specs.GrepAnswer.{grep_answer, status_of};
+ghost use Rattle.builtin_hooks.specs.GrepFaults.{IsGrepRefusal};
 ghost use Rattle.builtin_hooks.specs.Search.{are_known, pattern_of, search_of};
 ghost use Rattle.builtin_hooks.specs.Searchers.{SearchesFor, search_with};
 ghost use Rattle.regex.specs.Bytes.{regex_pattern, regex_source};
@@ -48,6 +49,7 @@ impl Grep {
         ensures read { IfOk result (λ grep. IsSome (pattern_of grep)) }
         ensures known { IfOk result (λ _. are_known (map (λ arg. arg.now) args.now) ≡ true) }
         ensures bad_arg { IfErr result (λ fault. (fault ≡ GrepFault.BadArg) ↔ (are_known (map (λ arg. arg.now) args.now) ≡ false)) }
+        ensures refused { IfErr result (λ fault. fault ≢ GrepFault.BadArg → IsGrepRefusal (search_of entry.now (map (λ arg. arg.now) args.now)) fault) }
     {
         if !are_known(args) {
             return Err(GrepFault::BadArg);
@@ -94,7 +96,8 @@ impl Grep {
 fn built(alloc: Global, entry: &str, flags: Flags) -> Result<Regex, GrepFault>
     ensures source { IfOk result (λ regex. regex_source regex ≡ entry.now) }
     ensures searches { IfOk result (λ regex. SearchesFor (search_with (regex_source regex) flags) (regex_pattern regex)) }
-    ensures refused { IfErr result (λ fault. fault ≢ GrepFault.BadArg) }
+    ensures known { IfErr result (λ fault. fault ≢ GrepFault.BadArg) }
+    ensures refused { IfErr result (IsGrepRefusal (search_with entry.now flags)) }
 {
     Ok(
         RegexBuilder::new(entry)
