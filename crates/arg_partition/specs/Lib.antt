@@ -4,7 +4,7 @@ pub mod PartsLaws
 pub mod Quoted
 pub mod Rooms
 pub mod SomePartsLemmas
-pub mod Steps
 pub mod Words
 pub mod WordsFaults
 pub mod WordsLaws
+pub mod WordsSoFar

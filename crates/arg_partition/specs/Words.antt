@@ -1,8 +1,6 @@
 -- The words of a text, as Python's shlex.split cuts them (POSIX mode, without comments; module shlex of the Python Standard
--- Library, "Parsing Rules").
-use Rattle.std.specs.Prelude.{ℕ, ◌==◌, ◌||◌, Bool, if◌then◌else◌, List, [], ◌∷◌, ◌++◌, Result, Ok, Err, chars, encode_utf8}
-use Rattle.arg_partition.specs.declared.place.Place.{Place}
-use Rattle.arg_partition.specs.declared.place.Place.TheVariants.{Between, Bare, Escaped, Single, Double, DoubleEscaped}
+-- Library, "Parsing Rules"). Blanks separate words, and a word is one or more pieces side by side, up to a blank or the end.
+use Rattle.std.specs.Prelude.{ℕ, zero, suc, ◌==◌, ◌||◌, Bool, if◌then◌else◌, List, [], ◌∷◌, ◌++◌, Result, Ok, Err, length, chars, encode_utf8}
 use Rattle.arg_partition.specs.declared.words_fault.WordsFault.{WordsFault}
 use Rattle.arg_partition.specs.declared.words_fault.WordsFault.TheVariants.{OpenQuote, NothingEscaped}
 
@@ -10,51 +8,93 @@ use Rattle.arg_partition.specs.declared.words_fault.WordsFault.TheVariants.{Open
 abbrev pub Reading : Type 0
 Reading = Result (List (List ℕ)) WordsFault
 
+-- what is cut off the front of a text: the bytes that it stands for, and the text behind it; or why it has no end
+abbrev pub Front : Type 0
+Front = Result (List ℕ × List ℕ) WordsFault
+
+-- bytes before those that a front stands for
+abbrev pub adding : List ℕ → Front → Front
+adding bytes (Ok (more, behind)) = Ok (bytes ++ more, behind)
+adding bytes (Err fault) = Err fault
+
+-- ---- pieces
+
+-- a single-quoted run, from behind the quote that begins it: up to the next single quote, each character for itself
+abbrev pub single_quoted : List ℕ → Front
+single_quoted [] = Err OpenQuote
+single_quoted (c ∷ rest) = if c == 39 then Ok ([], rest) else adding (encode_utf8 c) (single_quoted rest)
+
+-- what a backslash and this character stand for in double quotes: before `"` and `\` for that character, else for both
+abbrev pub escaped_in_quotes : ℕ → List ℕ
+escaped_in_quotes c = if c == 34 || c == 92 then encode_utf8 c else 92 ∷ encode_utf8 c
+
+abbrev mutual
+  -- a double-quoted run, from behind the quote that begins it: up to the first double quote that isn't escaped
+  pub double_quoted : List ℕ → Front
+  double_quoted [] = Err OpenQuote
+  double_quoted (c ∷ rest) =
+      if c == 34 then Ok ([], rest)
+      else (if c == 92 then double_quoted_escape rest else adding (encode_utf8 c) (double_quoted rest))
+
+  -- the same from behind a backslash in it
+  pub double_quoted_escape : List ℕ → Front
+  double_quoted_escape [] = Err NothingEscaped
+  double_quoted_escape (c ∷ rest) = adding (escaped_in_quotes c) (double_quoted rest)
+
+-- outside quotes, from behind a backslash: the next character, for itself
+abbrev pub bare_escape : List ℕ → Front
+bare_escape [] = Err NothingEscaped
+bare_escape (c ∷ rest) = Ok (encode_utf8 c, rest)
+
+-- the piece that begins with this character, which is no blank
+abbrev pub piece : ℕ → List ℕ → Front
+piece c rest =
+    if c == 39 then single_quoted rest
+    else (if c == 34 then double_quoted rest
+    else (if c == 92 then bare_escape rest else Ok (encode_utf8 c, rest)))
+
+-- ---- words
+
 -- space, tab, carriage return and line feed
 abbrev pub is_blank : ℕ → Bool
 is_blank c = c == 32 || c == 9 || c == 13 || c == 10
 
-abbrev pub prefixed : List ℕ → List (List ℕ) → List (List ℕ)
-prefixed bytes [] = []
-prefixed bytes (word ∷ words) = (bytes ++ word) ∷ words
+-- a piece, and what the text behind it adds to the word
+abbrev pub piece_and_rest : Front → (List ℕ → Front) → Front
+piece_and_rest (Ok (bytes, behind)) rest = adding bytes (rest behind)
+piece_and_rest (Err fault) rest = Err fault
 
--- the bytes in front of the first word
-abbrev pub adding : List ℕ → Reading → Reading
-adding bytes (Ok words) = Ok (prefixed bytes words)
-adding bytes (Err fault) = Err fault
+-- the word at the front of a text, where it has at most so many pieces
+unfoldable pub word_within : ℕ → List ℕ → Front
+word_within zero text = Ok ([], text)
+word_within (suc most) [] = Ok ([], [])
+word_within (suc most) (c ∷ rest) = if is_blank c then Ok ([], c ∷ rest) else piece_and_rest (piece c rest) (word_within most)
 
--- the end of a word that is begun: the rest adds nothing to it
-abbrev pub ending : Reading → Reading
-ending (Ok words) = Ok ([] ∷ words)
-ending (Err fault) = Err fault
+-- the word at the front of a text. Each piece takes a character, so there are no more of them than characters
+unfoldable pub front_word : List ℕ → Front
+front_word text = word_within (length text) text
 
--- a character outside quotes that is no blank; `rest` is the words of what follows, at its place
-abbrev pub unquoted : ℕ → (Place → Reading) → Reading
-unquoted c rest =
-    if c == 39 then rest Single
-    else (if c == 34 then rest Double
-    else (if c == 92 then rest Escaped else adding (encode_utf8 c) (rest Bare)))
+-- a word before those that were read
+abbrev pub before : List ℕ → Reading → Reading
+before word (Ok words) = Ok (word ∷ words)
+before word (Err fault) = Err fault
 
--- the words of the rest of a text, by the place of its first character. Where a word is begun, the first is what the rest
--- adds to it
-abbrev pub words_at : Place → List ℕ → Reading
-words_at Between [] = Ok []
-words_at Bare [] = Ok ([] ∷ [])
-words_at Escaped [] = Err NothingEscaped
-words_at Single [] = Err OpenQuote
-words_at Double [] = Err OpenQuote
-words_at DoubleEscaped [] = Err NothingEscaped
-words_at Between (c ∷ cs) = if is_blank c then words_at Between cs else unquoted c (λ place. words_at place cs)
-words_at Bare (c ∷ cs) = if is_blank c then ending (words_at Between cs) else unquoted c (λ place. words_at place cs)
-words_at Escaped (c ∷ cs) = adding (encode_utf8 c) (words_at Bare cs)
-words_at Single (c ∷ cs) = if c == 39 then words_at Bare cs else adding (encode_utf8 c) (words_at Single cs)
-words_at Double (c ∷ cs) =
-    if c == 34 then words_at Bare cs
-    else (if c == 92 then words_at DoubleEscaped cs else adding (encode_utf8 c) (words_at Double cs))
-words_at DoubleEscaped (c ∷ cs) =
-    if c == 34 || c == 92 then adding (encode_utf8 c) (words_at Double cs)
-    else adding (92 ∷ encode_utf8 c) (words_at Double cs)
+-- a word, and the words of the text behind it
+abbrev pub word_and_rest : Front → (List ℕ → Reading) → Reading
+word_and_rest (Ok (word, behind)) rest = before word (rest behind)
+word_and_rest (Err fault) rest = Err fault
+
+-- the words of a text, where it has at most so many blanks and words
+unfoldable pub words_within : ℕ → List ℕ → Reading
+words_within zero text = Ok []
+words_within (suc most) [] = Ok []
+words_within (suc most) (c ∷ rest) =
+    if is_blank c then words_within most rest else word_and_rest (front_word (c ∷ rest)) (words_within most)
+
+-- the words of a text of these characters. Each blank and each word takes one, so there are no more of them
+unfoldable pub words_of_characters : List ℕ → Reading
+words_of_characters text = words_within (length text) text
 
 -- the words of a text in UTF-8
 abbrev pub words_of : List ℕ → Reading
-words_of text = words_at Between (chars text)
+words_of text = words_of_characters (chars text)

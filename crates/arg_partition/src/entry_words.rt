@@ -1,12 +1,12 @@
 //! The words of an entry.
 
 ghost use Rattle.std.specs.Prelude.{◌≡◌, ◌⊎◌, ◌++◌, List, ℕ, [], Ok, Err, IfOk, IfErr, MatchResult, string_bytes};
-ghost use Rattle.arg_partition.specs.Steps.{gained, resumed};
-ghost use Rattle.arg_partition.specs.Words.{Reading, words_at, words_of};
+ghost use Rattle.arg_partition.specs.Words.{words_of};
+ghost use Rattle.arg_partition.specs.WordsSoFar.{resumed};
 
 use crate::WordsFault;
-use crate::place::Place;
-use crate::step::{Gain, step_of};
+use crate::place::{Place, Reads};
+use crate::step::{Gain, Step, step_of};
 use hook_base::{Items, Text};
 use std::alloc::{AllocError, Global};
 use std::mem;
@@ -26,7 +26,7 @@ pub fn words(alloc: Global, text: &str) -> Result<Items<Text>, WordsFault>
     let mut place = Place::Between;
     'characters: for c in text.chars() {
         let step = step_of(place, c);
-        begun.take(alloc, step.gain, c)?;
+        begun.take(alloc, step)?;
         place = step.place;
     }
     begun.ended(place)
@@ -50,14 +50,16 @@ impl Begun {
         }
     }
 
-    // Takes what the character gives.
-    fn take(&mut self, alloc: Global, gain: Gain, c: char) -> Result<(), AllocError>
-        ensures { IfOk result (λ _. (rest : Reading) → resumed self.new.words.items (string_bytes self.new.word) rest ≡ resumed self.old.words.items (string_bytes self.old.word) (gained gain c rest)) }
+    // Takes what the step gives.
+    fn take(&mut self, alloc: Global, step: Step) -> Result<(), AllocError>
+        ensures { IfOk result (λ _. (rest : List ℕ) →
+            resumed self.new.words.items (string_bytes self.new.word) (⟦<Place as Reads>⟧.words step.place rest)
+            ≡ resumed self.old.words.items (string_bytes self.old.word) (⟦<Step as Reads>⟧.words step rest)) }
     {
-        match gain {
+        match step.gain {
             Gain::Nothing => Ok(()),
-            Gain::Character => self.word.push(c),
-            Gain::BackslashAndCharacter => {
+            Gain::Character(c) => self.word.push(c),
+            Gain::BackslashAndCharacter(c) => {
                 self.word.push('\\')?;
                 self.word.push(c)
             }
@@ -71,7 +73,9 @@ impl Begun {
 
     // The words of a text that ends at this place.
     fn ended(self, place: Place) -> Result<Items<Text>, WordsFault>
-        ensures { MatchResult result (λ words. resumed self.words.items (string_bytes self.word) (words_at place []) ≡ Ok words) (λ fault. (fault ≡ WordsFault.OutOfMemory) ⊎ (words_at place [] ≡ Err fault)) }
+        ensures { MatchResult result
+            (λ words. resumed self.words.items (string_bytes self.word) (⟦<Place as Reads>⟧.words place []) ≡ Ok words)
+            (λ fault. (fault ≡ WordsFault.OutOfMemory) ⊎ (⟦<Place as Reads>⟧.words place [] ≡ Err fault)) }
     {
         let Begun { mut words, word } = self;
         match place {

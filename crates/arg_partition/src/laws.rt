@@ -1,11 +1,30 @@
 //! Laws of what the contracts cite. Each is a function that gives nothing: what it ensures is a theorem.
 
-ghost use Rattle.std.specs.Prelude.{◌≡◌, ◌≤◌, ℕ, List, None, Ok, chars, encode_utf8_all, map};
+ghost use Rattle.std.specs.Prelude.{◌≡◌, ◌≤◌, ℕ, List, [], ◌∷◌, None, Ok, chars, encode_utf8_all, if◌then◌else◌, map};
 ghost use Rattle.std.specs.List.{flat_map};
 ghost use Rattle.arg_partition.specs.declared.cut.Cut.{Cut};
 ghost use Rattle.arg_partition.specs.Parts.{AreParts, fits, names_of, too_long_at};
 ghost use Rattle.arg_partition.specs.Quoted.{all_quoted};
-ghost use Rattle.arg_partition.specs.Words.{words_of};
+ghost use Rattle.arg_partition.specs.Words.{front_word, is_blank, piece, piece_and_rest, word_and_rest, words_of, words_of_characters};
+
+/// A word is its first piece and what follows that in the word, up to a blank or the end, however many pieces there are: the
+/// bound in its definition is never short.
+#[tactic(auto, using(crate::specs::WordsLaws::word_end, crate::specs::WordsLaws::word_on))]
+pub fn a_word_is_read_piece_by_piece()
+    ensures end { front_word [] ≡ Ok ([], []) }
+    ensures on { (c : ℕ) (rest : List ℕ) →
+        front_word (c ∷ rest) ≡ (if is_blank c then Ok ([], c ∷ rest) else piece_and_rest (piece c rest) front_word) }
+{}
+
+/// The words of a text are its first word and those of the text behind it, blanks before it apart, however many there are:
+/// the bound in their definition is never short.
+#[tactic(auto, using(crate::specs::WordsLaws::words_end, crate::specs::WordsLaws::words_on))]
+pub fn a_text_is_read_word_by_word()
+    ensures end { words_of_characters [] ≡ Ok [] }
+    ensures on { (c : ℕ) (rest : List ℕ) →
+        words_of_characters (c ∷ rest)
+        ≡ (if is_blank c then words_of_characters rest else word_and_rest (front_word (c ∷ rest)) words_of_characters) }
+{}
 
 /// Words that are written in single quotes, as Python's `shlex.join` writes those that need quotes, with a blank behind each
 /// are read back as they are, whatever characters they have. So each list of words can be written.

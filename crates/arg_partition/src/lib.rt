@@ -5,9 +5,9 @@
 //! [`PartsFault`] says which name doesn't fit.
 //!
 //! The contracts cite `words_of` of `specs/Words.antt`, `AreParts`, `fits` and `too_long_at` of `specs/Parts.antt`, and the
-//! numbers of `specs/WordsFaults.antt` and `specs/PartsFaults.antt`; `specs/Steps.antt` and `specs/Rooms.antt` serve private
-//! functions alone. [`laws`] says that words in quotes (`specs/Quoted.antt`) are read back, and that a command has one list
-//! of parts, which have all its names.
+//! numbers of `specs/WordsFaults.antt` and `specs/PartsFaults.antt`; `specs/WordsSoFar.antt` and `specs/Rooms.antt` serve
+//! private functions alone. [`laws`] says that a word is read piece by piece and a text word by word, that words in quotes
+//! (`specs/Quoted.antt`) are read back, and that a command has one list of parts, which have all its names.
 #![tactic(auto)]
 
 mod command_parts;

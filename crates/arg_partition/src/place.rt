@@ -1,8 +1,18 @@
 //! Where a character of an entry stands.
 
+ghost use Rattle.std.specs.Prelude.{ℕ, List};
+ghost use Rattle.arg_partition.specs.Words.{Reading, bare_escape, double_quoted, double_quoted_escape, single_quoted, words_of_characters};
+ghost use Rattle.arg_partition.specs.WordsSoFar.{from_piece, from_word};
+
+/// What contracts say of a state in which a text is read.
+pub(crate) trait Reads {
+    /// The words that it makes of the rest of the text. Where a word is begun, the first is what the rest adds to it.
+    ghost words: { Self → List ℕ → Reading };
+}
+
 /// Where a character of an entry stands.
-#[derive(Clone, Copy, Debug, PartialEq, Eq)]
-pub enum Place {
+#[derive(Clone, Copy)]
+pub(crate) enum Place {
     /// Behind a word or at the start: no word is begun.
     Between,
     /// In a word, outside quotes.
@@ -15,4 +25,17 @@ pub enum Place {
     Double,
     /// Behind a backslash in double quotes.
     DoubleEscaped,
+}
+
+impl Reads for Place {
+    ghost use Rattle.arg_partition.specs.declared.place.Place.TheVariants.{Between, Bare, Escaped, Single, Double, DoubleEscaped};
+
+    ghost words = { λ place rest. elim place [
+      | Between ↦ words_of_characters rest
+      | Bare ↦ from_word rest
+      | Escaped ↦ from_piece (bare_escape rest)
+      | Single ↦ from_piece (single_quoted rest)
+      | Double ↦ from_piece (double_quoted rest)
+      | DoubleEscaped ↦ from_piece (double_quoted_escape rest)
+    ] };
 }

@@ -1,10 +1,10 @@
 //! What one character of an entry does.
 
-ghost use Rattle.std.specs.Prelude.{◌≡◌};
-ghost use Rattle.arg_partition.specs.Steps.{IsStep, IsUnquotedStep};
-ghost use Rattle.arg_partition.specs.Words.{is_blank};
+ghost use Rattle.std.specs.Prelude.{◌≡◌, ℕ, List, ◌∷◌, [], encode_utf8};
+ghost use Rattle.arg_partition.specs.Words.{Reading, before, double_quoted, double_quoted_escape, is_blank, piece, single_quoted, words_of_characters};
+ghost use Rattle.arg_partition.specs.WordsSoFar.{from_piece, from_word, resumed};
 
-use crate::place::Place;
+use crate::place::{Place, Reads};
 
 /// What a character gives to the words.
 #[derive(Clone, Copy)]
@@ -12,9 +12,9 @@ pub(crate) enum Gain {
     /// Nothing.
     Nothing,
     /// The character, for the word that it begins or goes on.
-    Character,
+    Character(char),
     /// A backslash and the character, for the word that is begun.
-    BackslashAndCharacter,
+    BackslashAndCharacter(char),
     /// The word that is begun, which ends here.
     Word,
 }
@@ -26,22 +26,34 @@ pub(crate) struct Step {
     pub(crate) place: Place,
 }
 
+impl Reads for Step {
+    ghost use Rattle.arg_partition.specs.declared.step.Gain.TheVariants.{Nothing, Character, BackslashAndCharacter, Word};
+
+    ghost words = { λ step rest. let behind = ⟦<Place as Reads>⟧.words step.place rest in elim step.gain [
+      | Nothing ↦ behind
+      | Character c ↦ resumed [] (encode_utf8 c) behind
+      | BackslashAndCharacter c ↦ resumed [] (92 ∷ encode_utf8 c) behind
+      | Word ↦ before [] behind
+    ] };
+}
+
 /// What the character does at its place.
 pub(crate) fn step_of(place: Place, c: char) -> Step
-    ensures { IsStep place c result }
+    ensures { (rest : List ℕ) → ⟦<Step as Reads>⟧.words result rest ≡ ⟦<Place as Reads>⟧.words place (c ∷ rest) }
 {
     match place {
         Place::Between => between(c),
         Place::Bare => bare(c),
-        Place::Escaped => adds(Place::Bare),
+        Place::Escaped => adds(c, Place::Bare),
         Place::Single => single(c),
         Place::Double => double(c),
         Place::DoubleEscaped => double_escaped(c),
     }
 }
 
+#[tactic(auto, using(crate::proofs::WordLemmas::blank_between, crate::proofs::WordLemmas::word_begins))]
 fn between(c: char) -> Step
-    ensures { IsStep Place.Between c result }
+    ensures { (rest : List ℕ) → ⟦<Step as Reads>⟧.words result rest ≡ words_of_characters (c ∷ rest) }
 {
     if is_blank(c) {
         return leads(Place::Between);
@@ -49,8 +61,9 @@ fn between(c: char) -> Step
     unquoted(c)
 }
 
+#[tactic(auto, using(crate::proofs::WordLemmas::word_ends, crate::proofs::WordLemmas::word_goes_on))]
 fn bare(c: char) -> Step
-    ensures { IsStep Place.Bare c result }
+    ensures { (rest : List ℕ) → ⟦<Step as Reads>⟧.words result rest ≡ from_word (c ∷ rest) }
 {
     if is_blank(c) {
         return Step {
@@ -63,55 +76,55 @@ fn bare(c: char) -> Step
 
 // What a character outside quotes does that is no blank.
 fn unquoted(c: char) -> Step
-    ensures { IsUnquotedStep c result }
+    ensures { (rest : List ℕ) → ⟦<Step as Reads>⟧.words result rest ≡ from_piece (piece c rest) }
 {
     match c {
         '\'' => leads(Place::Single),
         '"' => leads(Place::Double),
         '\\' => leads(Place::Escaped),
-        _ => adds(Place::Bare),
+        _ => adds(c, Place::Bare),
     }
 }
 
 fn single(c: char) -> Step
-    ensures { IsStep Place.Single c result }
+    ensures { (rest : List ℕ) → ⟦<Step as Reads>⟧.words result rest ≡ from_piece (single_quoted (c ∷ rest)) }
 {
     match c {
         '\'' => leads(Place::Bare),
-        _ => adds(Place::Single),
+        _ => adds(c, Place::Single),
     }
 }
 
 fn double(c: char) -> Step
-    ensures { IsStep Place.Double c result }
+    ensures { (rest : List ℕ) → ⟦<Step as Reads>⟧.words result rest ≡ from_piece (double_quoted (c ∷ rest)) }
 {
     match c {
         '"' => leads(Place::Bare),
         '\\' => leads(Place::DoubleEscaped),
-        _ => adds(Place::Double),
+        _ => adds(c, Place::Double),
     }
 }
 
 // A backslash in double quotes escapes a quote or a backslash, and otherwise stays.
 fn double_escaped(c: char) -> Step
-    ensures { IsStep Place.DoubleEscaped c result }
+    ensures { (rest : List ℕ) → ⟦<Step as Reads>⟧.words result rest ≡ from_piece (double_quoted_escape (c ∷ rest)) }
 {
     if c == '"' || c == '\\' {
-        return adds(Place::Double);
+        return adds(c, Place::Double);
     }
     Step {
-        gain: Gain::BackslashAndCharacter,
+        gain: Gain::BackslashAndCharacter(c),
         place: Place::Double,
     }
 }
 
 // The character is one of the word's.
-fn adds(place: Place) -> Step
-    ensures gain { result.gain ≡ Gain.Character }
+fn adds(c: char, place: Place) -> Step
+    ensures gain { result.gain ≡ Gain.Character c }
     ensures place { result.place ≡ place }
 {
     Step {
-        gain: Gain::Character,
+        gain: Gain::Character(c),
         place,
     }
 }

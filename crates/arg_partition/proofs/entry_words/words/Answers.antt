@@ -5,22 +5,21 @@ use Rattle.std.specs.Str.{chars}
 use Rattle.std.proofs.lemmas.List.{append-nil, map-id}
 use Rattle.arg_partition.specs.declared.words_fault.WordsFault.{WordsFault}
 use Rattle.arg_partition.specs.declared.words_fault.WordsFault.TheVariants.{OutOfMemory}
-use Rattle.arg_partition.specs.declared.place.Place.TheVariants.{Between}
-use Rattle.arg_partition.specs.Steps.{resumed}
-use Rattle.arg_partition.specs.Words.{Reading, words_at}
+use Rattle.arg_partition.specs.Words.{Reading, words_of_characters}
+use Rattle.arg_partition.specs.WordsSoFar.{resumed}
 use Rattle.arg_partition.proofs.entry_words.words.Goals as goal
 
-cut : (done : List (List ℕ)) (word : List ℕ) (rest whole : Reading) (result : Result (List (List ℕ)) WordsFault) → resumed done word rest ≡ whole → MatchResult result (λ words. resumed done word rest ≡ Ok words) (λ fault. (fault ≡ OutOfMemory) ⊎ (rest ≡ Err fault)) → IfOk result (λ words. whole ≡ Ok words)
-cut done word rest whole (Ok words) same ended = sym same ∙ ended
-cut done word rest whole (Err fault) same ended = tt
+cut : (done : List (List ℕ)) (begun : List ℕ) (rest whole : Reading) (result : Result (List (List ℕ)) WordsFault) → resumed done begun rest ≡ whole → MatchResult result (λ words. resumed done begun rest ≡ Ok words) (λ fault. (fault ≡ OutOfMemory) ⊎ (rest ≡ Err fault)) → IfOk result (λ words. whole ≡ Ok words)
+cut done begun rest whole (Ok words) same ended = sym same ∙ ended
+cut done begun rest whole (Err fault) same ended = tt
 
-refused : (done : List (List ℕ)) (word : List ℕ) (rest whole : Reading) (result : Result (List (List ℕ)) WordsFault) → resumed done word rest ≡ whole → MatchResult result (λ words. resumed done word rest ≡ Ok words) (λ fault. (fault ≡ OutOfMemory) ⊎ (rest ≡ Err fault)) → IfErr result (λ fault. (fault ≡ OutOfMemory) ⊎ (whole ≡ Err fault))
-refused done word rest whole (Ok words) same ended = tt
-refused done word rest whole (Err fault) same ended =
-    elim ended [ inl want ↦ inl want | inr is ↦ inr (sym same ∙ ap (resumed done word) is) ]
+refused : (done : List (List ℕ)) (begun : List ℕ) (rest whole : Reading) (result : Result (List (List ℕ)) WordsFault) → resumed done begun rest ≡ whole → MatchResult result (λ words. resumed done begun rest ≡ Ok words) (λ fault. (fault ≡ OutOfMemory) ⊎ (rest ≡ Err fault)) → IfErr result (λ fault. (fault ≡ OutOfMemory) ⊎ (whole ≡ Err fault))
+refused done begun rest whole (Ok words) same ended = tt
+refused done begun rest whole (Err fault) same ended =
+    elim ended [ inl want ↦ inl want | inr is ↦ inr (sym same ∙ ap (resumed done begun) is) ]
 
-whole : (all yielded : List ℕ) → map (λ c. c) yielded ≡ all → words_at Between (yielded ++ []) ≡ words_at Between all
-whole all yielded same = ap (words_at Between) (append-nil yielded ∙ (sym (map-id yielded) ∙ same))
+whole : (all yielded : List ℕ) → map (λ c. c) yielded ≡ all → words_of_characters (yielded ++ []) ≡ words_of_characters all
+whole all yielded same = ap words_of_characters (append-nil yielded ∙ (sym (map-id yielded) ∙ same))
 
 pub returns-clause-cut : goal.returns-clause-cut
 returns-clause-cut c =
