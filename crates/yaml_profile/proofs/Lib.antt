@@ -2,6 +2,8 @@ pub mod Cuts
 mod FlowOfWords
 mod FlowParts
 pub mod Flows
+pub mod Holds
+mod LineWeights
 mod LinesOfEntries
 mod LinesOfWords
 pub mod Lists
@@ -12,6 +14,8 @@ pub mod Tables
 pub mod Texts
 mod TextsOfEntries
 mod TextsOfWords
+pub mod TextsWithin
 pub mod Turns
 mod UniqueKeys
+mod Weights
 mod Words

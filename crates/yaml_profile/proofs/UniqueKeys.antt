@@ -1,6 +1,5 @@
 -- What is read has no key twice in a table: of the lines of a text, and of flows.
-use Rattle.std.proofs.Common.{◌≡◌, ℕ, zero, suc, Bool, true, false, cond, not, ◌&&◌, ◌||◌, List, [], ◌∷◌, ◌++◌, Option, Some, None, option_map, option_and_then, is_some, eqb, refl, subst}
-use Rattle.std.specs.Prelude.{⊤}
+use Rattle.std.proofs.Common.{◌≡◌, ℕ, zero, suc, Bool, true, false, not, ◌&&◌, ◌||◌, List, [], ◌∷◌, ◌++◌, Option, Some, None, option_map, is_some, eqb, refl, subst}
 use Rattle.std.specs.List.{IsDistinct, AllByRecursion, list_all, list_any}
 use Rattle.std.specs.Str.{bytes_eq}
 use Rattle.std.proofs.lemmas.Map.Made.{AllPairs-from_IsDistinct}
@@ -22,37 +21,8 @@ use Rattle.yaml_flows.specs.Keys.{Row, keys_differ}
 use Rattle.yaml_profile.specs.Blocks as blocks
 use Rattle.yaml_profile.specs.Blocks.{Part, all_of, block, list_of, table_of, node, line_node, whole}
 use Rattle.yaml_profile.specs.Text.{meaning_of}
+use Rattle.yaml_profile.proofs.Holds.{Holds, of_map, map_to, then_any, then_to, either, if_true}
 use Rattle.yaml_profile.specs.UniqueKeys.{keys, HasUniqueKeys, ItemsHaveUniqueKeys, ValuesHaveUniqueKeys}
-
--- ---- what holds of a value, if there is one
-
-abbrev pub Holds : {A : Type 0} → (A → Type 0) → Option A → Type 0
-Holds P None = ⊤
-Holds P (Some x) = P x
-
-of_map : {A B : Type 0} (P : B → Type 0) (f : A → B) → ((x : A) → P (f x)) → (o : Option A) → Holds P (option_map f o)
-of_map P f h None = tt
-of_map P f h (Some x) = h x
-
-map_to : {A B : Type 0} (P : A → Type 0) (Q : B → Type 0) (f : A → B) → ((x : A) → P x → Q (f x)) → (o : Option A) → Holds P o → Holds Q (option_map f o)
-map_to P Q f h None k = tt
-map_to P Q f h (Some x) k = h x k
-
-then_any : {A B : Type 0} (Q : B → Type 0) (f : A → Option B) → ((x : A) → Holds Q (f x)) → (o : Option A) → Holds Q (option_and_then f o)
-then_any Q f h None = tt
-then_any Q f h (Some x) = h x
-
-then_to : {A B : Type 0} (P : A → Type 0) (Q : B → Type 0) (f : A → Option B) → ((x : A) → P x → Holds Q (f x)) → (o : Option A) → Holds P o → Holds Q (option_and_then f o)
-then_to P Q f h None k = tt
-then_to P Q f h (Some x) k = h x k
-
-either : {A : Type 0} (P : A → Type 0) (b : Bool) (o p : Option A) → Holds P o → Holds P p → Holds P (cond b o p)
-either P true o p h k = h
-either P false o p h k = k
-
-if_true : {A : Type 0} (P : A → Type 0) (b : Bool) (x : A) → (b ≡ true → P x) → Holds P (cond b (Some x) None)
-if_true P true x h = h refl
-if_true P false x h = tt
 
 -- ---- what holds of each
 
@@ -151,11 +121,11 @@ flow_unique room cs =
 
 -- ---- lines
 
-all_hold : {A B : Type 0} (P : B → Type 0) (f : A → Option B) → ((x : A) → Holds P (f x)) → (xs : List A) → Holds (AllByRecursion P) (all_of f xs)
+each_holds : {A B : Type 0} (P : B → Type 0) (f : A → Option B) → ((x : A) → Holds P (f x)) → (xs : List A) → Holds (AllByRecursion P) (all_of f xs)
 unfolding all_of
-all_hold P f h [] = tt
-all_hold P f h (x ∷ xs) =
-    then_to P (AllByRecursion P) _ (λ y p. map_to (AllByRecursion P) (AllByRecursion P) _ (λ ys q. (p, q)) _ (all_hold P f h xs)) (f x) (h x)
+each_holds P f h [] = tt
+each_holds P f h (x ∷ xs) =
+    then_to P (AllByRecursion P) _ (λ y p. map_to (AllByRecursion P) (AllByRecursion P) _ (λ ys q. (p, q)) _ (each_holds P f h xs)) (f x) (h x)
 
 scalar_unique : (content : List ℕ) → Holds HasUniqueKeys (scalar_meaning content)
 unfolding scalar_meaning
@@ -195,12 +165,12 @@ module _ (node : List ContentLine → Option Meaning) (line : ContentLine → Li
   block_unique : (own : Option Meaning) (listed keyed : Bool) (first : ContentLine) (later : List ContentLine) → Holds HasUniqueKeys own → Holds HasUniqueKeys (block node line own listed keyed first later)
   block_unique own true keyed first later o =
       map_to (AllByRecursion HasUniqueKeys) HasUniqueKeys (λ ms. list (meanings_of ms)) (λ ms p. items_from ms p) (blocks.items node first later)
-      (all_hold HasUniqueKeys (blocks.item node first.indent) (item_unique first.indent) (blocks.parts (blocks.is_deeper first.indent) (first ∷ later)))
+      (each_holds HasUniqueKeys (blocks.item node first.indent) (item_unique first.indent) (blocks.parts (blocks.is_deeper first.indent) (first ∷ later)))
   block_unique own false true first later o =
       map_to IsUniqueTable HasUniqueKeys (λ rs. table (members_of rs)) (λ rs p. p) (blocks.rows node line first later)
       (then_to (AllByRecursion IsUniqueRow) IsUniqueTable blocks.distinct (λ rs p. if_true IsUniqueTable (keys_differ rs) rs (λ e. table_unique rs p e))
       (all_of (blocks.entry node line first.indent) (blocks.parts (blocks.is_below_key first.indent) (first ∷ later)))
-      (all_hold IsUniqueRow (blocks.entry node line first.indent) (entry_unique first.indent) (blocks.parts (blocks.is_below_key first.indent) (first ∷ later))))
+      (each_holds IsUniqueRow (blocks.entry node line first.indent) (entry_unique first.indent) (blocks.parts (blocks.is_below_key first.indent) (first ∷ later))))
   block_unique own false false first later o = o
 
 node_unique : (room : ℕ) (lines : List ContentLine) → Holds HasUniqueKeys (node room lines)

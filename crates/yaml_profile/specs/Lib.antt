@@ -6,5 +6,6 @@ pub mod Blocks
 pub mod Moved
 pub mod Rows
 pub mod Text
+pub mod TextsWithin
 pub mod UniqueKeys
 pub mod Words

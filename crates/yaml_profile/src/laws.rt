@@ -1,10 +1,10 @@
 //! Laws of the definitions that the contracts cite, in the words of YAML itself. Each is a function that gives nothing:
 //! what it ensures is a theorem over the definitions alone.
 
-ghost use Rattle.std.specs.Prelude.{◌≡◌, ℕ, ◌≤◌, ◌++◌, List, [], ◌∷◌, map, Some, None, false};
+ghost use Rattle.std.specs.Prelude.{◌≡◌, ℕ, ◌≤◌, ◌++◌, List, [], ◌∷◌, length, map, Some, None, false};
 ghost use Rattle.std.specs.List.{list_any};
 ghost use Rattle.yaml_flows.specs.Flows.{flow_meaning};
-ghost use Rattle.yaml_lines.specs.Characters.{characters_of};
+ghost use Rattle.yaml_lines.specs.Characters.{characters_of, most_bytes};
 ghost use Rattle.yaml_lines.specs.LineLaws.{saying, begins_text};
 ghost use Rattle.yaml_lines.specs.Lines.{line_texts};
 ghost use Rattle.yaml_lines.specs.Meaning.{Meaning};
@@ -13,6 +13,7 @@ ghost use Rattle.yaml_profile.specs.Blocks.{node, whole};
 ghost use Rattle.yaml_profile.specs.Moved.{moved};
 ghost use Rattle.yaml_profile.specs.Words.{AreWords, list_of_words, item_line, flow_of_words, lines_of_words, WordEntry, AreWordEntries, entry_line, flow_of_entries, lines_of_entries, table_of_entries};
 ghost use Rattle.yaml_profile.specs.Text.{meaning_of};
+ghost use Rattle.yaml_profile.specs.TextsWithin.{HasTextsWithin};
 ghost use Rattle.yaml_profile.specs.UniqueKeys.{HasUniqueKeys};
 
 use yaml_lines::laws::comments_and_empty_lines_say_nothing;
@@ -82,4 +83,11 @@ pub fn comments_and_empty_lines_change_no_meaning()
 /// No table that is read holds a key twice, neither the table that the text is nor one anywhere within it.
 pub fn a_key_stands_in_its_table_once()
     ensures { (bytes : List ℕ) (meant : Meaning) → meaning_of bytes ≡ Some meant → HasUniqueKeys meant }
+{}
+
+/// No text and no key that is read is longer than what it is read from, however deep it lies, and that has at most
+/// [`MOST_BYTES`](yaml_lines::MOST_BYTES) bytes. Escapes, quotes, folded lines and the lines of flows only make it shorter.
+pub fn no_text_is_longer_than_what_it_is_read_from()
+    ensures texts { (bytes : List ℕ) (meant : Meaning) → meaning_of bytes ≡ Some meant → HasTextsWithin (length bytes) meant }
+    ensures limit { (bytes : List ℕ) (meant : Meaning) → meaning_of bytes ≡ Some meant → length bytes ≤ most_bytes }
 {}
