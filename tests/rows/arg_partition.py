@@ -45,6 +45,8 @@ WORDS = [
     words('"a\\\nb"', "a\\\nb"),
     words("\"a b\"'c d'e\\ f", "a bc de f"),
     words("'a\nb'", "a\nb"),
+    words("'don'\\''t' 'don'\"'\"'t'", "don't", "don't"),
+    words(r""" "\'" "a'b" """, r"\'", "a'b"),
     words("'\"' \"'\"", '"', "'"),
     words("caf\u00e9 \\\u65e5'\u672c'", "caf\u00e9", "\u65e5\u672c"),
     words('"\\\u00e9"', "\\\u00e9"),

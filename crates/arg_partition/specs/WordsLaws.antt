@@ -4,7 +4,7 @@ use Rattle.std.proofs.Common.{◌∙◌, inl, inr, ap, sym, arith}
 use Rattle.std.proofs.lemmas.List.{append_assoc, append-nil}
 use Rattle.std.proofs.lemmas.Bool.Decides.{eqb_tells}
 use Rattle.arg_partition.specs.Quoted.{all_quoted, quoted_character, quoted_characters}
-use Rattle.arg_partition.specs.Words.{Front, Reading, adding, before, double_quoted, double_quoted_escape, bare_escape, word_and_rest, is_blank, piece_and_rest, piece, single_quoted, front_word, word_within, words_of_characters, words_of, words_within}
+use Rattle.arg_partition.specs.Words.{Front, Reading, adding, bare_escape, before, double_quoted, double_quoted_escape, front_word, is_blank, piece, piece_and_rest, single_quoted, word_and_rest, word_within, words_of, words_of_characters, words_within}
 
 -- ---- what is left behind a piece
 
