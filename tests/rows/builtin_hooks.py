@@ -11,6 +11,8 @@ PROGRAM = "selection_trial"
 P = ("p.txt", "p.txt")
 TODO = "one TODO\r\ntwo\nTODO three"
 
+LONG = ["a" * 5_000, "a" * 60_000, "|".join(f"w{number}" for number in range(1_000)), "[ab]" * 15_000, "(?x)" + " " * 60_000]
+
 ROWS = [
     # fail: the entry, an empty line, the names a line each
     ("fail_answer", "no such names", "bad.txt", "1\nno such names\n\nbad.txt\n"),
@@ -41,6 +43,8 @@ ROWS = [
     ("grep_build", r"(a)\1", "", "1 NotAPattern"),
     ("grep_build", "(", "-v", "2 BadArg"),
     ("grep_build", "(?-u)\\xff", "", "built"),
+    # a long entry is a pattern too: a name, names behind one another, classes
+    *(("grep_build", long, args, "built") for long in LONG for args in ["", "-i"]),
     ("grep_answer", "(", "", *P, "a", "1 NotAPattern"),
 
     # by line: path, number, line

@@ -8,6 +8,9 @@ NO_PATTERN = "1 the text is no pattern"
 # Texts that are read as patterns: the answer is the text.
 PATTERNS = ["", "^$", "^src/", r"\.py$", "(?x)^(\n    a/.*|\n    b/.*\n)$\n", "caf\u00e9+", "(?i)readme", "a{2,3}", "(?P<name>x)", r"\p{Greek}"]
 
+# Long texts are read as patterns too: names, names behind one another, classes, comments.
+LONG = ["a" * 5_000, "a" * 60_000, "|".join(f"w{number}" for number in range(1_000)), "[ab]" * 15_000, "(?x)" + " " * 60_000]
+
 # Texts that aren't: other syntax, groups that don't end, too deep, too large once compiled, too long.
 REFUSED = ["(?=a)", "(?!a)", "(?<!a)b", r"(a)\1", "(a", "a)", "[a", "*a", "a{3,2}", "\\", "(?P<n>a)(?P<n>b)", "(" * 251 + ")" * 251, "((a{1,100}){1,100}){1,100}", "[" * 1_048_576]
 
@@ -89,7 +92,7 @@ SELECTIONS = [
 ]
 
 ROWS = [
-    *(("pattern", text, text) for text in PATTERNS),
+    *(("pattern", text, text) for text in PATTERNS + LONG),
     *(("pattern", text, NO_PATTERN) for text in REFUSED),
     *(select(path, [f"- {path} "], path if found else "", files=pattern) for pattern, path, found in FOUND),
     *SELECTIONS,
