@@ -1,7 +1,7 @@
 use Rattle.std.proofs.Common.{◌≡◌, ℕ, ◌+◌, ◌-◌, ◌≤◌, List, length, take, drop, Option, Some, None, refl, sym, ◌∙◌, ap, arith, get_or-take, length-take}
 use Rattle.std.proofs.lemmas.List.{take_all, take-take, ext_get_or, drop-take}
 use Rattle.sqlite_disk.specs.Disk.{Holds, Cut}
-use Rattle.lazy_disk.specs.DueCut.{shown_bytes, EndsWithin}
+use Rattle.lazy_disk.specs.DueCut.{shown_bytes, EndsWithin, MayLeaveDue}
 
 -- below the length the file stays, whatever else is left of it
 pub take-Cut : (n : ℕ) (xs ys : List ℕ) → n ≤ length xs → Cut n xs ys → take n ys ≡ take n xs
@@ -34,3 +34,11 @@ Holds-shown_bytes (Some end) file at bytes low holds =
     let len = length-take end file in
     let long = holds.within in
     record { within = omega arith; each = λ i l. get_or-take end file (at + i) 0 (omega arith) ∙ holds.each i l }
+
+Cut-itself : (n : ℕ) (file : List ℕ) → Cut n file file
+Cut-itself n file = record { no_shorter = omega arith; no_longer = omega arith; below = λ i _ _. refl }
+
+-- a cut that is put off may be lost
+pub left_below : (cut : Option ℕ) (outcomes : List ℕ → Type 0) (left : List ℕ) → outcomes left → MayLeaveDue cut outcomes left
+left_below None outcomes left here = here
+left_below (Some n) outcomes left here = (left, here, Cut-itself n left)
