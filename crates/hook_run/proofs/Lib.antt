@@ -3,6 +3,7 @@ pub mod BeginLemmas
 pub mod CompletionLemmas
 pub mod FaultLemmas
 pub mod HookRefs
+pub mod NextLemmas
 pub mod OneRunLemmas
 pub mod PlanLemmas
 pub mod RowLemmas

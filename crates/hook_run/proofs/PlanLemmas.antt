@@ -109,7 +109,7 @@ ids-behind true config ask tree hooks trace results run =
     sym (ap (unsteady_ids hooks) (no-trace config ask tree trace results run) ∙ no-ids hooks)
 ids-behind false config ask tree hooks trace results run = refl
 
-after_parts-append : (tree : List File) (first second : List Part) → after_parts tree (first ++ second) ≡ after_parts (after_parts tree first) second
+pub after_parts-append : (tree : List File) (first second : List Part) → after_parts tree (first ++ second) ≡ after_parts (after_parts tree first) second
 after_parts-append tree [] second = refl
 after_parts-append tree (part ∷ first) second = after_parts-append (after_outcome tree part.outcome) first second
 

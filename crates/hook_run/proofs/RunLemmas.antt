@@ -69,7 +69,7 @@ told-more tells calls calls_now calls_after faults faults_now faults_after first
           (so_far.leads (part ∷ rest) out (follows rest out on));
     }
 
-over-at : (plan : Plan) (waiting : Option AtPart) (out : RunOut) → need_at waiting ≡ Over → out ≡ out_of_plan plan → CompletesAt plan waiting [] out
+pub over-at : (plan : Plan) (waiting : Option AtPart) (out : RunOut) → need_at waiting ≡ Over → out ≡ out_of_plan plan → CompletesAt plan waiting [] out
 over-at plan None out need is = (refl, is)
 over-at plan (Some at) out need is = absurd (cc)
 

@@ -121,7 +121,7 @@ hook-ending answers config ask tree hook =
 
 -- ---- the hooks one after another
 
-told-append : (tells : List (List ℕ) → List File → Outcome → Type 0) (first second : List Part) → AllTold tells first → AllTold tells second → AllTold tells (first ++ second)
+pub told-append : (tells : List (List ℕ) → List File → Outcome → Type 0) (first second : List Part) → AllTold tells first → AllTold tells second → AllTold tells (first ++ second)
 told-append tells [] second one two = two
 told-append tells (part ∷ first) second one two = (one.0, told-append tells first second one.1 two)
 

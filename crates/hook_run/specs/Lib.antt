@@ -6,6 +6,7 @@ pub mod HookRun
 pub mod Limits
 pub mod Parts
 pub mod PartsEnding
+pub mod PlanLaws
 pub mod PlanRuns
 pub mod Plans
 pub mod Refusals

@@ -11,7 +11,8 @@
 //! `specs/PartsEnding.antt` (its children, and what they come to), `specs/Asks.antt` (which hooks a run goes through, and
 //! `names_no_hook`) and `specs/Limits.antt`; `specs/Refusals.antt` has the numbers, and `specs/CountLemmas.antt` what follows
 //! for the children's counts. `specs/Standing.antt` and `specs/PlanRuns.antt` serve private functions alone. [`laws`] says
-//! that the outcomes decide all else of a run, and [`plan_laws`] that each plan can be completed.
+//! that the outcomes decide all else of a run, and [`plan_laws`] that each plan can be completed and hands out what comes next in
+//! a run, in the words of `specs/PlanLaws.antt`.
 #![tactic(auto)]
 
 mod advance;

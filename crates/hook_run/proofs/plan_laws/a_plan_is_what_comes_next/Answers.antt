@@ -1,0 +1,5 @@
+use Rattle.hook_run.proofs.NextLemmas.{comes-next}
+use Rattle.hook_run.proofs.plan_laws.a_plan_is_what_comes_next.Goals as goal
+
+pub returns : goal.returns
+returns c = comes-next
