@@ -22,7 +22,7 @@ use Rattle.hook_run.specs.RunOuts.{out_of}
 use Rattle.hook_run.specs.HookRun.{IsEnding, commands_of}
 use Rattle.hook_run.specs.Parts.{Part}
 use Rattle.hook_run.specs.Plans.{AtHook, GoesOn, GoesOnAt, Plan, gathered_with, hooks_after, progress_with, result_of}
-use Rattle.hook_run.specs.Standing.{FitsName, FitsResults, HasBegun, HasGoneOn, IsCourse, IsFirstOf, IsPlanFrom, IsSeenOn, IsToldFrom, at_hook, at_work, hooks_from, id_if, names_in, on_tree, part_at, with_gathered}
+use Rattle.hook_run.specs.Standing.{FitsName, FitsResults, HasBegun, HasGoneOn, IsCourse, IsFirstOf, IsPlanAt, IsPlanBehindHook, IsPlanFrom, IsSeenOn, IsToldFrom, at_hook, at_work, hooks_from, id_if, names_in, on_tree, part_at, with_gathered}
 use Rattle.hook_run.proofs.PlanLemmas.{hook-done, hook-ended, hook-waits, over-goes_on, part-told}
 
 -- whatever goes on from the second moment, goes on from the first
@@ -138,42 +138,38 @@ told-part course done after place waiting outcome unsteady parts out left on =
     (commands_of waiting.work.words waiting.work.names (drop waiting.work.begun waiting.work.cuts)) waiting.work.gathered (hooks_from course place) outcome unsteady parts out
     (subst (λ (p : Progress). GoesOnAt course.config.now course.ask.now p (told_at waiting outcome unsteady) (hooks_from course place) parts out) left on)
 
-pub told-waits : (course : Course) (done after : Progress) (place : ℕ) (waiting next : Waiting) (work : Work) (begun : Begun) (outcome : Outcome) (unsteady : Bool) (parts : List Part) (out : RunOut)
+pub told-part_if : {E : Type 0} (course : Course) (done after : Progress) (place : ℕ) (waiting : Waiting) (work : Work) (outcome : Outcome) (unsteady : Bool) (result : Result Plan E)
     → after ≡ on_tree done (after_outcome done.tree outcome)
     → at_work work ≡ with_gathered (at_work waiting.work) (gathered_with waiting.work.gathered outcome unsteady)
-    → begun ≡ Waits next → HasGoneOn (at_work work) after.tree begun
-    → GoesOnAt course.config.now course.ask.now after (at_hook next) (hooks_from course place) parts out
-    → GoesOnAt course.config.now course.ask.now done (at_hook waiting) (hooks_from course place) (part_at waiting done.tree outcome unsteady ∷ parts) out
-told-waits course done after place waiting next work begun outcome unsteady parts out left worked same gone on =
-    let is = subst (HasGoneOn (at_work work) after.tree) same gone in
-    told-part course done after place waiting outcome unsteady parts out left
-    (subst (λ (a : AtHook). GoesOnAt course.config.now course.ask.now after a (hooks_from course place) parts out) (is.0 ∙ worked) on)
+    → IfOk result (IsPlanAt course after place (at_work work)) → IfOk result (IsToldFrom course done place waiting outcome unsteady)
+told-part_if course done after place waiting work outcome unsteady (Ok plan) left worked from =
+    λ parts out on. told-part course done after place waiting outcome unsteady parts out left
+    (subst (λ (at : AtHook). GoesOnAt course.config.now course.ask.now after at (hooks_from course place) parts out) worked (from parts out on))
+told-part_if course done after place waiting work outcome unsteady (Err refusal) left worked from = tt
 
-told-ended : (course : Course) (done after behind : Progress) (place next : ℕ) (waiting : Waiting) (work : Work) (begun : Begun) (outcome : Outcome) (unsteady : Bool) (ending : Ending) (mark : Bool)
-    (parts : List Part) (out : RunOut) → after ≡ on_tree done (after_outcome done.tree outcome)
-    → at_work work ≡ with_gathered (at_work waiting.work) (gathered_with waiting.work.gathered outcome unsteady)
-    → begun ≡ Ended ending mark → HasGoneOn (at_work work) after.tree begun
-    → hooks_from course next ≡ hooks_after course.config.now waiting.work.hook.now ending (hooks_from course place)
-    → behind ≡ progress_with after waiting.work.hook.now ending (id_if mark waiting.work.hook.now) after.tree
-    → GoesOn course.config.now course.ask.now behind (hooks_from course next) parts out
-    → GoesOnAt course.config.now course.ask.now done (at_hook waiting) (hooks_from course place) (part_at waiting done.tree outcome unsteady ∷ parts) out
-told-ended course done after behind place next waiting work begun outcome unsteady ending mark parts out left worked same gone hooks made on =
-    let config = course.config.now in
-    let ask = course.ask.now in
-    let hook = waiting.work.hook.now in
-    let is = subst (λ (a : AtHook). HasGoneOn a after.tree (Ended ending mark)) worked (subst (HasGoneOn (at_work work) after.tree) same gone) in
-    let here = subst (λ (all : List Hook). GoesOn config ask behind all parts out) hooks on in
-    let there = subst (λ (p : Progress). GoesOn config ask p (hooks_after config hook ending (hooks_from course place)) parts out) made here in
-    told-part course done after place waiting outcome unsteady parts out left
-    (hook-ended config ask after (told_at waiting outcome unsteady) (hooks_from course place) ending mark parts out is.0 is.1 is.2 there)
+-- ---- a hook that goes on, by the way it does
 
-pub told-ended_if : {E : Type 0} (course : Course) (done after behind : Progress) (place next : ℕ) (waiting : Waiting) (work : Work) (begun : Begun) (outcome : Outcome) (unsteady : Bool) (ending : Ending) (mark : Bool)
-    (result : Result Plan E) → after ≡ on_tree done (after_outcome done.tree outcome)
-    → at_work work ≡ with_gathered (at_work waiting.work) (gathered_with waiting.work.gathered outcome unsteady)
-    → begun ≡ Ended ending mark → HasGoneOn (at_work work) after.tree begun
-    → hooks_from course next ≡ hooks_after course.config.now waiting.work.hook.now ending (hooks_from course place)
-    → behind ≡ progress_with after waiting.work.hook.now ending (id_if mark waiting.work.hook.now) after.tree
-    → IfOk result (IsPlanFrom course behind next) → IfOk result (IsToldFrom course done place waiting outcome unsteady)
-told-ended_if course done after behind place next waiting work begun outcome unsteady ending mark (Ok plan) left worked same gone hooks made from =
-    λ parts out completes. told-ended course done after behind place next waiting work begun outcome unsteady ending mark parts out left worked same gone hooks made (from parts out completes)
-told-ended_if course done after behind place next waiting work begun outcome unsteady ending mark (Err refusal) left worked same gone hooks made from = tt
+pub waits-at : (course : Course) (done : Progress) (place : ℕ) (at : AtHook) (begun : Begun) (waiting : Waiting) (parts : List Part) (out : RunOut)
+    → begun ≡ Waits waiting → HasGoneOn at done.tree begun
+    → GoesOnAt course.config.now course.ask.now done (at_hook waiting) (hooks_from course place) parts out
+    → GoesOnAt course.config.now course.ask.now done at (hooks_from course place) parts out
+waits-at course done place at begun waiting parts out same gone on =
+    let is = subst (HasGoneOn at done.tree) same gone in
+    subst (λ (a : AtHook). GoesOnAt course.config.now course.ask.now done a (hooks_from course place) parts out) is.0 on
+
+pub ended-at_if : {E : Type 0} (course : Course) (done : Progress) (place : ℕ) (at : AtHook) (begun : Begun) (ending : Ending) (mark : Bool) (result : Result Plan E)
+    → begun ≡ Ended ending mark → HasGoneOn at done.tree begun
+    → IfOk result (IsPlanBehindHook course done place at.hook ending mark) → IfOk result (IsPlanAt course done place at)
+ended-at_if course done place at begun ending mark (Ok plan) same gone from =
+    let is = subst (HasGoneOn at done.tree) same gone in
+    λ parts out on. hook-ended course.config.now course.ask.now done at (hooks_from course place) ending mark parts out is.0 is.1 is.2 (from parts out on)
+ended-at_if course done place at begun ending mark (Err refusal) same gone from = tt
+
+pub behind-hook_if : {E : Type 0} (course : Course) (done behind : Progress) (place next : ℕ) (hook : Hook) (ending : Ending) (mark : Bool) (result : Result Plan E)
+    → hooks_from course next ≡ hooks_after course.config.now hook ending (hooks_from course place)
+    → behind ≡ progress_with done hook ending (id_if mark hook) done.tree
+    → IfOk result (IsPlanFrom course behind next) → IfOk result (IsPlanBehindHook course done place hook ending mark)
+behind-hook_if course done behind place next hook ending mark (Ok plan) hooks made from =
+    λ parts out on. subst (λ (p : Progress). GoesOn course.config.now course.ask.now p (hooks_after course.config.now hook ending (hooks_from course place)) parts out) made
+    (subst (λ (all : List Hook). GoesOn course.config.now course.ask.now behind all parts out) hooks (from parts out on))
+behind-hook_if course done behind place next hook ending mark (Err refusal) hooks made from = tt

@@ -24,7 +24,7 @@ use Rattle.hook_run.specs.Asks.{hooks_of_run, names_of_run}
 use Rattle.hook_run.specs.HookRun.{commands_of, further_of, sees_whole}
 use Rattle.hook_run.specs.Parts.{ArePartsOf, Part}
 use Rattle.hook_run.specs.PartsEnding.{ending_of_parts}
-use Rattle.hook_run.specs.Plans.{AtHook, AtPart, Completes, GoesOn, GoesOnAt, Plan, ending_of_gathered, left_at, nothing_gathered}
+use Rattle.hook_run.specs.Plans.{AtHook, AtPart, Completes, GoesOn, GoesOnAt, Plan, ending_of_gathered, hooks_after, left_at, nothing_gathered, progress_with}
 
 -- the hooks are those that the run goes through, and the candidates those that pass the patterns of the configuration
 pub record IsCourse (course : Course) : Type 0 where
@@ -147,6 +147,16 @@ GoesOnSo Goes plan = (parts : List Part) (out : RunOut) → Completes plan parts
 -- whatever completes the plan, goes on from what is done with the hooks from a place on
 abbrev pub IsPlanFrom : Course → Progress → ℕ → Plan → Type 0
 IsPlanFrom course done place plan = GoesOnSo (GoesOn course.config.now course.ask.now done (hooks_from course place)) plan
+
+-- the same at a hook that goes on so, with the hooks from a place on behind it
+abbrev pub IsPlanAt : Course → Progress → ℕ → AtHook → Plan → Type 0
+IsPlanAt course done place at plan = GoesOnSo (GoesOnAt course.config.now course.ask.now done at (hooks_from course place)) plan
+
+-- the same behind a hook that ends so
+abbrev pub IsPlanBehindHook : Course → Progress → ℕ → Hook → Ending → Bool → Plan → Type 0
+IsPlanBehindHook course done place hook ending unsteady plan = GoesOnSo
+    (GoesOn course.config.now course.ask.now (progress_with done hook ending (id_if unsteady hook) done.tree)
+    (hooks_after course.config.now hook ending (hooks_from course place))) plan
 
 -- whatever completes the plan, goes on at the hook that waits, behind the part with this outcome
 abbrev pub IsToldFrom : Course → Progress → ℕ → Waiting → Outcome → Bool → Plan → Type 0

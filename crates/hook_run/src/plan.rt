@@ -4,7 +4,7 @@ ghost use Rattle.std.specs.Prelude.{◌≡◌, ◌≢◌, ◌↔◌, IfOk, IfErr
 ghost use Rattle.hook_run.specs.Asks.{names_no_hook};
 ghost use Rattle.hook_run.specs.Plans.{IsPlanAfter, IsPlanOf, need_of, out_of_plan, seen_of_plan, tree_of_plan, words_of};
 ghost use Rattle.hook_run.specs.Refusals.{is_of_book};
-ghost use Rattle.hook_run.specs.Standing.{FitsName, FitsResults, IsCourse, IsToldFrom};
+ghost use Rattle.hook_run.specs.Standing.{FitsName, FitsResults, IsCourse, IsPlanAt, IsPlanBehindHook, IsToldFrom, at_work};
 
 use crate::advance::{advance, place_behind};
 use crate::asked::{hooks_of_run, names_no_hook};
@@ -14,12 +14,13 @@ use crate::progress::{Progress, progress_after, progress_with};
 use crate::report::has_passed;
 use crate::standing::Standing;
 use crate::waiting::Waiting;
-use crate::work::{go_on, work_with};
+use crate::work::{Work, go_on, work_with};
 use crate::{Need, RunAsk, RunOut, RunRefusal};
 use child_port::Outcome;
 use hook_base::{Items, OutOfMemory, Text, Tree};
-use hook_config::Config;
+use hook_config::{Config, Hook};
 use path_select::Candidates;
+use report_text::Ending;
 use std::alloc::Global;
 use std::marker::Model;
 
@@ -212,9 +213,25 @@ fn told<'a>(
 {
     let alloc = *course.hooks.allocator();
     let Waiting { work, .. } = waiting;
-    let hook = work.hook;
     let work = work_with(work, &outcome, unsteady)?;
     let done = progress_after(done, outcome)?;
+    plan_at(alloc, course, done, place, work)
+}
+
+// The plan of a hook that goes on from here.
+fn plan_at<'a>(
+    alloc: Global,
+    course: Course<'a>,
+    done: Progress,
+    place: usize,
+    work: Work<'a>,
+) -> Result<RunPlan<'a>, OutOfMemory>
+    requires course { IsCourse course }
+    requires fits { FitsResults course done.results }
+    requires fits_at { FitsName course work.hook.now.name }
+    ensures { IfOk result (IsPlanAt course.entry done place (at_work work.entry)) }
+{
+    let hook = work.hook;
     match go_on(alloc, work, &done.tree)? {
         Begun::Waits(waiting) => Ok(RunPlan {
             course,
@@ -223,9 +240,27 @@ fn told<'a>(
             standing: Standing::Waits(waiting),
         }),
         Begun::Ended(ending, unsteady) => {
-            let place = place_behind(&course, hook, &ending, place);
-            let done = progress_with(alloc, done, hook, ending, unsteady)?;
-            advance(alloc, course, done, place)
+            plan_behind_hook(alloc, course, done, place, hook, ending, unsteady)
         }
     }
+}
+
+// The plan behind a hook that ends so.
+fn plan_behind_hook<'a>(
+    alloc: Global,
+    course: Course<'a>,
+    done: Progress,
+    place: usize,
+    hook: &Hook,
+    ending: Ending,
+    unsteady: bool,
+) -> Result<RunPlan<'a>, OutOfMemory>
+    requires course { IsCourse course }
+    requires fits { FitsResults course done.results }
+    requires fits_at { FitsName course hook.now.name }
+    ensures { IfOk result (IsPlanBehindHook course.entry done place hook.now ending unsteady) }
+{
+    let place = place_behind(&course, hook, &ending, place);
+    let done = progress_with(alloc, done, hook, ending, unsteady)?;
+    advance(alloc, course, done, place)
 }
