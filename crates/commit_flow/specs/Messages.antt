@@ -1,7 +1,7 @@
 -- The message of a commit: what the hooks begin with, and what is left of it once it is cleaned (git-commit(1), the clean-up
 -- `whitespace`).
-use Rattle.std.specs.Prelude.{ℕ, ◌==◌, Bool, true, false, ◌&&◌, ◌||◌, if◌then◌else◌, List, [], ◌∷◌, ◌++◌, map}
-use Rattle.std.specs.List.{flat_map, list_any, slice_split}
+use Rattle.std.specs.Prelude.{ℕ, zero, suc, ◌==◌, Bool, true, false, ◌&&◌, ◌||◌, if◌then◌else◌, List, [], ◌∷◌, ◌++◌, drop, get_or, length, map}
+use Rattle.std.specs.List.{filter, flat_map, list_any, range_with_len, slice_split}
 
 abbrev pub is_line_feed : ℕ → Bool
 is_line_feed byte = byte == 10
@@ -41,25 +41,30 @@ abbrev pub is_filled : List ℕ → Bool
 is_filled [] = false
 is_filled (byte ∷ bytes) = true
 
--- a line between these two neighbours stays: it isn't empty, or the line before it isn't and neither is one behind it
-abbrev pub stays : List ℕ → List ℕ → List (List ℕ) → Bool
-stays before line behind = is_filled line || (is_filled before && list_any is_filled behind)
+-- the line at a place, counted from 0
+abbrev pub line_at : List (List ℕ) → ℕ → List ℕ
+line_at lines place = get_or lines place []
 
--- those of the lines that stay, where this line stands before them: an empty one, where none does
-abbrev pub staying : List ℕ → List (List ℕ) → List (List ℕ)
-staying before [] = []
-staying before (line ∷ behind) = if stays before line behind then line ∷ staying line behind else staying line behind
+-- there is a line before the place, and it isn't empty
+abbrev pub follows_filled : List (List ℕ) → ℕ → Bool
+follows_filled lines zero = false
+follows_filled lines (suc place) = is_filled (line_at lines place)
+
+-- there is a line behind the place that isn't empty
+abbrev pub precedes_filled : List (List ℕ) → ℕ → Bool
+precedes_filled lines place = list_any is_filled (drop (suc place) lines)
+
+-- the line at the place stays: it isn't empty, or the one before it isn't, and neither is a later one
+abbrev pub stays_at : List (List ℕ) → ℕ → Bool
+stays_at lines place = is_filled (line_at lines place) || (follows_filled lines place && precedes_filled lines place)
+
+-- those of the lines that stay, in order
+abbrev pub staying : List (List ℕ) → List (List ℕ)
+staying lines = map (line_at lines) (filter (stays_at lines) (range_with_len 0 (length lines)))
 
 abbrev pub ended_line : List ℕ → List ℕ
 ended_line line = line ++ 10 ∷ []
 
 -- the message once it is cleaned: the lines that stay, each ended by a line feed
 abbrev pub cleaned_message : List ℕ → List ℕ
-cleaned_message message = flat_map ended_line (staying [] (trimmed_lines message))
-
--- ---- how it is written
-
--- what a line adds to those before it, where an empty line waits for one that isn't empty, or none waits
-abbrev pub line_text : Bool → List ℕ → List ℕ
-line_text waits [] = []
-line_text waits (byte ∷ bytes) = (if waits then 10 ∷ [] else []) ++ ended_line (byte ∷ bytes)
+cleaned_message message = flat_map ended_line (staying (trimmed_lines message))

@@ -1,7 +1,7 @@
 //! The message of a commit: what its hooks begin with, and what is left of it once they are through.
 
-ghost use Rattle.std.specs.Prelude.{◌≡◌, ◌++◌, ◌&&◌, ◌||◌, not, IfOk, OnOk};
-ghost use Rattle.commit_flow.specs.Messages.{begun_message, cleaned_message, is_blank, is_filled, lacks_line_end, line_text, without_blanks_after};
+ghost use Rattle.std.specs.Prelude.{◌≡◌, ◌≢◌, ◌++◌, ◌&&◌, ◌||◌, not, if◌then◌else◌, [], IfOk, OnOk};
+ghost use Rattle.commit_flow.specs.Messages.{begun_message, cleaned_message, is_blank, ended_line, is_filled, lacks_line_end, without_blanks_after};
 
 use hook_base::OutOfMemory;
 use std::alloc::Global;
@@ -47,7 +47,8 @@ pub fn cleaned_message(alloc: Global, message: &[u8]) -> Result<Vec<u8>, OutOfMe
 
 // Nothing for an empty line, which waits for one that isn't. Where an empty line waits, it comes first.
 fn push_line(output: &mut Vec<u8>, waits: bool, line: &[u8]) -> Result<(), OutOfMemory>
-    ensures { OnOk result (output.new.items ≡ output.old.items ++ line_text waits line.now) }
+    ensures empty { OnOk result (line.now ≡ [] → output.new.items ≡ output.old.items) }
+    ensures filled { OnOk result (line.now ≢ [] → output.new.items ≡ output.old.items ++ ((if waits then ended_line [] else []) ++ ended_line line.now)) }
 {
     if line.is_empty() {
         return Ok(());
