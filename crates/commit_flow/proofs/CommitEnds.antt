@@ -18,8 +18,9 @@ use Rattle.commit_flow.specs.declared.course.Course.{Course}
 use Rattle.commit_flow.specs.declared.host_refusal.HostRefusal.{HostRefusal}
 use Rattle.commit_flow.specs.declared.reply.PostCommit.{PostCommit}
 use Rattle.commit_flow.specs.declared.reply.Reply.TheVariants.{Committed, HooksFailed, Refused}
-use Rattle.commit_flow.specs.CommitCalls.{AreRunOver, AreStagesOver, IsOneChange, IsPostOver, IsThrough, IsUncommitted, IsUnfixed, MayCommit}
+use Rattle.commit_flow.specs.CommitCalls.{AreRunOver, AreStagesOver, IsOneChange, IsPostOver, IsThrough, IsUncommitted, IsUnfixed}
 use Rattle.commit_flow.specs.CommitStages.{FailedAt, HavePassed, course_of, stages_before_commit}
+use Rattle.commit_flow.specs.Commits.{MayCommit}
 use Rattle.commit_flow.specs.Crashes.{IsOneCommand, LeavesDone}
 use Rattle.commit_flow.specs.Messages.{cleaned_message}
 use Rattle.commit_flow.specs.Runs.{changed_paths}

@@ -19,9 +19,9 @@ use Rattle.commit_flow.specs.declared.host_refusal.HostRefusal.TheVariants.{OutO
 use Rattle.commit_flow.specs.declared.reply.PostCommit.{PostCommit}
 use Rattle.commit_flow.specs.declared.reply.PostCommit.TheVariants.{Told, Stopped}
 use Rattle.commit_flow.specs.declared.reply.Reply.TheVariants.{Committed, HooksFailed, Refused}
-use Rattle.commit_flow.specs.CommitCalls.{AreStagesOver, IsHalt, IsHalted, IsNotBegun, IsPostOver, IsUnbegun, IsUncommitted, IsUnfixed, IsUnthrough, MayCommit}
+use Rattle.commit_flow.specs.CommitCalls.{AreStagesOver, IsHalt, IsHalted, IsNotBegun, IsPostOver, IsUnbegun, IsUncommitted, IsUnfixed, IsUnthrough}
 use Rattle.commit_flow.specs.CommitStages.{FailedAt, HaveFurther, HavePassed, course_of, parts_of, stages_before_commit}
-use Rattle.commit_flow.specs.Commits.{IsCommitRefusal, IsCommittable, IsVerified}
+use Rattle.commit_flow.specs.Commits.{IsCommitRefusal, IsCommittable, IsVerified, MayCommit}
 use Rattle.commit_flow.specs.Configured.{HasReadableConfig, IsConfigured}
 use Rattle.commit_flow.specs.Messages.{cleaned_message}
 use Rattle.commit_flow.specs.Preparations.{IsConfigRefusal}

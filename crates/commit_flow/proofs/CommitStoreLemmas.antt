@@ -33,7 +33,7 @@ use Rattle.commit_flow.specs.declared.reply.PostCommit.TheVariants.{Stopped}
 use Rattle.commit_flow.specs.declared.reply.Reply.TheVariants.{Committed, HooksFailed}
 use Rattle.commit_flow.specs.CommitCalls.{IsOneChange, IsUncommitted, IsUnfixed}
 use Rattle.commit_flow.specs.CommitStages.{FailedAt, StageTold, course_of, parts_of, reports_of, stages_before_commit}
-use Rattle.commit_flow.specs.Commits.{HasNothingNew, IsCommittable, IsVerified}
+use Rattle.commit_flow.specs.Commits.{HasNothingNew, IsCommittable, IsVerified, MayCommit}
 use Rattle.commit_flow.specs.Configured.{IsConfigured}
 use Rattle.commit_flow.specs.Crashes.{IsOneCommand, LeavesDone}
 use Rattle.commit_flow.specs.Messages.{cleaned_message}
@@ -154,15 +154,15 @@ fix_reached kept message no_verify skip config told failed last committable conf
 
 -- ---- why the store refuses
 
-pub uncommitted : (repo : Repository) (cleaned : List ℕ) (fault : StoreFault) → (cleaned ≡ [] → ⊥) → IsRefusal (¬ IsSmall cleaned) (IsSmall cleaned × (most_commits ≤ length repo.history)) ⊥ fault
+pub uncommitted : (repo : Repository) (cleaned : List ℕ) (fault : StoreFault) → MayCommit repo cleaned → IsRefusal (¬ IsSmall cleaned) (IsSmall cleaned × (most_commits ≤ length repo.history)) ⊥ fault
     → IsUncommitted repo cleaned (of_store fault)
-uncommitted repo cleaned store.NotAStore some why = absurd why
-uncommitted repo cleaned store.Damaged some why = absurd why
-uncommitted repo cleaned (store.Sql error) some why = (tt, tt)
-uncommitted repo cleaned store.OutOfMemory some why = tt
-uncommitted repo cleaned store.Collision some why = absurd why
-uncommitted repo cleaned store.TooLarge some why = (tt, why)
-uncommitted repo cleaned store.TooMany some why = (some, why.0, why.1)
+uncommitted repo cleaned store.NotAStore may why = absurd why
+uncommitted repo cleaned store.Damaged may why = absurd why
+uncommitted repo cleaned (store.Sql error) may why = (tt, may)
+uncommitted repo cleaned store.OutOfMemory may why = tt
+uncommitted repo cleaned store.Collision may why = absurd why
+uncommitted repo cleaned store.TooLarge may why = (tt, why)
+uncommitted repo cleaned store.TooMany may why = (may.some, why.0, why.1)
 
 unfixed_so : (kept : Kept) (fixes : List Change) (fault : StoreFault) → IsRefusal (HasLarge fixes) ⊥ (FixCollides fixes kept.contents) fault → IsUnfixed kept fixes (of_store fault)
 unfixed_so kept fixes store.NotAStore why = absurd why

@@ -134,17 +134,11 @@ IsUnthrough tells calls calls_after faults faults_after repo message no_verify s
 
 -- ---- the commit
 
--- a cleaned message that may be committed
-pub record MayCommit (repo : Repository) (cleaned : List ℕ) : Type 0 where
-  pub some : cleaned ≢ []
-  pub small : IsSmall cleaned
-  pub room : length repo.history < most_commits
-
 -- why the staged files aren't committed with the cleaned message
 abbrev pub IsUncommitted : Repository → List ℕ → HostRefusal → Type 0
 IsUncommitted repo cleaned EmptyMessage = cleaned ≡ []
 IsUncommitted repo cleaned TooMany = (cleaned ≢ []) × IsSmall cleaned × (most_commits ≤ length repo.history)
-IsUncommitted repo cleaned (Store fault) = IsOfFixes fault × IsUnkept fault cleaned
+IsUncommitted repo cleaned (Store fault) = IsOfFixes fault × IsUnkept repo fault cleaned
 IsUncommitted repo cleaned OutOfMemory = Unit {0}
 IsUncommitted repo cleaned refusal = ⊥
 

@@ -11,7 +11,7 @@ use Rattle.hook_run.specs.declared.run_refusal.RunRefusal.TheVariants as run
 use Rattle.hook_run.specs.Parts.{AllTold, Part}
 use Rattle.hook_run.specs.RunOuts.{IsCounted, NeedsPart}
 use Rattle.repo_store.specs.declared.fault.StoreFault.{StoreFault}
-use Rattle.repo_store.specs.declared.fault.StoreFault.TheVariants.{TooLarge}
+use Rattle.repo_store.specs.declared.fault.StoreFault.TheVariants.{Sql, TooLarge}
 use Rattle.repo_store.specs.Kept.{FixCollides, Kept}
 use Rattle.repo_store.specs.Limits.{IsSmall}
 use Rattle.repo_store.specs.Repository.{Repository}
@@ -22,7 +22,7 @@ use Rattle.commit_flow.specs.declared.reply.PostCommit.TheVariants.{Stopped}
 use Rattle.commit_flow.specs.declared.reply.Reply.{Reply}
 use Rattle.commit_flow.specs.declared.reply.Reply.TheVariants.{Committed, Refused}
 use Rattle.commit_flow.specs.CommitStages.{FailedAt, HaveFurther, StageTold, ask_in, course_of, parts_of, stages_before_commit}
-use Rattle.commit_flow.specs.Commits.{IsVerifiedBut}
+use Rattle.commit_flow.specs.Commits.{IsVerifiedBut, MayCommit}
 use Rattle.commit_flow.specs.Configured.{IsConfigured}
 use Rattle.commit_flow.specs.Runs.{changed_paths}
 use Rattle.commit_flow.specs.RunSteps.{IsUnset}
@@ -46,10 +46,11 @@ pub record HasFailedBut (before : Repository) (message : List ℕ) (no_verify : 
   pub traced : parts ≡ parts_of told
   pub why : reason (changes_between before.staged last.tree)
 
--- the store refuses the commit so: its cleaned message is too large, or the database refuses
-abbrev pub IsUnkept : StoreFault → List ℕ → Type 0
-IsUnkept TooLarge cleaned = ¬ IsSmall cleaned
-IsUnkept fault cleaned = Unit {0}
+-- the store refuses the commit so: its cleaned message is too large, or the database refuses one that may be committed
+abbrev pub IsUnkept : Repository → StoreFault → List ℕ → Type 0
+IsUnkept before TooLarge cleaned = ¬ IsSmall cleaned
+IsUnkept before (Sql error) cleaned = MayCommit before cleaned
+IsUnkept before fault cleaned = ⊥
 
 -- a run that needs a further part behind these: of the stages before the commit
 pub record HasFurtherBefore (before : Repository) (message : List ℕ) (no_verify : Bool) (skip : List (List ℕ)) (parts : List Part) : Type 0 where
@@ -70,7 +71,7 @@ abbrev pub AreLeftOut : Kept → List ℕ → Bool → List (List ℕ) → List 
 AreLeftOut kept message no_verify skip parts (Refused OutOfMemory) = Unit {0}
 AreLeftOut kept message no_verify skip parts (Refused Spent) = HasFurtherBefore kept.repo message no_verify skip parts
 AreLeftOut kept message no_verify skip parts (Refused (Store fault)) =
-    HasFailedBut kept.repo message no_verify skip parts (IsUnset fault) ⊎ IsVerifiedBut kept.repo message no_verify skip parts (IsUnkept fault)
+    HasFailedBut kept.repo message no_verify skip parts (IsUnset fault) ⊎ IsVerifiedBut kept.repo message no_verify skip parts (IsUnkept kept.repo fault)
 AreLeftOut kept message no_verify skip parts (Refused Collision) = HasFailedBut kept.repo message no_verify skip parts (λ fixes. FixCollides fixes kept.contents)
 AreLeftOut kept message no_verify skip parts (Committed number reports (Stopped run.Spent)) = HasFurtherBehind kept.repo skip parts
 AreLeftOut kept message no_verify skip parts (Committed number reports (Stopped refusal)) = Unit {0}

@@ -29,6 +29,12 @@ pub record IsCommittable (before : Repository) (message : List ℕ) : Type 0 whe
   pub small : IsSmall message
   pub new : ¬ HasNothingNew before
 
+-- a cleaned message that may be committed
+pub record MayCommit (before : Repository) (cleaned : List ℕ) : Type 0 where
+  pub some : cleaned ≢ []
+  pub small : IsSmall cleaned
+  pub room : length before.history < most_commits
+
 -- The stages before the commit passed, and the last of them passes this message on.
 pub record IsVerified (before : Repository) (message : List ℕ) (no_verify : Bool) (skip : List (List ℕ)) (config : Config) (told : List StageTold) (last : List ℕ) : Type 0 where
   pub committable : IsCommittable before message

@@ -44,9 +44,9 @@ impl<S: Alter> Host<S> {
     /// started then. `Spent` comes where a child is needed and the children have told as many outcomes as can be counted. Behind
     /// the hooks come, in this order, a cleaned message that is empty (`EmptyMessage`), one of more than 16 MiB (`Store`), and
     /// more than 100,000 commits (`TooMany`); where a hook failed, fixes whose contents have the digest of others
-    /// (`Collision`), and fixes of more than 16 MiB (`Store`). `Store` comes also where the database refuses, and `OutOfMemory`
-    /// where memory is refused. A refusal leaves the repository as it was, and the children with the outcomes that they have
-    /// told.
+    /// (`Collision`), and fixes of more than 16 MiB (`Store`). `Store` comes also where the database refuses a commit that none
+    /// of these speaks against, or fixes, and `OutOfMemory` where memory is refused. A refusal leaves the repository as it was,
+    /// and the children with the outcomes that they have told.
     pub fn commit<C: Children>(
         &mut self,
         alloc: Global,

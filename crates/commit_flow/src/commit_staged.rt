@@ -3,18 +3,20 @@
 ghost use Rattle.std.specs.Prelude.{◌≡◌, ◌+◌, [], length, IfOk, IfErr, OnOk};
 ghost use Rattle.repo_store.specs.AllOrNothing.{IsAllOrNothing};
 ghost use Rattle.repo_store.specs.Kept.{committing};
-ghost use Rattle.commit_flow.specs.CommitCalls.{IsOneChange, IsUncommitted, MayCommit};
+ghost use Rattle.commit_flow.specs.CommitCalls.{IsOneChange, IsUncommitted};
+ghost use Rattle.commit_flow.specs.Commits.{MayCommit};
 ghost use Rattle.commit_flow.specs.Messages.{cleaned_message};
 
 use crate::HostRefusal;
 use crate::message::cleaned_message;
-use repo_store::Store;
+use repo_store::{MOST_COMMITS, MOST_CONTENT_BYTES, Store, StoreFault};
 use sqlite::Alter;
 use std::alloc::Global;
 
 /// Commits the staged files with the message, once this is cleaned, and answers the commit's number. Refused are, in this
 /// order, a cleaned message that is empty (`EmptyMessage`), one of more than 16 MiB (`Store`), and more than 100,000 commits
-/// (`TooMany`); `OutOfMemory` and `Store` come where memory or the database refuses. A refusal leaves the store as it was.
+/// (`TooMany`); the database is asked behind these, and `Store` comes where it refuses. `OutOfMemory` comes where memory is
+/// refused. A refusal leaves the store as it was.
 pub(crate) fn commit_staged<S: Alter>(
     alloc: Global,
     store: &mut Store<S>,
@@ -28,9 +30,24 @@ pub(crate) fn commit_staged<S: Alter>(
     ensures one { IsOneChange S.Store store.old store.new result (committing (cleaned_message message.now) store.old.kept) }
 {
     let cleaned = cleaned_message(alloc, message)?;
+    check_cleaned(store, cleaned.as_slice())?;
+    let number = store.commit(cleaned.as_slice())?;
+    Ok(number)
+}
+
+// The store would refuse the last two itself, but its contract doesn't say that it does so before the database.
+fn check_cleaned<S: Alter>(store: &Store<S>, cleaned: &[u8]) -> Result<(), HostRefusal>
+    ensures able { OnOk result (MayCommit store.now.kept.repo cleaned.now) }
+    ensures refused { IfErr result (IsUncommitted store.now.kept.repo cleaned.now) }
+{
     if cleaned.is_empty() {
         return Err(HostRefusal::EmptyMessage);
     }
-    let number = store.commit(cleaned.as_slice())?;
-    Ok(number)
+    if cleaned.len() > MOST_CONTENT_BYTES {
+        return Err(HostRefusal::Store(StoreFault::TooLarge));
+    }
+    if store.count_commits() as usize >= MOST_COMMITS {
+        return Err(HostRefusal::TooMany);
+    }
+    Ok(())
 }
