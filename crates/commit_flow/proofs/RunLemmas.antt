@@ -1,5 +1,5 @@
 -- A run on the staged files, from what is ready for it and what its hooks came to.
-use Rattle.std.proofs.Common.{◌≡◌, ◌∙◌, ap, sym, subst, inl, inr, refl, ℕ, false, List, [], ◌∷◌, arith, rules}
+use Rattle.std.proofs.Common.{◌≡◌, ◌∙◌, ap, sym, subst, inl, inr, refl, ℕ, false, List, [], ◌∷◌, Result, Ok, Err, IfOk, IfErr, arith, rules}
 use Rattle.std.proofs.lemmas.List.{append-nil}
 use Rattle.hook_base.specs.declared.change.Change.{Change}
 use Rattle.hook_base.specs.declared.file.File.{File}
@@ -29,7 +29,7 @@ use Rattle.commit_flow.specs.declared.prepared.Prepared.{Prepared}
 use Rattle.commit_flow.specs.declared.staged_run.StagedRun.{StagedRun}
 use Rattle.commit_flow.specs.Configured.{HasReadableConfig}
 use Rattle.commit_flow.specs.Crashes.{LeavesDone}
-use Rattle.commit_flow.specs.Preparations.{HasRunReady, HasStoppedReady, HaveRun, HaveStopped, IsConfigRefusal, IsPrepared, IsUnprepared}
+use Rattle.commit_flow.specs.Preparations.{HasRunOnStaged, HasRunReady, HasStoppedReady, HaveRun, HaveStopped, IsConfigRefusal, IsPrepared, IsUnprepared}
 use Rattle.commit_flow.specs.Refusals.{of_run, of_store}
 use Rattle.commit_flow.specs.RunRefusals.{IsRunRefusal}
 use Rattle.commit_flow.specs.RunSteps.{HasBegun, HasRunBut, IsRunStep, IsStoppedAt, IsStoppedStep, IsUnset, reply_of_run}
@@ -255,6 +255,17 @@ module _ (tells : List (List ℕ) → List File → Outcome → Type 0) (calls c
 
   pub run_refused : (refusal : HostRefusal) → HasStoppedReady tells calls calls_after faults faults_after book book_after ready refusal → IsStoppedStep tells calls calls_after faults faults_after book book_after kept ask refusal
   run_refused refusal has = by_whole refusal (subst (λ (r : Prepared). HasStoppedReady tells calls calls_after faults faults_after book book_after r refusal) ready_is has)
+
+  -- either of what hooks that are ready may give
+  pub staged_if : (result : Result StagedRun HostRefusal) → IfOk result (HasRunReady tells calls calls_after faults faults_after book book_after ready)
+      → IfOk result (HasRunOnStaged tells calls calls_after faults faults_after book book_after kept.repo ask)
+  staged_if (Ok ran) has = record { prepared = ready; ready = is; run = has }
+  staged_if (Err refusal) has = tt
+
+  pub run_refused_if : (result : Result StagedRun HostRefusal) → IfErr result (HasStoppedReady tells calls calls_after faults faults_after book book_after ready)
+      → IfErr result (IsStoppedStep tells calls calls_after faults faults_after book book_after kept ask)
+  run_refused_if (Ok ran) has = tt
+  run_refused_if (Err refusal) has = run_refused refusal has
 
 -- ---- the fixes are set
 

@@ -85,6 +85,12 @@ pub record HasRunReady (tells : List (List ℕ) → List File → Outcome → Ty
   pub run : HaveRun tells calls calls_after faults faults_after book book_after ready.config ready.ask ready.tree out
   pub gives : ran ≡ staged_run_of ready.tree out
 
+-- a run on the staged files was made ready, its hooks were run, and this is given of it
+pub record HasRunOnStaged (tells : List (List ℕ) → List File → Outcome → Type 0) (calls calls_after faults faults_after : ℕ) (book book_after : Contents) (repo : Repository) (ask : HostAsk) (ran : StagedRun) : Type 0 where
+  pub prepared : Prepared
+  pub ready : IsPrepared repo ask prepared
+  pub run : HasRunReady tells calls calls_after faults faults_after book book_after prepared ran
+
 -- their run was refused as this
 pub record HasStoppedReady (tells : List (List ℕ) → List File → Outcome → Type 0) (calls calls_after faults faults_after : ℕ) (book book_after : Contents) (ready : Prepared) (refusal : HostRefusal) : Type 0 where
   pub inner : RunRefusal

@@ -6,7 +6,7 @@ ghost use Rattle.repo_store.specs.AllOrNothing.{IsAllOrNothing};
 ghost use Rattle.repo_store.specs.Kept.{setting};
 ghost use Rattle.commit_flow.specs.declared.command.Command.TheVariants.{Run};
 ghost use Rattle.commit_flow.specs.Crashes.{IsOneCommand};
-ghost use Rattle.commit_flow.specs.Preparations.{HasRunReady, HasStoppedReady};
+ghost use Rattle.commit_flow.specs.Preparations.{HasRunOnStaged, HasRunReady, HasStoppedReady};
 ghost use Rattle.commit_flow.specs.RunSteps.{IsRunStep, IsStoppedStep, changes_in};
 
 use crate::hooks::run_with_book;
@@ -14,6 +14,7 @@ use crate::prepared::{Prepared, prepare};
 use crate::{Host, HostAsk, HostRefusal, StagedRun};
 use child_port::Children;
 use hook_run::RunOut;
+use repo_store::Store;
 use result_book::Book;
 use sqlite::Alter;
 use std::alloc::Global;
@@ -42,11 +43,26 @@ impl<S: Alter> Host<S> {
         ensures command { IsOneCommand S.Store self.old.store self.new.store (Run ask.now) result }
         ensures same { SameTells (C.tells children.old) (C.tells children.new) }
     {
-        let prepared = prepare(alloc, &self.store, ask)?;
-        let ran = run_prepared(alloc, children, &mut self.book, &prepared)?;
+        let ran = run_on_staged(alloc, children, &mut self.book, &self.store, ask)?;
         self.store.set_fixes(ran.changes.as_slice())?;
         Ok(ran)
     }
+}
+
+// Runs hooks on the staged files, and sets no fixes.
+fn run_on_staged<C: Children, B: Book, S: Alter>(
+    alloc: Global,
+    children: &mut C,
+    book: &mut B,
+    store: &Store<S>,
+    ask: &HostAsk,
+) -> Result<StagedRun, HostRefusal>
+    ensures run { IfOk result (HasRunOnStaged (C.tells children.old) (C.call_count children.old) (C.call_count children.new) (C.fault_count children.old) (C.fault_count children.new) (B.contents book.old) (B.contents book.new) store.now.kept.repo ask.now) }
+    ensures stopped { IfErr result (IsStoppedStep (C.tells children.old) (C.call_count children.old) (C.call_count children.new) (C.fault_count children.old) (C.fault_count children.new) (B.contents book.old) (B.contents book.new) store.now.kept ask.now) }
+    ensures same { SameTells (C.tells children.old) (C.tells children.new) }
+{
+    let prepared = prepare(alloc, store, ask)?;
+    run_prepared(alloc, children, book, &prepared)
 }
 
 // Runs the hooks that are made ready.
