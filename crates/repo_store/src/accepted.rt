@@ -20,7 +20,7 @@ const FILES_TO_A_FIX: usize = 64;
 const MOST_TAKEN_OUT: usize = 8;
 
 /// What the fixes make of the staged files.
-#[derive(Debug, Drop)]
+#[derive(Drop)]
 pub(crate) enum Accepted {
     /// The files that have one of few fixes, but for those that are gone.
     Few(Vec<SharedFile>),

@@ -10,14 +10,14 @@ use std::marker::Model;
 use std::rc::Rc;
 
 // Bytes, and the SHA-256 of them.
-#[derive(Debug, Drop)]
+#[derive(Drop)]
 struct Hashed {
     digest: [u8; 32],
     bytes: Bytes,
 }
 
 /// Contents with the SHA-256 of them, both of which each file that has the contents shares. Contracts see the bytes.
-#[derive(Debug, Drop)]
+#[derive(Drop)]
 pub(crate) struct Content {
     hashed: Rc<Hashed>,
 }

@@ -20,7 +20,7 @@ use std::marker::Model;
 use store_tables::BlobRow;
 
 /// Contents, each kept once and found by its digest. Contracts see the list of them, the oldest first.
-#[derive(Debug, Drop)]
+#[derive(Drop)]
 pub(crate) struct Contents {
     items: Vec<Content>,
     places: HashMap<[u8; 32], usize>,

@@ -35,7 +35,7 @@ use std::alloc::Global;
 use std::marker::Model;
 
 /// A repository in memory, and the contents that are kept.
-#[derive(Debug, Drop)]
+#[derive(Drop)]
 pub(crate) struct Lists {
     contents: Contents,
     history: Vec<SharedCommit>,

@@ -9,7 +9,7 @@ use std::marker::Model;
 use std::rc::Rc;
 
 // A file of a tree by its parts. Its contents are shared with the other files that have the same.
-#[derive(Debug, Drop)]
+#[derive(Drop)]
 pub(crate) struct FileParts {
     path: RepoPath,
     mode: Mode,
@@ -18,7 +18,7 @@ pub(crate) struct FileParts {
 
 /// A file, shared by the trees that have it: a copy takes no memory for path or contents, and a list of files is moved at
 /// the cost of their addresses. Contracts see its parts.
-#[derive(Debug, Drop)]
+#[derive(Drop)]
 pub(crate) struct SharedFile {
     parts: Rc<FileParts>,
 }
@@ -86,13 +86,13 @@ impl Clone for SharedFile {
 }
 
 /// A fix: the new contents, or none where the file is gone.
-#[derive(Debug, Drop)]
+#[derive(Drop)]
 pub(crate) struct SharedFix {
     pub(crate) path: RepoPath,
     pub(crate) now: Option<Content>,
 }
 
-#[derive(Debug, Drop)]
+#[derive(Drop)]
 pub(crate) struct SharedCommit {
     pub(crate) message: Bytes,
     pub(crate) files: Vec<SharedFile>,

@@ -12,7 +12,7 @@ use store_tables::{
 };
 
 /// The rows of all tables but `meta`.
-#[derive(Debug, Drop)]
+#[derive(Drop)]
 pub(crate) struct StoreRows {
     pub(crate) blobs: Vec<BlobRow>,
     pub(crate) staged: Vec<StagedRow>,
