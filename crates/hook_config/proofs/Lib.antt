@@ -3,5 +3,6 @@ pub mod HookFields
 pub mod Views
 pub mod HookLists
 pub mod KeyLists
+pub mod ShortTexts
 pub mod StageLists
 pub mod TextLists

@@ -1,5 +1,5 @@
 -- The configuration that a text's bytes describe (pre-commit.com, "Adding pre-commit plugins to your project").
-use Rattle.std.specs.Prelude.{ℕ, List, false, Option, Some, option_and_then}
+use Rattle.std.specs.Prelude.{ℕ, List, Bool, false, Option, Some, option_and_then}
 use Rattle.yaml_lines.specs.Meaning.{Meaning}
 use Rattle.yaml_profile.specs.Text.{meaning_of}
 use Rattle.hook_config.specs.Rows.{Row, table_of, list_of}
@@ -9,15 +9,12 @@ use Rattle.hook_config.specs.Hooks.{hooks_of_repositories}
 use Rattle.hook_config.specs.Stages.{all_stages}
 use Rattle.hook_config.specs.UnknownKeys.{unknown_of_top}
 use Rattle.hook_config.specs.declared.configuration.Config.{Config}
+use Rattle.hook_config.specs.declared.stage.Stages.{Stages}
 use Rattle.hook_config.specs.KnownKeys.{repos_key, default_stages_key, files_key, exclude_key, fail_fast_key}
 
--- the default stages hold for all hooks, wherever they stand
-unfoldable pub configuration_of_rows : List Row → Option Config
-configuration_of_rows rows =
-    given (or_default (stages_of all_stages) all_stages default_stages_key rows) (λ default.
-    given (or_default pattern_of every_path files_key rows) (λ files.
-    given (or_default pattern_of no_path exclude_key rows) (λ exclude.
-    given (or_default truth_of false fail_fast_key rows) (λ fail_fast.
+-- the configuration of a table's rows, where these are the patterns at the top, and whether a run stops at a failure
+abbrev pub configuration_with : Stages → List Row → List ℕ → List ℕ → Bool → Option Config
+configuration_with default rows files exclude fail_fast =
     given (required list_of repos_key rows) (λ repositories.
     given (hooks_of_repositories default repositories) (λ hooks.
     Some (record {
@@ -26,7 +23,20 @@ configuration_of_rows rows =
       files = files;
       exclude = exclude;
       unknown = unknown_of_top rows;
-    })))))))
+    })))
+
+-- the configuration of a table's rows, where these are the default stages
+abbrev pub configuration_by : Stages → List Row → Option Config
+configuration_by default rows =
+    given (or_default pattern_of every_path files_key rows) (λ files.
+    given (or_default pattern_of no_path exclude_key rows) (λ exclude.
+    given (or_default truth_of false fail_fast_key rows) (λ fail_fast.
+    configuration_with default rows files exclude fail_fast)))
+
+-- the default stages hold for all hooks, wherever they stand
+unfoldable pub configuration_of_rows : List Row → Option Config
+configuration_of_rows rows =
+    given (or_default (stages_of all_stages) all_stages default_stages_key rows) (λ default. configuration_by default rows)
 
 -- the configuration of a text's node
 unfoldable pub configuration_of_meaning : Meaning → Option Config

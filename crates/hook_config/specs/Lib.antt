@@ -11,5 +11,6 @@ pub mod Limits
 pub mod Patterns
 pub mod Refusals
 pub mod Rows
+pub mod ShortTexts
 pub mod Stages
 pub mod UnknownKeys

@@ -11,6 +11,10 @@ most_hooks = 500
 abbrev pub most_text_bytes : ℕ
 most_text_bytes = most_bytes
 
+-- the text is no longer
+abbrev pub IsShort : List ℕ → Type 0
+IsShort text = length text ≤ most_text_bytes
+
 -- none of the texts is longer
 abbrev pub AreTexts : List (List ℕ) → Type 0
-AreTexts = All (λ text. length text ≤ most_text_bytes)
+AreTexts = All IsShort

@@ -3,13 +3,16 @@
 ghost use Rattle.std.specs.Prelude.{◌≡◌};
 ghost use Rattle.yaml_lines.specs.View.{view};
 ghost use Rattle.hook_config.specs.Gives.{GivesValue, GivesSurely};
+ghost use Rattle.hook_config.specs.HookParts.{AreNames, AreUnserved, IsCommand};
 ghost use Rattle.hook_config.specs.HookTable.{hook_of_fields, hook_of};
 ghost use Rattle.hook_config.specs.Rows.{rows_of};
 
 use crate::config_fault::ConfigKind;
 use crate::configuration::Hook;
 use crate::defaults::Defaults;
-use crate::hook_parts::{command_of, names_of, selection_of, switches_of, unserved_of};
+use crate::hook_parts::{
+    Command, Names, Unserved, command_of, names_of, selection_of, switches_of, unserved_of,
+};
 use crate::kinds::table_of;
 use std::alloc::Global;
 use yaml_profile::Node;
@@ -32,6 +35,23 @@ fn hook_of_fields(
     let unserved = unserved_of(alloc, rows)?;
     let names = names_of(alloc, rows)?;
     let command = command_of(alloc, rows)?;
+    hook_with(alloc, rows, defaults, unserved, names, command)
+}
+
+// The hook of a table's rows, of which these are the first groups.
+fn hook_with(
+    alloc: Global,
+    rows: &[(String, Node)],
+    defaults: &Defaults,
+    unserved: Unserved,
+    names: Names,
+    command: Command,
+) -> Result<Hook, ConfigKind>
+    requires unserved { AreUnserved (rows_of rows.now) unserved }
+    requires names { AreNames (rows_of rows.now) names }
+    requires command { IsCommand (rows_of rows.now) command }
+    ensures { GivesValue (λ hook. hook) result (hook_of_fields defaults.now (rows_of rows.now)) }
+{
     let selection = selection_of(alloc, rows, defaults)?;
     let switches = switches_of(rows, defaults)?;
     Ok(Hook {

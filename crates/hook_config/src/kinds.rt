@@ -1,9 +1,10 @@
 //! The kinds of a configuration's values. A value of another kind than its place wants is `Shape`.
 
-ghost use Rattle.std.specs.Prelude.{◌≡◌};
+ghost use Rattle.std.specs.Prelude.{◌≡◌, IfOk};
 ghost use Rattle.yaml_lines.specs.View.{view};
 ghost use Rattle.hook_config.specs.Gives.{GivesValue, GivesSurely};
 ghost use Rattle.hook_config.specs.Kinds.{text_of, truth_of, truth_of_word};
+ghost use Rattle.hook_config.specs.Limits.{IsShort};
 ghost use Rattle.hook_config.specs.Rows.{Row, rows_of, meanings_of_nodes, table_of, list_of, is_among, texts};
 
 use crate::config_fault::ConfigKind;
@@ -33,7 +34,8 @@ pub(crate) fn list_of<'a>(node: &'a Node) -> Result<&'a [Node], ConfigKind>
 
 /// A text, quoted or not, of at most `MOST_TEXT_BYTES` bytes. A text that is longer is `Shape`.
 pub(crate) fn text_in<'a>(node: &'a Node) -> Result<&'a str, ConfigKind>
-    ensures { GivesSurely (λ text. text.now) result (text_of (view node.now)) }
+    ensures text { GivesSurely (λ text. text.now) result (text_of (view node.now)) }
+    ensures within { IfOk result (λ text. IsShort text.now) }
 {
     match node {
         Node::Text { text, .. } if text.len() <= MOST_TEXT_BYTES => Ok(text.as_str()),

@@ -6,7 +6,7 @@
 //! `Node` beside it. A `ConfigFault` is a `ConfigKind` and its place.
 //!
 //! The contracts cite `configuration_of` of `specs/Configuration.antt`, which says which `Config` a text's bytes describe,
-//! if any; `Gives`; `first_word` of `specs/CommandWords.antt`; the words of `specs/KnownKeys.antt` and `specs/Stages.antt`; the limits of `specs/Limits.antt`; and
+//! if any; `Gives`; `HasShortTexts` of `specs/ShortTexts.antt`; `first_word` of `specs/CommandWords.antt`; the words of `specs/KnownKeys.antt` and `specs/Stages.antt`; the limits of `specs/Limits.antt`; and
 //! `number_of` and `name_of` of `specs/Refusals.antt`.
 #![tactic(auto)]
 
@@ -21,6 +21,7 @@ mod hook_table;
 mod kinds;
 mod known_keys;
 mod languages;
+pub mod laws;
 mod limits;
 mod reader;
 mod repositories;

@@ -3,10 +3,11 @@
 ghost use Rattle.std.specs.Prelude.{◌≡◌, Some, IfErr, IfOk};
 ghost use Rattle.yaml_lines.specs.View.{view};
 ghost use Rattle.yaml_profile.specs.Text.{meaning_of};
-ghost use Rattle.hook_config.specs.Configuration.{configuration_of, configuration_of_meaning, configuration_of_rows};
+ghost use Rattle.hook_config.specs.Configuration.{configuration_by, configuration_of, configuration_of_meaning, configuration_of_rows, configuration_with};
 ghost use Rattle.hook_config.specs.Gives.{Gives};
 ghost use Rattle.hook_config.specs.Refusals.{TellsTooLarge};
 ghost use Rattle.hook_config.specs.Rows.{rows_of};
+ghost use Rattle.hook_config.specs.ShortTexts.{HasShortTexts};
 
 use crate::config_fault::{ConfigFault, ConfigKind};
 use crate::configuration::Config;
@@ -15,6 +16,7 @@ use crate::fields::{pattern_or, required_list, stages_or, truth_or};
 use crate::kinds::table_of;
 use crate::known_keys::{DEFAULT_STAGES, EXCLUDE, FAIL_FAST, FILES, REPOS};
 use crate::repositories::hooks_of_repositories;
+use crate::shared_pattern::SharedPattern;
 use crate::stage::Stages;
 use crate::unknown_keys::unknown_of_top;
 use hook_base::Items;
@@ -41,6 +43,7 @@ use yaml_profile::{Node, read};
 #[tactic(auto, unfolding(crate::specs::Configuration::configuration_of))]
 pub fn read_config(alloc: Global, bytes: &[u8]) -> Result<Config, ConfigFault>
     ensures meant { Gives (λ config. config) result (configuration_of bytes.now) }
+    ensures within { IfOk result HasShortTexts }
     ensures large { IfErr result (TellsTooLarge bytes.now) }
 {
     match read(alloc, bytes) {
@@ -63,6 +66,7 @@ pub struct ConfigWithNode {
 #[tactic(auto, unfolding(crate::specs::Configuration::configuration_of))]
 pub fn read_config_with_node(alloc: Global, bytes: &[u8]) -> Result<ConfigWithNode, ConfigFault>
     ensures config { Gives (λ read. read.config) result (configuration_of bytes.now) }
+    ensures within { IfOk result (λ read. HasShortTexts read.config) }
     ensures node { IfOk result (λ read. meaning_of bytes.now ≡ Some (view read.node)) }
     ensures large { IfErr result (TellsTooLarge bytes.now) }
 {
@@ -85,10 +89,35 @@ fn config_of_rows(alloc: Global, rows: &[(String, Node)]) -> Result<Config, Conf
 {
     let stages = stages_or(rows, DEFAULT_STAGES, Stages::all())?;
     let defaults = Defaults::new(alloc, stages)?;
+    config_by(alloc, rows, &defaults)
+}
+
+// The configuration of a table's rows with these defaults.
+fn config_by(
+    alloc: Global,
+    rows: &[(String, Node)],
+    defaults: &Defaults,
+) -> Result<Config, ConfigFault>
+    ensures { Gives (λ config. config) result (configuration_by defaults.now (rows_of rows.now)) }
+{
     let files = pattern_or(alloc, rows, FILES, defaults.files())?;
     let exclude = pattern_or(alloc, rows, EXCLUDE, defaults.exclude())?;
     let fail_fast = truth_or(rows, FAIL_FAST, false)?;
-    let hooks = hooks_of_repositories(alloc, required_list(rows, REPOS)?, &defaults)?;
+    config_with(alloc, rows, defaults, files, exclude, fail_fast)
+}
+
+// The configuration of a table's rows with what stands at the top.
+fn config_with(
+    alloc: Global,
+    rows: &[(String, Node)],
+    defaults: &Defaults,
+    files: SharedPattern,
+    exclude: SharedPattern,
+    fail_fast: bool,
+) -> Result<Config, ConfigFault>
+    ensures { Gives (λ config. config) result (configuration_with defaults.now (rows_of rows.now) files exclude fail_fast) }
+{
+    let hooks = hooks_of_repositories(alloc, required_list(rows, REPOS)?, defaults)?;
     let unknown = unknown_of_top(alloc, rows)?;
     Ok(Config {
         hooks: Items::from(hooks),

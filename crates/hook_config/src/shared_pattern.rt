@@ -2,6 +2,7 @@
 
 ghost use Rattle.std.specs.Prelude.{◌≡◌, IfErr, IfOk};
 ghost use Rattle.hook_config.specs.Gives.{GivesValue, IsLeftOpen};
+ghost use Rattle.hook_config.specs.Limits.{IsShort};
 ghost use Rattle.hook_config.specs.Patterns.{pattern_of_text};
 
 use crate::config_fault::ConfigKind;
@@ -10,7 +11,7 @@ use std::alloc::{AllocError, Global};
 use std::marker::Model;
 use std::rc::Rc;
 
-/// A pattern that is built once, however many hooks have it. Contracts see its text.
+/// A pattern that is built once, however many hooks have it. Contracts see its text, of at most `MOST_TEXT_BYTES` bytes.
 #[derive(Debug, Drop)]
 pub struct SharedPattern {
     pattern: Rc<Pattern>,
@@ -18,10 +19,13 @@ pub struct SharedPattern {
 
 impl Model for SharedPattern {
     ghost use Rattle.std.specs.Prelude.{List, ℕ};
+    ghost use Rattle.hook_config.specs.Limits.{IsShort};
 
     ghost Value = { List ℕ };
 
     ghost view = { λ shared. shared.pattern.value };
+
+    ghost invariant = { λ shared. IsShort shared.pattern.value };
 }
 
 impl SharedPattern {
@@ -29,6 +33,7 @@ impl SharedPattern {
     /// refused.
     #[tactic(auto, unfolding(crate::specs::Patterns::pattern_of_text))]
     pub(crate) fn build(alloc: Global, text: &str) -> Result<Self, ConfigKind>
+        requires { IsShort text.now }
         ensures pattern { GivesValue (λ shared. shared) result (pattern_of_text text.now) }
         ensures same { IfOk result (λ shared. shared ≡ text.now) }
         ensures refused { IfErr result IsLeftOpen }
@@ -39,9 +44,10 @@ impl SharedPattern {
         })
     }
 
-    /// The pattern.
+    /// The pattern, of a text of at most `MOST_TEXT_BYTES` bytes.
     pub fn as_pattern(&self) -> &Pattern
         ensures same { result.now ≡ self.now }
+        ensures within { IsShort self.now }
     {
         self.pattern.as_ref()
     }

@@ -1,11 +1,11 @@
 use Rattle.hook_config.proofs.HookFields.{hook_of-all}
-use Rattle.hook_config.proofs.hook_table.hook_of_fields.Goals as goal
+use Rattle.hook_config.proofs.hook_table.hook_with.Goals as goal
 
 pub returns : goal.returns
 returns c =
-    let unserved = c.in_ok-unserved.ensures.read in
-    let names = c.in_ok-names.ensures.read in
-    let command = c.in_ok-command.ensures.read in
+    let unserved = c.requires.unserved in
+    let names = c.requires.names in
+    let command = c.requires.command in
     let selection = c.in_ok-selection.ensures.read in
     let switches = c.in_ok-switches.ensures.read in
     hook_of-all _ _ _ names.id names.name names.alias command.entry command.args command.language
