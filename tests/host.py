@@ -10,6 +10,7 @@ repository, which then has to be the one before the command or the one after it.
 """
 import os
 import random
+import resource
 import shutil
 import signal
 import subprocess
@@ -200,11 +201,99 @@ def refuses_fifos_and_waits_for_none(folder):
         elif path == STORE:
             os.mkdir(os.path.join(work, ".hookhost"))
         os.mkfifo(os.path.join(work, path))
-        for words in (["status"], ["init"], ["add", "a.txt"]):
+        for words in (["status"], ["add", "a.txt"]):
             refuses(work, words, f"cannot use {named}")
+        refuses(work, ["init"], f"cannot use {STORE}")
+    work = os.path.join(folder, "new")
+    os.makedirs(os.path.join(work, ".hookhost"))
+    os.mkfifo(os.path.join(work, LOCK))
+    refuses(work, ["init"], f"cannot use {LOCK}")
+    os.rename(os.path.join(work, LOCK), os.path.join(work, STORE + "-wal"))
+    refuses(work, ["init"], f"cannot use {STORE}")
+
+
+def leaves_nothing_of_an_init_that_fails(folder):
+    """An init whose files may have only so many bytes, as on a full disk, makes a store or leaves the folder as it was, also
+    where what a killed one left lies in it."""
+    def limited(most):
+        signal.signal(signal.SIGXFSZ, signal.SIG_IGN)
+        resource.setrlimit(resource.RLIMIT_FSIZE, (most, most))
+
+    ends = []
+    for at, most in enumerate((0, 1, 100, 4096, 10_000, 40_000, 60_000, 100_000, 200_000)):
+        work = os.path.join(folder, str(at))
+        os.mkdir(work)
+        for wanted in ([], [".hookhost", ".hookhost/lock"]):
+            status, out, err = run(work, "init", preexec_fn=lambda: limited(most))
+            ends.append(status)
+            if status == 0:
+                break
+            check((status, out) == (3, b"") and err.startswith(b"hookhost: "), f"an init within {most} bytes says {err!r}")
+            check(paths_in(work) == wanted, f"an init within {most} bytes leaves {paths_in(work)!r}")
+            for name in ("lock", "new.db", "new.db-wal"):
+                write(work, f".hookhost/{name}", b"" if name == "lock" else b"left")
+        if status != 0:
+            do(work, "init")
+        check(do(work, "status") == b"", f"an init within {most} bytes makes no store")
+    check(3 in ends and 0 in ends, f"the inits end with {ends!r}")
+
+
+def paths_in(folder):
+    """All that lies in the folder."""
+    return sorted(os.path.relpath(os.path.join(at, name), folder) for at, folders, names in os.walk(folder) for name in (*folders, *names))
+
+
+# ---- standard output
+
+def keeps_a_change_whose_text_was_not_taken(folder):
+    """With a full standard output each command ends as it would, or with 3 where it has something to say, and what it did
+    stands in the file of the store alone."""
+    do(folder, "init")
+    hooks = HOOKS.replace(b"stages: [manual]", b"stages: [manual], files: '^.$'")
+    for name, held in (("a", b"x"), ("b", b"x"), ("c", b"x"), (".pre-commit-config.yaml", hooks)):
+        write(folder, name, held)
+    in_stage = ["--hook-stage", "manual"]
+    for words, wanted in ((["add", "a"], 0), (["add", "b"], 0), (["add", ".pre-commit-config.yaml"], 0), (["run", *in_stage, "--all-files"], 3),
+                          (["accept"], 3), (["commit", "-m", "first"], 3), (["rm", "a"], 0), (["add", "c"], 0), (["run-files", *in_stage, "c"], 3),
+                          (["accept"], 3), (["run", "change", *in_stage], 3), (["commit", "-m", "second"], 3)):
+        before = shown_alone(folder)
+        with open("/dev/full", "wb") as full:
+            done = subprocess.run([PROGRAM, *words], cwd=folder, stdin=subprocess.DEVNULL, stdout=full, stderr=subprocess.PIPE, timeout=120)
+        check(done.returncode == wanted, f"{words!r} ends with {done.returncode} and says {done.stderr!r}")
+        alone, after = shown_alone(folder), shown(folder)
+        check(alone[0] == after, f"after {words!r} the file of the store shows {alone[0]!r}, and with its log {after!r}")
+        changes = words[:2] != ["run", "change"]
+        check((alone[0] != before[0], alone[1] != before[1]) == (changes, changes), f"after {words!r} the file of the store shows {alone!r}, as before it")
+    check(do(folder, "log") == b"2 second\n1 first\n", "there are other commits")
+
+
+def shown(folder):
+    """What the repository shows."""
+    return [do(folder, word) for word in ("status", "fixes", "log")]
+
+
+def shown_alone(folder):
+    """What a copy of the store's file shows, without a log, to the program and to sqlite3."""
+    with tempfile.TemporaryDirectory() as copy:
+        os.mkdir(os.path.join(copy, ".hookhost"))
+        shutil.copyfile(os.path.join(folder, STORE), os.path.join(copy, STORE))
+        return shown(copy), rows(copy, "SELECT hex(path), hex(digest) FROM staged; SELECT hex(path), gone FROM fixes; SELECT n, hex(message) FROM commits")
 
 
 # ---- several programs at once
+
+def lets_one_init_make_the_store(folder):
+    """Of several inits at once one makes the store, and the others are refused."""
+    refused = (f"hookhost: cannot use {LOCK}\n".encode(), f"hookhost: cannot use {STORE}\n".encode())
+    for at in range(20):
+        work = os.path.join(folder, str(at))
+        os.mkdir(work)
+        with ThreadPoolExecutor(4) as pool:
+            ends = list(pool.map(lambda _: run(work, "init"), range(4)))
+        others = [end for end in ends if end != (0, b"", b"")]
+        check(len(others) == 3 and all((status, out) == (3, b"") and err in refused for status, out, err in others), f"four inits at once end with {ends!r}")
+        check(paths_in(work) == [".hookhost", LOCK, STORE, STORE + "-wal"] and do(work, "status") == b"", f"four inits at once leave {paths_in(work)!r}")
+
 
 def with_added(text, name):
     """The text of status with a new file's line."""
@@ -291,16 +380,16 @@ class Killed:
         self.play(words, given, None)
         return time.monotonic() - start
 
-    def each(self, words, given=b""):
+    def each(self, words, given=b"", kills=KILLS):
         """The answers of `play` for each kill, up to the time that the command takes: the least of three, so that a busy
         moment doesn't put all kills after its end."""
         whole, in_time = min(self.seconds(words, given) for _ in range(3)), 0
-        for _ in range(KILLS):
+        for _ in range(kills):
             work, is_ended, out = self.play(words, given, self.chance.uniform(0, whole))
             in_time += not is_ended
             yield work, is_ended, out
         check(in_time > 0, f"no kill came before the end of {words!r}")
-        print(f"kills of {' '.join(words[1:])}: {in_time} of {KILLS} came before its end")
+        print(f"kills of {' '.join(words[1:])}: {in_time} of {kills} came before its end")
 
 
 def state(folder):
@@ -374,14 +463,22 @@ def is_left_whole_by_kills_of_runs_and_commits(folder):
 
 
 def is_left_whole_by_kills_of_init(folder):
-    """A killed init leaves a store, or what the next one makes a store of."""
+    """After a killed init the file of the store is a store, or isn't there, and then the next init makes it."""
     base = os.path.join(folder, "base")
     os.mkdir(base)
-    for work, is_ended, _ in Killed(folder, base).each([PROGRAM, "init"]):
-        if run(work, "status")[0] != 0:
-            check(not is_ended, "an init that was done left no store")
+    found = {True: 0, False: 0}
+    for work, is_ended, _ in Killed(folder, base).each([PROGRAM, "init"], kills=10 * KILLS):
+        is_there = os.path.lexists(os.path.join(work, STORE))
+        check(is_there or not is_ended, "an init that was done left no store")
+        found[is_there] += 1
+        if is_there:
+            refuses(work, ["init"], f"cannot use {STORE}")
+        else:
+            refuses(work, ["status"], f"cannot use {STORE}")
             do(work, "init")
+            check(paths_in(work) == [".hookhost", LOCK, STORE, STORE + "-wal"], f"an init behind a killed one leaves {paths_in(work)!r}")
         check(do(work, "status") == b"" and rows(work, "SELECT name, value FROM meta") == ["version|1"], "it is no new store")
+    check(found[False] > 0, "no kill came before the store was there")
 
 
 def is_left_whole_by_kills_of_commits(folder):
@@ -510,7 +607,8 @@ def cuts_the_long_log_of_a_change_that_was_not_made(folder):
 
 
 CASES = [keeps_files_of_hard_names, keeps_the_longest_path_that_the_system_opens, refuses_control_bytes, takes_no_mode_from_the_working_file,
-         refuses_what_may_not_be_read_or_written, refuses_fifos_and_waits_for_none, lets_one_program_work_at_a_time,
+         refuses_what_may_not_be_read_or_written, refuses_fifos_and_waits_for_none, leaves_nothing_of_an_init_that_fails,
+         keeps_a_change_whose_text_was_not_taken, lets_one_init_make_the_store, lets_one_program_work_at_a_time,
          loses_nothing_of_programs_at_once, is_left_whole_by_kills_of_init, is_left_whole_by_kills_of_add_rm_and_accept,
          is_left_whole_by_kills_of_commits, is_left_whole_by_kills_of_runs_and_commits,
          waits_for_the_disk_only_where_something_is_written, takes_a_store_with_pages_of_another_size,

@@ -56,12 +56,13 @@ Exit status:
    2  the words are wrong, or ask for help
    3  something was refused: standard error says what
 
-'hookhost: cannot use .hookhost/store.db' says that .hookhost or the file can't be
-made: see whose folder it is. 'hookhost: cannot use .hookhost/lock' says that
-another hookhost works here: wait for it. Everything else is told as
+'hookhost: cannot use .hookhost/store.db' says that something is there already: go
+on with that store, or move it away. Or it says that the file can't be made: see
+whose folder .hookhost is. 'hookhost: cannot use .hookhost/lock' says that another
+hookhost works here: wait for it. Everything else is told as
 'hookhost: refused: NUMBER NAME':
-   3 Sql          a store is here already, or the database refused
-                  go on with that store, or see that the disk has room
+   3 Sql          the database refused
+                  see that the disk can be read and has room
    4 OutOfMemory  memory was refused
                   free some memory, and run it again";
 

@@ -10,17 +10,14 @@ use Rattle.hook_cli.specs.declared.try_fault.TryFault.{TryFault}
 use Rattle.hook_cli.specs.declared.try_fault.TryFault.TheVariants.{Read, Config, Write, OutOfMemory, Spent}
 use Rattle.hook_config.specs.declared.config_fault.ConfigKind.TheVariants.{OutOfMemory as NoMemory}
 use Rattle.commit_flow.specs.declared.host_refusal.HostRefusal.TheVariants.{OutOfMemory as NoMemoryOfHost}
-use Rattle.repo_store.specs.Faults.{fault_of}
 use Rattle.hook_cli.specs.declared.line.Line.{Line}
 use Rattle.hook_cli.specs.declared.line.Line.TheVariants.{Add, Run, Commit}
-use Rattle.sqlite.specs.Opening.{is_open_error}
-use Rattle.sqlite.specs.declared.error.Error.{Error as DatabaseError}
-use Rattle.sqlite.specs.declared.error.Error.TheVariants.{SqliteFailure}
-use Rattle.sqlite.specs.declared.error.ErrorCode.TheVariants as code
 use Rattle.hook_base.specs.declared.file.File.{File}
+use Rattle.repository_files.specs.RepositoryFaults.{IsFaultOfOpening}
+use Rattle.repository_files.specs.declared.repository_fault.RepositoryFault.{RepositoryFault}
 use Rattle.hookhost.specs.FileTrees.{AreFilesOf}
 use Rattle.hookhost.specs.declared.stop.Stop.{Stop}
-use Rattle.hookhost.specs.declared.stop.Stop.TheVariants.{Usage, NotText, CannotUse, Refused, NoConfiguration, CannotUseStore, CannotUseLock, NoStore, RefusedCommand}
+use Rattle.hookhost.specs.declared.stop.Stop.TheVariants.{Usage, NotText, CannotUse, Refused, NoConfiguration, NoRepository, RefusedCommand}
 
 -- 2 for words that name no command, 3 for a refusal
 abbrev pub status_of : Stop → ℕ
@@ -29,9 +26,7 @@ status_of NotText = 2
 status_of (CannotUse word) = 3
 status_of (Refused fault) = 3
 status_of (NoConfiguration fault) = 3
-status_of CannotUseStore = 3
-status_of CannotUseLock = 3
-status_of (NoStore fault) = 3
+status_of (NoRepository fault) = 3
 status_of (RefusedCommand refusal) = 3
 
 -- 0 where every hook passed, and 1 where one failed
@@ -86,9 +81,7 @@ of_check NotText = NotText
 of_check (CannotUse word) = CannotUse word
 of_check (Refused fault) = of_check_fault fault
 of_check (NoConfiguration fault) = NoConfiguration fault
-of_check CannotUseStore = CannotUseStore
-of_check CannotUseLock = CannotUseLock
-of_check (NoStore fault) = NoStore fault
+of_check (NoRepository fault) = NoRepository fault
 of_check (RefusedCommand refusal) = RefusedCommand refusal
 
 -- a run's refusal where a command on the repository is asked for: want of memory is the host's
@@ -105,35 +98,13 @@ of_command NotText = NotText
 of_command (CannotUse word) = CannotUse word
 of_command (Refused fault) = of_command_fault fault
 of_command (NoConfiguration fault) = NoConfiguration fault
-of_command CannotUseStore = CannotUseStore
-of_command CannotUseLock = CannotUseLock
-of_command (NoStore fault) = NoStore fault
+of_command (NoRepository fault) = NoRepository fault
 of_command (RefusedCommand refusal) = RefusedCommand refusal
 
--- Where the database can't be opened, its file can't be used if that is at fault: it can't be opened, is in use, holds no
--- database or a damaged one, or can't be read or written. Any other error is the store's.
-abbrev pub of_database : DatabaseError → Stop
-of_database (SqliteFailure code.CannotOpen) = CannotUseStore
-of_database (SqliteFailure code.DatabaseBusy) = CannotUseStore
-of_database (SqliteFailure code.NotADatabase) = CannotUseStore
-of_database (SqliteFailure code.DatabaseCorrupt) = CannotUseStore
-of_database (SqliteFailure code.SystemIoFailure) = CannotUseStore
-of_database error = NoStore (fault_of error)
-
--- an error of opening the store's database stops the program for the reason that `of_database` names
-abbrev pub IsStopOfDatabase : Stop → Type 0
-IsStopOfDatabase stop = (error : DatabaseError) × IsTrue (is_open_error error) × (stop ≡ of_database error)
-
--- the store's file can't be used, or the store can't be made or opened
+-- the store's file can't be used, or the store can't be opened
 abbrev pub IsStopOfOpening : Stop → Type 0
-IsStopOfOpening CannotUseStore = Unit {0}
-IsStopOfOpening (NoStore fault) = Unit {0}
+IsStopOfOpening (NoRepository fault) = IsFaultOfOpening fault
 IsStopOfOpening _ = ⊥
-
--- what stops `init`
-abbrev pub IsStopOfInit : Stop → Type 0
-IsStopOfInit CannotUseLock = Unit {0}
-IsStopOfInit stop = IsStopOfOpening stop
 
 -- the file that a line stages can't be used, or memory was refused for it or for what runs of hooks need, which is then the
 -- host's refusal
@@ -145,7 +116,5 @@ IsStopOfLine line stop = ⊥
 
 -- what stops a command on the repository: its store, its lock, or what the line needs beside them
 abbrev pub IsStopOfCommand : Line → Stop → Type 0
-IsStopOfCommand line CannotUseLock = Unit {0}
-IsStopOfCommand line CannotUseStore = Unit {0}
-IsStopOfCommand line (NoStore fault) = Unit {0}
+IsStopOfCommand line (NoRepository fault) = Unit {0}
 IsStopOfCommand line stop = IsStopOfLine line stop

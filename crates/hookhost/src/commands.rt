@@ -4,26 +4,25 @@ ghost use Rattle.std.specs.Prelude.{◌≡◌, ◌⊎◌, false, IfErr, IfOk};
 ghost use Rattle.hook_cli.specs.CommandOver.{IsOverHost};
 ghost use Rattle.hookhost.specs.Stops.{IsStopOfCommand, IsStopOfOpening};
 
-use crate::database::{Before, Database, DatabaseOver, StoreOver, leave, open_database};
 use crate::files::read_file_of;
-use crate::repository::{Found, Lock, look_at_store, take_lock};
 use crate::runs::{Runs, runs_of};
 use crate::stop::Stop;
 use child_port::TableChildren;
 use commit_flow::Host;
 use hook_base::Items;
 use hook_cli::{Line, command_over};
-use repo_store::{Store, StoreFault};
+use repository_files::{
+    Before, DatabaseOver, StoreOver, leave_store, look_at_store, open_database, open_store,
+    take_lock,
+};
 use sqlite_disk::Disk;
-use std::{io, mem};
-
-// The exit status of a refusal.
-const REFUSED: u8 = 3;
+use std::io;
 
 /// Does what a line asks of the repository, and answers the exit status, as `command_over` does. The errors are, in this
-/// order: `Stop::CannotUseStore` where the store's file isn't there, `Stop::CannotUseLock`, what `read_file_of` says of the
-/// file of `add`, want of memory for what runs of hooks need, and what the store says when it is opened. After an error or a
-/// refusal the folder is as it was, but for its lock and the folder of children.
+/// order: `RepositoryFault::CannotUseStore` where the store's file isn't there, `RepositoryFault::CannotUseLock`, what
+/// `read_file_of` says of the file of `add`, want of memory for what runs of hooks need, and what the store says when it is
+/// opened. After an error or a refusal the folder is as it was, but for its lock, the folder of children, and a log of a
+/// command that was killed, which is in the database then.
 pub(crate) fn host_command(rt: &HostRuntime, line: &Line) -> Result<u8, Stop>
     requires { IsOverHost line.now }
     ensures status { IfOk result (λ status. (status ≡ 0) ⊎ (status ≡ 1) ⊎ (status ≡ 3)) }
@@ -33,22 +32,9 @@ pub(crate) fn host_command(rt: &HostRuntime, line: &Line) -> Result<u8, Stop>
     let lock = take_lock(rt)?;
     let bytes = read_file_of(rt, line)?;
     let mut runs = runs_of(rt, line)?;
-    let before = Before::found(rt)?;
-    let conn = open_filled(rt, &lock, &before)?;
+    let before = Before::found(rt, &lock)?;
+    let conn = open_database(rt, &before)?;
     do_over(rt, line, bytes.as_slice(), &mut runs, &before, conn)
-}
-
-// Opens the store's database, as it stood under the lock. An empty file is none, and isn't opened.
-fn open_filled(rt: &HostRuntime, lock: &Lock, before: &Before) -> Result<Database, Stop>
-    ensures outside { IfOk result (λ conn. conn.in_transaction ≡ false) }
-    ensures refused { IfErr result IsStopOfOpening }
-{
-    match before.store {
-        Found::Filled => {}
-        Found::Empty => return Err(Stop::NoStore(StoreFault::NotAStore)),
-        Found::Nothing | Found::Other => return Err(Stop::CannotUseStore),
-    }
-    Ok(open_database(rt, lock, before)?)
 }
 
 // Does what a line asks of the store in a database, and leaves the database. This and what it calls say it of files of any
@@ -68,7 +54,7 @@ fn do_over<D: Disk + Drop>(
 {
     let mut host = Host::over(rt.alloc(), open_store(rt, before, conn)?);
     let status = answer(rt, line, bytes, runs, &mut host);
-    leave(rt, host, before, status != REFUSED && changes(line));
+    leave_store(rt, host.into_store(), before);
     Ok(status)
 }
 
@@ -107,37 +93,6 @@ fn answer<D: Disk + Drop>(
                 &mut out,
                 &mut err,
             )
-        }
-    }
-}
-
-// Whether a line asks for a change.
-fn changes(line: &Line) -> bool {
-    match line {
-        Line::Add { .. }
-        | Line::Remove { .. }
-        | Line::Run { .. }
-        | Line::Accept
-        | Line::Commit { .. } => true,
-        _ => false,
-    }
-}
-
-// Opens the store in a database.
-fn open_store<D: Disk + Drop>(
-    rt: &HostRuntime,
-    before: &Before,
-    conn: DatabaseOver<D>,
-) -> Result<Store<StoreOver<D>>, Stop>
-    requires { conn.in_transaction ≡ false }
-    ensures { IfErr result IsStopOfOpening }
-{
-    match Store::open(rt.alloc(), conn) {
-        Ok(store) => Ok(store),
-        Err((fault, conn)) => {
-            before.put_back(rt);
-            mem::forget(conn);
-            Err(Stop::from(fault))
         }
     }
 }

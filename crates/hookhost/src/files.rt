@@ -69,7 +69,18 @@ pub(crate) fn read_file_of<R: Files + AllocGlobal>(rt: &R, line: &Line) -> Resul
 {
     match line {
         Line::Add { path, .. } => read_staged(rt, path).map_err(Stop::of_command),
-        _ => Ok(Vec::new(rt.alloc())),
+        Line::Init
+        | Line::Try { .. }
+        | Line::Check
+        | Line::Remove { .. }
+        | Line::Status
+        | Line::Run { .. }
+        | Line::Fixes
+        | Line::Accept
+        | Line::Commit { .. }
+        | Line::Cat { .. }
+        | Line::Log
+        | Line::Show { .. } => Ok(Vec::new(rt.alloc())),
     }
 }
 

@@ -5,14 +5,9 @@
 ghost use Rattle.std.specs.Prelude.{◌≡◌};
 ghost use Rattle.hookhost.specs.Stops.{status_of_run};
 
-mod bare_log;
 mod commands;
-mod connect;
-mod database;
 mod file_tree;
 mod files;
-mod new_repository;
-mod repository;
 mod runs;
 mod stop;
 mod terminal;
@@ -22,7 +17,7 @@ use files::{read_configuration, read_tree};
 use hook_base::{Items, Text, Tree};
 use hook_cli::{Line, TryFault, check_text, line_of, try_over};
 use hook_config::read_config_with_node;
-use new_repository::init;
+use repository_files::init;
 use runs::children_of;
 use std::io::{Read, Write};
 use std::process::ExitCode;
@@ -83,7 +78,16 @@ fn do_line(rt: &HostRuntime, line: Line) -> Result<u8, Stop> {
             init(rt)?;
             Ok(DONE)
         }
-        line => host_command(rt, &line),
+        Line::Add { .. }
+        | Line::Remove { .. }
+        | Line::Status
+        | Line::Run { .. }
+        | Line::Fixes
+        | Line::Accept
+        | Line::Commit { .. }
+        | Line::Cat { .. }
+        | Line::Log
+        | Line::Show { .. } => host_command(rt, &line),
     }
 }
 

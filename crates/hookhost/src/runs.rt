@@ -5,13 +5,13 @@ ghost use Rattle.hookhost.specs.Stops.{IsStopOfLine};
 ghost use Rattle.hookhost.specs.declared.stop.Stop.TheVariants.{Refused};
 ghost use Rattle.hook_cli.specs.declared.try_fault.TryFault.TheVariants.{OutOfMemory as NoMemory};
 
-use crate::repository::SCRATCH;
 use crate::stop::Stop;
 use crate::terminal::terminal_of;
 use child_display::ShownChildren;
 use hook_base::{Items, OutOfMemory, Text};
 use hook_cli::{Line, skip_list_of};
 use process_children::ProcessChildren;
+use repository_files::SCRATCH;
 use std::env::{self, VarError};
 use std::io::Stderr;
 
@@ -35,7 +35,17 @@ pub(crate) fn runs_of(rt: &HostRuntime, line: &Line) -> Result<Option<Runs>, Sto
         Line::Run { .. } | Line::Commit { .. } => Ok(Some(made_runs(rt).map_err(
             Stop::of_command,
         )?)),
-        _ => Ok(None),
+        Line::Init
+        | Line::Try { .. }
+        | Line::Check
+        | Line::Add { .. }
+        | Line::Remove { .. }
+        | Line::Status
+        | Line::Fixes
+        | Line::Accept
+        | Line::Cat { .. }
+        | Line::Log
+        | Line::Show { .. } => Ok(None),
     }
 }
 

@@ -1,15 +1,13 @@
 //! Why the program ends without having done what its words ask for, and how it says so.
 
 ghost use Rattle.std.specs.Prelude.{◌≡◌, ◌↔◌, IsTrue};
-ghost use Rattle.hookhost.specs.Stops.{IsNoMemory, IsStopOfFile, StopsFor, of_check, of_command, of_database, status_of};
+ghost use Rattle.hookhost.specs.Stops.{IsNoMemory, IsStopOfFile, StopsFor, of_check, of_command, status_of};
 
-use crate::repository::{LOCK, STORE};
 use commit_flow::HostRefusal;
 use hook_base::{OutOfMemory, Text};
 use hook_cli::TryFault;
 use hook_config::ConfigFault;
-use repo_store::StoreFault;
-use sqlite::ErrorCode;
+use repository_files::{LOCK, RepositoryFault, STORE};
 use std::alloc::{AllocError, AllocFailed};
 use std::io;
 
@@ -32,12 +30,8 @@ pub(crate) enum Stop {
     Refused(TryFault),
     /// The configuration was read alone, and refused.
     NoConfiguration(ConfigFault),
-    /// The file of the repository's store can't be used.
-    CannotUseStore,
-    /// The lock of the repository can't be had.
-    CannotUseLock,
-    /// The repository's store can't be made or opened.
-    NoStore(StoreFault),
+    /// The repository's files can't be used.
+    NoRepository(RepositoryFault),
     /// A command on the repository was refused before the host was asked.
     RefusedCommand(HostRefusal),
 }
@@ -89,23 +83,6 @@ impl Stop {
             stop => stop,
         }
     }
-
-    /// What an error of opening the store's database means: where the file is at fault, it can't be used, and any other
-    /// error is the store's.
-    pub(crate) fn of_database(error: sqlite::Error) -> Stop
-        ensures { result ≡ of_database error }
-    {
-        match error {
-            sqlite::Error::SqliteFailure(
-                ErrorCode::CannotOpen
-                | ErrorCode::DatabaseBusy
-                | ErrorCode::NotADatabase
-                | ErrorCode::DatabaseCorrupt
-                | ErrorCode::SystemIoFailure,
-            ) => Stop::CannotUseStore,
-            error => Stop::NoStore(StoreFault::from(error)),
-        }
-    }
 }
 
 // Whether the program itself was refused memory: the system's own want of memory has a number.
@@ -151,14 +128,14 @@ impl From<ConfigFault> for Stop {
     }
 }
 
-impl From<StoreFault> for Stop {
+impl From<RepositoryFault> for Stop {
     ghost use Rattle.std.specs.Prelude.{◌≡◌};
-    ghost use Rattle.hookhost.specs.declared.stop.Stop.TheVariants.{NoStore};
+    ghost use Rattle.hookhost.specs.declared.stop.Stop.TheVariants.{NoRepository};
 
-    ghost from_gives = { λ fault stop. stop ≡ NoStore fault };
+    ghost from_gives = { λ fault stop. stop ≡ NoRepository fault };
 
-    fn from(fault: StoreFault) -> Stop {
-        Stop::NoStore(fault)
+    fn from(fault: RepositoryFault) -> Stop {
+        Stop::NoRepository(fault)
     }
 }
 
@@ -209,9 +186,7 @@ pub(crate) fn tell<R: Eprint>(rt: &R, stop: &Stop) -> u8
         Stop::CannotUse(word) => (say_unusable(rt, word.as_str()), REFUSED),
         Stop::Refused(fault) => (say_refused(rt, fault.number(), fault.name()), REFUSED),
         Stop::NoConfiguration(fault) => (say_refused(rt, fault.number(), fault.name()), REFUSED),
-        Stop::CannotUseStore => (say_unusable(rt, STORE), REFUSED),
-        Stop::CannotUseLock => (say_unusable(rt, LOCK), REFUSED),
-        Stop::NoStore(fault) => (say_refused(rt, fault.number(), fault.name()), REFUSED),
+        Stop::NoRepository(fault) => (say_unused(rt, fault), REFUSED),
         Stop::RefusedCommand(refusal) => (
             say_refused(rt, refusal.number(), refusal.name()),
             REFUSED,
@@ -219,6 +194,14 @@ pub(crate) fn tell<R: Eprint>(rt: &R, stop: &Stop) -> u8
     };
     let _ = said;
     status
+}
+
+fn say_unused<R: Eprint>(rt: &R, fault: &RepositoryFault) -> io::Result<()> {
+    match fault {
+        RepositoryFault::CannotUseStore => say_unusable(rt, STORE),
+        RepositoryFault::CannotUseLock => say_unusable(rt, LOCK),
+        RepositoryFault::NoStore(fault) => say_refused(rt, fault.number(), fault.name()),
+    }
 }
 
 fn say_unusable<R: Eprint>(rt: &R, name: &str) -> io::Result<()> {

@@ -4,6 +4,7 @@ ghost use Rattle.std.specs.Prelude.{◌≡◌, false, IsTrue, IfErr, IfOk};
 ghost use Rattle.sqlite.specs.Opening.{is_open_error};
 
 use crate::bare_log::fit;
+use crate::folder::bytes_at;
 use lazy_disk::{LazyDisk, settled_files};
 use sqlite::{
     Connection, Error, ErrorCode, FileFrom, FileStore, Files as DatabaseFiles, Leftover, Options,
@@ -12,16 +13,14 @@ use sqlite::{
 use sqlite_disk::Disk;
 use sqlite_std_file::OpenError;
 use std::alloc::Global;
-use std::fs;
 use std::hash::{BuildHasher, RandomState};
 use std::io::ErrorKind;
-use std::rt::Files;
 
 /// A file of the database, for which the disk is waited only where something was written. The library waits for both files
 /// several times while it opens them, and to open them has waited for all that is in them already. `Wary` supposes nothing of
 /// the bytes that a write leaves where the power fails within it; a library that supposes more prepares its log for many
 /// commits, and a command makes one.
-pub(crate) type DatabaseFile = LazyDisk<FileFrom<Wary>>;
+pub type DatabaseFile = LazyDisk<FileFrom<Wary>>;
 
 /// The bytes of a page of the databases that the library makes.
 const PAGE_BYTES: u64 = 4_096;
@@ -46,7 +45,7 @@ pub(crate) fn connect(
         return Err((Error::SqliteFailure(ErrorCode::CannotOpen), None));
     };
     let options = Options {
-        cache_pages: pages_for(bytes_at(rt, path)),
+        cache_pages: pages_for(bytes_at(rt, path).unwrap_or(0)),
         ..Options::new(seed)
     };
     let files = match sqlite_std_file::open(rt, path, Wary) {
@@ -68,7 +67,7 @@ fn connect_over<D: Disk + Drop>(
     ensures refused { IfErr result (λ failed. IsTrue (is_open_error failed.0)) }
 {
     let mut files = files;
-    fit(&mut files);
+    let _fitted = fit(&mut files);
     match Connection::open_files(alloc, files, options) {
         Ok(conn) => Ok(conn),
         Err((error, left)) => Err((error, Some(left))),
@@ -77,14 +76,6 @@ fn connect_over<D: Disk + Drop>(
 
 fn random_number(rt: &HostRuntime) -> Result<u64, std::io::Error> {
     Ok(RandomState::new(rt)?.hash_one(&0u8))
-}
-
-// The bytes of the file at the path, 0 where there is none.
-fn bytes_at<R: Files>(rt: &R, path: &str) -> u64 {
-    match fs::symlink_metadata(rt, path) {
-        Ok(found) => found.len(),
-        Err(_) => 0,
-    }
 }
 
 // How many pages are kept in memory of a database of so many bytes: twice as many as it has, since it grows.

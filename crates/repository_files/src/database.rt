@@ -1,0 +1,134 @@
+//! The database of the store: how it is opened under the lock, and what is left of its files afterwards.
+
+ghost use Rattle.std.specs.Prelude.{◌≡◌, false, IfErr, IfOk};
+ghost use Rattle.repository_files.specs.RepositoryFaults.{IsFaultOfDatabase, IsFaultOfOpening};
+
+use crate::bare_log;
+use crate::connect::{DatabaseFile, connect};
+use crate::folder::{Found, Lock, STORE, bytes_at, found_at};
+use crate::repository_fault::RepositoryFault;
+use lazy_disk::LazyDisk;
+use repo_store::{Store, StoreFault};
+use sqlite::{Connection, FileStore};
+use sqlite_disk::Disk;
+use std::rt::Files;
+use std::{fs, mem};
+
+/// The log that the library writes beside the database.
+pub(crate) const LOG: &str = ".hookhost/store.db-wal";
+
+/// What the store's rows are kept in, over files of this kind.
+pub type StoreOver<D> = FileStore<LazyDisk<D>>;
+
+/// A connection to the store's database, over files of this kind.
+pub type DatabaseOver<D> = Connection<StoreOver<D>>;
+
+/// A connection to the store's database.
+pub type Database = Connection<FileStore<DatabaseFile>>;
+
+/// What stood beside the database before it was opened.
+#[derive(Clone, Copy, Debug)]
+pub struct Before {
+    log: Found,
+}
+
+impl Before {
+    /// What stands beside the store's database, which is there. Where an empty file is in its place, the error is
+    /// `RepositoryFault::NoStore`: to open it would make a database of it. Where nothing or anything but a file is there, or
+    /// it can't be told, it is `RepositoryFault::CannotUseStore`.
+    pub fn found<R: Files>(rt: &R, _lock: &Lock) -> Result<Before, RepositoryFault>
+        ensures { IfErr result IsFaultOfOpening }
+    {
+        match (found_at(rt, STORE), found_at(rt, LOG)) {
+            (Ok(Found::Filled), Ok(log)) => Ok(Before { log }),
+            (Ok(Found::Empty), Ok(_)) => Err(RepositoryFault::NoStore(StoreFault::NotAStore)),
+            _ => Err(RepositoryFault::CannotUseStore),
+        }
+    }
+
+    // Puts the log back as it was, where nothing was written to it. Nobody else may have the database open.
+    fn put_back<R: Files>(&self, rt: &R) {
+        match self.log {
+            Found::Nothing => {
+                let _gone = fs::remove_file(rt, LOG);
+            }
+            Found::Empty => {
+                let _emptied = fs::create(rt, LOG);
+            }
+            Found::Filled | Found::Other => {}
+        }
+    }
+}
+
+/// Opens the database, which is there. Where its file is at fault, the error is `RepositoryFault::CannotUseStore`, and else
+/// `RepositoryFault::NoStore`; the folder is then as before.
+pub fn open_database(rt: &HostRuntime, before: &Before) -> Result<Database, RepositoryFault>
+    ensures outside { IfOk result (λ conn. conn.in_transaction ≡ false) }
+    ensures refused { IfErr result IsFaultOfDatabase }
+{
+    match connect(rt, STORE) {
+        Ok(conn) => Ok(conn),
+        Err((error, left)) => {
+            // Without what is left of the files, another process may have opened the database.
+            if left.is_some() {
+                before.put_back(rt);
+            }
+            Err(RepositoryFault::of_database(error))
+        }
+    }
+}
+
+/// Opens the store in a database. This and [`leave_store`] say it of files of any kind: what is said of those that the program
+/// has takes the checker minutes. The error is `RepositoryFault::NoStore`, and the folder is then as before.
+pub fn open_store<D: Disk + Drop>(
+    rt: &HostRuntime,
+    before: &Before,
+    conn: DatabaseOver<D>,
+) -> Result<Store<StoreOver<D>>, RepositoryFault>
+    requires { conn.in_transaction ≡ false }
+    ensures { IfErr result IsFaultOfOpening }
+{
+    match Store::open(rt.alloc(), conn) {
+        Ok(store) => Ok(store),
+        Err((fault, conn)) => {
+            before.put_back(rt);
+            mem::forget(conn);
+            Err(RepositoryFault::NoStore(fault))
+        }
+    }
+}
+
+/// Leaves the database of a store. Where its log may hold what the database lacks, be it of this command or of one that was
+/// killed, that is copied into the database, which is all of the repository then; else the log is as before, and the disk isn't
+/// waited for. Where the copying fails, the log keeps its changes, and nothing is lost.
+pub fn leave_store<R: Files, D: Disk + Drop>(rt: &R, store: Store<StoreOver<D>>, before: &Before) {
+    if bare_log::may_hold_change(rt, LOG) {
+        let _copied = close_database(rt, LOG, store.into_connection());
+    } else {
+        before.put_back(rt);
+        // The process ends next: its files and memory go with it.
+        mem::forget(store);
+    }
+}
+
+/// Copies the log at the name into the database, which has all of it then, as the disk does. The log stays beside it, without
+/// a change in it: the next command waits longer for the disk where it has to make that file. The errors are those of
+/// [`open_database`].
+pub(crate) fn close_database<R: Files, D: Disk + Drop>(
+    rt: &R,
+    log: &str,
+    conn: DatabaseOver<D>,
+) -> Result<(), RepositoryFault>
+    ensures { IfErr result IsFaultOfOpening }
+{
+    match conn.close_files() {
+        Ok(mut files) => {
+            bare_log::leave(&mut files.log, bytes_at(rt, log));
+            Ok(())
+        }
+        Err((error, store)) => {
+            mem::forget(store);
+            Err(RepositoryFault::of_database(error))
+        }
+    }
+}

@@ -1,0 +1,156 @@
+//! The folder of a repository, which lies in the working folder: its store's file, the lock that keeps other commands out,
+//! and the folder in which children run.
+
+ghost use Rattle.std.specs.Prelude.{◌≡◌, IfErr};
+ghost use Rattle.repository_files.specs.declared.repository_fault.RepositoryFault.TheVariants.{CannotUseLock, CannotUseStore};
+
+use crate::repository_fault::RepositoryFault;
+use std::fs::{File, OpenOptions};
+use std::os::fd::AsRawFd;
+use std::os::unix::fs::MetadataExt;
+use std::rt::Files;
+use std::{fs, io};
+
+/// The file of the store.
+pub const STORE: &str = ".hookhost/store.db";
+
+/// The file whose lock a command holds.
+pub const LOCK: &str = ".hookhost/lock";
+
+/// The folder in which children run. It is made for the first of them, with the folder that holds it.
+pub const SCRATCH: &str = ".hookhost/scratch";
+
+/// The folder that holds them.
+pub(crate) const FOLDER: &str = ".hookhost";
+
+// The last descriptor of a standard stream.
+const LAST_STREAM: i32 = 2;
+
+/// The lock of the repository: no other process has it before this value is dropped or the process ends.
+#[derive(Drop)]
+pub struct Lock {
+    _file: File,
+}
+
+/// What stands at the name of a file. A link isn't followed.
+#[derive(Clone, Copy, Debug, PartialEq, Eq)]
+pub(crate) enum Found {
+    /// Nothing.
+    Nothing,
+    /// A file without bytes.
+    Empty,
+    /// A file with bytes.
+    Filled,
+    /// Anything but a file, as a folder, a link or a fifo.
+    Other,
+}
+
+/// Where the repository's folder comes from.
+#[derive(Clone, Copy, Debug, PartialEq, Eq)]
+pub(crate) enum Folder {
+    /// It was there.
+    Found,
+    /// It was made.
+    Made,
+}
+
+/// Makes the repository's folder where it isn't. The error is `RepositoryFault::CannotUseStore`.
+pub(crate) fn make_folder<R: Files>(rt: &R) -> Result<Folder, RepositoryFault>
+    ensures { IfErr result (λ fault. fault ≡ CannotUseStore) }
+{
+    if fs::create_dir(rt, FOLDER).is_ok() {
+        return Ok(Folder::Made);
+    }
+    match fs::create_dir_all(rt, FOLDER) {
+        Ok(()) => Ok(Folder::Found),
+        Err(_) => Err(RepositoryFault::CannotUseStore),
+    }
+}
+
+/// Looks whether the store's file is there and can be read, without opening it for writing. The error is
+/// `RepositoryFault::CannotUseStore`.
+pub fn look_at_store<R: Files>(rt: &R) -> Result<(), RepositoryFault>
+    ensures { IfErr result (λ fault. fault ≡ CannotUseStore) }
+{
+    match found_at(rt, STORE) {
+        Ok(Found::Empty | Found::Filled) => {}
+        _ => return Err(RepositoryFault::CannotUseStore),
+    }
+    match fs::open(rt, STORE) {
+        Ok(_) => Ok(()),
+        Err(_) => Err(RepositoryFault::CannotUseStore),
+    }
+}
+
+/// Looks whether the name of the store's file is free. Where anything is there, or it can't be told, the error is
+/// `RepositoryFault::CannotUseStore`.
+pub(crate) fn look_for_no_store<R: Files>(rt: &R) -> Result<(), RepositoryFault>
+    ensures { IfErr result (λ fault. fault ≡ CannotUseStore) }
+{
+    match found_at(rt, STORE) {
+        Ok(Found::Nothing) => Ok(()),
+        _ => Err(RepositoryFault::CannotUseStore),
+    }
+}
+
+/// Takes the lock. Where another process has it, or where its file can't be opened or is no file, the error is
+/// `RepositoryFault::CannotUseLock`.
+pub fn take_lock(rt: &HostRuntime) -> Result<Lock, RepositoryFault>
+    ensures { IfErr result (λ fault. fault ≡ CannotUseLock) }
+{
+    match try_to_lock(rt) {
+        Ok(lock) => Ok(lock),
+        Err(_) => Err(RepositoryFault::CannotUseLock),
+    }
+}
+
+fn try_to_lock(rt: &HostRuntime) -> io::Result<Lock> {
+    // To open a fifo would wait for its reader, and a link may lead out of the folder.
+    if found_at(rt, LOCK)? == Found::Other {
+        return Err(io::ErrorKind::Unsupported.into());
+    }
+    let mut file = OpenOptions::new().write(true).create(true).open(rt, LOCK)?;
+    // What is meant for a standard stream that was closed must not land in the file.
+    if file.as_raw_fd() <= LAST_STREAM {
+        file = file.try_clone()?;
+    }
+    file.try_lock()?;
+    // An `init` that made the folder, and failed, has taken the file away: its lock keeps nobody out.
+    if !is_at(rt, &file, LOCK)? {
+        return Err(io::ErrorKind::NotFound.into());
+    }
+    Ok(Lock { _file: file })
+}
+
+// Whether the file stands at the name.
+fn is_at(rt: &HostRuntime, file: &File, name: &str) -> io::Result<bool> {
+    let (held, named) = (file.metadata()?, fs::symlink_metadata(rt, name)?);
+    Ok(held.dev() == named.dev() && held.ino() == named.ino())
+}
+
+/// What stands at a name.
+pub(crate) fn found_at<R: Files>(rt: &R, name: &str) -> io::Result<Found> {
+    match fs::symlink_metadata(rt, name) {
+        Ok(found) if !found.is_file() => Ok(Found::Other),
+        Ok(found) if found.len() == 0 => Ok(Found::Empty),
+        Ok(_) => Ok(Found::Filled),
+        Err(error) if error.kind() == io::ErrorKind::NotFound => Ok(Found::Nothing),
+        Err(error) => Err(error),
+    }
+}
+
+/// Takes a file away, where there is one.
+pub(crate) fn take_away<R: Files>(rt: &R, name: &str) -> io::Result<()> {
+    match fs::remove_file(rt, name) {
+        Err(error) if error.kind() != io::ErrorKind::NotFound => Err(error),
+        _ => Ok(()),
+    }
+}
+
+/// How many bytes the file at the name has, or `None` where that can't be told.
+pub(crate) fn bytes_at<R: Files>(rt: &R, name: &str) -> Option<u64> {
+    match fs::symlink_metadata(rt, name) {
+        Ok(found) => Some(found.len()),
+        Err(_) => None,
+    }
+}

@@ -1,0 +1,147 @@
+//! A new repository in the working folder.
+//!
+//! Its database is made under another name, and put in place once it is a store and the disk has all of it: `store.db` is a
+//! store, or isn't there.
+
+ghost use Rattle.std.specs.Prelude.{◌≡◌, false, IfErr};
+ghost use Rattle.repository_files.specs.RepositoryFaults.{IsFaultOfOpening};
+ghost use Rattle.repository_files.specs.declared.repository_fault.RepositoryFault.TheVariants.{CannotUseStore};
+
+use crate::connect::connect;
+use crate::database::{DatabaseOver, LOG, close_database};
+use crate::folder::{
+    FOLDER, Folder, Found, LOCK, Lock, STORE, found_at, look_for_no_store, make_folder, take_away,
+    take_lock,
+};
+use crate::repository_fault::RepositoryFault;
+use repo_store::Store;
+use sqlite_disk::Disk;
+use std::fs::OpenFile;
+use std::rt::Files;
+use std::{fs, io, mem};
+
+// The database while it is made. No other command knows the name, and what lies there a killed `init` has left.
+const NEW_STORE: &str = ".hookhost/new.db";
+
+// The log that the library writes beside it.
+const NEW_LOG: &str = ".hookhost/new.db-wal";
+
+/// Makes an empty repository. The errors are, in this order: `CannotUseStore` where anything stands at the store's name, or
+/// the folder can't be made, `CannotUseLock`, `CannotUseStore` where another `init` has made a store since, and then
+/// `CannotUseStore` and `NoStore` where the database can't be made or put in place. An error leaves the folder as it was, but
+/// for its lock if the folder was there, and what a killed `init` left.
+pub fn init(rt: &HostRuntime) -> Result<(), RepositoryFault> {
+    look_for_no_store(rt)?;
+    let folder = make_folder(rt)?;
+    let done = init_in(rt, folder);
+    if done.is_err() && folder == Folder::Made {
+        // Another command may have put its lock there.
+        let _unless_used = fs::remove_dir(rt, FOLDER);
+    }
+    done
+}
+
+// Makes a repository in its folder.
+fn init_in(rt: &HostRuntime, folder: Folder) -> Result<(), RepositoryFault> {
+    let lock = take_lock(rt)?;
+    let done = init_under(rt, &lock);
+    if done.is_err() && folder == Folder::Made {
+        // Whoever has opened the file waits no longer for the lock than this process has it, and then finds it gone.
+        let _gone = take_away(rt, LOCK);
+    }
+    done
+}
+
+// Makes a repository while nobody else works on it.
+fn init_under(rt: &HostRuntime, _lock: &Lock) -> Result<(), RepositoryFault>
+    ensures { IfErr result IsFaultOfOpening }
+{
+    look_for_no_store(rt)?;
+    let log = log_before(rt)?;
+    take_new_away(rt)?;
+    let done = make_and_place(rt);
+    if done.is_err() {
+        undo(rt, log);
+    }
+    done
+}
+
+// What stands at the name of the log, which may be that of a store that was taken away. Where it is no file, or can't be told,
+// the error is `CannotUseStore`.
+fn log_before<R: Files>(rt: &R) -> Result<Found, RepositoryFault>
+    ensures { IfErr result (λ fault. fault ≡ CannotUseStore) }
+{
+    match found_at(rt, LOG) {
+        Ok(Found::Other) | Err(_) => Err(RepositoryFault::CannotUseStore),
+        Ok(found) => Ok(found),
+    }
+}
+
+// Takes away what a killed `init` left, the log first: a new database beside it would be read with it.
+fn take_new_away<R: Files>(rt: &R) -> Result<(), RepositoryFault>
+    ensures { IfErr result (λ fault. fault ≡ CannotUseStore) }
+{
+    if take_away(rt, NEW_LOG).is_err() || take_away(rt, NEW_STORE).is_err() {
+        return Err(RepositoryFault::CannotUseStore);
+    }
+    Ok(())
+}
+
+// Takes away what was made. Before, nothing was at the store's name.
+fn undo<R: Files>(rt: &R, log: Found) {
+    let _gone = take_away(rt, STORE);
+    let _gone = take_new_away(rt);
+    if log == Found::Nothing {
+        let _gone = take_away(rt, LOG);
+    }
+}
+
+fn make_and_place(rt: &HostRuntime) -> Result<(), RepositoryFault>
+    ensures { IfErr result IsFaultOfOpening }
+{
+    make_database(rt)?;
+    match put_in_place(rt) {
+        Ok(()) => Ok(()),
+        Err(_) => Err(RepositoryFault::CannotUseStore),
+    }
+}
+
+// Makes the database under its other name.
+fn make_database(rt: &HostRuntime) -> Result<(), RepositoryFault>
+    ensures { IfErr result IsFaultOfOpening }
+{
+    match connect(rt, NEW_STORE) {
+        Ok(conn) => make_store(rt, conn),
+        Err((error, _left)) => Err(RepositoryFault::of_database(error)),
+    }
+}
+
+// Makes a store in a database, and closes it: then its file has all of it, and the disk has the file.
+fn make_store<D: Disk + Drop>(
+    rt: &HostRuntime,
+    conn: DatabaseOver<D>,
+) -> Result<(), RepositoryFault>
+    requires { conn.in_transaction ≡ false }
+    ensures { IfErr result IsFaultOfOpening }
+{
+    match Store::create(rt.alloc(), conn) {
+        Ok(store) => close_database(rt, NEW_LOG, store.into_connection()),
+        Err((fault, conn)) => {
+            mem::forget(conn);
+            Err(RepositoryFault::NoStore(fault))
+        }
+    }
+}
+
+// Gives the database its name. First its log takes the place of one that may lie there, and the disk is waited for: beside the
+// database there must be no log of another one, whenever the power fails.
+fn put_in_place<R: Files>(rt: &R) -> io::Result<()> {
+    fs::rename(rt, NEW_LOG, LOG)?;
+    sync_folder(rt)?;
+    fs::rename(rt, NEW_STORE, STORE)?;
+    sync_folder(rt)
+}
+
+fn sync_folder<R: Files>(rt: &R) -> io::Result<()> {
+    fs::open(rt, FOLDER)?.sync_all()
+}
