@@ -41,11 +41,11 @@ LIMITS = [
     ("staged tree of a store", "8 MiB ({} bytes) together", "repo_store", "most_tree_path_bytes", 0),
     ("commits of a store", "{}", "repo_store", "most_commits", 0),
 ]
-# The constants of hook_cli with what the help of a command says, and the enum whose refusals the command prints.
+# The constants of command_line with what the help of a command says, and the enum whose refusals the command prints.
 HELP = {"TRY_HELP": "TryFault", "CHECK_HELP": "ConfigKind"}
 # The refusals of which the reference says what to do for a library's caller; the help says it in the words of the commands.
 LIBRARIES = ["StoreFault", "HostRefusal"]
-# The constants of hook_cli with the help of the commands on a repository, and the enums of what these refuse: those of the
+# The constants of command_line with the help of the commands on a repository, and the enums of what these refuse: those of the
 # store when it is opened, and then their own.
 REPOSITORY_HELP = {
     "init": "INIT_HELP",
@@ -130,7 +130,7 @@ def section_of(text, title):
 
 def help_of(constant):
     """The text of a constant of the help."""
-    return re.search(rf'const {constant}: &str = "\\\n(.*?)";', read("crates", "hook_cli", "src", "help.rt"), re.DOTALL)[1]
+    return re.search(rf'const {constant}: &str = "\\\n(.*?)";', read("crates", "command_line", "src", "help.rt"), re.DOTALL)[1]
 
 
 def rows_told(reference, heads):
@@ -157,7 +157,7 @@ def wrong_help(reference):
 
 def repository_help_of(constant):
     """The text of a constant of the help of the commands on a repository, with what they share."""
-    source = read("crates", "hook_cli", "src", "repository_help.rt")
+    source = read("crates", "command_line", "src", "repository_help.rt")
     texts = lambda code: [re.sub(r"\\\n\s*", "", it) for it in re.findall(r'"([^"]*)"', code)]
     told = texts(re.search(rf"const {constant}: &str = (.*?);\n(?:\n|$)", source, re.DOTALL)[1])
     if len(told) == 1:

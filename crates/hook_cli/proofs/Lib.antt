@@ -1,14 +1,5 @@
-pub mod AskLemmas
-pub mod CommandLemmas
-pub mod KnownBytesLemmas
-pub mod LineLemmas
 pub mod OverHostLemmas
 pub mod OverRunLemmas
 pub mod PathLemmas
 pub mod PrintingLemmas
-pub mod ReadingLemmas
 pub mod RunPrintingLemmas
-pub mod SkipLemmas
-pub mod StatusLemmas
-pub mod TextLemmas
-pub mod ValueLemmas

@@ -1,5 +1,5 @@
 -- How the commands over a repository end.
-use Rattle.std.proofs.Common.{◌≡◌, subst, refl, inl, inr, ℕ, List, [], Option, Ok, Err}
+use Rattle.std.proofs.Common.{◌≡◌, subst, refl, inl, inr, ℕ, List, [], Option, None, Some, option_map, Ok, Err}
 use Rattle.sqlite_trees.specs.declared.store.Store.{Ghosts}
 use Rattle.repo_store.specs.AllOrNothing.{IsAllOrNothing}
 use Rattle.repo_store.specs.Kept.{accepting}
@@ -10,13 +10,14 @@ use Rattle.commit_flow.specs.declared.reply.Reply.TheVariants.{Accepted, Refused
 use Rattle.commit_flow.specs.Crashes.{IsOneCommand}
 use Rattle.commit_flow.specs.Hosts.{Hosted}
 use Rattle.commit_flow.specs.Steps.{IsAcceptRefusal, Step}
-use Rattle.hook_cli.specs.declared.line.Line.{Line}
+use Rattle.command_line.specs.declared.line.Line.{Line}
 use Rattle.hook_cli.specs.declared.command_ending.CommandEnding.{CommandEnding}
 use Rattle.hook_cli.specs.CommandOver.{IsAcceptOver, IsAnswer, IsLookUp, IsRefusalText}
-use Rattle.hook_cli.specs.FixesText.{accepted_text}
-use Rattle.hook_cli.specs.Printing.{IsSaid, IsSilent, IsTold, Output}
+use Rattle.repository_text.specs.FixesText.{accepted_text}
+use Rattle.text_output.specs.Outputs.{IsSilent, Output}
+use Rattle.hook_cli.specs.Printing.{IsSaid, IsTold}
 use Rattle.hook_cli.specs.RefusalText.{refusal_text}
-use Rattle.hook_cli.proofs.KnownBytesLemmas.{keeps-itself}
+use Rattle.text_output.specs.OutputLemmas.{keeps-itself}
 
 -- ---- look-ups
 
@@ -27,6 +28,10 @@ looked-up repo line out err ending text answer said silent = inl (record { text 
 pub look-up-refused : (repo : Repository) (line : Line) (out err : Output) (ending : CommandEnding) (text : List ℕ) → IsRefusalText repo line text
     → IsTold err text ending → IsSilent out → IsLookUp repo line out err ending
 look-up-refused repo line out err ending text refusal told silent = inr (record { text = text; refusal = refusal; told = told; silent = silent })
+
+pub none-mapped : {A B : Type 0} (f : A → B) (found : Option A) → None ≡ option_map f found → found ≡ None
+none-mapped f None none = refl
+none-mapped f (Some x) none = cc
 
 pub silent-itself : (held : Option (List ℕ)) → IsSilent (record { held = held; holds = held })
 silent-itself held = keeps-itself held

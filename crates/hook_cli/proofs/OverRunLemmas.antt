@@ -25,7 +25,8 @@ use Rattle.commit_flow.specs.RunSteps.{IsRunStep, IsStoppedStep}
 use Rattle.commit_flow.specs.CommitSteps.{IsCommitStep}
 use Rattle.hook_cli.specs.declared.command_ending.CommandEnding.{CommandEnding}
 use Rattle.hook_cli.specs.CommandOver.{Counts, IsCommitOverHost, IsReplied, IsRunOverHost}
-use Rattle.hook_cli.specs.Printing.{IsRunSaid, IsSilent, IsTold, Output}
+use Rattle.text_output.specs.Outputs.{IsSilent, Output}
+use Rattle.hook_cli.specs.Printing.{IsRunSaid, IsTold}
 use Rattle.hook_cli.specs.RefusalText.{refusal_text}
 use Rattle.hook_cli.specs.RunText.{run_text}
 

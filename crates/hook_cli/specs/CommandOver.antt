@@ -16,7 +16,9 @@ use Rattle.commit_flow.specs.declared.command.Command.TheVariants as command
 use Rattle.commit_flow.specs.declared.commit_ending.CommitEnding.{CommitEnding}
 use Rattle.commit_flow.specs.declared.host_ask.AskStage.{AskStage}
 use Rattle.commit_flow.specs.declared.host_ask.HostAsk.{HostAsk}
+use Rattle.commit_flow.specs.declared.host_ask.AskStage.TheVariants as ask_stage
 use Rattle.commit_flow.specs.declared.host_ask.Which.{Which}
+use Rattle.commit_flow.specs.declared.host_ask.Which.TheVariants as which
 use Rattle.commit_flow.specs.declared.host_refusal.HostRefusal.{HostRefusal}
 use Rattle.commit_flow.specs.declared.host_refusal.HostRefusal.TheVariants.{OutOfMemory, BadPath, NotStaged, Collision}
 use Rattle.commit_flow.specs.declared.reply.Reply.{Reply}
@@ -30,25 +32,30 @@ use Rattle.commit_flow.specs.RunSteps.{IsRunStep, IsStoppedStep, changes_in, rep
 use Rattle.commit_flow.specs.StagedPaths.{IsLegal, IsStaged}
 use Rattle.commit_flow.specs.Steps.{Step, entry_to_add}
 use Rattle.commit_flow.specs.CommitSteps.{IsCommitStep}
-use Rattle.hook_cli.specs.declared.line.Line.{Line}
-use Rattle.hook_cli.specs.declared.line.Line.TheVariants.{Init, Try, Check, Add, Remove, Status, Run, Fixes, Accept, Commit, Cat, Log, Show}
+use Rattle.command_line.specs.declared.line.FileChoice.{FileChoice}
+use Rattle.command_line.specs.declared.line.FileChoice.TheVariants.{Changed, All, Named}
+use Rattle.command_line.specs.declared.line.StageChoice.{StageChoice}
+use Rattle.command_line.specs.declared.line.StageChoice.TheVariants.{PreCommit, Manual}
+use Rattle.command_line.specs.declared.line.Line.{Line}
+use Rattle.command_line.specs.declared.line.Line.TheVariants.{Init, Try, Check, Add, Remove, Status, Run, Fixes, Accept, Commit, Cat, Log, Show}
 use Rattle.hook_cli.specs.declared.command_ending.CommandEnding.{CommandEnding}
 use Rattle.hook_cli.specs.declared.command_ending.CommandEnding.TheVariants.{Done}
-use Rattle.hook_cli.specs.Printing.{IsFailureSaid, IsRunSaid, IsSaid, IsSilent, IsTold, Output, status_of}
-use Rattle.hook_cli.specs.FixesText.{accepted_text, fixes_text}
-use Rattle.hook_cli.specs.LogText.{log_text}
+use Rattle.text_output.specs.Outputs.{IsSilent, Output}
+use Rattle.hook_cli.specs.Printing.{IsFailureSaid, IsRunSaid, IsSaid, IsTold, status_of}
+use Rattle.repository_text.specs.FixesText.{accepted_text, fixes_text}
+use Rattle.repository_text.specs.LogText.{log_text}
 use Rattle.hook_cli.specs.RefusalText.{no_commit_text, refusal_text}
 use Rattle.hook_cli.specs.RunText.{IsCommitSaid, failure_text, run_text}
-use Rattle.hook_cli.specs.ShowText.{show_text}
-use Rattle.hook_cli.specs.StatusText.{status_text}
-use Rattle.hook_cli.specs.TryOver.{NoneCalled}
+use Rattle.repository_text.specs.ShowText.{show_text}
+use Rattle.repository_text.specs.StatusText.{status_text}
+use Rattle.configuration_run.specs.TryOver.{NoneCalled}
 
 -- the line is a command over a repository
 abbrev pub IsOverHost : Line → Type 0
 IsOverHost Init = ⊥
 IsOverHost (Try config paths) = ⊥
 IsOverHost Check = ⊥
-IsOverHost (Run which only stage fresh) = Unit {0}
+IsOverHost (Run files only stage fresh) = Unit {0}
 IsOverHost (Commit message no_verify) = Unit {0}
 IsOverHost (Add path mode) = Unit {0}
 IsOverHost (Remove path) = Unit {0}
@@ -110,9 +117,19 @@ pub record Counts : Type 0 where
   pub faults : ℕ
   pub faults_after : ℕ
 
+-- the files and the stage of a line, as the host has them
+abbrev pub which_of : FileChoice → Which
+which_of Changed = which.Changed
+which_of All = which.All
+which_of (Named paths) = which.Named paths
+
+abbrev pub stage_of : StageChoice → AskStage
+stage_of PreCommit = ask_stage.PreCommit
+stage_of Manual = ask_stage.Manual
+
 -- what a line asks of the host, with the hooks that are skipped
-abbrev pub ask_of : Which → Option (List ℕ) → AskStage → Bool → List (List ℕ) → HostAsk
-ask_of which only stage fresh skip = record { which = which; only = only; stage = stage; skip = skip; fresh = fresh }
+abbrev pub ask_of : FileChoice → Option (List ℕ) → StageChoice → Bool → List (List ℕ) → HostAsk
+ask_of files only stage fresh skip = record { which = which_of files; only = only; stage = stage_of stage; skip = skip; fresh = fresh }
 
 -- Hooks are run on the staged files by one call of the host, whose answer is printed. The repository takes a step of the host's
 -- machine over the children, or stays as it is, and a writer's error undoes none of it.
@@ -146,7 +163,7 @@ IsAnswer repo (Show number) text = option_map show_text (commit_at number repo.h
 IsAnswer repo Init text = ⊥
 IsAnswer repo (Try config paths) text = ⊥
 IsAnswer repo Check text = ⊥
-IsAnswer repo (Run which only stage fresh) text = ⊥
+IsAnswer repo (Run files only stage fresh) text = ⊥
 IsAnswer repo (Commit message no_verify) text = ⊥
 IsAnswer repo (Add path mode) text = ⊥
 IsAnswer repo (Remove path) text = ⊥
@@ -172,7 +189,7 @@ IsRefusalText repo (Show number) text =
 IsRefusalText repo Init text = ⊥
 IsRefusalText repo (Try config paths) text = ⊥
 IsRefusalText repo Check text = ⊥
-IsRefusalText repo (Run which only stage fresh) text = ⊥
+IsRefusalText repo (Run files only stage fresh) text = ⊥
 IsRefusalText repo (Commit message no_verify) text = ⊥
 IsRefusalText repo (Add path mode) text = ⊥
 IsRefusalText repo (Remove path) text = ⊥
@@ -215,14 +232,14 @@ IsEnded g tells counts old new (Show number) bytes skip out err ending = IsLooke
 IsEnded g tells counts old new Init bytes skip out err ending = ⊥
 IsEnded g tells counts old new (Try config paths) bytes skip out err ending = ⊥
 IsEnded g tells counts old new Check bytes skip out err ending = ⊥
-IsEnded g tells counts old new (Run which only stage fresh) bytes skip out err ending =
-    IsRunOverHost g tells counts old new (ask_of which only stage fresh skip) out err ending
+IsEnded g tells counts old new (Run files only stage fresh) bytes skip out err ending =
+    IsRunOverHost g tells counts old new (ask_of files only stage fresh skip) out err ending
 IsEnded g tells counts old new (Commit message no_verify) bytes skip out err ending =
     IsCommitOverHost g tells counts old new message no_verify skip out err ending
 
 -- the line runs no hooks
 abbrev pub IsRunless : Line → Type 0
-IsRunless (Run which only stage fresh) = ⊥
+IsRunless (Run files only stage fresh) = ⊥
 IsRunless (Commit message no_verify) = ⊥
 IsRunless line = Unit {0}
 

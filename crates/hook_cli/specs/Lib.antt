@@ -1,15 +1,4 @@
-pub mod CheckText
-pub mod CommandLine
 pub mod CommandOver
-pub mod FixesText
-pub mod LogText
 pub mod Printing
-pub mod Reading
 pub mod RefusalText
 pub mod RunText
-pub mod ShowText
-pub mod SkipList
-pub mod StatusText
-pub mod StatusWalk
-pub mod TryFaults
-pub mod TryOver

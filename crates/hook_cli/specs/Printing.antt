@@ -1,29 +1,8 @@
 -- What a command prints, and the exit status that goes with it. Of a writer that doesn't tell its bytes nothing is claimed.
-use Rattle.std.specs.Prelude.{◌≡◌, ◌⊎◌, ◌++◌, ℕ, Bool, true, false, List, Option}
-use Rattle.std.specs.Io.KnownBytes.{Appends, Keeps}
+use Rattle.std.specs.Prelude.{◌≡◌, ◌⊎◌, ℕ, Bool, true, false, List}
+use Rattle.text_output.specs.Outputs.{Has, HasBeginning, IsSilent, Output}
 use Rattle.hook_cli.specs.declared.command_ending.CommandEnding.{CommandEnding}
 use Rattle.hook_cli.specs.declared.command_ending.CommandEnding.TheVariants.{Done, Failed, Refused, CutOff}
-
--- the bytes that a writer held before a command, and those that it holds after it, where they are known
-pub record Output : Type 0 where
-  pub held : Option (List ℕ)
-  pub holds : Option (List ℕ)
-
--- nothing was written
-abbrev pub IsSilent : Output → Type 0
-IsSilent output = Keeps output.held output.holds
-
--- the text was written, and nothing else
-abbrev pub Has : Output → List ℕ → Type 0
-Has output text = Appends output.held output.holds text
-
--- A part of the text from its beginning on was written, and nothing else: what a writer took before it gave an error. Where
--- it gave one only when it was flushed, the part is the whole.
-pub record HasBeginning (output : Output) (text : List ℕ) : Type 0 where
-  pub part : List ℕ
-  pub rest : List ℕ
-  pub cut : text ≡ part ++ rest
-  pub written : Has output part
 
 -- the text of a command that is done stands on standard output, as far as the writer took it
 abbrev pub IsSaid : Output → List ℕ → CommandEnding → Type 0

@@ -8,7 +8,8 @@ use Rattle.hook_run.specs.Refusals.{name_of, number_of}
 use Rattle.commit_flow.specs.declared.reply.PostCommit.{PostCommit}
 use Rattle.commit_flow.specs.declared.reply.PostCommit.TheVariants.{Told, Stopped}
 use Rattle.hook_cli.specs.declared.command_ending.CommandEnding.{CommandEnding}
-use Rattle.hook_cli.specs.Printing.{AreSaid, IsSaid, IsSilent, Output}
+use Rattle.text_output.specs.Outputs.{IsSilent, Output}
+use Rattle.hook_cli.specs.Printing.{AreSaid, IsSaid}
 
 -- a hook whose answer was another than the remembered one
 abbrev pub unsteady_line : List ℕ → List ℕ

@@ -1,46 +1,22 @@
-//! The command line of `hookhost` as a library: what a line of words asks for (`line_of`), the run of a configuration over
-//! a tree with its report written out (`try_over`), what `check` prints of a configuration (`check_text`), and the commands
-//! over a repository with what they print (`command_over`).
+//! The commands of `hookhost` over a repository, with what they print and their exit statuses (`command_over`). What a program
+//! needs beside it is handed on: the command line (`line_of` of `command_line`), and the run and the check of a configuration
+//! without a repository (`try_over`, `check_text` of `configuration_run`).
 //!
-//! Their contracts cite `specs/CommandLine.antt`, `specs/TryOver.antt`, which stands on the definitions of `hook_run` (what a
-//! run is, its report, and where it is refused) and on `specs/Printing.antt` (how much of a text a writer took),
-//! `specs/TryFaults.antt` (the refusals of a run), `specs/CheckText.antt`, and `specs/CommandOver.antt` (what each command
-//! changes, prints and exits with), which stands on the definitions of `commit_flow` and on Printing too, and on
-//! `specs/StatusText.antt`, `specs/FixesText.antt`, `specs/LogText.antt`, `specs/ShowText.antt` and
-//! `specs/RefusalText.antt` (the texts).
-//! `specs/Reading.antt` and `specs/StatusWalk.antt` serve private functions only. [`laws`] says which paths `status` looks at.
+//! The contracts cite `specs/CommandOver.antt` (what each command changes, prints and exits with), which stands on the
+//! definitions of `commit_flow`, on the texts of `repository_text`, on `specs/RunText.antt` and `specs/RefusalText.antt` (the
+//! texts of runs, commits and refusals), and on `specs/Printing.antt` (which text stands on which output).
 #![tactic(auto)]
 
-mod check;
 mod command_ending;
-mod command_line;
-mod commands;
-mod configuration_bytes;
-mod configuration_run;
-mod fixes_text;
-mod help;
-pub mod laws;
-mod line;
-mod log_text;
 mod look_up;
 mod over_host;
 mod over_runs;
 mod printing;
-mod repository_help;
-mod run_ask;
 mod run_printing;
-mod show_text;
-mod skip_list;
-mod status_text;
-mod try_fault;
-mod values;
 
-pub use check::check_text;
 pub use command_ending::CommandEnding;
-pub use command_line::line_of;
-pub use configuration_bytes::MOST_CONFIGURATION_BYTES;
-pub use configuration_run::try_over;
-pub use line::Line;
+pub use command_line::{FileChoice, Line, StageChoice, line_of};
+pub use configuration_run::{
+    MOST_CONFIGURATION_BYTES, TryFault, check_text, skip_list_of, try_over,
+};
 pub use over_host::command_over;
-pub use skip_list::skip_list_of;
-pub use try_fault::TryFault;

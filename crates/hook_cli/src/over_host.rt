@@ -5,7 +5,7 @@
 ghost use Rattle.std.specs.Prelude.{◌≡◌, ◌⊎◌};
 ghost use Rattle.child_port.specs.Telling.{SameTells};
 ghost use Rattle.hook_cli.specs.CommandOver.{IsAcceptOver, IsAddOver, IsCalledBy, IsCommandOver, IsEnded, IsOverHost, IsRemoveOver};
-ghost use Rattle.hook_cli.specs.Printing.{IsSilent, Output};
+ghost use Rattle.text_output.specs.Outputs.{IsSilent, Output};
 
 use crate::command_ending::status_of;
 use crate::look_up::{cat, fixes, log, show, status};
@@ -70,12 +70,12 @@ fn end_of<S: Alter, C: Children, O: Write, E: Write>(
         Line::Add { path, mode } => add(alloc, path.as_str(), bytes, *mode, host, err),
         Line::Remove { path } => remove(alloc, path.as_str(), host, err),
         Line::Run {
-            which,
+            files,
             only,
             stage,
             fresh,
         } => {
-            let ask = ask_of(alloc, which, only, *stage, *fresh, skip);
+            let ask = ask_of(alloc, files, only, *stage, *fresh, skip);
             run(alloc, ask, host, children, out, err)
         }
         Line::Commit { message, no_verify } => commit(

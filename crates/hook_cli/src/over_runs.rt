@@ -5,11 +5,11 @@
 ghost use Rattle.std.specs.Prelude.{◌≡◌, IfOk};
 ghost use Rattle.child_port.specs.Telling.{SameTells};
 ghost use Rattle.commit_flow.specs.Commands.{reply_of_ending};
-ghost use Rattle.hook_cli.specs.CommandOver.{IsCommitOverHost, IsReplied, IsRunOverHost, ask_of};
+ghost use Rattle.hook_cli.specs.CommandOver.{IsCommitOverHost, IsReplied, IsRunOverHost, ask_of, stage_of, which_of};
 
-use crate::CommandEnding;
 use crate::printing::tell;
 use crate::run_printing::{say_commit, say_failure, say_run};
+use crate::{CommandEnding, FileChoice, StageChoice};
 use child_port::Children;
 use commit_flow::{AskStage, CommitEnding, Host, HostAsk, HostRefusal, Which};
 use hook_base::{Items, OutOfMemory, Text};
@@ -95,30 +95,42 @@ fn say_ending<O: Write, E: Write>(out: &mut O, err: &mut E, ending: &CommitEndin
 /// What a line asks of the host, with the hooks that are skipped.
 pub(crate) fn ask_of(
     alloc: Global,
-    which: &Which,
+    files: &FileChoice,
     only: &Option<Text>,
-    stage: AskStage,
+    stage: StageChoice,
     fresh: bool,
     skip: &[Text],
 ) -> Result<HostAsk, OutOfMemory>
-    ensures { IfOk result (λ ask. ask ≡ ask_of which.now only.now stage fresh skip.now) }
+    ensures { IfOk result (λ ask. ask ≡ ask_of files.now only.now stage fresh skip.now) }
 {
     Ok(HostAsk {
-        which: which_of(alloc, which)?,
+        which: which_of(alloc, files)?,
         only: only_of(only)?,
-        stage,
+        stage: stage_of(stage),
         skip: Items::from(copies_of(alloc, skip)?),
         fresh,
     })
 }
 
-fn which_of(alloc: Global, which: &Which) -> Result<Which, OutOfMemory>
-    ensures { IfOk result (λ copy. copy ≡ which.now) }
+fn which_of(alloc: Global, files: &FileChoice) -> Result<Which, OutOfMemory>
+    ensures { IfOk result (λ which. which ≡ which_of files.now) }
 {
-    match which {
-        Which::Changed => Ok(Which::Changed),
-        Which::All => Ok(Which::All),
-        Which::Named(names) => Ok(Which::Named(Items::from(copies_of(alloc, names.as_slice())?))),
+    match files {
+        FileChoice::Changed => Ok(Which::Changed),
+        FileChoice::All => Ok(Which::All),
+        FileChoice::Named(names) => Ok(Which::Named(Items::from(copies_of(
+            alloc,
+            names.as_slice(),
+        )?))),
+    }
+}
+
+fn stage_of(stage: StageChoice) -> AskStage
+    ensures { result ≡ stage_of stage }
+{
+    match stage {
+        StageChoice::PreCommit => AskStage::PreCommit,
+        StageChoice::Manual => AskStage::Manual,
     }
 }
 

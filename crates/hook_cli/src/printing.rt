@@ -1,22 +1,19 @@
-//! What a command or a run says, on the writer that it is for.
+//! What a command says, on the writer that it is for.
 //!
-//! The contracts cite `specs/Printing.antt`, `specs/RefusalText.antt` and `specs/FixesText.antt`.
+//! The contracts cite `specs/Printing.antt`, `specs/RefusalText.antt` and `repository_text/specs/FixesText.antt`.
 
-ghost use Rattle.std.specs.Prelude.{◌++◌, ◌≤◌, IfOk, OnOk, OnErr, Some, codes, length, map, take};
+ghost use Rattle.std.specs.Prelude.{◌++◌, Some, codes, map};
 ghost use Rattle.std.specs.List.{concat};
 ghost use Rattle.report_text.specs.Report.{line};
-ghost use Rattle.hook_cli.specs.FixesText.{accepted_text};
-ghost use Rattle.hook_cli.specs.Printing.{Has, HasBeginning, IsSaid, IsSilent, IsTold};
+ghost use Rattle.repository_text.specs.FixesText.{accepted_text};
+ghost use Rattle.hook_cli.specs.Printing.{IsSaid, IsTold};
 ghost use Rattle.hook_cli.specs.RefusalText.{inner_text, no_commit_text, refusal_text};
 
 use crate::CommandEnding;
 use commit_flow::HostRefusal;
 use itoa::Buffer;
-use std::io::{ErrorKind, Write};
-
-/// A writer gave an error. What it had taken before is out.
-#[derive(Clone, Copy, Debug)]
-pub(crate) struct Unwritten;
+use std::io::Write;
+use text_output::{Unwritten, write_out, write_pieces};
 
 /// Says the text of a command that is done.
 pub(crate) fn say<O: Write>(out: &mut O, text: &[u8]) -> CommandEnding
@@ -89,62 +86,4 @@ fn tell_pieces<'a, E: Write>(err: &mut E, pieces: &'a [&'a str]) -> CommandEndin
         Ok(()) => CommandEnding::Refused,
         Err(Unwritten) => CommandEnding::CutOff,
     }
-}
-
-/// Writes a text, piece by piece, and flushes the writer.
-pub(crate) fn write_pieces<'a, W: Write>(
-    writer: &mut W,
-    pieces: &'a [&'a str],
-) -> Result<(), Unwritten>
-    ensures ok { OnOk result (Has (record { held = W.contents writer.old; holds = W.contents writer.new }) (concat (map (λ s. s.now) pieces.entry.now))) }
-    ensures err { OnErr result (HasBeginning (record { held = W.contents writer.old; holds = W.contents writer.new }) (concat (map (λ s. s.now) pieces.entry.now))) }
-{
-    'pieces: for piece in pieces {
-        write_piece(writer, piece.as_bytes())?;
-    }
-    flush(writer)
-}
-
-/// Writes a text and flushes the writer.
-pub(crate) fn write_out<W: Write>(writer: &mut W, text: &[u8]) -> Result<(), Unwritten>
-    ensures ok { OnOk result (Has (record { held = W.contents writer.old; holds = W.contents writer.new }) text.now) }
-    ensures err { OnErr result (HasBeginning (record { held = W.contents writer.old; holds = W.contents writer.new }) text.now) }
-{
-    write_piece(writer, text)?;
-    flush(writer)
-}
-
-// Writes a text, as `write_all` does, whose contract leaves open what an error leaves: here it is the text's beginning.
-fn write_piece<W: Write>(writer: &mut W, text: &[u8]) -> Result<(), Unwritten>
-    ensures ok { OnOk result (Has (record { held = W.contents writer.old; holds = W.contents writer.new }) text.now) }
-    ensures err { OnErr result (HasBeginning (record { held = W.contents writer.old; holds = W.contents writer.new }) text.now) }
-{
-    let mut written = 0;
-    'tries: for _ in 0..u64::MAX {
-        if written == text.len() {
-            return Ok(());
-        }
-        written += write_some(writer, &text[written..])?;
-    }
-    Err(Unwritten)
-}
-
-// Writes once, and answers how many bytes the writer took: none where it was interrupted.
-fn write_some<W: Write>(writer: &mut W, text: &[u8]) -> Result<usize, Unwritten>
-    ensures count { IfOk result (λ count. count ≤ length text.now) }
-    ensures ok { IfOk result (λ count. Has (record { held = W.contents writer.old; holds = W.contents writer.new }) (take count text.now)) }
-    ensures err { OnErr result (IsSilent (record { held = W.contents writer.old; holds = W.contents writer.new })) }
-{
-    match writer.write(text) {
-        Ok(0) => Err(Unwritten),
-        Ok(count) => Ok(count),
-        Err(error) if error.kind() == ErrorKind::Interrupted => Ok(0),
-        Err(_) => Err(Unwritten),
-    }
-}
-
-fn flush<W: Write>(writer: &mut W) -> Result<(), Unwritten>
-    ensures { IsSilent (record { held = W.contents writer.old; holds = W.contents writer.new }) }
-{
-    writer.flush().map_err(|_| Unwritten)
 }

@@ -6,16 +6,18 @@ ghost use Rattle.std.specs.Prelude.{◌≡◌, ◌++◌, OnOk, OnErr, codes};
 ghost use Rattle.std.specs.Fmt.{decimal};
 ghost use Rattle.std.specs.List.{concat, flat_map};
 ghost use Rattle.report_text.specs.Report.{line};
-ghost use Rattle.hook_cli.specs.Printing.{Has, HasBeginning, IsFailureSaid, IsRunSaid, IsSaid};
+ghost use Rattle.text_output.specs.Outputs.{Has, HasBeginning};
+ghost use Rattle.hook_cli.specs.Printing.{IsFailureSaid, IsRunSaid, IsSaid};
 ghost use Rattle.hook_cli.specs.RunText.{IsCommitSaid, run_text, stopped_text, unsteady_line};
 
 use crate::CommandEnding;
-use crate::printing::{Unwritten, say_pieces, write_out, write_pieces};
+use crate::printing::say_pieces;
 use commit_flow::PostCommit;
 use hook_base::{Bytes, Text};
 use hook_run::RunRefusal;
 use itoa::Buffer;
 use std::io::Write;
+use text_output::{Unwritten, write_out, write_pieces};
 
 /// Says what a run answered: the report, and the ids of the hooks that answered otherwise than is remembered.
 pub(crate) fn say_run<O: Write>(

@@ -1,8 +1,7 @@
 //! What a line of words asks for.
 
-use commit_flow::{AskStage, Which};
 use hook_base::{Mode, Text};
-use hook_cli::{Line, line_of};
+use hook_cli::{FileChoice, Line, StageChoice, line_of};
 use std::alloc::{AllocError, Global};
 use trial_rows::{Stop, texts_of};
 
@@ -29,11 +28,11 @@ fn told(alloc: Global, line: &Line) -> Result<String, AllocError> {
         Line::Remove { path } => of_path(alloc, "remove", path),
         Line::Status => String::from_str(alloc, "status\n"),
         Line::Run {
-            which,
+            files,
             only,
             stage,
             fresh,
-        } => of_run(alloc, which, only, *stage, *fresh),
+        } => of_run(alloc, files, only, *stage, *fresh),
         Line::Fixes => String::from_str(alloc, "fixes\n"),
         Line::Commit {
             message,
@@ -75,20 +74,20 @@ fn of_try(alloc: Global, config: &Text, paths: &[Text]) -> Result<String, AllocE
 // The stage, the files, whether it is fresh, and then the name that is asked for and the paths, a line each.
 fn of_run(
     alloc: Global,
-    which: &Which,
+    files: &FileChoice,
     only: &Option<Text>,
-    stage: AskStage,
+    stage: StageChoice,
     fresh: bool,
 ) -> Result<String, AllocError> {
     let stage = match stage {
-        AskStage::PreCommit => "pre-commit",
-        AskStage::Manual => "manual",
+        StageChoice::PreCommit => "pre-commit",
+        StageChoice::Manual => "manual",
     };
     let fresh = if fresh { " fresh" } else { "" };
-    let (files, paths) = match which {
-        Which::Changed => ("changed", &[] as &[Text]),
-        Which::All => ("all", &[] as &[Text]),
-        Which::Named(paths) => ("named", paths.as_slice()),
+    let (files, paths) = match files {
+        FileChoice::Changed => ("changed", &[] as &[Text]),
+        FileChoice::All => ("all", &[] as &[Text]),
+        FileChoice::Named(paths) => ("named", paths.as_slice()),
     };
     let mut text = format!(in alloc; "run {stage} {files}{fresh}\n")?;
     if let Some(name) = only {

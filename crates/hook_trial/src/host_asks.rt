@@ -4,6 +4,7 @@
 use crate::host_words::Words;
 use commit_flow::{AskStage, Which};
 use hook_base::{Items, Text};
+use hook_cli::{FileChoice, StageChoice};
 use std::alloc::Global;
 use trial_rows::Stop;
 
@@ -32,6 +33,23 @@ pub(crate) fn files_of(alloc: Global, words: &mut Words<'_>) -> Result<Which, St
             paths.push(Text::copy_of(alloc, path)?)?;
             Ok(Which::Named(Items::from(paths)))
         }
+    }
+}
+
+/// The files of a line, as the host has them.
+pub(crate) fn chosen_files(which: Which) -> FileChoice {
+    match which {
+        Which::Changed => FileChoice::Changed,
+        Which::All => FileChoice::All,
+        Which::Named(paths) => FileChoice::Named(paths),
+    }
+}
+
+/// The stage of a line, as the host has it.
+pub(crate) fn chosen_stage(stage: AskStage) -> StageChoice {
+    match stage {
+        AskStage::PreCommit => StageChoice::PreCommit,
+        AskStage::Manual => StageChoice::Manual,
     }
 }
 

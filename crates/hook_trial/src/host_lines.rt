@@ -6,7 +6,7 @@
 ghost use Rattle.std.specs.Prelude.{IfOk};
 ghost use Rattle.hook_cli.specs.CommandOver.{IsOverHost};
 
-use crate::host_asks::{asked_name, files_of, is_unverified, stage_of};
+use crate::host_asks::{asked_name, chosen_files, chosen_stage, files_of, is_unverified, stage_of};
 use crate::host_commands::Kept;
 use crate::host_words::{Words, mode_of, tell};
 use crate::host_writers::HabitWriter;
@@ -61,8 +61,8 @@ fn line_of(alloc: Global, command: &str, words: &mut Words<'_>) -> Result<Line, 
         }),
         "status" => Ok(Line::Status),
         "run" => Ok(Line::Run {
-            stage: stage_of(words)?,
-            which: files_of(alloc, words)?,
+            stage: chosen_stage(stage_of(words)?),
+            files: chosen_files(files_of(alloc, words)?),
             only: asked_name(alloc, words)?,
             fresh: false,
         }),

@@ -6,12 +6,12 @@ use Rattle.std.specs.declared.io.ErrorKind.TheVariants.{OutOfMemory as MemoryKin
 use Rattle.clap.specs.Values.{kind_of}
 use Rattle.clap.specs.declared.error.Error.{Error as WordsError}
 use Rattle.clap.specs.declared.error.kind.ErrorKind.TheVariants.{OutOfMemory as WordsMemory}
-use Rattle.hook_cli.specs.declared.try_fault.TryFault.{TryFault}
-use Rattle.hook_cli.specs.declared.try_fault.TryFault.TheVariants.{Read, Config, Write, OutOfMemory, Spent}
+use Rattle.configuration_run.specs.declared.try_fault.TryFault.{TryFault}
+use Rattle.configuration_run.specs.declared.try_fault.TryFault.TheVariants.{Read, Config, Write, OutOfMemory, Spent}
 use Rattle.hook_config.specs.declared.config_fault.ConfigKind.TheVariants.{OutOfMemory as NoMemory}
 use Rattle.commit_flow.specs.declared.host_refusal.HostRefusal.TheVariants.{OutOfMemory as NoMemoryOfHost}
-use Rattle.hook_cli.specs.declared.line.Line.{Line}
-use Rattle.hook_cli.specs.declared.line.Line.TheVariants.{Add, Run, Commit}
+use Rattle.command_line.specs.declared.line.Line.{Line}
+use Rattle.command_line.specs.declared.line.Line.TheVariants.{Add, Run, Commit}
 use Rattle.hook_base.specs.declared.file.File.{File}
 use Rattle.repository_files.specs.RepositoryFaults.{IsFaultOfOpening}
 use Rattle.repository_files.specs.declared.repository_fault.RepositoryFault.{RepositoryFault}

@@ -3,7 +3,7 @@
 ghost use Rattle.std.specs.Prelude.{◌≡◌, IfErr};
 ghost use Rattle.hookhost.specs.Stops.{IsStopOfLine};
 ghost use Rattle.hookhost.specs.declared.stop.Stop.TheVariants.{Refused};
-ghost use Rattle.hook_cli.specs.declared.try_fault.TryFault.TheVariants.{OutOfMemory as NoMemory};
+ghost use Rattle.configuration_run.specs.declared.try_fault.TryFault.TheVariants.{OutOfMemory as NoMemory};
 
 use crate::stop::Stop;
 use crate::terminal::terminal_of;

@@ -142,7 +142,7 @@ impl From<RepositoryFault> for Stop {
 impl From<OutOfMemory> for Stop {
     ghost use Rattle.std.specs.Prelude.{◌≡◌};
     ghost use Rattle.hookhost.specs.declared.stop.Stop.TheVariants.{Refused};
-    ghost use Rattle.hook_cli.specs.declared.try_fault.TryFault.TheVariants.{OutOfMemory};
+    ghost use Rattle.configuration_run.specs.declared.try_fault.TryFault.TheVariants.{OutOfMemory};
 
     ghost from_gives = { λ _ stop. stop ≡ Refused OutOfMemory };
 
@@ -154,7 +154,7 @@ impl From<OutOfMemory> for Stop {
 impl From<AllocError> for Stop {
     ghost use Rattle.std.specs.Prelude.{◌≡◌};
     ghost use Rattle.hookhost.specs.declared.stop.Stop.TheVariants.{Refused};
-    ghost use Rattle.hook_cli.specs.declared.try_fault.TryFault.TheVariants.{OutOfMemory};
+    ghost use Rattle.configuration_run.specs.declared.try_fault.TryFault.TheVariants.{OutOfMemory};
 
     ghost from_gives = { λ _ stop. stop ≡ Refused OutOfMemory };
 
@@ -166,7 +166,7 @@ impl From<AllocError> for Stop {
 impl<T: Drop> From<AllocFailed<T>> for Stop {
     ghost use Rattle.std.specs.Prelude.{◌≡◌};
     ghost use Rattle.hookhost.specs.declared.stop.Stop.TheVariants.{Refused};
-    ghost use Rattle.hook_cli.specs.declared.try_fault.TryFault.TheVariants.{OutOfMemory};
+    ghost use Rattle.configuration_run.specs.declared.try_fault.TryFault.TheVariants.{OutOfMemory};
 
     ghost from_gives = { λ _ stop. stop ≡ Refused OutOfMemory };
 

@@ -1,5 +1,5 @@
 use Rattle.std.proofs.Common.{refl}
-use Rattle.hook_cli.specs.declared.line.Line.TheVariants.{Cat}
+use Rattle.command_line.specs.declared.line.Line.TheVariants.{Cat}
 use Rattle.hook_cli.specs.RefusalText.{refusal_text}
 use Rattle.hook_cli.proofs.OverHostLemmas.{look-up-refused, looked-up, silent-itself}
 use Rattle.hook_cli.proofs.look_up.cat.Goals as goal

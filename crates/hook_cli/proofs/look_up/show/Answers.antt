@@ -1,11 +1,10 @@
 use Rattle.std.proofs.Common.{◌∙◌, sym, refl, inl, inr}
 use Rattle.repo_store.specs.Repository.{commit_at}
 use Rattle.commit_flow.specs.declared.host_refusal.HostRefusal.TheVariants.{OutOfMemory}
-use Rattle.hook_cli.specs.declared.line.Line.TheVariants.{Show}
+use Rattle.command_line.specs.declared.line.Line.TheVariants.{Show}
 use Rattle.hook_cli.specs.RefusalText.{no_commit_text, refusal_text}
-use Rattle.hook_cli.specs.ShowText.{show_text}
-use Rattle.hook_cli.proofs.OverHostLemmas.{look-up-refused, silent-itself}
-use Rattle.hook_cli.proofs.TextLemmas.{none-mapped}
+use Rattle.repository_text.specs.ShowText.{show_text}
+use Rattle.hook_cli.proofs.OverHostLemmas.{look-up-refused, none-mapped, silent-itself}
 use Rattle.hook_cli.proofs.look_up.show.Goals as goal
 
 pub returns-in-Ok-None : goal.returns-in-Ok-None

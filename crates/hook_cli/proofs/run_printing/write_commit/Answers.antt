@@ -1,6 +1,5 @@
 use Rattle.std.specs.List.{concat}
-use Rattle.hook_cli.proofs.PrintingLemmas.{on-err}
-use Rattle.hook_cli.proofs.RunPrintingLemmas.{begun-before, both-on-err}
+use Rattle.text_output.specs.OutputLemmas.{on-err, begun-before, both-on-err}
 use Rattle.hook_cli.proofs.run_printing.write_commit.Goals as goal
 
 pub returns-in_err-write_reports-clause-err : goal.returns-in_err-write_reports-clause-err

@@ -1,5 +1,4 @@
-use Rattle.hook_cli.proofs.PrintingLemmas.{on-err}
-use Rattle.hook_cli.proofs.RunPrintingLemmas.{begun-before}
+use Rattle.text_output.specs.OutputLemmas.{on-err, begun-before}
 use Rattle.hook_cli.proofs.run_printing.write_post.Goals as goal
 
 pub returns-in_err-write_out-clause-err : goal.returns-in_err-write_out-clause-err

@@ -1,6 +1,5 @@
 use Rattle.std.proofs.Common.{◌∙◌}
-use Rattle.hook_cli.proofs.PrintingLemmas.{on-err}
-use Rattle.hook_cli.proofs.RunPrintingLemmas.{reports-begun, reports-written}
+use Rattle.text_output.specs.OutputLemmas.{on-err, reports-begun, reports-written}
 use Rattle.hook_cli.proofs.run_printing.write_reports.Goals as goal
 
 pub returns-in_err-write_out-clause-err : goal.returns-in_err-write_out-clause-err

@@ -1,5 +1,4 @@
-use Rattle.hook_cli.proofs.PrintingLemmas.{on-err}
-use Rattle.hook_cli.proofs.RunPrintingLemmas.{begun-before, both-on-err}
+use Rattle.text_output.specs.OutputLemmas.{on-err, begun-before, both-on-err}
 use Rattle.hook_cli.proofs.run_printing.write_run.Goals as goal
 
 pub returns-in_err-write_out-clause-err : goal.returns-in_err-write_out-clause-err

@@ -1,7 +1,6 @@
 use Rattle.std.proofs.Common.{◌∙◌}
 use Rattle.hook_cli.specs.RunText.{unsteady_line}
-use Rattle.hook_cli.proofs.PrintingLemmas.{on-err}
-use Rattle.hook_cli.proofs.RunPrintingLemmas.{texts-begun, texts-written}
+use Rattle.text_output.specs.OutputLemmas.{on-err, texts-begun, texts-written}
 use Rattle.hook_cli.proofs.run_printing.write_unsteady.Goals as goal
 
 pub returns-in_err-write_unsteady_line-clause-err : goal.returns-in_err-write_unsteady_line-clause-err

@@ -1,0 +1,102 @@
+-- From what `clap` answers to the values of a command.
+use Rattle.std.proofs.Common.{◌≡◌, ◌≢◌, ◌∙◌, ap, codes, refl, subst, sym, false, true, ◌-◌, ◌^◌, ℕ, List, [], ◌∷◌, Option, None, Some, Ok, Err, Result, Bor, option_map, arith}
+use Rattle.std.proofs.lemmas.Bool.{false_from_ne_true}
+use Rattle.std.proofs.lemmas.Slice.Eq.{bytes_eq-Decides}
+use Rattle.std.specs.Prelude.{unwrap_or}
+use Rattle.std.specs.Str.{bytes_eq}
+use Rattle.std.specs.Str.Parse.{ParsesUnsigned}
+use Rattle.clap.specs.Words.{HasKind, Text}
+use Rattle.clap.specs.ValueTests.{is_unsigned_in}
+use Rattle.clap.specs.declared.builder.value_parser.ValueParser.TheVariants.{Unsigned}
+use Rattle.clap.specs.declared.error.Error.{Error}
+use Rattle.clap.specs.declared.error.kind.ErrorKind.TheVariants.{InvalidValue}
+use Rattle.clap.proofs.ValueTestLemmas.{Accepts-accepts, accepts-Accepts}
+use Rattle.hook_base.specs.declared.file.Mode.TheVariants.{Executable}
+use Rattle.command_line.specs.declared.line.StageChoice.TheVariants.{PreCommit, Manual}
+use Rattle.command_line.specs.CommandLine.{mode_in, number_in, stage_in, value_fault}
+
+pub text_or : (found : Option (Bor (List ℕ))) (empty : Bor (List ℕ)) (text : List ℕ) (rows : Option (List ℕ))
+    → empty.now ≡ [] → option_map (λ s. s.now) found ≡ rows → text ≡ (unwrap_or found empty).now → text ≡ unwrap_or rows []
+text_or None empty text rows nothing known is = is ∙ nothing ∙ ap (λ r. unwrap_or r []) known
+text_or (Some found) empty text rows nothing known is = is ∙ ap (λ r. unwrap_or r []) known
+
+abbrev pub or_none : Option (List (List ℕ)) → List (List ℕ)
+or_none texts = unwrap_or texts []
+
+-- ---- the mode
+
+-- what was found is the value that was given
+given-is : (found given : Option Text) (held : Option (Bor Text)) (value : Option (Bor Text)) → option_map (λ s. s.now) held ≡ found → found ≡ given
+    → held ≡ value → given ≡ option_map (λ s. s.now) value
+given-is found given held value known same is = sym same ∙ sym known ∙ ap (option_map (λ s. s.now)) is
+
+pub mode-none : (found given : Option Text) (held : Option (Bor Text)) → option_map (λ s. s.now) held ≡ found → found ≡ given → held ≡ None
+    → mode_in given ≡ Some None
+mode-none found given held known same is = ap mode_in (given-is found given held None known same is)
+
+pub mode-executable : (found given : Option Text) (held : Option (Bor Text)) (value : Bor Text) → option_map (λ s. s.now) held ≡ found → found ≡ given
+    → held ≡ Some value → value.now ≡ codes "+x" → mode_in given ≡ Some (Some Executable)
+mode-executable found given held value known same is text =
+    ap mode_in (given-is found given held (Some value) known same is ∙ ap (λ (t : Text). Some t) text)
+
+pub mode-refused : (found given : Option Text) (held : Option (Bor Text)) (value : Bor Text) (error : Error) → option_map (λ s. s.now) held ≡ found
+    → found ≡ given → held ≡ Some value → value.now ≢ codes "+x" → HasKind (InvalidValue ∷ []) error → HasKind (value_fault (mode_in given)) error
+mode-refused found given held value error known same is other kind =
+    let differs : bytes_eq value.now (codes "+x") ≡ false = false_from_ne_true _ (λ e. other ((bytes_eq-Decides value.now (codes "+x")).0 e)) in
+    rw (given-is found given held (Some value) known same is, differs) kind
+
+-- ---- the number
+
+pub number-read : (text : Text) {E : Type 0} (parsed : Result ℕ E) (number : ℕ) → ParsesUnsigned 32 10 text parsed → parsed ≡ Ok number
+    → number_in text ≡ Some number
+number-read text {E} parsed number reads is =
+    let ok : ParsesUnsigned {E = E} 32 10 text (Ok number) = subst (ParsesUnsigned {E = E} 32 10 text) is reads in
+    let fits = ok.0.1 in
+    let passes : is_unsigned_in 0 (2 ^ 32 - 1) text ≡ true =
+    Accepts-accepts false (Unsigned 0 (2 ^ 32 - 1)) text (ok.0.0, omega (arith, fits), omega arith, omega (arith, fits)) in
+    rw (passes, ok.1) refl
+
+pub number-refused : (text : Text) {E : Type 0} (parsed : Result ℕ E) (refused : E) (error : Error) → ParsesUnsigned 32 10 text parsed → parsed ≡ Err refused
+    → HasKind (InvalidValue ∷ []) error → HasKind (value_fault (number_in text)) error
+number-refused text {E} parsed refused error reads is kind =
+    let none : ParsesUnsigned {E = E} 32 10 text (Err refused) = subst (ParsesUnsigned {E = E} 32 10 text) is reads in
+    let fails : is_unsigned_in 0 (2 ^ 32 - 1) text ≡ false = false_from_ne_true _ (λ e.
+    let accepted = accepts-Accepts false (Unsigned 0 (2 ^ 32 - 1)) text e in
+    let most = accepted.3 in
+    none (accepted.0, omega (arith, most))) in
+    rw fails kind
+
+-- ---- the stage
+
+pub stage-none : (found given : Option Text) (held : Option (Bor Text)) → option_map (λ s. s.now) held ≡ found → found ≡ given → held ≡ None
+    → stage_in given ≡ Some PreCommit
+stage-none found given held known same is = ap stage_in (given-is found given held None known same is)
+
+pub stage-pre-commit : (found given : Option Text) (held : Option (Bor Text)) (value : Bor Text) → option_map (λ s. s.now) held ≡ found → found ≡ given
+    → held ≡ Some value → value.now ≡ codes "pre-commit" → stage_in given ≡ Some PreCommit
+stage-pre-commit found given held value known same is text =
+    ap stage_in (given-is found given held (Some value) known same is ∙ ap (λ (t : Text). Some t) text)
+
+pub stage-manual : (found given : Option Text) (held : Option (Bor Text)) (value : Bor Text) → option_map (λ s. s.now) held ≡ found → found ≡ given
+    → held ≡ Some value → value.now ≡ codes "manual" → stage_in given ≡ Some Manual
+stage-manual found given held value known same is text =
+    ap stage_in (given-is found given held (Some value) known same is ∙ ap (λ (t : Text). Some t) text)
+
+pub stage-refused : (found given : Option Text) (held : Option (Bor Text)) (value : Bor Text) (error : Error) → option_map (λ s. s.now) held ≡ found
+    → found ≡ given → held ≡ Some value → value.now ≢ codes "pre-commit" → value.now ≢ codes "manual" → HasKind (InvalidValue ∷ []) error
+    → HasKind (value_fault (stage_in given)) error
+stage-refused found given held value error known same is other another kind =
+    let differs : bytes_eq value.now (codes "pre-commit") ≡ false = false_from_ne_true _ (λ e. other ((bytes_eq-Decides value.now (codes "pre-commit")).0 e)) in
+    let differs_too : bytes_eq value.now (codes "manual") ≡ false = false_from_ne_true _ (λ e. another ((bytes_eq-Decides value.now (codes "manual")).0 e)) in
+    rw (given-is found given held (Some value) known same is, differs, differs_too) kind
+
+-- ---- a text that may be left out
+
+pub text-given : (found given : Option Text) (held : Option (Bor Text)) (value : Bor Text) (text : Text) → option_map (λ s. s.now) held ≡ found
+    → found ≡ given → held ≡ Some value → text ≡ value.now → Some text ≡ given
+text-given found given held value text known same is copied =
+    ap (λ (t : Text). Some t) copied ∙ sym (given-is found given held (Some value) known same is)
+
+pub text-left-out : (found given : Option Text) (held : Option (Bor Text)) → option_map (λ s. s.now) held ≡ found → found ≡ given → held ≡ None
+    → None ≡ given
+text-left-out found given held known same is = sym (given-is found given held None known same is)

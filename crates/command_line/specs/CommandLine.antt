@@ -1,0 +1,223 @@
+-- The command line of the program, as `clap` sees it, and what a line of words asks for.
+use Rattle.std.specs.Prelude.{◌≡◌, Bool, ◌-◌, ◌^◌, ℕ, List, [], ◌∷◌, Option, Some, None, Result, MatchResult, true, codes, fold, option_and_then, option_map, unwrap_or, if◌then◌else◌}
+use Rattle.std.specs.List.{list_any}
+use Rattle.std.specs.Str.{bytes_eq}
+use Rattle.std.specs.Str.Parse.{digits_value, without_leading_plus}
+use Rattle.clap.specs.Words.{App, HasKind, Row, Rule, Text, all_of, fault_of, first_of, new_app, new_rule, subcommand_of, with_rule, with_subcommand}
+use Rattle.clap.specs.Kinds.{Kinds, or_else}
+use Rattle.clap.specs.Simple.{on_top}
+use Rattle.clap.specs.Lexer.{usize_max}
+use Rattle.clap.specs.ValueTests.{is_unsigned_in}
+use Rattle.clap.specs.declared.builder.action.ArgAction.TheVariants.{SetTrue}
+use Rattle.clap.specs.declared.error.Error.{Error}
+use Rattle.clap.specs.declared.error.kind.ErrorKind.TheVariants.{InvalidValue}
+use Rattle.hook_base.specs.declared.file.Mode.{Mode}
+use Rattle.hook_base.specs.declared.file.Mode.TheVariants.{Executable}
+use Rattle.command_line.specs.declared.line.FileChoice.{FileChoice}
+use Rattle.command_line.specs.declared.line.FileChoice.TheVariants.{Changed, All, Named}
+use Rattle.command_line.specs.declared.line.Line.{Line}
+use Rattle.command_line.specs.declared.line.StageChoice.{StageChoice}
+use Rattle.command_line.specs.declared.line.StageChoice.TheVariants.{PreCommit, Manual}
+use Rattle.command_line.specs.declared.line.Line.TheVariants.{Init, Try, Check, Add, Remove, Status, Run, Fixes, Accept, Commit, Cat, Log, Show}
+
+-- ---- the commands and their values, as `clap` takes them
+
+-- a value of one word
+abbrev pub word_rule : Text → Rule
+word_rule id = record (new_rule id) { required = true }
+
+-- a value of one word or more
+abbrev pub words_rule : Text → Rule
+words_rule id = record (word_rule id) {
+  range = Some (record { start_inclusive = 1; end_inclusive = usize_max });
+}
+
+-- `--chmod=MODE`, which may be left out
+abbrev pub chmod_rule : Rule
+chmod_rule = record (new_rule (codes "chmod")) { long = Some (codes "chmod"); value_names = 1 }
+
+-- `--NAME`, which takes no value
+abbrev pub flag_rule : Text → Rule
+flag_rule name = record (new_rule name) { long = Some name; action = Some SetTrue }
+
+-- `--hook-stage=STAGE`, which may be left out
+abbrev pub stage_rule : Rule
+stage_rule = record (new_rule (codes "hook-stage")) { long = Some (codes "hook-stage"); value_names = 1 }
+
+-- `-m TEXT`: 109 is the character `m`
+abbrev pub message_rule : Rule
+message_rule = record (new_rule (codes "message")) { short = Some 109; value_names = 1; required = true }
+
+abbrev pub init_app : App
+init_app = new_app (codes "init")
+
+-- `try CONFIG PATH..`
+abbrev pub try_app : App
+try_app = with_rule (with_rule (new_app (codes "try")) (word_rule (codes "CONFIG"))) (words_rule (codes "PATH"))
+
+abbrev pub check_app : App
+check_app = new_app (codes "check")
+
+-- `add [--chmod=MODE] PATH`
+abbrev pub add_app : App
+add_app = with_rule (with_rule (new_app (codes "add")) chmod_rule) (word_rule (codes "PATH"))
+
+-- `rm PATH`
+abbrev pub remove_app : App
+remove_app = with_rule (new_app (codes "rm")) (word_rule (codes "PATH"))
+
+abbrev pub status_app : App
+status_app = new_app (codes "status")
+
+-- `run [--all-files] [--hook-stage=STAGE] [--fresh]`
+abbrev pub run_with_options_app : App
+run_with_options_app =
+    with_rule (with_rule (with_rule (new_app (codes "run")) (flag_rule (codes "all-files"))) stage_rule) (flag_rule (codes "fresh"))
+
+-- behind them `[ID]`
+abbrev pub run_app : App
+run_app = with_rule run_with_options_app (new_rule (codes "ID"))
+
+-- `run-files [--hook-stage=STAGE] [--fresh] PATH..`
+abbrev pub run_files_app : App
+run_files_app =
+    with_rule (with_rule (with_rule (new_app (codes "run-files")) stage_rule) (flag_rule (codes "fresh"))) (words_rule (codes "PATH"))
+
+abbrev pub fixes_app : App
+fixes_app = new_app (codes "fixes")
+
+abbrev pub accept_app : App
+accept_app = new_app (codes "accept")
+
+-- `commit [--no-verify] -m TEXT`
+abbrev pub commit_app : App
+commit_app = with_rule (with_rule (new_app (codes "commit")) (flag_rule (codes "no-verify"))) message_rule
+
+-- `cat PATH`
+abbrev pub cat_app : App
+cat_app = with_rule (new_app (codes "cat")) (word_rule (codes "PATH"))
+
+abbrev pub log_app : App
+log_app = new_app (codes "log")
+
+-- `show N`
+abbrev pub show_app : App
+show_app = with_rule (new_app (codes "show")) (word_rule (codes "N"))
+
+abbrev pub with_commands : App → List App → App
+with_commands = fold (λ app command. with_subcommand app command.top)
+
+-- the program without its name, which wants a command
+abbrev pub hookhost_base : App
+hookhost_base = on_top (λ s. record s {
+  no_binary_name = true;
+  disable_help_subcommand = true;
+  subcommand_required = true;
+}) (new_app (codes "hookhost"))
+
+abbrev pub all_commands : List App
+all_commands =
+    init_app ∷ try_app ∷ check_app ∷ add_app ∷ remove_app ∷ status_app ∷ cat_app ∷ run_app ∷ run_files_app ∷ fixes_app ∷ accept_app
+    ∷ commit_app ∷ log_app ∷ show_app ∷ []
+
+abbrev pub hookhost_app : App
+hookhost_app = with_commands hookhost_base all_commands
+
+-- the name is one of the commands'
+abbrev pub is_command : Text → Bool
+is_command name = list_any (λ (command : App). bytes_eq name command.top.name) all_commands
+
+-- ---- what the values say
+
+-- a value of one word
+abbrev pub word_in : Text → List Row → Text
+word_in id rows = unwrap_or (first_of id rows) []
+
+-- a value of several words
+abbrev pub words_in : Text → List Row → List Text
+words_in id rows = unwrap_or (all_of id rows) []
+
+-- whether a flag is given, of which `clap` says "true" or "false"
+abbrev pub flag_in : Text → List Row → Bool
+flag_in name rows = bytes_eq (word_in name rows) (codes "true")
+
+-- the mode that `--chmod` asks for: `+x` is one, and where nothing is asked for that is an answer too
+abbrev pub mode_in : Option Text → Option (Option Mode)
+mode_in None = Some None
+mode_in (Some text) = if bytes_eq text (codes "+x") then Some (Some Executable) else None
+
+-- the stage that `--hook-stage` asks for, `pre-commit` where nothing is asked for
+abbrev pub stage_in : Option Text → Option StageChoice
+stage_in None = Some PreCommit
+stage_in (Some text) =
+    if bytes_eq text (codes "pre-commit") then Some PreCommit else (if bytes_eq text (codes "manual") then Some Manual else None)
+
+-- the staged files that `run` is about
+abbrev pub files_in : List Row → FileChoice
+files_in rows = if flag_in (codes "all-files") rows then All else Changed
+
+-- the number of 32 bits that decimal digits write, which a `+` may precede
+abbrev pub number_in : Text → Option ℕ
+number_in text =
+    if is_unsigned_in 0 (2 ^ 32 - 1) text then Some (digits_value 10 (without_leading_plus text)) else None
+
+-- ---- what a line of words asks for
+
+abbrev pub try_line : List Row → Line
+try_line rows = Try (word_in (codes "CONFIG") rows) (words_in (codes "PATH") rows)
+
+abbrev pub add_line : List Row → Option Line
+add_line rows = option_map (Add (word_in (codes "PATH") rows)) (mode_in (first_of (codes "chmod") rows))
+
+abbrev pub run_line : List Row → Option Line
+run_line rows =
+    option_map (λ (stage : StageChoice). Run (files_in rows) (first_of (codes "ID") rows) stage (flag_in (codes "fresh") rows))
+    (stage_in (first_of (codes "hook-stage") rows))
+
+abbrev pub run_files_line : List Row → Option Line
+run_files_line rows =
+    option_map (λ (stage : StageChoice). Run (Named (words_in (codes "PATH") rows)) None stage (flag_in (codes "fresh") rows))
+    (stage_in (first_of (codes "hook-stage") rows))
+
+abbrev pub commit_line : List Row → Line
+commit_line rows = Commit (word_in (codes "message") rows) (flag_in (codes "no-verify") rows)
+
+abbrev pub show_line : List Row → Option Line
+show_line rows = option_map Show (number_in (word_in (codes "N") rows))
+
+-- what a command asks for with its values, unless one of them can't be taken
+abbrev pub line_by : Text → List Row → Option Line
+line_by name rows =
+    if bytes_eq name (codes "init") then Some Init
+    else (if bytes_eq name (codes "try") then Some (try_line rows)
+    else (if bytes_eq name (codes "check") then Some Check
+    else (if bytes_eq name (codes "add") then add_line rows
+    else (if bytes_eq name (codes "rm") then Some (Remove (word_in (codes "PATH") rows))
+    else (if bytes_eq name (codes "status") then Some Status
+    else (if bytes_eq name (codes "run") then run_line rows
+    else (if bytes_eq name (codes "run-files") then run_files_line rows
+    else (if bytes_eq name (codes "fixes") then Some Fixes
+    else (if bytes_eq name (codes "accept") then Some Accept
+    else (if bytes_eq name (codes "commit") then Some (commit_line rows)
+    else (if bytes_eq name (codes "cat") then Some (Cat (word_in (codes "PATH") rows))
+    else (if bytes_eq name (codes "log") then Some Log
+    else (if bytes_eq name (codes "show") then show_line rows else None)))))))))))))
+
+-- what the words ask for: a command with its values, as `clap` finds them
+abbrev pub line_asked : List Text → Option Line
+line_asked words = option_and_then (λ p. line_by p.0 p.1) (subcommand_of hookhost_app words)
+
+-- ---- what is refused
+
+-- a value that can't be taken
+abbrev pub value_fault : {T : Type 0} → Option T → Kinds
+value_fault None = InvalidValue ∷ []
+value_fault (Some value) = []
+
+-- what `clap` refuses, and then a value
+abbrev pub line_fault : List Text → Kinds
+line_fault words = or_else (fault_of hookhost_app words) (value_fault (line_asked words))
+
+-- the value where there is one, and else its refusal, or want of memory
+abbrev pub IsValueOf : {T : Type 0} → Option T → Result T Error → Type 0
+IsValueOf asked result = MatchResult result (λ value. asked ≡ Some value) (HasKind (value_fault asked))

@@ -1,0 +1,143 @@
+//! The command line: what a line of words asks for.
+//!
+//! The contracts cite `specs/CommandLine.antt`, which states the command line as `clap` sees it.
+
+ghost use Rattle.std.specs.Prelude.{◌≡◌, IfOk, Some, is_some, map, option_map, true};
+ghost use Rattle.clap.specs.Words.{FailsBy, fault_of, found_of, rows_of, subcommand_of, subcommand_rows_of};
+ghost use Rattle.command_line.specs.CommandLine.{IsValueOf, add_line, commit_line, hookhost_app, is_command, line_asked, line_by, line_fault, run_files_line, run_line, show_line, try_line, files_in};
+
+use crate::commands::hookhost;
+use crate::values::{flag_of, maybe_text_of, mode_of, number_of, stage_of, text_of, texts_of};
+use crate::{FileChoice, Line};
+use clap::{ArgMatches, Error};
+use std::alloc::{AllocError, Global};
+
+/// What the words, without the program's own name, ask for.
+///
+/// An error's text says what the words lack, or which value can't be taken, or is the help that they ask for. Its kind
+/// is `OutOfMemory` where memory was refused, the one that `clap` states for these words, or else `InvalidValue`: for
+/// another `--chmod` than `+x` or another `--hook-stage` than `pre-commit` and `manual`, or where the number of `show` isn't
+/// one of 32 bits.
+pub fn line_of<'a>(alloc: Global, words: &'a [&'a str]) -> Result<Line, Error>
+    ensures line { IfOk result (λ line. line_asked (map (λ s. s.now) words.entry.now) ≡ Some line) }
+    ensures fault { FailsBy (line_fault (map (λ s. s.now) words.entry.now)) result }
+{
+    let matches = matches_of(alloc, words)?;
+    match command_of(&matches) {
+        Some((name, values)) => line_by(alloc, name, values),
+        None => unreachable!(),
+    }
+}
+
+// What `clap` finds in the words. A command must be there.
+fn matches_of<'a>(alloc: Global, words: &'a [&'a str]) -> Result<ArgMatches<'a>, Error>
+    ensures rows { IfOk result (λ m. subcommand_rows_of m ≡ subcommand_of hookhost_app (map (λ s. s.now) words.entry.now)) }
+    ensures met { IfOk result (λ m. is_some (subcommand_rows_of m) ≡ true) }
+    ensures fault { FailsBy (fault_of hookhost_app (map (λ s. s.now) words.entry.now)) result }
+{
+    hookhost(alloc)?.try_get_matches_from(words)
+}
+
+// The command that was met, with its values.
+fn command_of<'m, 'a>(matches: &'m ArgMatches<'a>) -> Option<(&'a str, &'m ArgMatches<'a>)>
+    ensures { option_map (λ p. (p.0.now, rows_of (found_of p.1.now))) result ≡ subcommand_rows_of matches.now }
+{
+    matches.subcommand()
+}
+
+// What a command asks for with its values.
+fn line_by(alloc: Global, name: &str, values: &ArgMatches<'_>) -> Result<Line, Error>
+    requires { is_command name.now ≡ true }
+    ensures { IsValueOf (line_by name.now (rows_of (found_of values.now))) result }
+{
+    match name {
+        "init" => Ok(Line::Init),
+        "try" => Ok(try_line(alloc, values)?),
+        "check" => Ok(Line::Check),
+        "add" => add_line(alloc, values),
+        "rm" => Ok(Line::Remove {
+            path: text_of(alloc, values, "PATH")?,
+        }),
+        "status" => Ok(Line::Status),
+        "run" => run_line(alloc, values),
+        "run-files" => run_files_line(alloc, values),
+        "fixes" => Ok(Line::Fixes),
+        "accept" => Ok(Line::Accept),
+        "commit" => Ok(commit_line(alloc, values)?),
+        "cat" => Ok(Line::Cat {
+            path: text_of(alloc, values, "PATH")?,
+        }),
+        "log" => Ok(Line::Log),
+        "show" => show_line(alloc, values),
+        _ => unreachable!(),
+    }
+}
+
+fn try_line(alloc: Global, values: &ArgMatches<'_>) -> Result<Line, AllocError>
+    ensures { IfOk result (λ line. line ≡ try_line (rows_of (found_of values.now))) }
+{
+    Ok(Line::Try {
+        config: text_of(alloc, values, "CONFIG")?,
+        paths: texts_of(alloc, values, "PATH")?,
+    })
+}
+
+fn add_line(alloc: Global, values: &ArgMatches<'_>) -> Result<Line, Error>
+    ensures { IsValueOf (add_line (rows_of (found_of values.now))) result }
+{
+    Ok(Line::Add {
+        path: text_of(alloc, values, "PATH")?,
+        mode: mode_of(alloc, values)?,
+    })
+}
+
+fn run_line(alloc: Global, values: &ArgMatches<'_>) -> Result<Line, Error>
+    ensures { IsValueOf (run_line (rows_of (found_of values.now))) result }
+{
+    let stage = stage_of(alloc, "run", values)?;
+    Ok(Line::Run {
+        files: files_of(values),
+        only: maybe_text_of(alloc, values, "ID")?,
+        stage,
+        fresh: flag_of(values, "fresh"),
+    })
+}
+
+fn files_of(values: &ArgMatches<'_>) -> FileChoice
+    ensures { result ≡ files_in (rows_of (found_of values.now)) }
+{
+    if flag_of(values, "all-files") {
+        FileChoice::All
+    } else {
+        FileChoice::Changed
+    }
+}
+
+fn run_files_line(alloc: Global, values: &ArgMatches<'_>) -> Result<Line, Error>
+    ensures { IsValueOf (run_files_line (rows_of (found_of values.now))) result }
+{
+    let stage = stage_of(alloc, "run-files", values)?;
+    Ok(Line::Run {
+        files: FileChoice::Named(texts_of(alloc, values, "PATH")?),
+        only: None,
+        stage,
+        fresh: flag_of(values, "fresh"),
+    })
+}
+
+fn commit_line(alloc: Global, values: &ArgMatches<'_>) -> Result<Line, AllocError>
+    ensures { IfOk result (λ line. line ≡ commit_line (rows_of (found_of values.now))) }
+{
+    Ok(Line::Commit {
+        message: text_of(alloc, values, "message")?,
+        no_verify: flag_of(values, "no-verify"),
+    })
+}
+
+fn show_line(alloc: Global, values: &ArgMatches<'_>) -> Result<Line, Error>
+    ensures { IsValueOf (show_line (rows_of (found_of values.now))) result }
+{
+    Ok(Line::Show {
+        number: number_of(alloc, values)?,
+    })
+}

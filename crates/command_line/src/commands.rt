@@ -1,0 +1,345 @@
+//! The commands as `clap` takes them, each with its values and its help.
+//!
+//! The contracts cite `specs/CommandLine.antt`.
+
+ghost use Rattle.std.specs.Prelude.{◌≡◌, ◌∷◌, IfOk, [], false};
+ghost use Rattle.clap.specs.Words.{app_of, new_rule, rule_of};
+ghost use Rattle.clap.specs.declared.builder.Command.TheViews.{out-Command as fields_of};
+ghost use Rattle.command_line.specs.CommandLine.{accept_app, add_app, cat_app, check_app, chmod_rule, commit_app, fixes_app, flag_rule, hookhost_app, hookhost_base, init_app, log_app, message_rule, remove_app, run_app, run_files_app, run_with_options_app, show_app, stage_rule, status_app, try_app, with_commands, word_rule, words_rule};
+
+use crate::help::{CHECK_HELP, PROGRAM_HELP, TRY_HELP};
+use crate::repository_help::{
+    ACCEPT_HELP, ADD_HELP, CAT_HELP, COMMIT_HELP, FIXES_HELP, INIT_HELP, LOG_HELP, REMOVE_HELP,
+    RUN_FILES_HELP, RUN_HELP, SHOW_HELP, STATUS_HELP,
+};
+use clap::{Arg, ArgAction, Command};
+use std::alloc::{AllocError, Global};
+
+/// The program without its name, with all its commands.
+pub(crate) fn hookhost<'a>(alloc: Global) -> Result<Command<'a>, AllocError>
+    ensures { IfOk result (λ command. app_of command ≡ hookhost_app) }
+{
+    let program = with_configurations(alloc, program(alloc))?;
+    let program = with_staging(alloc, program)?;
+    let program = with_staged_files(alloc, program)?;
+    let program = with_runs(alloc, program)?;
+    let program = with_fixes(alloc, program)?;
+    with_commits(alloc, program)
+}
+
+fn program<'a>(alloc: Global) -> Command<'a>
+    ensures { app_of result ≡ hookhost_base }
+{
+    Command::new(alloc, "hookhost")
+        .about("Runs the hooks of a pre-commit configuration, and keeps a small repository")
+        .after_help(PROGRAM_HELP)
+        .no_binary_name(true)
+        .disable_help_subcommand(true)
+        .subcommand_required(true)
+}
+
+fn with_configurations<'a>(alloc: Global, program: Command<'a>) -> Result<Command<'a>, AllocError>
+    ensures { IfOk result (λ command. app_of command ≡ with_commands (app_of program.entry) (init_app ∷ try_app ∷ check_app ∷ [])) }
+{
+    program
+        .subcommand(init_command(alloc))?
+        .subcommand(try_command(alloc)?)?
+        .subcommand(check_command(alloc))
+}
+
+fn with_staging<'a>(alloc: Global, program: Command<'a>) -> Result<Command<'a>, AllocError>
+    ensures { IfOk result (λ command. app_of command ≡ with_commands (app_of program.entry) (add_app ∷ remove_app ∷ [])) }
+{
+    program
+        .subcommand(add_command(alloc)?)?
+        .subcommand(remove_command(alloc)?)
+}
+
+fn with_staged_files<'a>(alloc: Global, program: Command<'a>) -> Result<Command<'a>, AllocError>
+    ensures { IfOk result (λ command. app_of command ≡ with_commands (app_of program.entry) (status_app ∷ cat_app ∷ [])) }
+{
+    program
+        .subcommand(status_command(alloc))?
+        .subcommand(cat_command(alloc)?)
+}
+
+fn with_runs<'a>(alloc: Global, program: Command<'a>) -> Result<Command<'a>, AllocError>
+    ensures { IfOk result (λ command. app_of command ≡ with_commands (app_of program.entry) (run_app ∷ run_files_app ∷ [])) }
+{
+    program
+        .subcommand(run_command(alloc)?)?
+        .subcommand(run_files_command(alloc)?)
+}
+
+fn with_fixes<'a>(alloc: Global, program: Command<'a>) -> Result<Command<'a>, AllocError>
+    ensures { IfOk result (λ command. app_of command ≡ with_commands (app_of program.entry) (fixes_app ∷ accept_app ∷ [])) }
+{
+    program
+        .subcommand(fixes_command(alloc))?
+        .subcommand(accept_command(alloc))
+}
+
+fn with_commits<'a>(alloc: Global, program: Command<'a>) -> Result<Command<'a>, AllocError>
+    ensures { IfOk result (λ command. app_of command ≡ with_commands (app_of program.entry) (commit_app ∷ log_app ∷ show_app ∷ [])) }
+{
+    program
+        .subcommand(commit_command(alloc)?)?
+        .subcommand(log_command(alloc))?
+        .subcommand(show_command(alloc)?)
+}
+
+fn init_command<'a>(alloc: Global) -> Command<'a>
+    ensures app { app_of result ≡ init_app }
+    ensures local { (fields_of result).has_globals ≡ false }
+{
+    Command::new(alloc, "init")
+        .about("Makes a new repository in the current folder")
+        .override_usage("hookhost init")
+        .after_help(INIT_HELP)
+}
+
+fn try_command<'a>(alloc: Global) -> Result<Command<'a>, AllocError>
+    ensures app { IfOk result (λ command. app_of command ≡ try_app) }
+    ensures local { IfOk result (λ command. (fields_of command).has_globals ≡ false) }
+{
+    Command::new(alloc, "try")
+        .about("Runs the hooks of a configuration on files, and prints the report")
+        .override_usage("hookhost try <CONFIG> <PATH>...")
+        .after_help(TRY_HELP)
+        .arg(word(
+            alloc,
+            "CONFIG",
+            "The configuration, as a .pre-commit-config.yaml",
+        ))?
+        .arg(words(alloc, "PATH", "The files to run the hooks on"))
+}
+
+fn check_command<'a>(alloc: Global) -> Command<'a>
+    ensures app { app_of result ≡ check_app }
+    ensures local { (fields_of result).has_globals ≡ false }
+{
+    Command::new(alloc, "check")
+        .about("Prints how many hooks .pre-commit-config.yaml has, and its ignored keys")
+        .override_usage("hookhost check")
+        .after_help(CHECK_HELP)
+}
+
+/// `add [--chmod=MODE] PATH`.
+pub(crate) fn add_command<'a>(alloc: Global) -> Result<Command<'a>, AllocError>
+    ensures app { IfOk result (λ command. app_of command ≡ add_app) }
+    ensures local { IfOk result (λ command. (fields_of command).has_globals ≡ false) }
+{
+    Command::new(alloc, "add")
+        .about("Stages a file of the current folder")
+        .override_usage("hookhost add [--chmod=+x] <PATH>")
+        .after_help(ADD_HELP)
+        .arg(chmod(alloc))?
+        .arg(word(alloc, "PATH", "The file, which is staged at this path"))
+}
+
+fn remove_command<'a>(alloc: Global) -> Result<Command<'a>, AllocError>
+    ensures app { IfOk result (λ command. app_of command ≡ remove_app) }
+    ensures local { IfOk result (λ command. (fields_of command).has_globals ≡ false) }
+{
+    Command::new(alloc, "rm")
+        .about("Takes a path out of the staged files")
+        .override_usage("hookhost rm <PATH>")
+        .after_help(REMOVE_HELP)
+        .arg(word(alloc, "PATH", "The path of a staged file"))
+}
+
+fn status_command<'a>(alloc: Global) -> Command<'a>
+    ensures app { app_of result ≡ status_app }
+    ensures local { (fields_of result).has_globals ≡ false }
+{
+    Command::new(alloc, "status")
+        .about("Prints which staged files differ from those of the last commit")
+        .override_usage("hookhost status")
+        .after_help(STATUS_HELP)
+}
+
+/// `run [--all-files] [--hook-stage=STAGE] [--fresh] [ID]`.
+pub(crate) fn run_command<'a>(alloc: Global) -> Result<Command<'a>, AllocError>
+    ensures app { IfOk result (λ command. app_of command ≡ run_app) }
+    ensures local { IfOk result (λ command. (fields_of command).has_globals ≡ false) }
+{
+    run_with_options(alloc)?.arg(optional_word(
+        alloc,
+        "ID",
+        "The id or alias of the hooks to run; without it all of the stage",
+    ))
+}
+
+// `run` with its options alone.
+fn run_with_options<'a>(alloc: Global) -> Result<Command<'a>, AllocError>
+    ensures app { IfOk result (λ command. app_of command ≡ run_with_options_app) }
+    ensures local { IfOk result (λ command. (fields_of command).has_globals ≡ false) }
+{
+    Command::new(alloc, "run")
+        .about("Runs the hooks of the staged configuration on staged files, and prints the report")
+        .override_usage("hookhost run [--all-files] [--hook-stage=<STAGE>] [--fresh] [ID]")
+        .after_help(RUN_HELP)
+        .arg(flag(
+            alloc,
+            "all-files",
+            "Takes all staged files, not only those that differ from the last commit",
+        ))?
+        .arg(stage(alloc))?
+        .arg(flag(
+            alloc,
+            "fresh",
+            "Starts every command, also where its answer is remembered",
+        ))
+}
+
+/// `run-files [--hook-stage=STAGE] [--fresh] PATH..`.
+pub(crate) fn run_files_command<'a>(alloc: Global) -> Result<Command<'a>, AllocError>
+    ensures app { IfOk result (λ command. app_of command ≡ run_files_app) }
+    ensures local { IfOk result (λ command. (fields_of command).has_globals ≡ false) }
+{
+    Command::new(alloc, "run-files")
+        .about("Runs the hooks of the staged configuration on the named staged files")
+        .override_usage("hookhost run-files [--hook-stage=<STAGE>] [--fresh] <PATH>...")
+        .after_help(RUN_FILES_HELP)
+        .arg(stage(alloc))?
+        .arg(flag(
+            alloc,
+            "fresh",
+            "Starts every command, also where its answer is remembered",
+        ))?
+        .arg(words(alloc, "PATH", "The staged files to run the hooks on"))
+}
+
+fn fixes_command<'a>(alloc: Global) -> Command<'a>
+    ensures app { app_of result ≡ fixes_app }
+    ensures local { (fields_of result).has_globals ≡ false }
+{
+    Command::new(alloc, "fixes")
+        .about("Prints the fixes, which accept applies to the staged files")
+        .override_usage("hookhost fixes")
+        .after_help(FIXES_HELP)
+}
+
+fn accept_command<'a>(alloc: Global) -> Command<'a>
+    ensures app { app_of result ≡ accept_app }
+    ensures local { (fields_of result).has_globals ≡ false }
+{
+    Command::new(alloc, "accept")
+        .about("Applies the fixes to the staged files, and prints how many there were")
+        .override_usage("hookhost accept")
+        .after_help(ACCEPT_HELP)
+}
+
+fn commit_command<'a>(alloc: Global) -> Result<Command<'a>, AllocError>
+    ensures app { IfOk result (λ command. app_of command ≡ commit_app) }
+    ensures local { IfOk result (λ command. (fields_of command).has_globals ≡ false) }
+{
+    Command::new(alloc, "commit")
+        .about("Commits the staged files, through the hooks of a commit")
+        .override_usage("hookhost commit [--no-verify] -m <TEXT>")
+        .after_help(COMMIT_HELP)
+        .arg(flag(
+            alloc,
+            "no-verify",
+            "Leaves out the hooks of pre-commit and commit-msg",
+        ))?
+        .arg(message(alloc))
+}
+
+fn cat_command<'a>(alloc: Global) -> Result<Command<'a>, AllocError>
+    ensures app { IfOk result (λ command. app_of command ≡ cat_app) }
+    ensures local { IfOk result (λ command. (fields_of command).has_globals ≡ false) }
+{
+    Command::new(alloc, "cat")
+        .about("Prints the bytes of a staged file")
+        .override_usage("hookhost cat <PATH>")
+        .after_help(CAT_HELP)
+        .arg(word(alloc, "PATH", "The path of a staged file"))
+}
+
+fn log_command<'a>(alloc: Global) -> Command<'a>
+    ensures app { app_of result ≡ log_app }
+    ensures local { (fields_of result).has_globals ≡ false }
+{
+    Command::new(alloc, "log")
+        .about("Prints the commits, the newest first")
+        .override_usage("hookhost log")
+        .after_help(LOG_HELP)
+}
+
+/// `show N`.
+pub(crate) fn show_command<'a>(alloc: Global) -> Result<Command<'a>, AllocError>
+    ensures app { IfOk result (λ command. app_of command ≡ show_app) }
+    ensures local { IfOk result (λ command. (fields_of command).has_globals ≡ false) }
+{
+    Command::new(alloc, "show")
+        .about("Prints a commit's message and its paths")
+        .override_usage("hookhost show <N>")
+        .after_help(SHOW_HELP)
+        .arg(word(alloc, "N", "The commit's number"))
+}
+
+// A value of one word.
+fn word<'a>(alloc: Global, id: &'a str, help: &'a str) -> Arg<'a>
+    ensures rule { rule_of result ≡ word_rule id.entry.now }
+    ensures local { result.global ≡ false }
+{
+    Arg::new(alloc, id).required(true).help(help)
+}
+
+// A value of one word, which may be left out.
+fn optional_word<'a>(alloc: Global, id: &'a str, help: &'a str) -> Arg<'a>
+    ensures rule { rule_of result ≡ new_rule id.entry.now }
+    ensures local { result.global ≡ false }
+{
+    Arg::new(alloc, id).help(help)
+}
+
+// A value of one word or more.
+fn words<'a>(alloc: Global, id: &'a str, help: &'a str) -> Arg<'a>
+    ensures rule { rule_of result ≡ words_rule id.entry.now }
+    ensures local { result.global ≡ false }
+{
+    Arg::new(alloc, id).required(true).num_args(1..).help(help)
+}
+
+fn chmod<'a>(alloc: Global) -> Arg<'a>
+    ensures rule { rule_of result ≡ chmod_rule }
+    ensures local { result.global ≡ false }
+{
+    Arg::new(alloc, "chmod")
+        .long("chmod")
+        .value_name("MODE")
+        .help("The file's mode: +x makes it executable")
+}
+
+fn flag<'a>(alloc: Global, id: &'a str, help: &'a str) -> Arg<'a>
+    ensures rule { rule_of result ≡ flag_rule id.entry.now }
+    ensures local { result.global ≡ false }
+{
+    Arg::new(alloc, id)
+        .long(id)
+        .action(ArgAction::SetTrue)
+        .help(help)
+}
+
+fn stage<'a>(alloc: Global) -> Arg<'a>
+    ensures rule { rule_of result ≡ stage_rule }
+    ensures local { result.global ≡ false }
+{
+    Arg::new(alloc, "hook-stage")
+        .long("hook-stage")
+        .value_name("STAGE")
+        .help("The stage whose hooks are run, pre-commit or manual; without it pre-commit")
+}
+
+fn message<'a>(alloc: Global) -> Arg<'a>
+    ensures rule { rule_of result ≡ message_rule }
+    ensures local { result.global ≡ false }
+{
+    Arg::new(alloc, "message")
+        .short('m')
+        .value_name("TEXT")
+        .required(true)
+        .help("The message, which hooks may change")
+}

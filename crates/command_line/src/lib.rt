@@ -1,0 +1,14 @@
+//! The command line of `hookhost`: what a line of words asks for (`line_of`), as a value (`Line`), and the help.
+//!
+//! The contract cites `specs/CommandLine.antt`, which states the command line as `clap` sees it.
+#![tactic(auto)]
+
+mod command_line;
+mod commands;
+mod help;
+mod line;
+mod repository_help;
+mod values;
+
+pub use command_line::line_of;
+pub use line::{FileChoice, Line, StageChoice};

@@ -1,0 +1,87 @@
+//! What a line of words asks the program for, as a value.
+
+use hook_base::{Items, Mode, Text};
+
+/// What a line of words asks the program for.
+#[derive(Debug, Drop)]
+pub enum Line {
+    /// A new repository in the working folder.
+    Init,
+    /// A run of the configuration over the files, with its report written out.
+    Try {
+        /// The name of the file that holds the configuration.
+        config: Text,
+        /// The names of the files, one at least.
+        paths: Items<Text>,
+    },
+    /// A reading of the working folder's configuration, and what it says.
+    Check,
+    /// A file of the working folder is staged.
+    Add {
+        /// The name of the file, which is its path in the repository too.
+        path: Text,
+        /// The mode that is asked for, or `None` for that of the staged file.
+        mode: Option<Mode>,
+    },
+    /// A path is taken out of the staged files.
+    Remove {
+        /// The path, as a text that needn't be one.
+        path: Text,
+    },
+    /// The staged files that differ from those of the last commit.
+    Status,
+    /// A run of hooks on the staged files.
+    Run {
+        /// The files that hooks may get.
+        files: FileChoice,
+        /// The id or alias of the hooks that are run, or `None` for all of the stage.
+        only: Option<Text>,
+        /// The stage whose hooks are run.
+        stage: StageChoice,
+        /// Whether every child is to be started, also where its answer is remembered.
+        fresh: bool,
+    },
+    /// What the last run of hooks would change of the staged files.
+    Fixes,
+    /// The fixes are applied to the staged files.
+    Accept,
+    /// A commit of the staged files, through its hooks.
+    Commit {
+        /// The message, before any hook has seen it.
+        message: Text,
+        /// Whether the hooks of `pre-commit` and `commit-msg` are left out.
+        no_verify: bool,
+    },
+    /// The bytes of a staged file.
+    Cat {
+        /// The path, as a text that needn't be one.
+        path: Text,
+    },
+    /// The commits, the newest first.
+    Log,
+    /// A commit's message and its paths.
+    Show {
+        /// The commit's number.
+        number: u32,
+    },
+}
+
+/// The staged files that the hooks of a run may get.
+#[derive(Debug, Drop)]
+pub enum FileChoice {
+    /// Those that the last commit doesn't hold so.
+    Changed,
+    /// All of them.
+    All,
+    /// These, as texts that needn't be paths.
+    Named(Items<Text>),
+}
+
+/// A stage that a line may ask for.
+#[derive(Clone, Copy, Debug, PartialEq, Eq)]
+pub enum StageChoice {
+    /// The hooks that run before a commit.
+    PreCommit,
+    /// The hooks that run only where they are asked for.
+    Manual,
+}

@@ -1,0 +1,184 @@
+//! The values of a command, and the errors for those that can't be taken.
+//!
+//! The contracts cite `specs/CommandLine.antt`.
+
+ghost use Rattle.std.specs.Prelude.{◌≡◌, ◌∷◌, IfOk, [], codes, map};
+ghost use Rattle.clap.specs.Words.{HasKind, first_of, found_of, rows_of};
+ghost use Rattle.clap.specs.declared.error.kind.ErrorKind.TheVariants.{InvalidValue};
+ghost use Rattle.command_line.specs.CommandLine.{IsValueOf, flag_in, mode_in, number_in, stage_in, word_in, words_in};
+
+use crate::StageChoice;
+use crate::commands::{add_command, run_command, run_files_command, show_command};
+use clap::error::ErrorKind;
+use clap::{ArgMatches, Command, Error};
+use hook_base::{Items, Mode, Text};
+use std::alloc::{AllocError, Global};
+
+/// A value of one word.
+pub(crate) fn text_of(alloc: Global, values: &ArgMatches<'_>, id: &str) -> Result<Text, AllocError>
+    ensures { IfOk result (λ text. text ≡ word_in id.now (rows_of (found_of values.now))) }
+{
+    Ok(Text::from(String::from_str(alloc, word_of(values, id))?))
+}
+
+fn word_of<'a>(values: &ArgMatches<'a>, id: &str) -> &'a str
+    ensures { result.now ≡ word_in id.now (rows_of (found_of values.now)) }
+{
+    values.get_str(id).unwrap_or("")
+}
+
+/// A value of one word, or `None` where it was left out.
+pub(crate) fn maybe_text_of(
+    alloc: Global,
+    values: &ArgMatches<'_>,
+    id: &str,
+) -> Result<Option<Text>, AllocError>
+    ensures { IfOk result (λ text. text ≡ first_of id.now (rows_of (found_of values.now))) }
+{
+    match values.get_str(id) {
+        Some(text) => Ok(Some(Text::from(String::from_str(alloc, text)?))),
+        None => Ok(None),
+    }
+}
+
+/// Whether a flag was given.
+pub(crate) fn flag_of(values: &ArgMatches<'_>, id: &str) -> bool
+    ensures { result ≡ flag_in id.now (rows_of (found_of values.now)) }
+{
+    word_of(values, id) == "true"
+}
+
+/// A value of several words.
+pub(crate) fn texts_of(
+    alloc: Global,
+    values: &ArgMatches<'_>,
+    id: &str,
+) -> Result<Items<Text>, AllocError>
+    ensures { IfOk result (λ texts. texts ≡ words_in id.now (rows_of (found_of values.now))) }
+{
+    match values.get_strs(id) {
+        Some(texts) => Ok(Items::from(copied(alloc, texts)?)),
+        None => Ok(Items::from(Vec::new(alloc))),
+    }
+}
+
+fn copied(alloc: Global, texts: &[&str]) -> Result<Vec<Text>, AllocError>
+    ensures { IfOk result (λ copies. copies.items ≡ map (λ s. s.now) texts.now) }
+{
+    let mut copies = Vec::new(alloc);
+    for text in texts {
+        copies.push(Text::from(String::from_str(alloc, text)?))?;
+    }
+    Ok(copies)
+}
+
+/// The mode that `--chmod` asks for. Another value than `+x` is an error.
+pub(crate) fn mode_of(alloc: Global, values: &ArgMatches<'_>) -> Result<Option<Mode>, Error>
+    ensures { IsValueOf (mode_in (first_of (codes "chmod") (rows_of (found_of values.now)))) result }
+{
+    match values.get_str("chmod") {
+        None => Ok(None),
+        Some("+x") => Ok(Some(Mode::Executable)),
+        Some(text) => Err(chmod_error(alloc, text)),
+    }
+}
+
+/// The stage that `--hook-stage` asks for. Another value than `pre-commit` and `manual` is an error, with the usage of the
+/// command of this name.
+pub(crate) fn stage_of(
+    alloc: Global,
+    command: &str,
+    values: &ArgMatches<'_>,
+) -> Result<StageChoice, Error>
+    ensures { IsValueOf (stage_in (first_of (codes "hook-stage") (rows_of (found_of values.now)))) result }
+{
+    match values.get_str("hook-stage") {
+        None => Ok(StageChoice::PreCommit),
+        Some("pre-commit") => Ok(StageChoice::PreCommit),
+        Some("manual") => Ok(StageChoice::Manual),
+        Some(text) => Err(stage_error(alloc, command, text)),
+    }
+}
+
+/// The number of `show`. Another text is an error.
+pub(crate) fn number_of(alloc: Global, values: &ArgMatches<'_>) -> Result<u32, Error>
+    ensures { IsValueOf (number_in (word_in (codes "N") (rows_of (found_of values.now)))) result }
+{
+    let text = word_of(values, "N");
+    match text.parse::<u32>() {
+        Ok(number) => Ok(number),
+        Err(_) => Err(number_error(alloc, text)),
+    }
+}
+
+fn chmod_error(alloc: Global, text: &str) -> Error
+    ensures { HasKind (InvalidValue ∷ []) result }
+{
+    match chmod_message(alloc, text) {
+        Ok(message) => error_of(add_command(alloc), message.as_str()),
+        Err(refused) => Error::from(refused),
+    }
+}
+
+fn chmod_message(alloc: Global, text: &str) -> Result<String, AllocError> {
+    format!(in alloc; "invalid value '{text}' for '--chmod <MODE>': only +x is allowed")
+}
+
+fn stage_error(alloc: Global, command: &str, text: &str) -> Error
+    ensures { HasKind (InvalidValue ∷ []) result }
+{
+    match stage_message(alloc, text) {
+        Ok(message) => error_of(command_of_runs(alloc, command), message.as_str()),
+        Err(refused) => Error::from(refused),
+    }
+}
+
+fn stage_message(alloc: Global, text: &str) -> Result<String, AllocError> {
+    format!(in alloc;
+        "invalid value '{text}' for '--hook-stage <STAGE>': only pre-commit and manual are allowed"
+    )
+}
+
+fn command_of_runs<'a>(alloc: Global, name: &str) -> Result<Command<'a>, AllocError> {
+    match name {
+        "run-files" => run_files_command(alloc),
+        _ => run_command(alloc),
+    }
+}
+
+fn number_error(alloc: Global, text: &str) -> Error
+    ensures { HasKind (InvalidValue ∷ []) result }
+{
+    match number_message(alloc, text) {
+        Ok(message) => error_of(show_command(alloc), message.as_str()),
+        Err(refused) => Error::from(refused),
+    }
+}
+
+fn number_message(alloc: Global, text: &str) -> Result<String, AllocError> {
+    format!(in alloc;
+        "invalid value '{text}' for '<N>': it has to be a number up to {}",
+        u32::MAX
+    )
+}
+
+// The error of a value that the command doesn't take, with its usage.
+fn error_of(command: Result<Command<'_>, AllocError>, message: &str) -> Error
+    ensures { HasKind (InvalidValue ∷ []) result }
+{
+    let made = match command {
+        Ok(command) => made_by(command, message),
+        Err(refused) => Err(refused),
+    };
+    match made {
+        Ok(error) => error,
+        Err(refused) => Error::from(refused),
+    }
+}
+
+fn made_by(command: Command<'_>, message: &str) -> Result<Error, AllocError>
+    ensures { IfOk result (HasKind (InvalidValue ∷ [])) }
+{
+    let mut command = command;
+    command.error(ErrorKind::InvalidValue, message)
+}

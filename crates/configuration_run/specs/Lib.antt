@@ -1,0 +1,5 @@
+pub mod CheckText
+pub mod Reading
+pub mod SkipList
+pub mod TryFaults
+pub mod TryOver

@@ -1,0 +1,126 @@
+-- A run of a configuration over a tree, from the bytes that are read to the bytes that are written.
+use Rattle.std.specs.Prelude.{◌≡◌, ◌≢◌, ◌≤◌, ◌+◌, ◌⊎◌, ℕ, Bool, false, List, [], length, map, Option, None, Some}
+use Rattle.std.specs.Io.KnownBytes.{Consumes, IsAtEnd}
+use Rattle.hook_base.specs.declared.file.File.{File}
+use Rattle.child_port.specs.declared.answer.Outcome.{Outcome}
+use Rattle.hook_config.specs.declared.configuration.Config.{Config}
+use Rattle.hook_config.specs.declared.config_fault.ConfigFault.{ConfigFault}
+use Rattle.hook_config.specs.declared.config_fault.ConfigKind.TheVariants as kind
+use Rattle.hook_config.specs.declared.stage.Stage.TheVariants.{PreCommit}
+use Rattle.hook_config.specs.Configuration.{configuration_of}
+use Rattle.hook_config.specs.Gives.{UnlessLeftOpen}
+use Rattle.hook_config.specs.Refusals.{TellsTooLarge}
+use Rattle.result_book.specs.Contents.{Contents, unlimited}
+use Rattle.hook_run.specs.declared.run_ask.RunAsk.{RunAsk}
+use Rattle.hook_run.specs.declared.run_out.RunOut.{RunOut}
+use Rattle.hook_run.specs.declared.run_refusal.RunRefusal.{RunRefusal}
+use Rattle.hook_run.specs.declared.run_refusal.RunRefusal.TheVariants as stop
+use Rattle.hook_run.specs.RunOuts.{IsRunOver, IsStoppedRun}
+use Rattle.configuration_run.specs.declared.try_fault.TryFault.{TryFault}
+use Rattle.configuration_run.specs.declared.try_fault.TryFault.TheVariants.{Read, Config as BadConfig, Write, OutOfMemory, Spent}
+use Rattle.text_output.specs.Outputs.{Has, HasBeginning, Output}
+-- ---- what is read. Of a reader that doesn't say its bytes nothing is claimed
+
+-- the greatest number of bytes of a configuration is that of any text
+pub use Rattle.yaml_lines.specs.Characters.{most_bytes}
+
+-- the reader gave these bytes at most
+pub record ReadsWithin (most : ℕ) (given left : Option (List ℕ)) : Type 0 where
+  pub bytes : List ℕ
+  pub read : Consumes given left bytes
+  pub within : length bytes ≤ most
+
+-- the bytes that were read, up to the input's end, are this configuration
+pub record ReadsConfiguration (given left : Option (List ℕ)) (config : Config) : Type 0 where
+  pub bytes : List ℕ
+  pub read : Consumes given left bytes
+  pub ended : IsAtEnd left
+  pub meant : configuration_of bytes ≡ Some config
+
+-- The bytes that were read are no configuration, or hold a pattern that `regex` refuses: they are all that there are, or one
+-- more than a configuration may have, which is refused as such.
+pub record ReadsNoConfiguration (given left : Option (List ℕ)) (fault : ConfigFault) : Type 0 where
+  pub bytes : List ℕ
+  pub read : Consumes given left bytes
+  pub ended : IsAtEnd left ⊎ (length bytes ≡ most_bytes + 1)
+  pub none : UnlessLeftOpen fault.kind (configuration_of bytes ≡ None)
+  pub large : TellsTooLarge bytes fault
+
+-- ---- what is run
+
+-- the hooks of the stage `pre-commit`, with all files of the tree as candidates: no hook is skipped and none left out
+abbrev pub ask_for_all : List File → RunAsk
+ask_for_all tree =
+    record { stage = PreCommit; candidates = map (λ row. row.path) tree; only = None; skip = []; fresh = false }
+
+-- no answer is remembered
+abbrev pub nothing : Contents
+nothing = unlimited []
+
+-- What was read is a configuration, and a run of its hooks on the tree gives this, with outcomes that the children told and
+-- that are counted. It remembers nothing, before it and after it.
+pub record IsReadAndRun (given left : Option (List ℕ)) (tells : List (List ℕ) → List File → Outcome → Type 0)
+    (calls calls_after faults faults_after : ℕ) (tree : List File) (out : RunOut) : Type 0 where
+  pub config : Config
+  pub read : ReadsConfiguration given left config
+  pub run : IsRunOver tells calls calls_after faults faults_after nothing nothing config (ask_for_all tree) tree out
+
+-- What was read is a configuration, there is a run of its hooks on the tree, and what was written is its report. `passed`
+-- says whether no hook failed. Of a writer that doesn't say its bytes nothing is claimed.
+pub record IsTriedOver (given left : Option (List ℕ)) (output : Output) (tells : List (List ℕ) → List File → Outcome → Type 0)
+    (calls calls_after faults faults_after : ℕ) (tree : List File) (passed : Bool) : Type 0 where
+  pub out : RunOut
+  pub over : IsReadAndRun given left tells calls calls_after faults faults_after tree out
+  pub verdict : passed ≡ out.passed
+  pub written : Has output out.report
+
+-- ---- what is refused
+
+-- no child was called
+pub record NoneCalled (calls calls_after faults faults_after : ℕ) : Type 0 where
+  pub called : calls_after ≡ calls
+  pub faulted : faults_after ≡ faults
+
+-- what was read is a configuration, and a run of its hooks on the tree is refused so, behind the outcomes that the children
+-- told and that are counted
+pub record IsReadAndStopped (given left : Option (List ℕ)) (tells : List (List ℕ) → List File → Outcome → Type 0)
+    (calls calls_after faults faults_after : ℕ) (tree : List File) (refusal : RunRefusal) : Type 0 where
+  pub config : Config
+  pub read : ReadsConfiguration given left config
+  pub stopped : IsStoppedRun tells calls calls_after faults faults_after nothing nothing config (ask_for_all tree) tree refusal
+
+-- what was read is a configuration, there is a run of its hooks on the tree, and the writer took its report up to an error
+pub record IsCutOff (given left : Option (List ℕ)) (output : Output) (tells : List (List ℕ) → List File → Outcome → Type 0)
+    (calls calls_after faults faults_after : ℕ) (tree : List File) : Type 0 where
+  pub out : RunOut
+  pub over : IsReadAndRun given left tells calls calls_after faults faults_after tree out
+  pub begun : HasBeginning output out.report
+
+-- What holds where a run is refused. Until the configuration is read no child is called, and at `Write` the run has ended.
+-- `Spent` stops it where a further child is needed, and no more can be counted. Want of memory comes before any child is
+-- called, or stops it.
+abbrev pub IsRefusedBy : Option (List ℕ) → Option (List ℕ) → Output → (List (List ℕ) → List File → Outcome → Type 0)
+    → ℕ → ℕ → ℕ → ℕ → List File → TryFault → Type 0
+IsRefusedBy given left output tells calls calls_after faults faults_after tree Read =
+    NoneCalled calls calls_after faults faults_after
+IsRefusedBy given left output tells calls calls_after faults faults_after tree (BadConfig fault) =
+    (fault.kind ≢ kind.OutOfMemory) × ReadsNoConfiguration given left fault × NoneCalled calls calls_after faults faults_after
+IsRefusedBy given left output tells calls calls_after faults faults_after tree Write =
+    IsCutOff given left output tells calls calls_after faults faults_after tree
+IsRefusedBy given left output tells calls calls_after faults faults_after tree OutOfMemory =
+    NoneCalled calls calls_after faults faults_after
+    ⊎ IsReadAndStopped given left tells calls calls_after faults faults_after tree stop.OutOfMemory
+IsRefusedBy given left output tells calls calls_after faults faults_after tree Spent =
+    IsReadAndStopped given left tells calls calls_after faults faults_after tree stop.Spent
+
+-- ---- for contracts of private functions alone
+
+-- a configuration's run is refused for want of memory, before any child is called or later, or since a further child is
+-- needed and no more can be counted
+abbrev pub IsRefusedRun : (List (List ℕ) → List File → Outcome → Type 0) → ℕ → ℕ → ℕ → ℕ → Config → List File → TryFault → Type 0
+IsRefusedRun tells calls calls_after faults faults_after config tree OutOfMemory =
+    NoneCalled calls calls_after faults faults_after
+    ⊎ IsStoppedRun tells calls calls_after faults faults_after nothing nothing config (ask_for_all tree) tree stop.OutOfMemory
+IsRefusedRun tells calls calls_after faults faults_after config tree Spent =
+    IsStoppedRun tells calls calls_after faults faults_after nothing nothing config (ask_for_all tree) tree stop.Spent
+IsRefusedRun tells calls calls_after faults faults_after config tree _ = ⊥

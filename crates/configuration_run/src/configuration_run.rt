@@ -1,0 +1,107 @@
+//! The run of a configuration over a tree, with its report written out.
+//!
+//! The contract of [`try_over`] cites `specs/TryOver.antt`.
+
+ghost use Rattle.std.specs.Prelude.{◌≡◌, ◌≢◌, ◌≤◌, ◌+◌, IfOk, IfErr, OnOk, OnErr};
+ghost use Rattle.child_port.specs.Telling.{SameTells};
+ghost use Rattle.hook_run.specs.RunOuts.{IsRunOver};
+ghost use Rattle.text_output.specs.Outputs.{Has, HasBeginning};
+ghost use Rattle.configuration_run.specs.TryOver.{IsRefusedBy, IsRefusedRun, IsTriedOver, ReadsWithin, ask_for_all, most_bytes, nothing};
+ghost use Rattle.configuration_run.specs.declared.try_fault.TryFault.TheVariants as fault;
+
+use crate::TryFault;
+use crate::configuration_bytes::read_bytes;
+use crate::run_ask::ask_for_all;
+use child_port::Children;
+use hook_base::Tree;
+use hook_config::{Config, read_config};
+use hook_run::{RunOut, RunRefusal, run_hooks};
+use result_book::ListBook;
+use std::alloc::Global;
+use std::io::{Read, Write};
+use text_output::{Unwritten, write_out};
+
+/// Reads a configuration, runs the hooks of the stage `pre-commit` on the tree with all its files as candidates, and
+/// writes the report and nothing else. The answer says whether every hook passed.
+///
+/// A read that gives no bytes ends the input. Of an input of more than 1,048,576 bytes one more than that is read. The
+/// refusals are, in the order in which they may come:
+///
+/// - `Read` where the reader gives an error, and `Config` where the bytes are no configuration, or where `regex` refuses one of
+///   its patterns: no child was called;
+/// - `Spent` where a further child is needed and the children have told as many outcomes as can be counted;
+/// - `Write` where the writer gives an error: the run has ended, and the report is out up to some byte, maybe to its last;
+/// - `OutOfMemory` at any time before the report is written.
+///
+/// After a refusal other than `Write` nothing was written. What the children told by then stays counted: after `Spent`, and
+/// after `OutOfMemory` where a child was called, a run of the configuration begins with it.
+pub fn try_over<R: Read, W: Write, C: Children>(
+    alloc: Global,
+    reader: &mut R,
+    writer: &mut W,
+    tree: &Tree,
+    children: &mut C,
+) -> Result<bool, TryFault>
+    ensures tried { IfOk result (IsTriedOver (R.remaining reader.old) (R.remaining reader.new)
+        (record { held = W.contents writer.old; holds = W.contents writer.new }) (C.tells children.old)
+        (C.call_count children.old) (C.call_count children.new)
+        (C.fault_count children.old) (C.fault_count children.new) tree.now) }
+    ensures refused { IfErr result (IsRefusedBy (R.remaining reader.old) (R.remaining reader.new)
+        (record { held = W.contents writer.old; holds = W.contents writer.new }) (C.tells children.old)
+        (C.call_count children.old) (C.call_count children.new)
+        (C.fault_count children.old) (C.fault_count children.new) tree.now) }
+    ensures unwritten { IfErr result (λ e. e ≢ fault.Write → writer.new ≡ writer.old) }
+    ensures within { ReadsWithin (most_bytes + 1) (R.remaining reader.old) (R.remaining reader.new) }
+    ensures same { SameTells (C.tells children.old) (C.tells children.new) }
+    ensures calls { C.call_count children.old ≤ C.call_count children.new }
+    ensures faults { C.fault_count children.old ≤ C.fault_count children.new }
+
+    // No more faults than calls were added.
+    ensures faults_are_calls { C.fault_count children.new + C.call_count children.old
+        ≤ C.fault_count children.old + C.call_count children.new }
+{
+    let bytes = read_bytes(alloc, reader)?;
+    let config = read_config(alloc, bytes.as_slice())?;
+    let out = run_on_all(alloc, children, &config, tree)?;
+    write_report(writer, out.report.as_slice())?;
+    Ok(out.passed)
+}
+
+// The run of the stage `pre-commit` with all files of the tree as candidates, over a book of its own.
+fn run_on_all<C: Children>(
+    alloc: Global,
+    children: &mut C,
+    config: &Config,
+    tree: &Tree,
+) -> Result<RunOut, TryFault>
+    ensures run { IfOk result (IsRunOver (C.tells children.old) (C.call_count children.old) (C.call_count children.new)
+        (C.fault_count children.old) (C.fault_count children.new) nothing nothing config.now (ask_for_all tree.now) tree.now) }
+    ensures refused { IfErr result (IsRefusedRun (C.tells children.old) (C.call_count children.old) (C.call_count children.new)
+        (C.fault_count children.old) (C.fault_count children.new) config.now tree.now) }
+    ensures same { SameTells (C.tells children.old) (C.tells children.new) }
+    ensures calls { C.call_count children.old ≤ C.call_count children.new }
+    ensures faults { C.fault_count children.old ≤ C.fault_count children.new }
+    ensures faults_are_calls { C.fault_count children.new + C.call_count children.old
+        ≤ C.fault_count children.old + C.call_count children.new }
+{
+    let ask = ask_for_all(alloc, tree)?;
+    let mut book = ListBook::new(alloc);
+    match run_hooks(alloc, children, &mut book, config, &ask, tree) {
+        Ok(out) => Ok(out),
+        Err(RunRefusal::OutOfMemory) => Err(TryFault::OutOfMemory),
+        Err(RunRefusal::Spent) => Err(TryFault::Spent),
+        // No hook is asked for by its name, and the book isn't asked at all.
+        Err(RunRefusal::NoSuchHook | RunRefusal::Book(_)) => unreachable!(),
+    }
+}
+
+fn write_report<W: Write>(writer: &mut W, report: &[u8]) -> Result<(), TryFault>
+    ensures ok { OnOk result (Has (record { held = W.contents writer.old; holds = W.contents writer.new }) report.now) }
+    ensures err { IfErr result (λ e. e ≡ fault.Write) }
+    ensures begun { OnErr result (HasBeginning (record { held = W.contents writer.old; holds = W.contents writer.new }) report.now) }
+{
+    match write_out(writer, report) {
+        Ok(()) => Ok(()),
+        Err(Unwritten) => Err(TryFault::Write),
+    }
+}

@@ -1,6 +1,0 @@
-use Rattle.std.proofs.Common.{◌≡◌}
-use Rattle.hook_cli.proofs.SkipLemmas.{names_of}
-use Rattle.hook_cli.proofs.skip_list.skip_list_of.Given as goal
-
-abbrev pub invariant-pieces : goal.invariant-pieces
-invariant-pieces l = l.names.items ≡ names_of l.yielded

@@ -1,0 +1,5 @@
+pub mod FixesText
+pub mod LogText
+pub mod ShowText
+pub mod StatusText
+pub mod StatusWalk

@@ -1,0 +1,19 @@
+//! Laws of the definitions that the contracts cite. Each is a function that gives nothing: what it ensures is a theorem
+//! over the definitions alone.
+
+ghost use Rattle.std.specs.Prelude.{◌≡◌, ◌||◌, ℕ, [], List, is_some};
+ghost use Rattle.std.specs.List.{list_any};
+ghost use Rattle.std.specs.Str.{bytes_eq};
+ghost use Rattle.hook_base.specs.declared.file.File.{File};
+ghost use Rattle.hook_base.specs.Trees.{entry_of};
+ghost use Rattle.repository_text.specs.StatusText.{paths_of_both, status_text};
+
+/// Where the staged files are those of the last commit, `status` says nothing.
+pub fn equal_trees_have_no_status()
+    ensures { (files : List File) → status_text files files ≡ [] }
+{}
+
+/// `status` looks at each path that one of two trees has, and at no other.
+pub fn status_looks_at_the_paths_of_either()
+    ensures { (path : List ℕ) (files others : List File) → list_any (bytes_eq path) (paths_of_both files others) ≡ (is_some (entry_of path files) || is_some (entry_of path others)) }
+{}

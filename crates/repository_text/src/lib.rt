@@ -1,0 +1,17 @@
+//! What the commands print that look something up in a repository: `status`, `fixes`, `log` and `show`, each as the text of a
+//! store.
+//!
+//! The contracts cite `specs/StatusText.antt`, `specs/FixesText.antt`, `specs/LogText.antt` and `specs/ShowText.antt`;
+//! `specs/StatusWalk.antt` serves private functions only. [`laws`] says which paths `status` looks at.
+#![tactic(auto)]
+
+mod fixes;
+pub mod laws;
+mod log;
+mod show;
+mod status;
+
+pub use fixes::fixes_text;
+pub use log::log_text;
+pub use show::show_text;
+pub use status::status_text;
