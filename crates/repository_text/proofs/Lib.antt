@@ -1,2 +1,3 @@
+pub mod PathOrderLemmas
 pub mod StatusLemmas
 pub mod TextLemmas

@@ -28,7 +28,11 @@ change_line path (Some staged) None = line (codes "A " ++ path)
 change_line path None (Some last) = line (codes "D " ++ path)
 change_line path (Some staged) (Some last) = if is_same_entry staged last then [] else line (codes "M " ++ path)
 
--- ---- the paths of two trees, each once, in their order
+-- ---- the paths of two trees, each once, in their order. `laws` says that they rise, that they are those that either tree
+-- has, and that no other list is so
+
+abbrev pub path_itself : List ℕ → List ℕ
+path_itself path = path
 
 -- the paths from here on, where the one tree goes on with this path and the other with that
 abbrev pub in_order : Ordering → List ℕ → List ℕ → List (List ℕ) → List (List ℕ) → List (List ℕ) → List (List ℕ)
