@@ -1,8 +1,8 @@
 //! The calls by their names.
 
 use crate::{
-    checks, child_runs, command_lines, config_kinds, config_texts, configurations, host_commands,
-    messages, plans, plays, report_texts, runs, stages, try_faults,
+    checks, child_runs, command_lines, config_kinds, config_texts, configurations, fault_texts,
+    host_commands, messages, plans, plays, report_texts, runs, stages, try_faults,
 };
 use std::alloc::Global;
 use trial_rows::{Row, Stop};
@@ -81,6 +81,7 @@ fn of_commit_flow(alloc: Global, call: &str, arguments: &[Vec<u8>]) -> Result<Ve
         "begun_message" => messages::begun(alloc, arguments),
         "cleaned_message" => messages::cleaned(alloc, arguments),
         "play" => plays::played(alloc, arguments),
+        "fault_texts" => fault_texts::told(alloc),
         _ => Err(Stop::NoCall),
     }
 }

@@ -13,6 +13,7 @@ mod command_lines;
 mod config_kinds;
 mod config_texts;
 mod configurations;
+mod fault_texts;
 mod host_asks;
 mod host_commands;
 mod host_lines;
