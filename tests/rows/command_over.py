@@ -38,6 +38,15 @@ def ended(status, out="", err="", flushes=("", "")):
     return head.encode() + out + err
 
 
+# What standard error says where standard output gives an error.
+UNTAKEN = "hookhost: standard output was not taken\n"
+
+
+def cut_off(out="", err=UNTAKEN):
+    """What a line is answered by of whose text standard output took this much before it gave an error."""
+    return ended(3, out=out, err=err)
+
+
 def done(out=""):
     return ended(0, out=out)
 
@@ -394,9 +403,10 @@ WRITERS = [
     # A writer that takes little or is interrupted gets the same bytes.
     *((*SET_UP, *line(*command, out=habit), *STORE, done(said) + STANDS) for command, said in SAYING for habit in PATIENT),
     *((*SET_UP, *line(*command, err=habit), *STORE, ended(3, err=said) + STANDS) for command, said in REFUSED for habit in PATIENT),
-    # A writer that fails has what it took, the beginning of the text, and nothing is said of it on the other.
+    # A writer that fails has what it took, the beginning of the text. Standard error says of the other that it gave an error,
+    # as far as it takes this, and nothing is said of standard error on standard output.
     *(
-        (*SET_UP, *line(*command, out=str(count)), *STORE, ended(3, out=said[:count]) + STANDS)
+        (*SET_UP, *line(*command, out=str(count)), *STORE, cut_off(said[:count]) + STANDS)
         for command, said in SAYING
         for count in [0, 1, len(said) - 1]
     ),
@@ -405,13 +415,19 @@ WRITERS = [
         for command, said in REFUSED
         for count in [0, 1, 10, 18, 20, len(said) - 1]
     ),
-    *((*SET_UP, *line(*command, out="nothing"), *STORE, ended(3) + STANDS) for command, _ in SAYING),
+    *((*SET_UP, *line(*command, out="nothing"), *STORE, cut_off() + STANDS) for command, _ in SAYING),
     *((*SET_UP, *line(*command, err="nothing"), *STORE, ended(3) + STANDS) for command, _ in REFUSED),
+    *(
+        (*SET_UP, *line(*command, out="0", err=str(count)), *STORE, cut_off(err=UNTAKEN[:count]) + STANDS)
+        for command, _ in SAYING
+        for count in [0, 1, len(UNTAKEN) - 1, len(UNTAKEN)]
+    ),
+    *((*SET_UP, *line(*command, out="0", err=habit), *STORE, cut_off() + STANDS) for command, _ in SAYING for habit in PATIENT),
     # One that takes the whole text and no more is no hindrance.
     *((*SET_UP, *line(*command, out=str(len(said))), *STORE, done(said) + STANDS) for command, said in SAYING),
     *((*SET_UP, *line(*command, err=str(len(said))), *STORE, ended(3, err=said) + STANDS) for command, said in REFUSED),
     # One that can't be flushed has the whole text, and the command isn't done.
-    *((*SET_UP, *line(*command, out="unflushed"), *STORE, ended(3, out=said) + STANDS) for command, said in SAYING),
+    *((*SET_UP, *line(*command, out="unflushed"), *STORE, cut_off(said) + STANDS) for command, said in SAYING),
     *((*SET_UP, *line(*command, err="unflushed"), *STORE, ended(3, err=said) + STANDS) for command, said in REFUSED),
     # What is said is flushed, once.
     *(
@@ -425,23 +441,23 @@ WRITERS = [
     # Fixes that are accepted stay so, whatever becomes of the line.
     *((*SET_UP, *line("accept", out=habit), *STORE, done(ACCEPTED) + ACCEPTS) for habit in PATIENT),
     *((*SET_UP, *line("accept", err=habit), *STORE, done(ACCEPTED) + ACCEPTS) for habit in HABITS),
-    *((*SET_UP, *line("accept", out=str(count)), *STORE, ended(3, out=ACCEPTED[:count]) + ACCEPTS) for count in [0, 1, 9, 10, 11]),
+    *((*SET_UP, *line("accept", out=str(count)), *STORE, cut_off(ACCEPTED[:count]) + ACCEPTS) for count in [0, 1, 9, 10, 11]),
     (*SET_UP, *line("accept", out=str(len(ACCEPTED))), *STORE, done(ACCEPTED) + ACCEPTS),
-    (*SET_UP, *line("accept", out="nothing"), *STORE, ended(3) + ACCEPTS),
-    (*SET_UP, *line("accept", out="unflushed"), *STORE, ended(3, out=ACCEPTED) + ACCEPTS),
+    (*SET_UP, *line("accept", out="nothing"), *STORE, cut_off() + ACCEPTS),
+    (*SET_UP, *line("accept", out="unflushed"), *STORE, cut_off(ACCEPTED) + ACCEPTS),
     (*SET_UP, *line("accept", out="flushed"), *STORE, ended(0, out=ACCEPTED, flushes=("flushed 1 times ", "")) + ACCEPTS),
     # An empty text takes no call but the flush.
     *((*line(*command, out="nothing"), done()) for command in [("status",), ("fixes",), ("log",)]),
-    *((*line(*command, out="unflushed"), ended(3)) for command in [("status",), ("fixes",), ("log",)]),
+    *((*line(*command, out="unflushed"), cut_off()) for command in [("status",), ("fixes",), ("log",)]),
     (*stage("a"), *line("cat", "a", out="nothing"), done()),
-    (*stage("a"), *line("cat", "a", out="unflushed"), ended(3)),
+    (*stage("a"), *line("cat", "a", out="unflushed"), cut_off()),
     # The writer that a command has nothing to say on may be as it likes.
     *((*SET_UP, *line(*command, err=habit), *STORE, done(said) + STANDS) for command, said in SAYING for habit in HABITS),
     *((*SET_UP, *line(*command, out=habit), *STORE, ended(3, err=said) + STANDS) for command, said in REFUSED for habit in HABITS),
     *((*SET_UP, *line(*command, out=habit, err=habit), *STORE, done() + left) for command, left in SILENT for habit in HABITS),
     # A long file, piece by piece.
     *((*stage("a", "0123456789\n" * 3000), *line("cat", "a", out=habit), done("0123456789\n" * 3000)) for habit in PATIENT),
-    (*stage("a", "0123456789\n" * 3000), *line("cat", "a", out="9000"), ended(3, out=("0123456789\n" * 3000)[:9000])),
+    (*stage("a", "0123456789\n" * 3000), *line("cat", "a", out="9000"), cut_off(("0123456789\n" * 3000)[:9000])),
 ]
 
 # A configuration with a hook that fails on the files named bad.txt, one that can't be started, and one of the stage manual.
@@ -488,8 +504,33 @@ RUNS = [
     (*CONFIGURED, "fixes", "good.txt\tz", *run("good.txt"), *line("fixes"), done(NO_BAD + NO_START) + done()),
     (*CONFIGURED, "fixes", "good.txt\tz", *run("other.txt"), *line("fixes"), refused("4 NotStaged") + done("M good.txt\n")),
     # What a writer took before it gave an error is out.
-    *((*CONFIGURED, *run(out=str(count)), ended(3, out=(BAD + NO_START)[:count])) for count in [0, 1, 80]),
+    *((*CONFIGURED, *run(out=str(count)), cut_off((BAD + NO_START)[:count])) for count in [0, 1, 80]),
+    (*CONFIGURED, *run("good.txt", out="0"), cut_off()),
     (*CONFIGURED, *run(only="late", err="5"), ended(3, err="hookh")),
 ]
 
-ROWS = [("command_over", *row) for row in [*RUNS, *EMPTY, *ADDED, *REMOVED, *BAD_PATHS, *GOOD_PATHS, *CLASHES, *TOO_LARGE, *FIXES, *STATUS, *CAT, *LOG, *SHOW, *WRITERS]]
+
+def commit(how="unverified", out="all", err="all"):
+    return line("commit", "m", how, "", out=out, err=err)
+
+
+MADE = "hookhost: commit 1 was made\n"
+# The same hooks, before a commit alone.
+BEFORE = (*stage(".pre-commit-config.yaml", CONFIG.replace("$'}", "$', stages: [pre-commit]}")), *stage("bad.txt", "x"))
+
+COMMITS = [
+    (*stage("a"), *commit(), refused("7 NoConfig")),
+    (*BEFORE, *commit(), done("commit 1\n")),
+    # Of a commit whose text isn't taken standard error says that it was made, as far as it takes this.
+    *((*BEFORE, *commit(out=str(count)), *line("log"), cut_off("commit 1\n"[:count], UNTAKEN + MADE) + done("1 m\n")) for count in [0, 1, 8]),
+    (*BEFORE, *commit(out="unflushed"), *line("log"), cut_off("commit 1\n", UNTAKEN + MADE) + done("1 m\n")),
+    *(
+        (*BEFORE, *commit(out="0", err=str(count)), *line("log"), cut_off(err=(UNTAKEN + MADE)[:count]) + done("1 m\n"))
+        for count in [0, 1, len(UNTAKEN), len(UNTAKEN) + 1, len(UNTAKEN + MADE) - 1, len(UNTAKEN + MADE)]
+    ),
+    # One that a hook refused wasn't made.
+    (*BEFORE, *commit("verified"), *line("log"), ended(1, out=BAD + NO_START) + done()),
+    *((*BEFORE, *commit("verified", out=str(count)), *line("log"), cut_off((BAD + NO_START)[:count]) + done()) for count in [0, 1, 80]),
+]
+
+ROWS = [("command_over", *row) for row in [*RUNS, *COMMITS, *EMPTY, *ADDED, *REMOVED, *BAD_PATHS, *GOOD_PATHS, *CLASHES, *TOO_LARGE, *FIXES, *STATUS, *CAT, *LOG, *SHOW, *WRITERS]]

@@ -22,8 +22,9 @@ Exit status:
 
 'hookhost: cannot use .hookhost/store.db' says that no store is here, or that it
 can't be opened: hookhost init makes one. 'hookhost: cannot use .hookhost/lock' says
-that another hookhost works here: wait for it. What opening the store refuses is
-told as 'hookhost: refused: NUMBER NAME':
+that another hookhost works here: wait for it. 'hookhost: standard output was not
+taken' says that what is printed didn't go out whole: what was done stays. What
+opening the store refuses is told as 'hookhost: refused: NUMBER NAME':
    1 NotAStore    the file is no store of this version
                   move it away, and make a store by hookhost init
    2 Damaged      the store holds what no store holds
@@ -217,7 +218,8 @@ With --no-verify the hooks of pre-commit and commit-msg are left out. Those that
 SKIP of the environment names are skipped, as by hookhost run. Blanks at the ends of
 the message's lines go, and so do empty lines at its start and its end; of several
 empty lines one is left. Where the hooks of post-commit are stopped, standard error
-says why, and the commit stands.
+says why, and the commit stands. Where standard output takes no more, standard error
+says that too, and 'hookhost: commit N was made' of a commit that stands.
 
 Example:
   hookhost commit -m 'Say hello'",

@@ -12,21 +12,22 @@ use Rattle.commit_flow.specs.Hosts.{Hosted}
 use Rattle.commit_flow.specs.Steps.{IsAcceptRefusal, Step}
 use Rattle.command_line.specs.declared.line.Line.{Line}
 use Rattle.hook_cli.specs.declared.command_ending.CommandEnding.{CommandEnding}
+use Rattle.hook_cli.specs.declared.command_ending.CommandEnding.TheVariants as ends
 use Rattle.hook_cli.specs.CommandOver.{IsAcceptOver, IsAnswer, IsLookUp, IsRefusalText}
 use Rattle.repository_text.specs.FixesText.{accepted_text}
 use Rattle.text_output.specs.Outputs.{IsSilent, Output}
-use Rattle.hook_cli.specs.Printing.{IsSaid, IsTold}
+use Rattle.hook_cli.specs.Printing.{IsSaid, IsTold, untaken_line}
 use Rattle.hook_cli.specs.RefusalText.{refusal_text}
 use Rattle.text_output.specs.OutputLemmas.{keeps-itself}
 
 -- ---- look-ups
 
 pub looked-up : (repo : Repository) (line : Line) (out err : Output) (ending : CommandEnding) (text : List ℕ) → IsAnswer repo line text
-    → IsSaid out text ending → IsSilent err → IsLookUp repo line out err ending
-looked-up repo line out err ending text answer said silent = inl (record { text = text; answer = answer; said = said; silent = silent })
+    → IsSaid ends.Done out text err untaken_line ending → IsLookUp repo line out err ending
+looked-up repo line out err ending text answer said = inl (record { text = text; answer = answer; said = said })
 
 pub look-up-refused : (repo : Repository) (line : Line) (out err : Output) (ending : CommandEnding) (text : List ℕ) → IsRefusalText repo line text
-    → IsTold err text ending → IsSilent out → IsLookUp repo line out err ending
+    → IsTold ends.Refused err text ending → IsSilent out → IsLookUp repo line out err ending
 look-up-refused repo line out err ending text refusal told silent = inr (record { text = text; refusal = refusal; told = told; silent = silent })
 
 pub none-mapped : {A B : Type 0} (f : A → B) (found : Option A) → None ≡ option_map f found → found ≡ None
@@ -43,8 +44,8 @@ pub accepted-said : {S : Type 0} (g : Ghosts S) (old new : Hosted S) (out err : 
     → IsAllOrNothing {E = HostRefusal} old.store.kept new.store.kept (Ok number) (accepting old.store.kept)
     → IsOneCommand g old.store new.store command.Accept (Ok number)
     → new.book ≡ old.book
-    → IsSaid out (accepted_text number) ending → IsSilent err → IsAcceptOver g old new out err ending
-accepted-said g old new out err ending number step change one book said silent = record {
+    → IsSaid ends.Done out (accepted_text number) err untaken_line ending → IsAcceptOver g old new out err ending
+accepted-said g old new out err ending number step change one book said = record {
   answer = Ok tt;
   step = (record { some = step.0.some; counted = refl; made = step.0.made }, refl);
   change = record { done = change.done; same = tt };
@@ -52,7 +53,7 @@ accepted-said g old new out err ending number step change one book said silent =
   book = book;
   apart = λ h. h;
   collides = tt;
-  replied = (subst (λ (number : ℕ). IsSaid out (accepted_text number) ending) step.0.counted said, silent);
+  replied = subst (λ (number : ℕ). IsSaid ends.Done out (accepted_text number) err untaken_line ending) step.0.counted said;
 }
 
 pub accept-refused : {S : Type 0} (g : Ghosts S) (old new : Hosted S) (out err : Output) (ending : CommandEnding) (refusal : HostRefusal)
@@ -60,7 +61,7 @@ pub accept-refused : {S : Type 0} (g : Ghosts S) (old new : Hosted S) (out err :
     → IsAllOrNothing {A = ℕ} old.store.kept new.store.kept (Err refusal) (accepting old.store.kept)
     → IsOneCommand {A = ℕ} g old.store new.store command.Accept (Err refusal)
     → new.book ≡ old.book
-    → IsTold err (refusal_text refusal) ending → IsSilent out → IsAcceptOver g old new out err ending
+    → IsTold ends.Refused err (refusal_text refusal) ending → IsSilent out → IsAcceptOver g old new out err ending
 accept-refused g old new out err ending refusal step change one book told silent = record {
   answer = Err refusal;
   step = step;

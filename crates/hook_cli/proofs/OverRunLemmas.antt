@@ -24,9 +24,10 @@ use Rattle.commit_flow.specs.Hosts.{Hosted}
 use Rattle.commit_flow.specs.RunSteps.{IsRunStep, IsStoppedStep}
 use Rattle.commit_flow.specs.CommitSteps.{IsCommitStep}
 use Rattle.hook_cli.specs.declared.command_ending.CommandEnding.{CommandEnding}
+use Rattle.hook_cli.specs.declared.command_ending.CommandEnding.TheVariants as ends
 use Rattle.hook_cli.specs.CommandOver.{Counts, IsCommitOverHost, IsReplied, IsRunOverHost}
 use Rattle.text_output.specs.Outputs.{IsSilent, Output}
-use Rattle.hook_cli.specs.Printing.{IsRunSaid, IsTold}
+use Rattle.hook_cli.specs.Printing.{IsSaid, IsTold, ending_of, untaken_line}
 use Rattle.hook_cli.specs.RefusalText.{refusal_text}
 use Rattle.hook_cli.specs.RunText.{run_text}
 
@@ -55,26 +56,23 @@ module _ {S : Type 0} (g : Ghosts S) (tells : List (List ℕ) → List File → 
       → IsRunStep tells counts.calls counts.calls_after counts.faults counts.faults_after old.book new.book old.store.kept.repo ask ran new.store.kept.repo
       → IsAllOrNothing {E = HostRefusal} old.store.kept new.store.kept (Ok ran) (setting ran.changes old.store.kept)
       → IsOneCommand g old.store new.store (command.Run ask) (Ok ran)
-      → IsRunSaid ran.passed out (run_text report unsteady) ending → IsSilent err
+      → IsSaid (ending_of ran.passed) out (run_text report unsteady) err untaken_line ending
       → IsRunOverHost g tells counts old new ask out err ending
-  run-said ran report unsteady reported named step change one said silent = record {
+  run-said ran report unsteady reported named step change one said = record {
     answer = Ok ran;
     step = step;
     stopped = tt;
     change = change;
     one = one;
-    replied = (
-      subst (λ (names : List (List ℕ)). IsRunSaid ran.passed out (run_text ran.report names) ending) named
-          (subst (λ (text : List ℕ). IsRunSaid ran.passed out (run_text text unsteady) ending) reported said),
-      silent,
-    );
+    replied = subst (λ (names : List (List ℕ)). IsSaid (ending_of ran.passed) out (run_text ran.report names) err untaken_line ending) named
+        (subst (λ (text : List ℕ). IsSaid (ending_of ran.passed) out (run_text text unsteady) err untaken_line ending) reported said);
   }
 
   pub run-refused : (refusal : HostRefusal)
       → IsStoppedStep tells counts.calls counts.calls_after counts.faults counts.faults_after old.book new.book old.store.kept ask refusal
       → IsAllOrNothing {A = StagedRun} old.store.kept new.store.kept (Err refusal) (setting [] old.store.kept)
       → IsOneCommand {A = StagedRun} g old.store new.store (command.Run ask) (Err refusal)
-      → IsTold err (refusal_text refusal) ending → IsSilent out
+      → IsTold ends.Refused err (refusal_text refusal) ending → IsSilent out
       → IsRunOverHost g tells counts old new ask out err ending
   run-refused refusal stopped change one told silent = record {
     answer = Err refusal;
@@ -87,7 +85,7 @@ module _ {S : Type 0} (g : Ghosts S) (tells : List (List ℕ) → List File → 
 
 -- memory is refused before the host is asked
 pub run-unasked : {S : Type 0} (g : Ghosts S) (tells : List (List ℕ) → List File → Outcome → Type 0) (calls faults : ℕ) (host : Hosted S) (ask : HostAsk) (out err : Output) (ending : CommandEnding)
-    → IsTold err (refusal_text OutOfMemory) ending → IsSilent out
+    → IsTold ends.Refused err (refusal_text OutOfMemory) ending → IsSilent out
     → IsRunOverHost g tells (record { calls = calls; calls_after = calls; faults = faults; faults_after = faults }) host host ask out err ending
 run-unasked g tells calls faults host ask out err ending told silent = record {
   answer = Err OutOfMemory;

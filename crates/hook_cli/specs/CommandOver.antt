@@ -39,9 +39,9 @@ use Rattle.command_line.specs.declared.line.StageChoice.TheVariants.{PreCommit, 
 use Rattle.command_line.specs.declared.line.Line.{Line}
 use Rattle.command_line.specs.declared.line.Line.TheVariants.{Init, Try, Check, Add, Remove, Status, Run, Fixes, Accept, Commit, Cat, Log, Show}
 use Rattle.hook_cli.specs.declared.command_ending.CommandEnding.{CommandEnding}
-use Rattle.hook_cli.specs.declared.command_ending.CommandEnding.TheVariants.{Done}
+use Rattle.hook_cli.specs.declared.command_ending.CommandEnding.TheVariants as ends
 use Rattle.text_output.specs.Outputs.{IsSilent, Output}
-use Rattle.hook_cli.specs.Printing.{IsFailureSaid, IsRunSaid, IsSaid, IsTold, status_of}
+use Rattle.hook_cli.specs.Printing.{IsSaid, IsTold, ending_of, status_of, untaken_line}
 use Rattle.repository_text.specs.FixesText.{accepted_text, fixes_text}
 use Rattle.repository_text.specs.LogText.{log_text}
 use Rattle.hook_cli.specs.RefusalText.{no_commit_text, refusal_text}
@@ -69,15 +69,16 @@ IsOverHost (Show number) = Unit {0}
 -- ---- the commands that change the repository
 
 -- what each reply prints: a file that was added or removed nothing, fixes that were accepted how many there were, hooks that
--- were run what is reported of them, a commit that too, with its number where it was made, and a refusal why
+-- were run what is reported of them, a commit that too, with its number where it was made, and a refusal why. Where standard
+-- output doesn't take it, standard error says so, and of a commit that it was made
 abbrev pub IsReplied : Output → Output → Reply → CommandEnding → Type 0
-IsReplied out err Added ending = IsSilent out × IsSilent err × (ending ≡ Done)
-IsReplied out err Removed ending = IsSilent out × IsSilent err × (ending ≡ Done)
-IsReplied out err (Accepted number) ending = IsSaid out (accepted_text number) ending × IsSilent err
-IsReplied out err (Ran passed report changes unsteady) ending = IsRunSaid passed out (run_text report unsteady) ending × IsSilent err
+IsReplied out err Added ending = IsSilent out × IsSilent err × (ending ≡ ends.Done)
+IsReplied out err Removed ending = IsSilent out × IsSilent err × (ending ≡ ends.Done)
+IsReplied out err (Accepted number) ending = IsSaid ends.Done out (accepted_text number) err untaken_line ending
+IsReplied out err (Ran passed report changes unsteady) ending = IsSaid (ending_of passed) out (run_text report unsteady) err untaken_line ending
 IsReplied out err (Committed number reports post) ending = IsCommitSaid number reports post out err ending
-IsReplied out err (HooksFailed stage reports) ending = IsFailureSaid out (failure_text reports) ending × IsSilent err
-IsReplied out err (Refused refusal) ending = IsSilent out × IsTold err (refusal_text refusal) ending
+IsReplied out err (HooksFailed stage reports) ending = IsSaid ends.Failed out (failure_text reports) err untaken_line ending
+IsReplied out err (Refused refusal) ending = IsSilent out × IsTold ends.Refused err (refusal_text refusal) ending
 IsReplied out err reply ending = ⊥
 
 -- One call of the host that runs no hooks, whose answer is printed. Done, it has this reply and leaves this kept, and it may
@@ -195,18 +196,17 @@ IsRefusalText repo (Add path mode) text = ⊥
 IsRefusalText repo (Remove path) text = ⊥
 IsRefusalText repo Accept text = ⊥
 
--- the look-up's text is printed, and nothing on standard error
+-- the look-up's text is printed
 pub record Answers (repo : Repository) (line : Line) (out err : Output) (ending : CommandEnding) : Type 0 where
   pub text : List ℕ
   pub answer : IsAnswer repo line text
-  pub said : IsSaid out text ending
-  pub silent : IsSilent err
+  pub said : IsSaid ends.Done out text err untaken_line ending
 
 -- the look-up is refused, and nothing is printed on standard output
 pub record Refuses (repo : Repository) (line : Line) (out err : Output) (ending : CommandEnding) : Type 0 where
   pub text : List ℕ
   pub refusal : IsRefusalText repo line text
-  pub told : IsTold err text ending
+  pub told : IsTold ends.Refused err text ending
   pub silent : IsSilent out
 
 abbrev pub IsLookUp : Repository → Line → Output → Output → CommandEnding → Type 0

@@ -8,8 +8,9 @@ use Rattle.hook_run.specs.Refusals.{name_of, number_of}
 use Rattle.commit_flow.specs.declared.reply.PostCommit.{PostCommit}
 use Rattle.commit_flow.specs.declared.reply.PostCommit.TheVariants.{Told, Stopped}
 use Rattle.hook_cli.specs.declared.command_ending.CommandEnding.{CommandEnding}
-use Rattle.text_output.specs.Outputs.{IsSilent, Output}
-use Rattle.hook_cli.specs.Printing.{AreSaid, IsSaid}
+use Rattle.hook_cli.specs.declared.command_ending.CommandEnding.TheVariants.{Done}
+use Rattle.text_output.specs.Outputs.{Output}
+use Rattle.hook_cli.specs.Printing.{AreSaid, IsSaid, untaken_line}
 
 -- a hook whose answer was another than the remembered one
 abbrev pub unsteady_line : List ℕ → List ℕ
@@ -32,14 +33,21 @@ failure_text reports = concat reports
 abbrev pub commit_text : ℕ → List (List ℕ) → PostCommit → List ℕ
 commit_text number reports post = concat reports ++ (post_report post ++ line (codes "commit " ++ decimal number))
 
+-- that a commit was made, where its text isn't taken
+abbrev pub made_line : ℕ → List ℕ
+made_line number = line (codes "hookhost: commit " ++ decimal number ++ codes " was made")
+
 -- why the hooks behind a commit were stopped
 abbrev pub stopped_text : RunRefusal → List ℕ
 stopped_text refusal = line (codes "hookhost: refused: " ++ decimal (number_of refusal) ++ codes " " ++ name_of refusal)
 
 -- ---- how it is printed
 
--- the texts of a commit, with why the hooks behind it were stopped on standard error
+-- The text of a commit, with why the hooks behind it were stopped on standard error. Where standard output doesn't take the
+-- text, standard error says this too, behind that the commit was made.
 abbrev pub IsCommitSaid : ℕ → List (List ℕ) → PostCommit → Output → Output → CommandEnding → Type 0
-IsCommitSaid number reports (Told report) out err ending = IsSaid out (commit_text number reports (Told report)) ending × IsSilent err
+IsCommitSaid number reports (Told report) out err ending =
+    IsSaid Done out (commit_text number reports (Told report)) err (untaken_line ++ made_line number) ending
 IsCommitSaid number reports (Stopped refusal) out err ending =
-    AreSaid out (commit_text number reports (Stopped refusal)) err (stopped_text refusal) ending
+    AreSaid out (commit_text number reports (Stopped refusal)) err (stopped_text refusal)
+    (untaken_line ++ (made_line number ++ stopped_text refusal)) ending

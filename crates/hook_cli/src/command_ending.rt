@@ -9,7 +9,7 @@ const DONE: u8 = 0;
 // The exit status of a command in which a hook failed.
 const HOOK_FAILED: u8 = 1;
 
-// The exit status of a refusal, and of an answer that a writer doesn't take.
+// The exit status of a refusal, and of a text that a writer doesn't take.
 const REFUSED: u8 = 3;
 
 /// How a command over a repository ends.
@@ -21,8 +21,10 @@ pub enum CommandEnding {
     Failed,
     /// It is refused, and standard error says why.
     Refused,
-    /// A writer gave an error while it took what the command had to say.
+    /// Standard output gave an error while it took the text, and standard error says so. What the command did stays.
     CutOff,
+    /// Standard error gave an error while it took what the command had to say there.
+    Untold,
 }
 
 /// The exit status of an ending: 0, 1 or 3.
@@ -33,6 +35,6 @@ pub(crate) fn status_of(ending: CommandEnding) -> u8
     match ending {
         CommandEnding::Done => DONE,
         CommandEnding::Failed => HOOK_FAILED,
-        CommandEnding::Refused | CommandEnding::CutOff => REFUSED,
+        CommandEnding::Refused | CommandEnding::CutOff | CommandEnding::Untold => REFUSED,
     }
 }

@@ -29,7 +29,7 @@ pub(crate) fn status<S: Alter, O: Write, E: Write>(
     ensures { IsLookUp store.now.kept.repo line.Status (record { held = O.contents out.old; holds = O.contents out.new }) (record { held = E.contents err.old; holds = E.contents err.new }) result }
 {
     match status_text(alloc, store) {
-        Ok(text) => say(out, text.as_slice()),
+        Ok(text) => say(out, err, text.as_slice()),
         Err(OutOfMemory) => tell(err, &HostRefusal::OutOfMemory),
     }
 }
@@ -44,7 +44,7 @@ pub(crate) fn fixes<S: Alter, O: Write, E: Write>(
     ensures { IsLookUp store.now.kept.repo line.Fixes (record { held = O.contents out.old; holds = O.contents out.new }) (record { held = E.contents err.old; holds = E.contents err.new }) result }
 {
     match fixes_text(alloc, store) {
-        Ok(text) => say(out, text.as_slice()),
+        Ok(text) => say(out, err, text.as_slice()),
         Err(OutOfMemory) => tell(err, &HostRefusal::OutOfMemory),
     }
 }
@@ -60,7 +60,7 @@ pub(crate) fn cat<S: Alter, O: Write, E: Write>(
     ensures { IsLookUp store.now.kept.repo (line.Cat path.now) (record { held = O.contents out.old; holds = O.contents out.new }) (record { held = E.contents err.old; holds = E.contents err.new }) result }
 {
     match staged_bytes(alloc, path, store) {
-        Ok(bytes) => say(out, bytes),
+        Ok(bytes) => say(out, err, bytes),
         Err(refusal) => tell(err, &refusal),
     }
 }
@@ -75,7 +75,7 @@ pub(crate) fn log<S: Alter, O: Write, E: Write>(
     ensures { IsLookUp store.now.kept.repo line.Log (record { held = O.contents out.old; holds = O.contents out.new }) (record { held = E.contents err.old; holds = E.contents err.new }) result }
 {
     match log_text(alloc, store) {
-        Ok(text) => say(out, text.as_slice()),
+        Ok(text) => say(out, err, text.as_slice()),
         Err(OutOfMemory) => tell(err, &HostRefusal::OutOfMemory),
     }
 }
@@ -91,7 +91,7 @@ pub(crate) fn show<S: Alter, O: Write, E: Write>(
     ensures { IsLookUp store.now.kept.repo (line.Show number) (record { held = O.contents out.old; holds = O.contents out.new }) (record { held = E.contents err.old; holds = E.contents err.new }) result }
 {
     match show_text(alloc, store, number) {
-        Ok(Some(text)) => say(out, text.as_slice()),
+        Ok(Some(text)) => say(out, err, text.as_slice()),
         Ok(None) => tell_no_commit(err, number),
         Err(OutOfMemory) => tell(err, &HostRefusal::OutOfMemory),
     }

@@ -28,8 +28,11 @@ use std::io::Write;
 /// `add` and `rm` print nothing. It is 1 where a hook failed in a run or before a commit, with what is reported on `out`. Where
 /// the hooks behind a commit are stopped, `err` says why, and it is 0. Refused, it is 3: `hookhost: refused: NUMBER NAME` stands on `err`, with the inner number
 /// where the refusal has one, or for `show` of a number that no commit has `hookhost: no commit N`; nothing is on `out`. Want
-/// of memory is refused as `OutOfMemory`. A writer's error gives 3 too: what it took before is out, and what the command
-/// changed stays.
+/// of memory is refused as `OutOfMemory`.
+///
+/// A writer's error gives 3 too: what it took before is out, and what the command changed stays. Where `out` gives one,
+/// `hookhost: standard output was not taken` stands on `err`, and behind it of a commit `hookhost: commit N was made`, and why
+/// the hooks behind it were stopped.
 ///
 /// `add`, `rm`, `accept`, runs and commits change the repository as the host's calls do, and a refusal leaves it as it was; the
 /// others change nothing. Runs and commits alone call children.
@@ -140,7 +143,7 @@ fn accept<S: Alter, O: Write, E: Write>(
     ensures { IsAcceptOver S.Store host.old host.new (record { held = O.contents out.old; holds = O.contents out.new }) (record { held = E.contents err.old; holds = E.contents err.new }) result }
 {
     match host.accept() {
-        Ok(number) => say_accepted(out, number),
+        Ok(number) => say_accepted(out, err, number),
         Err(refusal) => tell(err, &refusal),
     }
 }

@@ -50,6 +50,7 @@ fn run_asked<S: Alter, C: Children, O: Write, E: Write>(
     match host.run(alloc, children, ask) {
         Ok(ran) => say_run(
             out,
+            err,
             ran.passed,
             ran.report.as_slice(),
             ran.unsteady.as_slice(),
@@ -88,7 +89,11 @@ fn say_ending<O: Write, E: Write>(out: &mut O, err: &mut E, ending: &CommitEndin
             reports,
             post,
         } => say_commit(out, err, *number, reports.as_slice(), post),
-        CommitEnding::HooksFailed { stage: _, reports } => say_failure(out, reports.as_slice()),
+        CommitEnding::HooksFailed { stage: _, reports } => say_failure(
+            out,
+            err,
+            reports.as_slice(),
+        ),
     }
 }
 

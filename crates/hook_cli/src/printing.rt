@@ -1,12 +1,15 @@
-//! What a command says, on the writer that it is for.
+//! What a command says, on the writer that it is for. It takes no memory, since what is said is done already, or refused for
+//! want of memory.
 //!
 //! The contracts cite `specs/Printing.antt`, `specs/RefusalText.antt` and `repository_text/specs/FixesText.antt`.
 
-ghost use Rattle.std.specs.Prelude.{◌++◌, Some, codes, map};
+ghost use Rattle.std.specs.Prelude.{◌≡◌, ◌++◌, OnErr, OnOk, Some, codes, map};
 ghost use Rattle.std.specs.List.{concat};
 ghost use Rattle.report_text.specs.Report.{line};
 ghost use Rattle.repository_text.specs.FixesText.{accepted_text};
-ghost use Rattle.hook_cli.specs.Printing.{IsSaid, IsTold};
+ghost use Rattle.text_output.specs.Outputs.{IsSilent};
+ghost use Rattle.hook_cli.specs.declared.command_ending.CommandEnding.TheVariants as ends;
+ghost use Rattle.hook_cli.specs.Printing.{IsSaid, IsTold, untaken_line};
 ghost use Rattle.hook_cli.specs.RefusalText.{inner_text, no_commit_text, refusal_text};
 
 use crate::CommandEnding;
@@ -15,37 +18,47 @@ use itoa::Buffer;
 use std::io::Write;
 use text_output::{Unwritten, write_out, write_pieces};
 
+/// The line that standard error gets where standard output gave an error.
+pub(crate) const UNTAKEN_LINE: &str = "hookhost: standard output was not taken\n";
+
 /// Says the text of a command that is done.
-pub(crate) fn say<O: Write>(out: &mut O, text: &[u8]) -> CommandEnding
-    ensures { IsSaid (record { held = O.contents out.old; holds = O.contents out.new }) text.now result }
+pub(crate) fn say<O: Write, E: Write>(out: &mut O, err: &mut E, text: &[u8]) -> CommandEnding
+    ensures { IsSaid ends.Done (record { held = O.contents out.old; holds = O.contents out.new }) text.now (record { held = E.contents err.old; holds = E.contents err.new }) untaken_line result }
 {
-    match write_out(out, text) {
-        Ok(()) => CommandEnding::Done,
-        Err(Unwritten) => CommandEnding::CutOff,
-    }
+    ending_of(write_out(out, text), CommandEnding::Done, err)
 }
 
-/// Says how many fixes were accepted. It takes no memory, since they are accepted already.
-pub(crate) fn say_accepted<O: Write>(out: &mut O, number: u32) -> CommandEnding
-    ensures { IsSaid (record { held = O.contents out.old; holds = O.contents out.new }) (accepted_text number) result }
+/// Says how many fixes were accepted.
+pub(crate) fn say_accepted<O: Write, E: Write>(
+    out: &mut O,
+    err: &mut E,
+    number: u32,
+) -> CommandEnding
+    ensures { IsSaid ends.Done (record { held = O.contents out.old; holds = O.contents out.new }) (accepted_text number) (record { held = E.contents err.old; holds = E.contents err.new }) untaken_line result }
 {
     let mut digits = Buffer::new();
-    say_pieces(out, &["accepted: ", digits.format(number), "\n"])
+    let written = write_pieces(out, &["accepted: ", digits.format(number), "\n"]);
+    ending_of(written, CommandEnding::Done, err)
 }
 
-/// Says the text of a command that is done, piece by piece.
-pub(crate) fn say_pieces<'a, O: Write>(out: &mut O, pieces: &'a [&'a str]) -> CommandEnding
-    ensures { IsSaid (record { held = O.contents out.old; holds = O.contents out.new }) (concat (map (λ s. s.now) pieces.entry.now)) result }
+/// How a command ends whose text standard output took, or else gave an error, which standard error then tells.
+pub(crate) fn ending_of<E: Write>(
+    written: Result<(), Unwritten>,
+    ending: CommandEnding,
+    err: &mut E,
+) -> CommandEnding
+    ensures taken { OnOk written (IsSilent (record { held = E.contents err.old; holds = E.contents err.new }) × (result ≡ ending)) }
+    ensures untaken { OnErr written (IsTold ends.CutOff (record { held = E.contents err.old; holds = E.contents err.new }) untaken_line result) }
 {
-    match write_pieces(out, pieces) {
-        Ok(()) => CommandEnding::Done,
-        Err(Unwritten) => CommandEnding::CutOff,
+    match written {
+        Ok(()) => ending,
+        Err(Unwritten) => tell_pieces(err, &[UNTAKEN_LINE], CommandEnding::CutOff),
     }
 }
 
-/// Tells why a command is refused. It takes no memory, since want of memory may be the reason.
+/// Tells why a command is refused.
 pub(crate) fn tell<E: Write>(err: &mut E, refusal: &HostRefusal) -> CommandEnding
-    ensures { IsTold (record { held = E.contents err.old; holds = E.contents err.new }) (refusal_text refusal.now) result }
+    ensures { IsTold ends.Refused (record { held = E.contents err.old; holds = E.contents err.new }) (refusal_text refusal.now) result }
 {
     let mut digits = Buffer::new();
     let number = digits.format(refusal.number());
@@ -54,36 +67,46 @@ pub(crate) fn tell<E: Write>(err: &mut E, refusal: &HostRefusal) -> CommandEndin
         None => tell_pieces(
             err,
             &["hookhost: refused: ", number, " ", refusal.name(), "\n"],
+            CommandEnding::Refused,
         ),
     }
 }
 
 // Tells a refusal that hands on the fault with this number.
 fn tell_refusal_of<E: Write>(err: &mut E, number: &str, name: &str, inner: u8) -> CommandEnding
-    ensures { IsTold (record { held = E.contents err.old; holds = E.contents err.new }) (line (codes "hookhost: refused: " ++ number.now ++ codes " " ++ name.now ++ inner_text (Some inner))) result }
+    ensures { IsTold ends.Refused (record { held = E.contents err.old; holds = E.contents err.new }) (line (codes "hookhost: refused: " ++ number.now ++ codes " " ++ name.now ++ inner_text (Some inner))) result }
 {
     let mut digits = Buffer::new();
     let inner = digits.format(inner);
     tell_pieces(
         err,
         &["hookhost: refused: ", number, " ", name, " ", inner, "\n"],
+        CommandEnding::Refused,
     )
 }
 
-/// Tells that no commit has the number. It takes no memory.
+/// Tells that no commit has the number.
 pub(crate) fn tell_no_commit<E: Write>(err: &mut E, number: u32) -> CommandEnding
-    ensures { IsTold (record { held = E.contents err.old; holds = E.contents err.new }) (no_commit_text number) result }
+    ensures { IsTold ends.Refused (record { held = E.contents err.old; holds = E.contents err.new }) (no_commit_text number) result }
 {
     let mut digits = Buffer::new();
-    tell_pieces(err, &["hookhost: no commit ", digits.format(number), "\n"])
+    tell_pieces(
+        err,
+        &["hookhost: no commit ", digits.format(number), "\n"],
+        CommandEnding::Refused,
+    )
 }
 
-// Tells a refusal, piece by piece.
-fn tell_pieces<'a, E: Write>(err: &mut E, pieces: &'a [&'a str]) -> CommandEnding
-    ensures { IsTold (record { held = E.contents err.old; holds = E.contents err.new }) (concat (map (λ s. s.now) pieces.entry.now)) result }
+/// Tells a text of a command that ends so, piece by piece.
+pub(crate) fn tell_pieces<'a, E: Write>(
+    err: &mut E,
+    pieces: &'a [&'a str],
+    ending: CommandEnding,
+) -> CommandEnding
+    ensures { IsTold ending (record { held = E.contents err.old; holds = E.contents err.new }) (concat (map (λ s. s.now) pieces.entry.now)) result }
 {
     match write_pieces(err, pieces) {
-        Ok(()) => CommandEnding::Refused,
-        Err(Unwritten) => CommandEnding::CutOff,
+        Ok(()) => ending,
+        Err(Unwritten) => CommandEnding::Untold,
     }
 }

@@ -7,11 +7,12 @@ ghost use Rattle.std.specs.Fmt.{decimal};
 ghost use Rattle.std.specs.List.{concat, flat_map};
 ghost use Rattle.report_text.specs.Report.{line};
 ghost use Rattle.text_output.specs.Outputs.{Has, HasBeginning};
-ghost use Rattle.hook_cli.specs.Printing.{IsFailureSaid, IsRunSaid, IsSaid};
-ghost use Rattle.hook_cli.specs.RunText.{IsCommitSaid, run_text, stopped_text, unsteady_line};
+ghost use Rattle.hook_cli.specs.declared.command_ending.CommandEnding.TheVariants as ends;
+ghost use Rattle.hook_cli.specs.Printing.{IsSaid, IsTold, ending_of, untaken_line};
+ghost use Rattle.hook_cli.specs.RunText.{IsCommitSaid, made_line, run_text, stopped_text, unsteady_line};
 
 use crate::CommandEnding;
-use crate::printing::say_pieces;
+use crate::printing::{UNTAKEN_LINE, ending_of, tell_pieces};
 use commit_flow::PostCommit;
 use hook_base::{Bytes, Text};
 use hook_run::RunRefusal;
@@ -20,33 +21,42 @@ use std::io::Write;
 use text_output::{Unwritten, write_out, write_pieces};
 
 /// Says what a run answered: the report, and the ids of the hooks that answered otherwise than is remembered.
-pub(crate) fn say_run<O: Write>(
+pub(crate) fn say_run<O: Write, E: Write>(
     out: &mut O,
+    err: &mut E,
     passed: bool,
     report: &[u8],
     unsteady: &[Text],
 ) -> CommandEnding
-    ensures { IsRunSaid passed (record { held = O.contents out.old; holds = O.contents out.new }) (run_text report.now unsteady.now) result }
+    ensures { IsSaid (ending_of passed) (record { held = O.contents out.old; holds = O.contents out.new }) (run_text report.now unsteady.now) (record { held = E.contents err.old; holds = E.contents err.new }) untaken_line result }
 {
-    match write_run(out, report, unsteady) {
-        Ok(()) if passed => CommandEnding::Done,
-        Ok(()) => CommandEnding::Failed,
-        Err(Unwritten) => CommandEnding::CutOff,
+    let ending = ending_of_run(passed);
+    ending_of(write_run(out, report, unsteady), ending, err)
+}
+
+fn ending_of_run(passed: bool) -> CommandEnding
+    ensures { result ≡ ending_of passed }
+{
+    if passed {
+        CommandEnding::Done
+    } else {
+        CommandEnding::Failed
     }
 }
 
 /// Says the reports of a commit that hooks refused.
-pub(crate) fn say_failure<O: Write>(out: &mut O, reports: &[Bytes]) -> CommandEnding
-    ensures { IsFailureSaid (record { held = O.contents out.old; holds = O.contents out.new }) (concat reports.now) result }
+pub(crate) fn say_failure<O: Write, E: Write>(
+    out: &mut O,
+    err: &mut E,
+    reports: &[Bytes],
+) -> CommandEnding
+    ensures { IsSaid ends.Failed (record { held = O.contents out.old; holds = O.contents out.new }) (concat reports.now) (record { held = E.contents err.old; holds = E.contents err.new }) untaken_line result }
 {
-    match write_reports(out, reports) {
-        Ok(()) => CommandEnding::Failed,
-        Err(Unwritten) => CommandEnding::CutOff,
-    }
+    ending_of(write_reports(out, reports), CommandEnding::Failed, err)
 }
 
 /// Says the reports of a commit that was made, that of the hooks behind it last, and its number. Why these hooks were stopped
-/// goes to standard error.
+/// goes to standard error. Where standard output gives an error, standard error says that the commit was made.
 pub(crate) fn say_commit<O: Write, E: Write>(
     out: &mut O,
     err: &mut E,
@@ -59,24 +69,65 @@ pub(crate) fn say_commit<O: Write, E: Write>(
     match post {
         PostCommit::Told(report) => match write_commit(out, number, reports, report.as_slice()) {
             Ok(()) => CommandEnding::Done,
-            Err(Unwritten) => CommandEnding::CutOff,
+            Err(Unwritten) => tell_made(err, number),
         },
         PostCommit::Stopped(refusal) => match write_commit(out, number, reports, b"") {
-            Ok(()) => say_stopped(err, refusal),
-            Err(Unwritten) => CommandEnding::CutOff,
+            Ok(()) => tell_stopped(err, refusal),
+            Err(Unwritten) => tell_made_and_stopped(err, number, refusal),
         },
     }
 }
 
-// Says why the hooks behind a commit were stopped. The commit stands all the same.
-fn say_stopped<E: Write>(err: &mut E, refusal: &RunRefusal) -> CommandEnding
-    ensures { IsSaid (record { held = E.contents err.old; holds = E.contents err.new }) (stopped_text refusal.now) result }
+// Tells why the hooks behind a commit were stopped. The commit stands all the same.
+fn tell_stopped<E: Write>(err: &mut E, refusal: &RunRefusal) -> CommandEnding
+    ensures { IsTold ends.Done (record { held = E.contents err.old; holds = E.contents err.new }) (stopped_text refusal.now) result }
 {
     let mut digits = Buffer::new();
     let number = digits.format(refusal.number());
-    say_pieces(
+    tell_pieces(
         err,
         &["hookhost: refused: ", number, " ", refusal.name(), "\n"],
+        CommandEnding::Done,
+    )
+}
+
+// Tells of a commit whose text wasn't taken that it was made.
+fn tell_made<E: Write>(err: &mut E, number: u32) -> CommandEnding
+    ensures { IsTold ends.CutOff (record { held = E.contents err.old; holds = E.contents err.new }) (untaken_line ++ made_line number) result }
+{
+    let mut digits = Buffer::new();
+    tell_pieces(
+        err,
+        &[
+            UNTAKEN_LINE,
+            "hookhost: commit ",
+            digits.format(number),
+            " was made\n",
+        ],
+        CommandEnding::CutOff,
+    )
+}
+
+// Tells this, and why the hooks behind the commit were stopped.
+fn tell_made_and_stopped<E: Write>(err: &mut E, number: u32, refusal: &RunRefusal) -> CommandEnding
+    ensures { IsTold ends.CutOff (record { held = E.contents err.old; holds = E.contents err.new }) (untaken_line ++ (made_line number ++ stopped_text refusal.now)) result }
+{
+    let (mut digits, mut refused) = (Buffer::new(), Buffer::new());
+    let made = digits.format(number);
+    let number = refused.format(refusal.number());
+    tell_pieces(
+        err,
+        &[
+            UNTAKEN_LINE,
+            "hookhost: commit ",
+            made,
+            " was made\nhookhost: refused: ",
+            number,
+            " ",
+            refusal.name(),
+            "\n",
+        ],
+        CommandEnding::CutOff,
     )
 }
 

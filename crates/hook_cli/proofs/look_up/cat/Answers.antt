@@ -8,8 +8,8 @@ pub returns-in-Ok : goal.returns-in-Ok
 returns-in-Ok g c =
     looked-up c.args.store.now.kept.repo (Cat c.args.path.now)
     (record { held = g.O.Write.contents c.args.out.now; holds = g.O.Write.contents c.say.new.out })
-    (record { held = g.E.Write.contents c.args.err.now; holds = g.E.Write.contents c.args.err.now })
-    c.say.result c.in-Ok.bytes.now (c.in-Ok.ensures.legal, c.in-Ok.ensures.bytes) c.say.ensures (silent-itself (g.E.Write.contents c.args.err.now))
+    (record { held = g.E.Write.contents c.args.err.now; holds = g.E.Write.contents c.say.new.err })
+    c.say.result c.in-Ok.bytes.now (c.in-Ok.ensures.legal, c.in-Ok.ensures.bytes) c.say.ensures
 
 pub returns-in-Err : goal.returns-in-Err
 returns-in-Err g c =

@@ -5,9 +5,8 @@ pub returns-in-Ok : goal.returns-in-Ok
 returns-in-Ok g c =
     accepted-said g.S.Store c.args.host.now c.accept.new.self
     (record { held = g.O.Write.contents c.args.out.now; holds = g.O.Write.contents c.say_accepted.new.out })
-    (record { held = g.E.Write.contents c.args.err.now; holds = g.E.Write.contents c.args.err.now })
+    (record { held = g.E.Write.contents c.args.err.now; holds = g.E.Write.contents c.say_accepted.new.err })
     c.say_accepted.result c.in-Ok.number c.in-Ok.ensures.step c.in-Ok.ensures.change c.in-Ok.ensures.command c.accept.ensures.book c.say_accepted.ensures
-    (silent-itself (g.E.Write.contents c.args.err.now))
 
 pub returns-in-Err : goal.returns-in-Err
 returns-in-Err g c =
