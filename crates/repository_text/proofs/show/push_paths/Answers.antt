@@ -15,4 +15,4 @@ pub files-preserved : goal.files-preserved
 files-preserved g c =
     said-more path_line _ c.files.text.items c.push_line.new.report.items (tree_at c.args.number c.args.store.now.kept.repo.history) c.files.index
     (copied_file c.in-Some.file) (sym c.in-Some.ensures.file) c.files.invariant
-    (c.in_ok-push_line.ensures ∙ ap (λ path. c.files.text.items ++ line path) (c.as_bytes.ensures.value ∙ c.as_str.ensures.same))
+    (c.in_ok-push_line.ensures.put ∙ ap (λ path. c.files.text.items ++ line path) (c.as_bytes.ensures.value ∙ c.as_str.ensures.same))

@@ -13,5 +13,5 @@ returns g c =
     on-ok c.push_line.result
     (change-said c.args.path.now c.args.text.now.items c.push.new.report.items c.push_line.new.report.items c.mark_of.result.now c.as_bytes.result.now
     staged last c.is_staged.result c.is_in_head.result differs c.mark_of.ensures c.is_staged.ensures c.is_in_head.ensures
-    (c.as_bytes.ensures.value ∙ c.as_str.ensures.same) c.in_ok-push.ensures)
-    c.push_line.ensures
+    (c.as_bytes.ensures.value ∙ c.as_str.ensures.same) c.in_ok-push.ensures.put)
+    c.push_line.ensures.put
