@@ -1,16 +1,21 @@
 //! The rows that programs for tests are asked by, one a line of standard input, and the lines by which they answer.
 //!
 //! A [`Row`] is a call's name and its arguments, which stand in the line in hexadecimal digits, `-` for one without bytes,
-//! parted by single blanks; `answer_line` makes a line of an answer's bytes. A [`Stop`] says why a play ends before its
-//! last row. It serves tests alone, and has no contracts.
+//! parted by single blanks. A program is [`play`] over its [`Answers`], each an [`Answer`] that is put together piece by
+//! piece; `answer_line` makes a line of bytes that are one. A [`Stop`] says why a play ends before its last row. It serves tests
+//! alone, and has no contracts.
 #![tactic(auto)]
 
 mod answer;
 mod arguments;
+mod gathered;
+mod plays;
 mod row;
 mod stop;
 
 pub use answer::answer_line;
 pub use arguments::{number_of, only, text_of, texts_of};
+pub use gathered::Answer;
+pub use plays::{Answers, play};
 pub use row::Row;
 pub use stop::Stop;

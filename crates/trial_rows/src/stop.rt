@@ -5,8 +5,8 @@ use hook_base::{OutOfMemory, PathFault};
 use std::alloc::{AllocError, AllocFailed};
 use std::io;
 
-/// Why a play ends before its last row.
-#[derive(Drop)]
+/// Why a play ends before its last row. It holds nothing, so that what may end a play costs the checker little.
+#[derive(Clone, Copy)]
 pub enum Stop {
     /// No call has the line's first word for its name.
     NoCall,
@@ -17,29 +17,29 @@ pub enum Stop {
     /// The program itself was refused memory.
     OutOfMemory,
     /// Standard input can't be read, or standard output takes nothing.
-    Io(io::Error),
+    Io,
 }
 
 impl Stop {
     /// The exit status of the program: 2 for a line that is no call, 3 for want of memory, 4 for two answers, 1 for input
     /// or output that failed.
-    pub fn status(&self) -> u8 {
+    pub fn status(self) -> u8 {
         match self {
             Stop::NoCall | Stop::BadLine => 2,
             Stop::OutOfMemory => 3,
             Stop::TwoAnswers => 4,
-            Stop::Io(_) => 1,
+            Stop::Io => 1,
         }
     }
 
     /// What is said on standard error.
-    pub fn message(&self) -> &'static str {
+    pub fn message(self) -> &'static str {
         match self {
             Stop::NoCall => "no call has this name",
             Stop::BadLine => "this line is no call with its arguments",
             Stop::TwoAnswers => "two ways to ask for the same give two answers",
             Stop::OutOfMemory => "out of memory",
-            Stop::Io(_) => "input or output failed",
+            Stop::Io => "input or output failed",
         }
     }
 }
@@ -49,7 +49,7 @@ impl From<io::Error> for Stop {
         if error.kind() == io::ErrorKind::OutOfMemory {
             Stop::OutOfMemory
         } else {
-            Stop::Io(error)
+            Stop::Io
         }
     }
 }

@@ -6,11 +6,16 @@ use hook_base::{Bytes, Changes, Items, RepoPath, Text, Tree};
 use std::alloc::Global;
 use trial_rows::Stop;
 
+/// The two parts of a text around its first bar, the whole and nothing where it has none.
+pub(crate) fn cut(text: &str) -> (&str, &str) {
+    text.split_once('|').unwrap_or((text, ""))
+}
+
 /// A row: the words, the path and the bytes of the file that was seen, the status, the output, and a change.
 pub(crate) fn row_of(alloc: Global, row: &str) -> Result<TableRow, Stop> {
-    let (words, rest) = row.split_once('|').ok_or(Stop::BadLine)?;
-    let (path, rest) = rest.split_once('|').ok_or(Stop::BadLine)?;
-    let (bytes, rest) = rest.split_once('|').ok_or(Stop::BadLine)?;
+    let (words, rest) = cut(row);
+    let (path, rest) = cut(rest);
+    let (bytes, rest) = cut(rest);
     Ok(TableRow {
         words: words_of(alloc, words)?,
         seen: tree_with(alloc, path, bytes)?,
@@ -19,10 +24,10 @@ pub(crate) fn row_of(alloc: Global, row: &str) -> Result<TableRow, Stop> {
 }
 
 fn answer_of(alloc: Global, rest: &str) -> Result<Answer, Stop> {
-    let (status, rest) = rest.split_once('|').ok_or(Stop::BadLine)?;
-    let (output, change) = rest.split_once('|').ok_or(Stop::BadLine)?;
+    let (status, rest) = cut(rest);
+    let (output, change) = cut(rest);
     Ok(Answer {
-        status: status.parse().ok().ok_or(Stop::BadLine)?,
+        status: status.parse().map_err(|_| Stop::BadLine)?,
         output: Bytes::copy_of(alloc, output.as_bytes())?,
         changes: changes_of(alloc, change)?,
     })
@@ -35,7 +40,7 @@ fn changes_of(alloc: Global, text: &str) -> Result<Changes, Stop> {
     }
     let mut changes = Vec::new(alloc);
     changes.push(read_change(alloc, text)?)?;
-    Changes::from_rising(changes).ok().ok_or(Stop::BadLine)
+    Changes::from_rising(changes).map_err(|_| Stop::BadLine)
 }
 
 /// The words of a command, parted by blanks.
@@ -47,15 +52,10 @@ pub(crate) fn words_of(alloc: Global, text: &str) -> Result<Items<Text>, Stop> {
     Ok(Items::from(words))
 }
 
-/// The tree of one plain file, whose path and bytes these are.
-pub(crate) fn tree_of(alloc: Global, text: &str) -> Result<Tree, Stop> {
-    let (path, bytes) = text.split_once('|').ok_or(Stop::BadLine)?;
-    tree_with(alloc, path, bytes)
-}
-
-fn tree_with(alloc: Global, path: &str, bytes: &str) -> Result<Tree, Stop> {
+/// The tree of one plain file, of this path and these bytes.
+pub(crate) fn tree_with(alloc: Global, path: &str, bytes: &str) -> Result<Tree, Stop> {
     let path = RepoPath::read(alloc, path)?;
-    let entry = entry_of(alloc, "plain", bytes.as_bytes())?;
+    let entry = entry_of(alloc, "plain", bytes)?;
     let mut tree = Tree::new(alloc);
     tree.put(path, entry)?;
     Ok(tree)

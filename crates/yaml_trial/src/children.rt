@@ -1,70 +1,69 @@
 //! A play on children that answer by a table: its rows, and children that are asked for, one an argument.
 
-use crate::child_rows::{row_of, tree_of, words_of};
-use crate::steps::{show_bytes, show_changes};
-use child_port::{Answer, Children, Outcome, TableChildren};
+use crate::child_rows::{cut, row_of, tree_with, words_of};
+use crate::steps::with_changes;
+use child_port::{Children, Outcome, TableChildren};
 use hook_base::Items;
 use std::alloc::Global;
-use trial_rows::{Stop, text_of};
+use trial_rows::{Answer, Stop, texts_of};
 
 /// What each child that is asked for gives, and at the end the calls and the faults.
-pub(crate) fn answer(alloc: Global, words: &[Vec<u8>]) -> Result<String, Stop> {
-    let mut children = children_of(alloc, words)?;
-    let mut out = String::new(alloc);
-    for word in words {
-        if let Some(asked) = text_of(word.as_slice())?.strip_prefix("ask|") {
-            ask(alloc, &mut children, &mut out, asked)?;
-        }
-    }
-    let calls = children.calls();
-    let faults = children.faults();
-    write!(out, "calls {calls} faults {faults}")?;
-    Ok(out)
+pub(crate) fn answer(alloc: Global, words: &[Vec<u8>]) -> Result<Answer, Stop> {
+    let lines = texts_of(alloc, words)?;
+    let mut children = children_of(alloc, lines.as_slice())?;
+    let answer = asked_all(alloc, &mut children, lines.as_slice())?;
+    let answer = answer.text("calls ").shown(children.calls());
+    Ok(answer.text(" faults ").shown(children.faults()))
 }
 
-/// The children whose table has the rows among the arguments.
-fn children_of(alloc: Global, words: &[Vec<u8>]) -> Result<TableChildren, Stop> {
+/// The children whose table has the rows among the lines, each of which is a row or asks for a child.
+fn children_of(alloc: Global, lines: &[&str]) -> Result<TableChildren, Stop> {
     let mut rows = Vec::new(alloc);
-    for word in words {
-        match text_of(word.as_slice())?.split_once('|') {
-            Some(("row", row)) => rows.push(row_of(alloc, row)?)?,
-            Some(("ask", _)) => {}
+    for line in lines {
+        match cut(*line) {
+            ("row", row) => rows.push(row_of(alloc, row)?)?,
+            ("ask", _) => {}
             _ => return Err(Stop::BadLine),
         }
     }
     Ok(TableChildren::new(Items::from(rows)))
 }
 
-/// Asks for a child of these words that has seen a tree of one file, and shows what it gives.
-fn ask(
-    alloc: Global,
-    children: &mut TableChildren,
-    out: &mut String,
-    asked: &str,
-) -> Result<(), Stop> {
-    let (words, seen) = asked.split_once('|').ok_or(Stop::BadLine)?;
+fn asked_all(alloc: Global, children: &mut TableChildren, lines: &[&str]) -> Result<Answer, Stop> {
+    let mut answer = Answer::new(alloc);
+    for line in lines {
+        if let ("ask", asked) = cut(*line) {
+            answer = with_outcome(answer, &outcome_of(alloc, children, asked)?)?;
+        }
+    }
+    Ok(answer)
+}
+
+/// What a child gives of these words that has seen a tree of one file.
+fn outcome_of(alloc: Global, children: &mut TableChildren, asked: &str) -> Result<Outcome, Stop> {
+    let (words, seen) = cut(asked);
+    let (path, bytes) = cut(seen);
     let words = words_of(alloc, words)?;
-    let seen = tree_of(alloc, seen)?;
+    let seen = tree_with(alloc, path, bytes)?;
     if children.calls() == u64::MAX {
         return Err(Stop::BadLine);
     }
-    let outcome = children.run(words.as_slice(), &seen, &seen)?;
-    show(out, &outcome)
+    Ok(children.run(words.as_slice(), &seen, &seen)?)
 }
 
-/// Shows an outcome, and whether its copy is equal.
-fn show(out: &mut String, outcome: &Outcome) -> Result<(), Stop> {
-    match outcome {
-        Outcome::Done(answer) => show_answer(out, answer)?,
-        Outcome::Failed(fault) => write!(out, "failed {fault:?}")?,
-    }
+/// Adds an outcome, and whether its copy is equal.
+fn with_outcome(answer: Answer, outcome: &Outcome) -> Result<Answer, Stop> {
     let is_same = outcome.clone()? == *outcome;
-    Ok(write!(out, " {is_same};")?)
+    Ok(with_end(answer, outcome).text(" ").shown(is_same).text(";"))
 }
 
-fn show_answer(out: &mut String, answer: &Answer) -> Result<(), Stop> {
-    let status = answer.status;
-    write!(out, "done {status} ")?;
-    show_bytes(out, answer.output.as_slice())?;
-    show_changes(out, answer.changes.as_slice())
+fn with_end(answer: Answer, outcome: &Outcome) -> Answer {
+    match outcome {
+        Outcome::Done(done) => {
+            let answer = answer.text("done ").shown(done.status).text(" ");
+            let answer = answer.bytes(done.output.as_slice());
+            with_changes(answer, done.changes.as_slice())
+        }
+        Outcome::Failed(fault) => answer.text("failed ").debug(*fault),
+    }
 }

@@ -1,11 +1,11 @@
 //! The calls on the content of one line of a YAML text.
 
 use crate::kinds::refused;
-use crate::lines::show_all;
+use crate::lines::{with_all, with_line};
 use std::alloc::Global;
-use trial_rows::Stop;
+use trial_rows::{Answer, Stop};
 use yaml_lines::{
-    Entry, Line, Node, YamlFault, after_dash, characters, is_item, read_entry, read_quoted, scalar,
+    Entry, Line, Node, after_dash, characters, is_item, read_entry, read_quoted, scalar,
 };
 
 /// The number of the line that every content has.
@@ -15,78 +15,66 @@ const NUMBER: usize = 7;
 const MOST_OF_AN_ITEM: usize = 100;
 
 /// What a content is: `- NUMBER/INDENT:REST`, `KEY = VALUE`, whether it is quoted and the text, or the fault.
-pub(crate) fn shown_content(alloc: Global, bytes: &[u8]) -> Result<String, Stop> {
+pub(crate) fn shown_content(alloc: Global, bytes: &[u8]) -> Result<Answer, Stop> {
     match characters(alloc, bytes) {
         Ok(content) => shown_of(alloc, content.as_slice()),
-        Err(fault) => refused(alloc, fault),
+        Err(fault) => Ok(refused(alloc, fault)),
     }
 }
 
-fn shown_of(alloc: Global, content: &[char]) -> Result<String, Stop> {
+fn shown_of(alloc: Global, content: &[char]) -> Result<Answer, Stop> {
     if is_item(content) {
         return item(alloc, content);
     }
     match read_entry(alloc, content)? {
-        Some(read) => entry(alloc, read),
-        None => text(alloc, content),
+        Some(read) => Ok(entry(alloc, read)),
+        None => Ok(text(alloc, content)),
     }
 }
 
-fn item(alloc: Global, content: &[char]) -> Result<String, Stop> {
+fn item(alloc: Global, content: &[char]) -> Result<Answer, Stop> {
     if content.len() >= MOST_OF_AN_ITEM || !is_item(content) {
         return Err(Stop::BadLine);
     }
     let line = Line::new(NUMBER, 2, content, None);
-    let mut out = String::from_str(alloc, "- ")?;
+    let answer = Answer::new(alloc).text("- ");
     match after_dash(&line) {
-        Ok(None) => Ok(out),
-        Ok(Some(rest)) => {
-            let number = rest.number();
-            let indent = rest.indent();
-            write!(out, "{number}/{indent}:")?;
-            show_all(&mut out, rest.content())?;
-            Ok(out)
-        }
-        Err(fault) => refused(alloc, fault),
+        Ok(None) => Ok(answer),
+        Ok(Some(rest)) => Ok(with_line(alloc, answer, &rest)),
+        Err(fault) => Ok(refused(alloc, fault)),
     }
 }
 
-fn entry(alloc: Global, entry: Entry<'_>) -> Result<String, Stop> {
+fn entry(alloc: Global, entry: Entry<'_>) -> Answer {
     let value = entry.value();
-    let mut out = String::from_str(alloc, entry.into_key().as_str())?;
-    out.push_str(" = ")?;
-    show_all(&mut out, value)?;
-    Ok(out)
+    let answer = Answer::new(alloc).text(entry.into_key().as_str());
+    with_all(alloc, answer.text(" = "), value)
 }
 
-fn text(alloc: Global, content: &[char]) -> Result<String, Stop> {
+fn text(alloc: Global, content: &[char]) -> Answer {
+    let answer = Answer::new(alloc);
     match scalar(alloc, NUMBER, content) {
-        Ok(Node::Text { text, quoted }) => {
-            let text = text.as_str();
-            Ok(format!(in alloc; "{quoted} {text}")?)
-        }
-        Ok(_) => Ok(String::from_str(alloc, "no text")?),
+        Ok(Node::Text { text, quoted }) => answer.shown(quoted).texts(&[" ", text.as_str()]),
+        Ok(_) => answer.text("no text"),
         Err(fault) => refused(alloc, fault),
     }
 }
 
 /// The quoted text in angle brackets that the characters begin with, and what follows it, or the fault.
-pub(crate) fn shown_quoted(alloc: Global, bytes: &[u8]) -> Result<String, Stop> {
+pub(crate) fn shown_quoted(alloc: Global, bytes: &[u8]) -> Result<Answer, Stop> {
     match characters(alloc, bytes) {
-        Ok(text) => Ok(quoted(alloc, text.as_slice())?),
-        Err(fault) => refused(alloc, fault),
+        Ok(text) => Ok(quoted(alloc, text.as_slice())),
+        Err(fault) => Ok(refused(alloc, fault)),
     }
 }
 
-fn quoted(alloc: Global, text: &[char]) -> Result<String, Stop> {
+fn quoted(alloc: Global, text: &[char]) -> Answer {
     match read_quoted(alloc, NUMBER, text) {
         Ok(quoted) => {
             let rest = quoted.rest();
             let text = quoted.into_text();
-            let text = text.as_str();
-            let mut out = format!(in alloc; "<{text}>")?;
-            show_all(&mut out, rest)?;
-            Ok(out)
+            let answer = Answer::new(alloc).texts(&["<", text.as_str(), ">"]);
+            with_all(alloc, answer, rest)
         }
         Err(fault) => refused(alloc, fault),
     }

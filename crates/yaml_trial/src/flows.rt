@@ -1,20 +1,21 @@
 //! The calls on the flows of a YAML text.
 
-use crate::yaml_nodes::shown;
+use crate::yaml_nodes::with_node;
 use std::alloc::{AllocError, Global};
-use trial_rows::Stop;
+use trial_rows::{Answer, Stop, number_of, text_of};
 use yaml_flows::{FaultPlace, FlowFault, read_flow};
 use yaml_lines::{MOST_NODES, YamlKind};
 
 /// The node of a flow with room for so many nodes within one another, or the fault.
-pub(crate) fn read(alloc: Global, text: &str, room: &str) -> Result<String, Stop> {
-    let room: usize = room.parse().ok().ok_or(Stop::BadLine)?;
+pub(crate) fn read(alloc: Global, text: &[u8], room: &[u8]) -> Result<Answer, Stop> {
+    let text = text_of(text)?;
+    let room = number_of(room)? as usize;
     if room > MOST_NODES {
         return Err(Stop::BadLine);
     }
     let all = characters(alloc, text)?;
     match read_flow(alloc, all.as_slice(), room) {
-        Ok(node) => shown(alloc, &node),
+        Ok(node) => Ok(with_node(Answer::new(alloc), &node)),
         Err(fault) => refused(alloc, text, fault),
     }
 }
@@ -24,29 +25,35 @@ fn characters(alloc: Global, text: &str) -> Result<Vec<char>, AllocError> {
 }
 
 /// A fault's kind, and its line from 1 on where it isn't the end of the text.
-fn refused(alloc: Global, text: &str, fault: FlowFault) -> Result<String, Stop> {
-    let kind = fault.kind;
+fn refused(alloc: Global, text: &str, fault: FlowFault) -> Result<Answer, Stop> {
+    let answer = Answer::new(alloc).debug(fault.kind);
     match fault.place {
-        FaultPlace::Within { feeds_left } => {
-            let feeds = text.chars().filter(|c| *c == '\n').count();
-            let before = feeds.checked_sub(feeds_left).ok_or(Stop::BadLine)?;
-            let line = before.saturating_add(1);
-            Ok(format!(in alloc; "{kind:?} in line {line}")?)
-        }
-        FaultPlace::End => Ok(format!(in alloc; "{kind:?} at the end")?),
+        FaultPlace::Within { feeds_left } => match feeds_in(text).checked_sub(feeds_left) {
+            Some(before) => Ok(answer.text(" in line ").shown(before.saturating_add(1))),
+            None => Err(Stop::BadLine),
+        },
+        FaultPlace::End => Ok(answer.text(" at the end")),
     }
 }
 
+fn feeds_in(text: &str) -> usize {
+    text.chars().filter(|c| *c == '\n').count()
+}
+
 /// How many beginnings of the text are read, or refused in their last line.
-pub(crate) fn count_beginnings(alloc: Global, text: &str) -> Result<String, Stop> {
-    let all = characters(alloc, text)?;
+pub(crate) fn count_beginnings(alloc: Global, text: &[u8]) -> Result<Answer, Stop> {
+    let all = characters(alloc, text_of(text)?)?;
+    Ok(Answer::new(alloc).shown(beginnings_in(alloc, all.as_slice())))
+}
+
+fn beginnings_in(alloc: Global, all: &[char]) -> usize {
     let mut count = 0usize;
     for at in 0..all.len() {
         if ends_in_last_line(alloc, &all[..at]) {
             count = count.saturating_add(1);
         }
     }
-    Ok(format!(in alloc; "{count}")?)
+    count
 }
 
 fn ends_in_last_line(alloc: Global, text: &[char]) -> bool {
@@ -59,10 +66,10 @@ fn ends_in_last_line(alloc: Global, text: &[char]) -> bool {
     }
 }
 
-/// The node of a flow as text, or `none` where it can't be read.
-pub(crate) fn shown_flow(alloc: Global, all: &[char]) -> Result<String, Stop> {
+/// The node of a flow, or `none` where it can't be read.
+pub(crate) fn shown_flow(alloc: Global, all: &[char]) -> Answer {
     match read_flow(alloc, all, MOST_NODES) {
-        Ok(node) => shown(alloc, &node),
-        Err(_) => Ok(String::from_str(alloc, "none")?),
+        Ok(node) => with_node(Answer::new(alloc), &node),
+        Err(_) => Answer::new(alloc).text("none"),
     }
 }

@@ -1,38 +1,37 @@
 //! The kinds of faults of a YAML text by their names.
 
 use std::alloc::{AllocError, Global};
-use trial_rows::Stop;
+use trial_rows::{Answer, Stop, text_of};
 use yaml_flows::{FaultPlace, FlowFault};
 use yaml_lines::{YamlFault, YamlKind};
 
 /// The fault that a refusal of memory becomes.
-pub(crate) fn fault_of(alloc: Global, name: &str) -> Result<String, Stop> {
+pub(crate) fn fault_of(alloc: Global, name: &[u8]) -> Result<Answer, Stop> {
     match name {
-        "AllocError" => refused(alloc, YamlFault::from(AllocError)),
+        b"AllocError" => Ok(refused(alloc, YamlFault::from(AllocError))),
         _ => Err(Stop::BadLine),
     }
 }
 
 /// A fault's kind by its name, and its line.
-pub(crate) fn refused(alloc: Global, fault: YamlFault) -> Result<String, Stop> {
-    let YamlFault { kind, line } = fault;
-    Ok(format!(in alloc; "{kind:?} in line {line}")?)
+pub(crate) fn refused(alloc: Global, fault: YamlFault) -> Answer {
+    let answer = Answer::new(alloc).debug(fault.kind);
+    answer.text(" in line ").shown(fault.line)
 }
 
 /// The kind's number, what it says, and what a fault of it in line 4 says.
-pub(crate) fn told(alloc: Global, name: &str) -> Result<String, Stop> {
-    let kind = named(name).ok_or(Stop::BadLine)?;
-    let number = kind.number();
-    let fault = YamlFault { kind, line: 4 };
-    Ok(format!(in alloc; "{number}; {kind}; {fault}")?)
+pub(crate) fn told(alloc: Global, name: &[u8]) -> Result<Answer, Stop> {
+    let kind = named(text_of(name)?).ok_or(Stop::BadLine)?;
+    let answer = Answer::new(alloc).shown(kind.number()).text("; ");
+    let answer = answer.shown(kind).text("; ");
+    Ok(answer.shown(YamlFault { kind, line: 4 }))
 }
 
 /// What a fault of this kind at the end of a flow says.
-pub(crate) fn flow_told(alloc: Global, name: &str) -> Result<String, Stop> {
-    let kind = named(name).ok_or(Stop::BadLine)?;
+pub(crate) fn flow_told(alloc: Global, name: &[u8]) -> Result<Answer, Stop> {
+    let kind = named(text_of(name)?).ok_or(Stop::BadLine)?;
     let place = FaultPlace::End;
-    let fault = FlowFault { kind, place };
-    Ok(format!(in alloc; "{fault}")?)
+    Ok(Answer::new(alloc).shown(FlowFault { kind, place }))
 }
 
 fn named(name: &str) -> Option<YamlKind> {

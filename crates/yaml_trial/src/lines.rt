@@ -2,79 +2,94 @@
 
 use crate::kinds::refused;
 use std::alloc::Global;
-use trial_rows::Stop;
-use yaml_lines::{Line, Lines, RawLine, YamlFault, characters, raw_lines, read_lines, text_of};
+use trial_rows::{Answer, Stop};
+use yaml_lines::{Line, Lines, RawLine, characters, raw_lines, read_lines, text_of};
 
 /// The characters as a text, or the fault.
-pub(crate) fn decode(alloc: Global, bytes: &[u8]) -> Result<String, Stop> {
+pub(crate) fn decode(alloc: Global, bytes: &[u8]) -> Result<Answer, Stop> {
     match characters(alloc, bytes) {
-        Ok(text) => Ok(text_of(alloc, text.as_slice())?),
-        Err(fault) => refused(alloc, fault),
+        Ok(text) => Ok(with_all(alloc, Answer::new(alloc), text.as_slice())),
+        Err(fault) => Ok(refused(alloc, fault)),
+    }
+}
+
+/// Adds characters.
+pub(crate) fn with_all(alloc: Global, answer: Answer, characters: &[char]) -> Answer {
+    match text_of(alloc, characters) {
+        Ok(text) => answer.text(text.as_str()),
+        Err(_) => answer.refused(),
     }
 }
 
 /// Each line as `NUMBER/INDENT:CONTENT;`, its block text in angle brackets, and the fault behind them as `!KIND in LINE`.
-pub(crate) fn shown_lines(alloc: Global, bytes: &[u8]) -> Result<String, Stop> {
+pub(crate) fn shown_lines(alloc: Global, bytes: &[u8]) -> Result<Answer, Stop> {
     match characters(alloc, bytes) {
         Ok(text) => {
             let raws = raw_lines(alloc, text.as_slice())?;
             shown_of(alloc, raws.as_slice())
         }
-        Err(fault) => refused(alloc, fault),
+        Err(fault) => Ok(refused(alloc, fault)),
     }
 }
 
-fn shown_of(alloc: Global, raws: &[RawLine<'_>]) -> Result<String, Stop> {
-    let Lines { lines, fault } = read_lines(alloc, raws)?;
-    let mut out = String::new(alloc);
-    for line in &lines {
-        show_line(alloc, &mut out, line)?;
+fn shown_of(alloc: Global, raws: &[RawLine<'_>]) -> Result<Answer, Stop> {
+    let read = read_lines(alloc, raws)?;
+    let answer = with_lines(alloc, read.lines.as_slice());
+    match read.fault {
+        None => Ok(answer),
+        Some(fault) => {
+            let answer = answer.text("!").shown(fault.kind.number());
+            Ok(answer.text(" in ").shown(fault.line))
+        }
     }
-    if let Some(YamlFault { kind, line }) = fault {
-        let kind = kind.number();
-        write!(out, "!{kind} in {line}")?;
-    }
-    Ok(out)
 }
 
-fn show_line(alloc: Global, out: &mut String, line: &Line<'_, '_>) -> Result<(), Stop> {
-    let number = line.number();
-    let indent = line.indent();
-    write!(out, "{number}/{indent}:")?;
-    show_all(out, line.content())?;
-    if let Some(block) = line.block() {
-        let text = block.text(alloc)?;
-        out.push('<')?;
-        out.push_str(text.as_str())?;
-        out.push('>')?;
+fn with_lines(alloc: Global, lines: &[Line<'_, '_>]) -> Answer {
+    let mut answer = Answer::new(alloc);
+    for line in lines {
+        answer = with_block(alloc, with_line(alloc, answer, line), line).text(";");
     }
-    Ok(out.push(';')?)
+    answer
 }
 
-pub(crate) fn show_all(out: &mut String, text: &[char]) -> Result<(), Stop> {
-    for c in text {
-        out.push(*c)?;
+/// Adds a line as `NUMBER/INDENT:CONTENT`.
+pub(crate) fn with_line(alloc: Global, answer: Answer, line: &Line<'_, '_>) -> Answer {
+    let answer = answer.shown(line.number()).text("/");
+    let answer = answer.shown(line.indent()).text(":");
+    with_all(alloc, answer, line.content())
+}
+
+fn with_block(alloc: Global, answer: Answer, line: &Line<'_, '_>) -> Answer {
+    match line.block() {
+        None => answer,
+        Some(block) => match block.text(alloc) {
+            Ok(text) => answer.texts(&["<", text.as_str(), ">"]),
+            Err(_) => answer.refused(),
+        },
     }
-    Ok(())
 }
 
 /// How many lines the text leaves, and how many of them begin a block text, or the fault.
-pub(crate) fn count_lines(alloc: Global, bytes: &[u8]) -> Result<String, Stop> {
+pub(crate) fn count_lines(alloc: Global, bytes: &[u8]) -> Result<Answer, Stop> {
     match characters(alloc, bytes) {
         Ok(text) => {
             let raws = raw_lines(alloc, text.as_slice())?;
             count_of(alloc, raws.as_slice())
         }
-        Err(fault) => refused(alloc, fault),
+        Err(fault) => Ok(refused(alloc, fault)),
     }
 }
 
-fn count_of(alloc: Global, raws: &[RawLine<'_>]) -> Result<String, Stop> {
+fn count_of(alloc: Global, raws: &[RawLine<'_>]) -> Result<Answer, Stop> {
     let Lines { lines, fault } = read_lines(alloc, raws)?;
-    if let Some(fault) = fault {
-        return refused(alloc, fault);
+    match fault {
+        Some(fault) => Ok(refused(alloc, fault)),
+        None => Ok(counts(alloc, lines.as_slice())),
     }
-    let count = lines.len();
+}
+
+fn counts(alloc: Global, lines: &[Line<'_, '_>]) -> Answer {
     let blocks = lines.iter().filter(|line| line.block().is_some()).count();
-    Ok(format!(in alloc; "{count} {blocks}")?)
+    let answer = Answer::new(alloc).shown(lines.len());
+    answer.text(" ").shown(blocks)
 }

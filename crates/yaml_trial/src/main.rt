@@ -2,7 +2,7 @@
 //! answers each by a line. `tests/rows.py` plays its tables by it.
 #![tactic(auto)]
 
-mod answer;
+mod calls;
 mod child_rows;
 mod children;
 mod contents;
@@ -17,35 +17,10 @@ mod texts;
 mod trees;
 mod yaml_nodes;
 
-use answer::answer_to;
-use std::alloc::Global;
-use std::io::Read;
+use calls::Calls;
 use std::process::ExitCode;
-use trial_rows::{Row, Stop, answer_line};
+use trial_rows::play;
 
 fn main(rt: HostRuntime) -> ExitCode {
-    match play(&rt) {
-        Ok(()) => ExitCode::SUCCESS,
-        Err(stop) => {
-            let _said = rt.eprintln(stop.message());
-            ExitCode::from(stop.status())
-        }
-    }
-}
-
-fn play<R: Input + Print + AllocGlobal>(rt: &R) -> Result<(), Stop> {
-    let mut lines = String::new(rt.alloc());
-    rt.reader().read_to_string(&mut lines)?;
-    for line in lines.as_str().lines() {
-        let answer = answered(rt.alloc(), line)?;
-        rt.println(answer.as_str())?;
-    }
-    Ok(())
-}
-
-// The line that answers a line.
-fn answered(alloc: Global, line: &str) -> Result<String, Stop> {
-    let row = Row::read(alloc, line)?;
-    let answer = answer_to(alloc, row.call.as_str(), row.arguments.as_slice())?;
-    answer_line(alloc, answer.as_bytes())
+    play(&rt, &Calls)
 }

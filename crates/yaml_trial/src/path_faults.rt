@@ -2,31 +2,53 @@
 
 use hook_base::PathFault;
 use std::alloc::Global;
-use trial_rows::Stop;
+use trial_rows::{Answer, Stop};
+
+const FAULTS: &[PathFault] = &[
+    PathFault::Empty,
+    PathFault::Absolute,
+    PathFault::DotPart,
+    PathFault::EmptyPart,
+    PathFault::TooLong,
+    PathFault::ControlByte,
+    PathFault::UnderGit,
+    PathFault::OutOfMemory,
+];
 
 /// A refusal's number and its name.
-pub(crate) fn refused(alloc: Global, fault: PathFault) -> Result<String, Stop> {
-    let number = fault.number();
-    Ok(format!(in alloc; "{number} {fault:?}")?)
+pub(crate) fn refused(alloc: Global, fault: PathFault) -> Answer {
+    Answer::new(alloc)
+        .shown(fault.number())
+        .text(" ")
+        .debug(fault)
 }
 
 /// What a refusal of this name says, behind its number.
-pub(crate) fn told(alloc: Global, name: &str) -> Result<String, Stop> {
-    let fault = named(name).ok_or(Stop::BadLine)?;
-    let number = fault.number();
-    Ok(format!(in alloc; "{number} {fault}")?)
+pub(crate) fn told(alloc: Global, name: &[u8]) -> Result<Answer, Stop> {
+    for fault in FAULTS {
+        if name_of(*fault).as_bytes() == name {
+            return Ok(shown(alloc, *fault));
+        }
+    }
+    Err(Stop::BadLine)
 }
 
-fn named(name: &str) -> Option<PathFault> {
-    match name {
-        "Empty" => Some(PathFault::Empty),
-        "Absolute" => Some(PathFault::Absolute),
-        "DotPart" => Some(PathFault::DotPart),
-        "EmptyPart" => Some(PathFault::EmptyPart),
-        "TooLong" => Some(PathFault::TooLong),
-        "ControlByte" => Some(PathFault::ControlByte),
-        "UnderGit" => Some(PathFault::UnderGit),
-        "OutOfMemory" => Some(PathFault::OutOfMemory),
-        _ => None,
+fn shown(alloc: Global, fault: PathFault) -> Answer {
+    Answer::new(alloc)
+        .shown(fault.number())
+        .text(" ")
+        .shown(fault)
+}
+
+fn name_of(fault: PathFault) -> &'static str {
+    match fault {
+        PathFault::Empty => "Empty",
+        PathFault::Absolute => "Absolute",
+        PathFault::DotPart => "DotPart",
+        PathFault::EmptyPart => "EmptyPart",
+        PathFault::TooLong => "TooLong",
+        PathFault::ControlByte => "ControlByte",
+        PathFault::UnderGit => "UnderGit",
+        PathFault::OutOfMemory => "OutOfMemory",
     }
 }

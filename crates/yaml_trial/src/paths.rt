@@ -4,38 +4,43 @@ use crate::path_faults::refused;
 use hook_base::{OutOfMemory, RepoPath};
 use std::alloc::Global;
 use std::cmp::Ordering;
-use trial_rows::Stop;
+use trial_rows::{Answer, Stop, text_of};
 
 /// What the refusal of memory says.
-pub(crate) fn refusal(alloc: Global) -> Result<String, Stop> {
-    Ok(OutOfMemory.to_string(alloc)?)
+pub(crate) fn refusal(alloc: Global) -> Result<Answer, Stop> {
+    Ok(Answer::new(alloc).shown(OutOfMemory))
 }
 
 /// The path's text, or the refusal.
-pub(crate) fn read(alloc: Global, text: &str) -> Result<String, Stop> {
-    match RepoPath::read(alloc, text) {
-        Ok(path) => Ok(String::from_str(alloc, path.as_str())?),
-        Err(fault) => refused(alloc, fault),
+pub(crate) fn read(alloc: Global, text: &[u8]) -> Result<Answer, Stop> {
+    match RepoPath::read(alloc, text_of(text)?) {
+        Ok(path) => Ok(Answer::new(alloc).text(path.as_str())),
+        Err(fault) => Ok(refused(alloc, fault)),
     }
 }
 
 /// The path of a message, and whether its copy is the same.
-pub(crate) fn message(alloc: Global) -> Result<String, Stop> {
+pub(crate) fn message(alloc: Global) -> Result<Answer, Stop> {
     let path = RepoPath::message(alloc)?;
-    let copy = path.clone()?;
-    shown(alloc, path.as_str(), copy == path)
-}
-
-fn shown(alloc: Global, text: &str, is_same: bool) -> Result<String, Stop> {
-    Ok(format!(in alloc; "{text} {is_same}")?)
+    let is_same = path.clone()? == path;
+    Ok(
+        Answer::new(alloc)
+            .text(path.as_str())
+            .text(" ")
+            .shown(is_same),
+    )
 }
 
 /// How two paths are ordered, and whether they are the same.
-pub(crate) fn order(alloc: Global, one: &str, other: &str) -> Result<String, Stop> {
-    let one = RepoPath::read(alloc, one)?;
-    let other = RepoPath::read(alloc, other)?;
-    let is_same = one == other;
-    Ok(format!(in alloc; "{} {is_same}", word_of(one.cmp(&other)))?)
+pub(crate) fn order(alloc: Global, one: &[u8], other: &[u8]) -> Result<Answer, Stop> {
+    let one = read_path(alloc, one)?;
+    let other = read_path(alloc, other)?;
+    let answer = Answer::new(alloc).text(word_of(one.cmp(&other)));
+    Ok(answer.text(" ").shown(one == other))
+}
+
+fn read_path(alloc: Global, text: &[u8]) -> Result<RepoPath, Stop> {
+    Ok(RepoPath::read(alloc, text_of(text)?)?)
 }
 
 fn word_of(order: Ordering) -> &'static str {

@@ -2,71 +2,72 @@
 
 use hook_base::{Bytes, Change, FileEntry, Mode, RepoPath, Tree};
 use std::alloc::Global;
-use trial_rows::{Stop, text_of};
+use trial_rows::{Answer, Stop};
 
-pub(crate) fn entry_of(alloc: Global, mode: &str, bytes: &[u8]) -> Result<FileEntry, Stop> {
-    let mode = match mode {
-        "plain" => Mode::Plain,
-        "executable" => Mode::Executable,
-        _ => return Err(Stop::BadLine),
-    };
-    let bytes = Bytes::copy_of(alloc, bytes)?;
+/// The two parts of a text around its first blank, the whole and nothing where it has none.
+pub(crate) fn parted(text: &str) -> (&str, &str) {
+    text.split_once(' ').unwrap_or((text, ""))
+}
+
+pub(crate) fn entry_of(alloc: Global, mode: &str, bytes: &str) -> Result<FileEntry, Stop> {
+    let mode = mode_of(mode)?;
+    let bytes = Bytes::copy_of(alloc, bytes.as_bytes())?;
     Ok(FileEntry { mode, bytes })
+}
+
+fn mode_of(word: &str) -> Result<Mode, Stop> {
+    match word {
+        "plain" => Ok(Mode::Plain),
+        "executable" => Ok(Mode::Executable),
+        _ => Err(Stop::BadLine),
+    }
 }
 
 /// The change of a path and, behind a blank, the bytes where it isn't gone.
 pub(crate) fn read_change(alloc: Global, text: &str) -> Result<Change, Stop> {
+    let now = now_of(alloc, text)?;
+    let path = RepoPath::read(alloc, parted(text).0)?;
+    Ok(Change { path, now })
+}
+
+fn now_of(alloc: Global, text: &str) -> Result<Option<Bytes>, Stop> {
     match text.split_once(' ') {
-        Some((path, bytes)) => {
-            let path = RepoPath::read(alloc, path)?;
-            let now = Some(Bytes::copy_of(alloc, bytes.as_bytes())?);
-            Ok(Change { path, now })
-        }
-        None => {
-            let path = RepoPath::read(alloc, text)?;
-            Ok(Change { path, now: None })
-        }
+        Some((_path, bytes)) => Ok(Some(Bytes::copy_of(alloc, bytes.as_bytes())?)),
+        None => Ok(None),
     }
 }
 
-/// Writes bytes as a text, which those of a row are.
-pub(crate) fn show_bytes(out: &mut String, bytes: &[u8]) -> Result<(), Stop> {
-    Ok(out.push_str(text_of(bytes)?)?)
-}
-
-/// Writes the mode and the bytes of a file.
-pub(crate) fn show_entry(out: &mut String, entry: &FileEntry) -> Result<(), Stop> {
-    out.push_str(match entry.mode {
+/// Adds the mode and the bytes of a file.
+pub(crate) fn with_entry(answer: Answer, entry: &FileEntry) -> Answer {
+    let mode = match entry.mode {
         Mode::Plain => "plain=",
         Mode::Executable => "executable=",
-    })?;
-    show_bytes(out, entry.bytes.as_slice())
+    };
+    answer.text(mode).bytes(entry.bytes.as_slice())
 }
 
-/// Writes each file of a tree, after a blank.
-pub(crate) fn show_tree(out: &mut String, tree: &Tree) -> Result<(), Stop> {
+/// Adds each file of a tree, after a blank.
+pub(crate) fn with_tree(answer: Answer, tree: &Tree) -> Answer {
+    let mut answer = answer;
     for at in 0..tree.len() {
         let file = tree.entry(at);
-        out.push(' ')?;
-        out.push_str(file.path.as_str())?;
-        out.push(':')?;
-        show_entry(out, &file.entry)?;
+        answer = with_entry(answer.texts(&[" ", file.path.as_str(), ":"]), &file.entry);
     }
-    Ok(())
+    answer
 }
 
-/// Writes each change, after a blank.
-pub(crate) fn show_changes(out: &mut String, changes: &[Change]) -> Result<(), Stop> {
+/// Adds each change, after a blank.
+pub(crate) fn with_changes(answer: Answer, changes: &[Change]) -> Answer {
+    let mut answer = answer;
     for change in changes {
-        out.push(' ')?;
-        out.push_str(change.path.as_str())?;
-        match &change.now {
-            None => out.push_str(" gone")?,
-            Some(bytes) => {
-                out.push('=')?;
-                show_bytes(out, bytes.as_slice())?;
-            }
-        }
+        answer = with_change(answer.texts(&[" ", change.path.as_str()]), change);
     }
-    Ok(())
+    answer
+}
+
+fn with_change(answer: Answer, change: &Change) -> Answer {
+    match &change.now {
+        None => answer.text(" gone"),
+        Some(bytes) => answer.text("=").bytes(bytes.as_slice()),
+    }
 }

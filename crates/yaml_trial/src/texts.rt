@@ -2,37 +2,37 @@
 
 use crate::flows::shown_flow;
 use crate::kinds::refused;
-use crate::yaml_nodes::shown;
+use crate::yaml_nodes::with_node;
 use std::alloc::Global;
-use trial_rows::Stop;
+use trial_rows::{Answer, Stop};
 use yaml_lines::characters;
 use yaml_profile::{YamlFault, YamlKind, read};
 
 /// The node of a text, or the fault.
-pub(crate) fn read_text(alloc: Global, bytes: &[u8]) -> Result<String, Stop> {
+pub(crate) fn read_text(alloc: Global, bytes: &[u8]) -> Answer {
     match read(alloc, bytes) {
-        Ok(node) => shown(alloc, &node),
+        Ok(node) => with_node(Answer::new(alloc), &node),
         Err(fault) => refused(alloc, fault),
     }
 }
 
 /// The node of a text as its `Debug` has it, or the fault.
-pub(crate) fn debug_text(alloc: Global, bytes: &[u8]) -> Result<String, Stop> {
+pub(crate) fn debug_text(alloc: Global, bytes: &[u8]) -> Answer {
     match read(alloc, bytes) {
-        Ok(node) => Ok(format!(in alloc; "{node:?}")?),
+        Ok(node) => Answer::new(alloc).debug(&node),
         Err(fault) => refused(alloc, fault),
     }
 }
 
 /// How many beginnings of the bytes are read, or refused at one of their lines.
-pub(crate) fn count_beginnings(alloc: Global, bytes: &[u8]) -> Result<String, Stop> {
+pub(crate) fn count_beginnings(alloc: Global, bytes: &[u8]) -> Answer {
     let mut count = 0usize;
     for at in 0..bytes.len() {
         if is_read_or_refused(alloc, &bytes[..at]) {
             count = count.saturating_add(1);
         }
     }
-    Ok(format!(in alloc; "{count}")?)
+    Answer::new(alloc).shown(count)
 }
 
 fn is_read_or_refused(alloc: Global, bytes: &[u8]) -> bool {
@@ -45,14 +45,14 @@ fn is_read_or_refused(alloc: Global, bytes: &[u8]) -> bool {
 }
 
 /// How many beginnings of the bytes are read, or refused as `Layout` in their last line.
-pub(crate) fn count_open_beginnings(alloc: Global, bytes: &[u8]) -> Result<String, Stop> {
+pub(crate) fn count_open_beginnings(alloc: Global, bytes: &[u8]) -> Answer {
     let mut count = 0usize;
     for at in 0..bytes.len() {
         if is_read_or_open(alloc, &bytes[..at]) {
             count = count.saturating_add(1);
         }
     }
-    Ok(format!(in alloc; "{count}")?)
+    Answer::new(alloc).shown(count)
 }
 
 fn is_read_or_open(alloc: Global, bytes: &[u8]) -> bool {
@@ -67,19 +67,26 @@ fn lines_in(bytes: &[u8]) -> usize {
 }
 
 /// The node of a text, and that of the reader of flows, which looks for no block texts; `none` where one can't be read.
-pub(crate) fn read_twice(alloc: Global, bytes: &[u8]) -> Result<String, Stop> {
-    let whole = match read(alloc, bytes) {
-        Ok(node) => shown(alloc, &node)?,
-        Err(_) => String::from_str(alloc, "none")?,
-    };
-    let Ok(all) = characters(alloc, bytes) else {
-        return Err(Stop::BadLine);
-    };
-    let lone = shown_flow(alloc, all.as_slice())?;
-    if whole == lone {
-        return Ok(String::from_str(alloc, "same")?);
+pub(crate) fn read_twice(alloc: Global, bytes: &[u8]) -> Result<Answer, Stop> {
+    let whole = shown_whole(alloc, bytes);
+    match characters(alloc, bytes) {
+        Ok(all) => Ok(told_twice(alloc, &whole, &shown_flow(alloc, all.as_slice()))),
+        Err(_) => Err(Stop::BadLine),
     }
-    let whole = whole.as_str();
-    let lone = lone.as_str();
-    Ok(format!(in alloc; "{whole} as a text, {lone} as a flow")?)
+}
+
+fn shown_whole(alloc: Global, bytes: &[u8]) -> Answer {
+    match read(alloc, bytes) {
+        Ok(node) => with_node(Answer::new(alloc), &node),
+        Err(_) => Answer::new(alloc).text("none"),
+    }
+}
+
+fn told_twice(alloc: Global, whole: &Answer, lone: &Answer) -> Answer {
+    let answer = Answer::new(alloc);
+    if whole.told() == lone.told() {
+        return answer.text("same");
+    }
+    let answer = answer.bytes(whole.told()).text(" as a text, ");
+    answer.bytes(lone.told()).text(" as a flow")
 }

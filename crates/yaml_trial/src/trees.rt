@@ -1,144 +1,146 @@
 //! A play on two trees and on changes that wait, one step an argument. What the steps show is parted by semicolons.
 
-use crate::steps::{entry_of, read_change, show_changes, show_entry, show_tree};
+use crate::steps::{entry_of, parted, read_change, with_changes, with_entry, with_tree};
 use hook_base::{Change, Changes, RepoPath, Tree};
 use std::alloc::Global;
 use std::mem;
-use trial_rows::{Stop, text_of};
+use trial_rows::{Answer, Stop, text_of};
 
 /// What the steps show.
-pub(crate) fn answer(alloc: Global, words: &[Vec<u8>]) -> Result<String, Stop> {
+pub(crate) fn answer(alloc: Global, words: &[Vec<u8>]) -> Result<Answer, Stop> {
     let mut trees = Trees {
+        alloc,
         one: Tree::new(alloc),
         other: Tree::new(alloc),
         waiting: Vec::new(alloc),
     };
-    let mut out = String::new(alloc);
+    let mut answer = Answer::new(alloc);
     for word in words {
-        trees.play(alloc, &mut out, text_of(word.as_slice())?)?;
+        answer = trees.play(answer, text_of(word.as_slice())?)?;
     }
-    Ok(out)
+    Ok(answer)
 }
 
 #[derive(Drop)]
 struct Trees {
+    alloc: Global,
     one: Tree,
     other: Tree,
     waiting: Vec<Change>,
 }
 
 impl Trees {
-    fn play(&mut self, alloc: Global, out: &mut String, step: &str) -> Result<(), Stop> {
-        let (word, rest) = step.split_once(' ').unwrap_or((step, ""));
+    fn play(&mut self, answer: Answer, step: &str) -> Result<Answer, Stop> {
+        let (word, rest) = parted(step);
         match word {
-            "put" => self.put(alloc, rest),
-            "copy" => {
-                self.other = self.one.copy()?;
-                Ok(())
+            "put" | "copy" | "change" | "apply" | "absorb" => {
+                self.change(word, rest)?;
+                Ok(answer)
             }
-            "change" => Ok(self.waiting.push(read_change(alloc, rest)?)?),
+            _ => Ok(self.show(answer, word, rest)?.text(";")),
+        }
+    }
+
+    /// Plays a step that shows nothing.
+    fn change(&mut self, word: &str, rest: &str) -> Result<(), Stop> {
+        match word {
+            "put" => self.put(rest),
+            "copy" => self.copy(),
+            "change" => self.wait_for(rest),
             "apply" => Ok(self.one.apply(self.waiting.as_slice())?),
-            "absorb" => {
-                let waiting = mem::replace(&mut self.waiting, Vec::new(alloc));
-                Ok(self.one.absorb(waiting)?)
-            }
-            _ => {
-                self.show(alloc, out, word, rest)?;
-                Ok(out.push(';')?)
-            }
+            _ => self.absorb(),
+        }
+    }
+
+    fn copy(&mut self) -> Result<(), Stop> {
+        self.other = self.one.copy()?;
+        Ok(())
+    }
+
+    fn absorb(&mut self) -> Result<(), Stop> {
+        let waiting = self.take();
+        Ok(self.one.absorb(waiting)?)
+    }
+
+    fn wait_for(&mut self, rest: &str) -> Result<(), Stop> {
+        let change = read_change(self.alloc, rest)?;
+        Ok(self.waiting.push(change)?)
+    }
+
+    fn take(&mut self) -> Vec<Change> {
+        mem::replace(&mut self.waiting, Vec::new(self.alloc))
+    }
+
+    /// The words are a tree, a mode, a path and the bytes.
+    fn put(&mut self, rest: &str) -> Result<(), Stop> {
+        let (name, rest) = parted(rest);
+        let (mode, rest) = parted(rest);
+        let (path, bytes) = parted(rest);
+        let entry = entry_of(self.alloc, mode, bytes)?;
+        let path = RepoPath::read(self.alloc, path)?;
+        match name {
+            "one" => Ok(self.one.put(path, entry)?),
+            _ => Ok(self.other.put(path, entry)?),
         }
     }
 
     /// Plays a step that shows something.
-    fn show(
-        &mut self,
-        alloc: Global,
-        out: &mut String,
-        word: &str,
-        rest: &str,
-    ) -> Result<(), Stop> {
+    fn show(&mut self, answer: Answer, word: &str, rest: &str) -> Result<Answer, Stop> {
         match word {
-            "files" => show_tree(out, self.tree(rest)?),
-            "count" => show_count(out, self.tree(rest)?),
-            "get" => self.get(alloc, out, rest),
-            "remove" => self.remove(alloc, out, rest),
-            "same" => Ok(show_same(out, &self.one, &self.other)?),
-            "changes" => show_between(out, &self.one, &self.other),
-            "take" => take(out, mem::replace(&mut self.waiting, Vec::new(alloc))),
+            "files" => Ok(with_tree(answer, self.tree(rest))),
+            "count" => Ok(with_count(answer, self.tree(rest))),
+            "get" => self.get(answer, rest),
+            "remove" => self.remove(answer, rest),
+            "same" => Ok(with_sameness(answer, &self.one, &self.other)),
+            "changes" => with_difference(answer, &self.one, &self.other),
+            "take" => Ok(with_taken(answer, self.take())),
             _ => Err(Stop::BadLine),
         }
     }
 
-    fn tree(&self, name: &str) -> Result<&Tree, Stop> {
-        match name {
-            "one" => Ok(&self.one),
-            "other" => Ok(&self.other),
-            _ => Err(Stop::BadLine),
-        }
-    }
-
-    /// The words are a tree, a mode, a path and the bytes.
-    fn put(&mut self, alloc: Global, rest: &str) -> Result<(), Stop> {
-        let (name, rest) = rest.split_once(' ').ok_or(Stop::BadLine)?;
-        let (mode, rest) = rest.split_once(' ').ok_or(Stop::BadLine)?;
-        let (path, bytes) = rest.split_once(' ').ok_or(Stop::BadLine)?;
-        let path = RepoPath::read(alloc, path)?;
-        let entry = entry_of(alloc, mode, bytes.as_bytes())?;
-        match name {
-            "one" => Ok(self.one.put(path, entry)?),
-            "other" => Ok(self.other.put(path, entry)?),
-            _ => Err(Stop::BadLine),
+    fn tree(&self, name: &str) -> &Tree {
+        if name == "one" {
+            &self.one
+        } else {
+            &self.other
         }
     }
 
     /// Shows what stands at a path of the first tree.
-    fn get(&self, alloc: Global, out: &mut String, path: &str) -> Result<(), Stop> {
-        let path = RepoPath::read(alloc, path)?;
-        match self.one.get(&path) {
-            Some(entry) => show_entry(out, entry),
-            None => Ok(out.push_str("none")?),
+    fn get(&self, answer: Answer, path: &str) -> Result<Answer, Stop> {
+        match self.one.get(&RepoPath::read(self.alloc, path)?) {
+            Some(entry) => Ok(with_entry(answer, entry)),
+            None => Ok(answer.text("none")),
         }
     }
 
     /// Removes a path of the first tree, and shows whether it was there.
-    fn remove(&mut self, alloc: Global, out: &mut String, path: &str) -> Result<(), Stop> {
-        let path = RepoPath::read(alloc, path)?;
-        let was_there = self.one.remove(&path);
-        Ok(write!(out, "{was_there}")?)
+    fn remove(&mut self, answer: Answer, path: &str) -> Result<Answer, Stop> {
+        let path = RepoPath::read(self.alloc, path)?;
+        Ok(answer.shown(self.one.remove(&path)))
     }
 }
 
-fn show_count(out: &mut String, tree: &Tree) -> Result<(), Stop> {
-    let count = tree.len();
-    let is_empty = tree.is_empty();
-    Ok(write!(out, "{count} {is_empty}")?)
+fn with_count(answer: Answer, tree: &Tree) -> Answer {
+    answer.shown(tree.len()).text(" ").shown(tree.is_empty())
 }
 
-fn show_same(out: &mut String, one: &Tree, other: &Tree) -> Result<(), Stop> {
-    let is_same = one == other;
-    let is_other = one != other;
-    Ok(write!(out, "{is_same} {is_other}")?)
+fn with_sameness(answer: Answer, one: &Tree, other: &Tree) -> Answer {
+    answer.shown(one == other).text(" ").shown(one != other)
 }
 
 /// Shows the changes from one tree to the other, and whether a copy of them is the same.
-fn show_between(out: &mut String, one: &Tree, other: &Tree) -> Result<(), Stop> {
+fn with_difference(answer: Answer, one: &Tree, other: &Tree) -> Result<Answer, Stop> {
     let changes = one.changes_to(other)?;
     let is_same = changes.clone()? == changes;
-    let count = changes.len();
-    write!(out, "{count} {is_same}")?;
-    show_changes(out, changes.as_slice())
+    let answer = answer.shown(changes.len()).text(" ").shown(is_same);
+    Ok(with_changes(answer, changes.as_slice()))
 }
 
 /// Shows whether the changes are taken, or how many are given back.
-fn take(out: &mut String, waiting: Vec<Change>) -> Result<(), Stop> {
+fn with_taken(answer: Answer, waiting: Vec<Change>) -> Answer {
     match Changes::from_rising(waiting) {
-        Ok(changes) => {
-            out.push_str("taken")?;
-            show_changes(out, changes.as_slice())
-        }
-        Err(back) => {
-            out.push_str("given back")?;
-            show_changes(out, back.as_slice())
-        }
+        Ok(changes) => with_changes(answer.text("taken"), changes.as_slice()),
+        Err(back) => with_changes(answer.text("given back"), back.as_slice()),
     }
 }

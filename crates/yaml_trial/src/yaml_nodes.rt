@@ -1,69 +1,66 @@
 //! Nodes as the tables have them.
 
-use std::alloc::Global;
-use trial_rows::Stop;
+use trial_rows::Answer;
 use yaml_lines::Node;
 
-/// `'a'` is an unquoted text or a key, `"a"` a quoted text, and `None` an empty place.
-pub(crate) fn shown(alloc: Global, node: &Node) -> Result<String, Stop> {
-    let mut out = String::new(alloc);
-    show(node, &mut out)?;
-    Ok(out)
+/// Adds a node: `'a'` is an unquoted text or a key, `"a"` a quoted text, and `None` an empty place.
+pub(crate) fn with_node(answer: Answer, node: &Node) -> Answer {
+    let mut out = answer;
+    show(node, &mut out);
+    out
 }
 
-fn show(node: &Node, out: &mut String) -> Result<(), Stop> {
+fn show(node: &Node, out: &mut Answer) {
     match node {
         Node::Text { text, quoted } => {
-            show_text(out, text.as_str(), if *quoted { '"' } else { '\'' })
+            show_text(out, text.as_bytes(), if *quoted { b'"' } else { b'\'' })
         }
         Node::List(items) => {
-            out.push('[')?;
+            out.add(b"[");
             for (i, item) in items.iter().enumerate() {
-                show_comma(out, i)?;
-                show(item, out)?;
+                show_comma(out, i);
+                show(item, out);
             }
-            Ok(out.push(']')?)
+            out.add(b"]");
         }
         Node::Table(rows) => {
-            out.push('{')?;
+            out.add(b"{");
             for (i, row) in rows.iter().enumerate() {
-                show_comma(out, i)?;
-                show_text(out, row.0.as_str(), '\'')?;
-                out.push_str(": ")?;
-                show(&row.1, out)?;
+                show_comma(out, i);
+                show_text(out, row.0.as_bytes(), b'\'');
+                out.add(b": ");
+                show(&row.1, out);
             }
-            Ok(out.push('}')?)
+            out.add(b"}");
         }
-        Node::Empty => Ok(out.push_str("None")?),
+        Node::Empty => out.add(b"None"),
     }
 }
 
-/// Writes the comma before every item but the first.
-fn show_comma(out: &mut String, at: usize) -> Result<(), Stop> {
-    Ok(out.push_str(if at > 0 { ", " } else { "" })?)
+/// Adds the comma before every item but the first.
+fn show_comma(out: &mut Answer, at: usize) {
+    if at > 0 {
+        out.add(b", ");
+    }
 }
 
-/// Writes a text between two marks.
-fn show_text(out: &mut String, text: &str, mark: char) -> Result<(), Stop> {
-    out.push(mark)?;
-    for c in text.chars() {
-        show_character(out, c, mark)?;
+/// Adds a text between two marks.
+fn show_text(out: &mut Answer, text: &[u8], mark: u8) {
+    out.add(&[mark]);
+    for byte in text {
+        show_byte(out, *byte, mark);
     }
-    Ok(out.push(mark)?)
+    out.add(&[mark]);
 }
 
-fn show_character(out: &mut String, c: char, mark: char) -> Result<(), Stop> {
-    match c {
-        '\n' => out.push_str("\\n")?,
-        '\t' => out.push_str("\\t")?,
-        '\r' => out.push_str("\\r")?,
-        '\0' => out.push_str("\\0")?,
-        '\\' => out.push_str("\\\\")?,
-        _ if c == mark => {
-            out.push('\\')?;
-            out.push(c)?;
-        }
-        _ => out.push(c)?,
+fn show_byte(out: &mut Answer, byte: u8, mark: u8) {
+    match byte {
+        b'\n' => out.add(b"\\n"),
+        b'\t' => out.add(b"\\t"),
+        b'\r' => out.add(b"\\r"),
+        b'\0' => out.add(b"\\0"),
+        b'\\' => out.add(b"\\\\"),
+        _ if byte == mark => out.add(&[b'\\', byte]),
+        _ => out.add(&[byte]),
     }
-    Ok(())
 }

@@ -1,0 +1,91 @@
+//! Which call a name is.
+
+use crate::{children, contents, copies, flows, kinds, lines, path_faults, paths, texts, trees};
+use std::alloc::Global;
+use trial_rows::{Answer, Answers, Row, Stop};
+
+/// The calls of the program.
+pub(crate) struct Calls;
+
+impl Answers for Calls {
+    fn answer_to(&self, alloc: Global, row: &Row) -> Result<Answer, Stop> {
+        of_row(alloc, row.call.as_str(), row.arguments.as_slice())
+    }
+}
+
+// The calls stand in several functions, each of which knows the next, since one with many arms takes the checker long.
+fn of_row(alloc: Global, name: &str, words: &[Vec<u8>]) -> Result<Answer, Stop> {
+    match name {
+        "trees" => trees::answer(alloc, words),
+        "children" => children::answer(alloc, words),
+        "copy_texts" => copies::copy_all(alloc, words),
+        _ => by_count(alloc, name, words),
+    }
+}
+
+fn by_count(alloc: Global, name: &str, words: &[Vec<u8>]) -> Result<Answer, Stop> {
+    match words {
+        [] => of_none(alloc, name),
+        [word] => of_lines(alloc, name, word.as_slice()),
+        [one, other] => of_two(alloc, name, one.as_slice(), other.as_slice()),
+        _ => Err(Stop::BadLine),
+    }
+}
+
+fn of_none(alloc: Global, name: &str) -> Result<Answer, Stop> {
+    match name {
+        "message_path" => paths::message(alloc),
+        "out_of_memory" => paths::refusal(alloc),
+        _ => Err(Stop::BadLine),
+    }
+}
+
+fn of_two(alloc: Global, name: &str, one: &[u8], other: &[u8]) -> Result<Answer, Stop> {
+    match name {
+        "order_paths" => paths::order(alloc, one, other),
+        "copy_bytes" => copies::copy_bytes(alloc, one, other),
+        "read_flow" => flows::read(alloc, one, other),
+        _ => Err(Stop::BadLine),
+    }
+}
+
+fn of_lines(alloc: Global, name: &str, bytes: &[u8]) -> Result<Answer, Stop> {
+    match name {
+        "characters" => lines::decode(alloc, bytes),
+        "read_lines" => lines::shown_lines(alloc, bytes),
+        "count_lines" => lines::count_lines(alloc, bytes),
+        "read_content" => contents::shown_content(alloc, bytes),
+        "read_quoted" => contents::shown_quoted(alloc, bytes),
+        _ => of_texts(alloc, name, bytes),
+    }
+}
+
+fn of_texts(alloc: Global, name: &str, bytes: &[u8]) -> Result<Answer, Stop> {
+    match name {
+        "read_yaml" => Ok(texts::read_text(alloc, bytes)),
+        "debug_yaml" => Ok(texts::debug_text(alloc, bytes)),
+        "read_twice" => texts::read_twice(alloc, bytes),
+        "count_beginnings" => Ok(texts::count_beginnings(alloc, bytes)),
+        "count_open_beginnings" => Ok(texts::count_open_beginnings(alloc, bytes)),
+        _ => of_paths(alloc, name, bytes),
+    }
+}
+
+fn of_paths(alloc: Global, name: &str, text: &[u8]) -> Result<Answer, Stop> {
+    match name {
+        "read_path" => paths::read(alloc, text),
+        "path_fault" => path_faults::told(alloc, text),
+        "copy_text" => copies::copy_text(alloc, text),
+        _ => of_kinds(alloc, name, text),
+    }
+}
+
+fn of_kinds(alloc: Global, name: &str, text: &[u8]) -> Result<Answer, Stop> {
+    match name {
+        "count_flow_beginnings" => flows::count_beginnings(alloc, text),
+        "yaml_kind" => kinds::told(alloc, text),
+        "yaml_fault_of" => kinds::fault_of(alloc, text),
+        "flow_fault" => kinds::flow_told(alloc, text),
+        _ => Err(Stop::BadLine),
+    }
+}
