@@ -12,9 +12,9 @@ use commit_flow::Host;
 use hook_base::Items;
 use hook_cli::{Line, command_over};
 use repository_files::{
-    Before, DatabaseOver, StoreOver, leave_store, look_at_store, open_database, open_store,
-    take_lock,
+    Before, DatabaseOver, leave_database, look_at_store, open_database, open_store, take_lock,
 };
+use sqlite::{Alter, Connection};
 use sqlite_disk::Disk;
 use std::io;
 
@@ -37,8 +37,8 @@ pub(crate) fn host_command(rt: &HostRuntime, line: &Line) -> Result<u8, Stop>
     do_over(rt, line, bytes.as_slice(), &mut runs, &before, conn)
 }
 
-// Does what a line asks of the store in a database, and leaves the database. This and what it calls say it of files of any
-// kind: what is said of those that the program has takes the checker minutes.
+// Does what a line asks of the store in a database, and leaves the database. This says it of files of any kind: what is said
+// of those that the program has takes the checker minutes.
 fn do_over<D: Disk + Drop>(
     rt: &HostRuntime,
     line: &Line,
@@ -52,18 +52,45 @@ fn do_over<D: Disk + Drop>(
     ensures status { IfOk result (λ status. (status ≡ 0) ⊎ (status ≡ 1) ⊎ (status ≡ 3)) }
     ensures stopped { IfErr result IsStopOfOpening }
 {
-    let mut host = Host::over(rt.alloc(), open_store(rt, before, conn)?);
-    let status = answer(rt, line, bytes, runs, &mut host);
-    leave_store(rt, host.into_store(), before);
-    Ok(status)
+    match do_in(rt, line, bytes, runs, before, conn) {
+        Ok((status, conn)) => {
+            leave_database(rt, before, conn);
+            Ok(status)
+        }
+        Err(stop) => Err(stop),
+    }
 }
 
-fn answer<D: Disk + Drop>(
+// Does what a line asks of the store in a database, whatever that is kept in.
+fn do_in<S: Alter + Drop>(
     rt: &HostRuntime,
     line: &Line,
     bytes: &[u8],
     runs: &mut Option<Runs>,
-    host: &mut Host<StoreOver<D>>,
+    before: &Before,
+    conn: Connection<S>,
+) -> Result<(u8, Connection<S>), Stop>
+    requires over { IsOverHost line.now }
+    requires outside { conn.in_transaction ≡ false }
+    ensures status { IfOk result (λ done. (done.0 ≡ 0) ⊎ (done.0 ≡ 1) ⊎ (done.0 ≡ 3)) }
+    ensures stopped { IfErr result IsStopOfOpening }
+{
+    match open_store(rt, before, conn) {
+        Ok(store) => {
+            let mut host = Host::over(rt.alloc(), store);
+            let status = answer(rt, line, bytes, runs, &mut host);
+            Ok((status, host.into_store().into_connection()))
+        }
+        Err(fault) => Err(Stop::from(fault)),
+    }
+}
+
+fn answer<S: Alter + Drop>(
+    rt: &HostRuntime,
+    line: &Line,
+    bytes: &[u8],
+    runs: &mut Option<Runs>,
+    host: &mut Host<S>,
 ) -> u8
     requires { IsOverHost line.now }
     ensures { (result ≡ 0) ⊎ (result ≡ 1) ⊎ (result ≡ 3) }

@@ -9,7 +9,7 @@ use crate::folder::{Found, Lock, STORE, bytes_at, found_at};
 use crate::repository_fault::RepositoryFault;
 use lazy_disk::LazyDisk;
 use repo_store::{Store, StoreFault};
-use sqlite::{Connection, FileStore};
+use sqlite::{Alter, Connection, FileStore};
 use sqlite_disk::Disk;
 use std::rt::Files;
 use std::{fs, mem};
@@ -17,11 +17,8 @@ use std::{fs, mem};
 /// The log that the library writes beside the database.
 pub(crate) const LOG: &str = ".hookhost/store.db-wal";
 
-/// What the store's rows are kept in, over files of this kind.
-pub type StoreOver<D> = FileStore<LazyDisk<D>>;
-
 /// A connection to the store's database, over files of this kind.
-pub type DatabaseOver<D> = Connection<StoreOver<D>>;
+pub type DatabaseOver<D> = Connection<FileStore<LazyDisk<D>>>;
 
 /// A connection to the store's database.
 pub type Database = Connection<FileStore<DatabaseFile>>;
@@ -78,13 +75,13 @@ pub fn open_database(rt: &HostRuntime, before: &Before) -> Result<Database, Repo
     }
 }
 
-/// Opens the store in a database. This and [`leave_store`] say it of files of any kind: what is said of those that the program
-/// has takes the checker minutes. The error is `RepositoryFault::NoStore`, and the folder is then as before.
-pub fn open_store<D: Disk + Drop>(
+/// Opens the store in the database, whatever that is kept in. The error is `RepositoryFault::NoStore`, and the folder is then
+/// as before.
+pub fn open_store<S: Alter + Drop>(
     rt: &HostRuntime,
     before: &Before,
-    conn: DatabaseOver<D>,
-) -> Result<Store<StoreOver<D>>, RepositoryFault>
+    conn: Connection<S>,
+) -> Result<Store<S>, RepositoryFault>
     requires { conn.in_transaction ≡ false }
     ensures { IfErr result IsFaultOfOpening }
 {
@@ -98,16 +95,17 @@ pub fn open_store<D: Disk + Drop>(
     }
 }
 
-/// Leaves the database of a store. Where its log may hold what the database lacks, be it of this command or of one that was
+/// Leaves the database, over files of any kind: what is said of those that the program has takes the checker minutes. Where
+/// its log may hold what the database lacks, be it of this command or of one that was
 /// killed, that is copied into the database, which is all of the repository then; else the log is as before, and the disk isn't
 /// waited for. Where the copying fails, the log keeps its changes, and nothing is lost.
-pub fn leave_store<R: Files, D: Disk + Drop>(rt: &R, store: Store<StoreOver<D>>, before: &Before) {
+pub fn leave_database<R: Files, D: Disk + Drop>(rt: &R, before: &Before, conn: DatabaseOver<D>) {
     if bare_log::may_hold_change(rt, LOG) {
-        let _copied = close_database(rt, LOG, store.into_connection());
+        let _copied = close_database(rt, LOG, conn);
     } else {
         before.put_back(rt);
         // The process ends next: its files and memory go with it.
-        mem::forget(store);
+        mem::forget(conn);
     }
 }
 

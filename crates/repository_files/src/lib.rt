@@ -2,7 +2,7 @@
 //! beside it.
 //!
 //! [`init`] makes a repository. A command looks for one by [`look_at_store`], takes the lock by [`take_lock`], opens the
-//! database by [`open_database`] and the store in it by [`open_store`], and leaves it by [`leave_store`]. What a file holds no
+//! database by [`open_database`] and the store in it by [`open_store`], and leaves it by [`leave_database`]. What a file holds no
 //! contract can say: the clauses tell errors apart, by `specs/RepositoryFaults.antt`, and that a log which is emptied held no
 //! change.
 #![tactic(auto)]
@@ -15,9 +15,7 @@ mod new_repository;
 mod repository_fault;
 
 pub use connect::DatabaseFile;
-pub use database::{
-    Before, Database, DatabaseOver, StoreOver, leave_store, open_database, open_store,
-};
+pub use database::{Before, Database, DatabaseOver, leave_database, open_database, open_store};
 pub use folder::{LOCK, Lock, SCRATCH, STORE, look_at_store, take_lock};
 pub use new_repository::init;
 pub use repository_fault::RepositoryFault;

@@ -15,6 +15,7 @@ use crate::folder::{
 };
 use crate::repository_fault::RepositoryFault;
 use repo_store::Store;
+use sqlite::{Alter, Connection};
 use sqlite_disk::Disk;
 use std::fs::OpenFile;
 use std::rt::Files;
@@ -111,21 +112,35 @@ fn make_database(rt: &HostRuntime) -> Result<(), RepositoryFault>
     ensures { IfErr result IsFaultOfOpening }
 {
     match connect(rt, NEW_STORE) {
-        Ok(conn) => make_store(rt, conn),
+        Ok(conn) => make_and_close(rt, conn),
         Err((error, _left)) => Err(RepositoryFault::of_database(error)),
     }
 }
 
 // Makes a store in a database, and closes it: then its file has all of it, and the disk has the file.
-fn make_store<D: Disk + Drop>(
+fn make_and_close<D: Disk + Drop>(
     rt: &HostRuntime,
     conn: DatabaseOver<D>,
 ) -> Result<(), RepositoryFault>
     requires { conn.in_transaction ≡ false }
     ensures { IfErr result IsFaultOfOpening }
 {
+    match make_store(rt, conn) {
+        Ok(conn) => close_database(rt, NEW_LOG, conn),
+        Err(fault) => Err(fault),
+    }
+}
+
+// Makes a store in a database, whatever that is kept in.
+fn make_store<S: Alter + Drop>(
+    rt: &HostRuntime,
+    conn: Connection<S>,
+) -> Result<Connection<S>, RepositoryFault>
+    requires { conn.in_transaction ≡ false }
+    ensures { IfErr result IsFaultOfOpening }
+{
     match Store::create(rt.alloc(), conn) {
-        Ok(store) => close_database(rt, NEW_LOG, store.into_connection()),
+        Ok(store) => Ok(store.into_connection()),
         Err((fault, conn)) => {
             mem::forget(conn);
             Err(RepositoryFault::NoStore(fault))
