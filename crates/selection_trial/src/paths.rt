@@ -1,36 +1,45 @@
 //! Calls on patterns and selections.
 
-use crate::parts::{candidates_of, lines_of, patterns_of, rules_of, tag_lists_of, tree_of};
+use crate::files::{paths_of, tree_of};
+use crate::rules::{patterns_of, rules_of, tag_lists_of};
 use hook_base::{Items, RepoPath, Tree};
 use path_select::{Candidates, Pattern, PatternFault, Rules, select, select_among};
 use std::alloc::Global;
-use trial_rows::{Stop, only, text_of};
+use trial_rows::{Answer, Stop, only, text_of};
 
 /// `pattern TEXT`: the pattern's text, or the number of the refusal and what it says.
-pub(crate) fn built(alloc: Global, arguments: &[Vec<u8>]) -> Result<Vec<u8>, Stop> {
+pub(crate) fn built(alloc: Global, arguments: &[Vec<u8>]) -> Result<Answer, Stop> {
     match Pattern::build(alloc, text_of(only(arguments)?)?) {
-        Ok(pattern) => Ok(pattern.as_str().as_bytes().to_vec(alloc)?),
+        Ok(pattern) => Ok(Answer::new(alloc).text(pattern.as_str())),
         Err(PatternFault::OutOfMemory) => Err(Stop::OutOfMemory),
-        Err(fault) => refusal(alloc, fault),
+        Err(fault) => Ok(refusal(alloc, fault)),
     }
 }
 
-fn refusal(alloc: Global, fault: PatternFault) -> Result<Vec<u8>, Stop> {
-    let number = fault.number();
-    Ok(format!(in alloc; "{number} {fault}")?.into_bytes())
+fn refusal(alloc: Global, fault: PatternFault) -> Answer {
+    let answer = Answer::new(alloc).shown(fault.number());
+    answer.text(" ").shown(fault)
 }
 
 /// `select TOP_FILES TOP_EXCLUDE FILES EXCLUDE TYPES TYPES_OR EXCLUDE_TYPES CANDIDATES TREE`: the paths that are selected, a
 /// line each. Tags are parted by blanks, candidates by line feeds. A line of the tree is `MODE PATH BYTES`, the mode `-` or
 /// `x`.
-pub(crate) fn selected(alloc: Global, arguments: &[Vec<u8>]) -> Result<Vec<u8>, Stop> {
+pub(crate) fn selected(alloc: Global, arguments: &[Vec<u8>]) -> Result<Answer, Stop> {
     let [rules @ .., paths, tree] = arguments else {
         return Err(Stop::BadLine);
     };
-    let paths = candidates_of(alloc, paths)?;
-    let tree = tree_of(alloc, tree)?;
+    let paths = paths_of(alloc, paths.as_slice())?;
+    let tree = tree_of(alloc, tree.as_slice())?;
     let chosen = selected_by(alloc, rules, paths.as_slice(), &tree)?;
-    lines_of(alloc, chosen.as_slice())
+    Ok(lines_of(alloc, chosen.as_slice()))
+}
+
+fn lines_of(alloc: Global, paths: &[RepoPath]) -> Answer {
+    let mut answer = Answer::new(alloc);
+    for path in paths {
+        answer = answer.texts(&[path.as_str(), "\n"]);
+    }
+    answer
 }
 
 fn selected_by(
@@ -39,10 +48,10 @@ fn selected_by(
     paths: &[RepoPath],
     tree: &Tree,
 ) -> Result<Items<RepoPath>, Stop> {
-    let [top_files, top_exclude, files, exclude, lists @ ..] = arguments else {
+    let Some((patterns, lists)) = arguments.split_at_checked(4) else {
         return Err(Stop::BadLine);
     };
-    let patterns = patterns_of(alloc, &[top_files, top_exclude, files, exclude])?;
+    let patterns = patterns_of(alloc, patterns)?;
     let lists = tag_lists_of(alloc, lists)?;
     let rules = rules_of(patterns.as_slice(), lists.as_slice())?;
     both_ways(alloc, &rules, paths, tree)

@@ -1,0 +1,56 @@
+//! The paths and the trees of arguments.
+
+use hook_base::{Bytes, FileEntry, Mode, RepoPath, Tree};
+use std::alloc::Global;
+use trial_rows::{Stop, text_of};
+
+/// The path of a text.
+pub(crate) fn path_of(alloc: Global, text: &[u8]) -> Result<RepoPath, Stop> {
+    Ok(RepoPath::read(alloc, text_of(text)?)?)
+}
+
+/// The paths of an argument, parted by line feeds.
+pub(crate) fn paths_of(alloc: Global, argument: &[u8]) -> Result<Vec<RepoPath>, Stop> {
+    let mut paths = Vec::new(alloc);
+    for line in text_of(argument)?.lines() {
+        paths.push(RepoPath::read(alloc, line)?)?;
+    }
+    Ok(paths)
+}
+
+/// The tree of an argument: lines of a mode, `-` or `x`, a path and bytes, parted by blanks.
+pub(crate) fn tree_of(alloc: Global, argument: &[u8]) -> Result<Tree, Stop> {
+    let mut tree = Tree::new(alloc);
+    for line in text_of(argument)?.lines() {
+        let (mode, rest) = parted(line);
+        let (path, bytes) = parted(rest);
+        put_file(alloc, &mut tree, mode_of(mode)?, path, bytes.as_bytes())?;
+    }
+    Ok(tree)
+}
+
+// The two parts of a line around its first blank, the whole and nothing where it has none.
+fn parted(line: &str) -> (&str, &str) {
+    line.split_once(' ').unwrap_or((line, ""))
+}
+
+fn mode_of(word: &str) -> Result<Mode, Stop> {
+    match word {
+        "-" => Ok(Mode::Plain),
+        "x" => Ok(Mode::Executable),
+        _ => Err(Stop::BadLine),
+    }
+}
+
+/// Puts a file into a tree.
+pub(crate) fn put_file(
+    alloc: Global,
+    tree: &mut Tree,
+    mode: Mode,
+    path: &str,
+    bytes: &[u8],
+) -> Result<(), Stop> {
+    let bytes = Bytes::copy_of(alloc, bytes)?;
+    let path = RepoPath::read(alloc, path)?;
+    Ok(tree.put(path, FileEntry { mode, bytes })?)
+}
