@@ -5,15 +5,19 @@ use crate::{
     host_commands, messages, plans, plays, report_texts, runs, stages, try_faults,
 };
 use std::alloc::Global;
-use trial_rows::{Row, Stop};
+use trial_rows::{Answer, Answers, Row, Stop};
 
-/// What a row's call answers. The calls stand in several functions, each of which knows the next, since one with many arms
-/// takes the checker long.
-pub(crate) fn answer_of(alloc: Global, row: &Row) -> Result<Vec<u8>, Stop> {
-    of_configurations(alloc, row.call.as_str(), row.arguments.as_slice())
+/// The calls of the program.
+pub(crate) struct Calls;
+
+impl Answers for Calls {
+    fn answer_to(&self, alloc: Global, row: &Row) -> Result<Answer, Stop> {
+        of_configurations(alloc, row.call.as_str(), row.arguments.as_slice())
+    }
 }
 
-fn of_configurations(alloc: Global, call: &str, arguments: &[Vec<u8>]) -> Result<Vec<u8>, Stop> {
+// The calls stand in several functions, each of which knows the next, since one with many arms takes the checker long.
+fn of_configurations(alloc: Global, call: &str, arguments: &[Vec<u8>]) -> Result<Answer, Stop> {
     match call {
         "read_config" => configurations::read_alone(alloc, arguments),
         "read_config_with_node" => configurations::read_with_node(alloc, arguments),
@@ -23,7 +27,7 @@ fn of_configurations(alloc: Global, call: &str, arguments: &[Vec<u8>]) -> Result
     }
 }
 
-fn of_hook_config(alloc: Global, call: &str, arguments: &[Vec<u8>]) -> Result<Vec<u8>, Stop> {
+fn of_hook_config(alloc: Global, call: &str, arguments: &[Vec<u8>]) -> Result<Answer, Stop> {
     match call {
         "top_patterns" => configurations::top_patterns(alloc, arguments),
         "node" => configurations::node(alloc, arguments),
@@ -34,7 +38,7 @@ fn of_hook_config(alloc: Global, call: &str, arguments: &[Vec<u8>]) -> Result<Ve
     }
 }
 
-fn of_stages(alloc: Global, call: &str, arguments: &[Vec<u8>]) -> Result<Vec<u8>, Stop> {
+fn of_stages(alloc: Global, call: &str, arguments: &[Vec<u8>]) -> Result<Answer, Stop> {
     match call {
         "hook_stages" => stages::of_hooks(alloc, arguments),
         "stage_of_word" => stages::of_word(alloc, arguments),
@@ -43,7 +47,7 @@ fn of_stages(alloc: Global, call: &str, arguments: &[Vec<u8>]) -> Result<Vec<u8>
     }
 }
 
-fn of_runs(alloc: Global, call: &str, arguments: &[Vec<u8>]) -> Result<Vec<u8>, Stop> {
+fn of_runs(alloc: Global, call: &str, arguments: &[Vec<u8>]) -> Result<Answer, Stop> {
     match call {
         "try_over" => runs::over_files(alloc, arguments),
         "try_failing_reader" => runs::with_failing_reader(alloc, arguments),
@@ -54,7 +58,7 @@ fn of_runs(alloc: Global, call: &str, arguments: &[Vec<u8>]) -> Result<Vec<u8>, 
     }
 }
 
-fn of_hook_cli(alloc: Global, call: &str, arguments: &[Vec<u8>]) -> Result<Vec<u8>, Stop> {
+fn of_hook_cli(alloc: Global, call: &str, arguments: &[Vec<u8>]) -> Result<Answer, Stop> {
     match call {
         "try_flushed" => runs::with_flushes(alloc, arguments),
         "try_fault" => try_faults::told(alloc, arguments),
@@ -65,7 +69,7 @@ fn of_hook_cli(alloc: Global, call: &str, arguments: &[Vec<u8>]) -> Result<Vec<u
     }
 }
 
-fn of_hook_run(alloc: Global, call: &str, arguments: &[Vec<u8>]) -> Result<Vec<u8>, Stop> {
+fn of_hook_run(alloc: Global, call: &str, arguments: &[Vec<u8>]) -> Result<Answer, Stop> {
     match call {
         "command_over" => host_commands::played(alloc, arguments),
         "hook_text" => report_texts::of_hook(alloc, arguments),
@@ -76,7 +80,7 @@ fn of_hook_run(alloc: Global, call: &str, arguments: &[Vec<u8>]) -> Result<Vec<u
     }
 }
 
-fn of_commit_flow(alloc: Global, call: &str, arguments: &[Vec<u8>]) -> Result<Vec<u8>, Stop> {
+fn of_commit_flow(alloc: Global, call: &str, arguments: &[Vec<u8>]) -> Result<Answer, Stop> {
     match call {
         "begun_message" => messages::begun(alloc, arguments),
         "cleaned_message" => messages::cleaned(alloc, arguments),

@@ -3,21 +3,21 @@
 use crate::asks::{ask_of, tree_of};
 use crate::child_rows::{fault_of, row_of};
 use crate::configurations::refusal;
-use crate::plans::{refused_run, with_results};
+use crate::plans::{refused_run, verdict_of, with_results};
 use child_port::{Children, FuseChildren, TableChildren, TableRow};
-use hook_base::{Items, Tree};
+use hook_base::{Change, Items, Tree};
 use hook_config::{Config, read_config};
 use hook_run::{RunAsk, RunOut, run_hooks};
 use result_book::ListBook;
-use std::alloc::{AllocError, Global};
-use trial_rows::{Stop, number_of, text_of};
+use std::alloc::Global;
+use trial_rows::{Answer, Stop, number_of, text_of};
 
 /// `run_hooks CONFIGURATION STAGE CANDIDATES ONLY SKIP CALLS KTH FAULT COUNT ROW.. FILE..`: children that have told so many
 /// outcomes, or `all` that can be counted, answer by the first COUNT rows, and their call of the number KTH fails. The run's
 /// refusal with its number, name and text; or a line that says whether every hook passed, how many outcomes the run added
 /// and how many of them are faults, and how many hooks are unsteady; a line for each file that is changed; then a line for
 /// each result, and the report.
-pub(crate) fn played(alloc: Global, arguments: &[Vec<u8>]) -> Result<Vec<u8>, Stop> {
+pub(crate) fn played(alloc: Global, arguments: &[Vec<u8>]) -> Result<Answer, Stop> {
     let [configuration, rest @ ..] = arguments else {
         return Err(Stop::BadLine);
     };
@@ -36,7 +36,7 @@ pub(crate) fn played(alloc: Global, arguments: &[Vec<u8>]) -> Result<Vec<u8>, St
     let (ask, tree) = (ask_of(alloc, asked)?, tree_of(alloc, files)?);
     match read_config(alloc, configuration.as_slice()) {
         Ok(config) => run_over(alloc, &mut children, &config, &ask, &tree),
-        Err(fault) => refusal(alloc, fault),
+        Err(fault) => Ok(refusal(alloc, fault)),
     }
 }
 
@@ -58,36 +58,37 @@ fn run_over(
     config: &Config,
     ask: &RunAsk,
     tree: &Tree,
-) -> Result<Vec<u8>, Stop> {
+) -> Result<Answer, Stop> {
     let (calls, faults) = (children.calls(), children.faults());
     let mut book = ListBook::new(alloc);
     match run_hooks(alloc, children, &mut book, config, ask, tree) {
         Ok(out) => {
             let calls = children.calls().saturating_sub(calls);
             let faults = children.faults().saturating_sub(faults);
-            let mut head = head_of(alloc, &out, calls, faults)?;
-            push_changes(alloc, &mut head, tree, &out.tree)?;
-            with_results(alloc, head, &out)
+            told(alloc, &out, calls, faults, tree)
         }
         Err(refused) => refused_run(alloc, refused),
     }
 }
 
-fn head_of(alloc: Global, out: &RunOut, calls: u64, faults: u64) -> Result<String, AllocError> {
-    let verdict = if out.passed { "passed" } else { "failed" };
-    let unsteady = out.unsteady.len();
-    format!(in alloc; "{verdict}, {calls} calls, {faults} faults, {unsteady} unsteady\n")
+fn told(alloc: Global, out: &RunOut, calls: u64, faults: u64, tree: &Tree) -> Result<Answer, Stop> {
+    let changes = tree.changes_to(&out.tree)?;
+    let answer = Answer::new(alloc).texts(&[verdict_of(out.passed), ", "]);
+    let answer = answer.shown(calls).text(" calls, ");
+    let answer = answer.shown(faults).text(" faults, ");
+    let answer = answer.shown(out.unsteady.len()).text(" unsteady\n");
+    Ok(with_results(with_changes(answer, changes.as_slice()), out))
 }
 
-fn push_changes(alloc: Global, text: &mut String, tree: &Tree, after: &Tree) -> Result<(), Stop> {
-    for change in tree.changes_to(after)?.as_slice() {
-        let path = change.path.as_str();
+fn with_changes(answer: Answer, changes: &[Change]) -> Answer {
+    let mut answer = answer;
+    for change in changes {
         let what = if change.now.is_some() {
-            "changed"
+            "changed "
         } else {
-            "gone"
+            "gone "
         };
-        text.push_str(format!(in alloc; "{what} {path}\n")?.as_str())?;
+        answer = answer.texts(&[what, change.path.as_str(), "\n"]);
     }
-    Ok(())
+    answer
 }

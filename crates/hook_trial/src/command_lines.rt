@@ -2,109 +2,119 @@
 
 use hook_base::{Mode, Text};
 use hook_cli::{FileChoice, Line, StageChoice, line_of};
-use std::alloc::{AllocError, Global};
-use trial_rows::{Stop, texts_of};
+use std::alloc::Global;
+use trial_rows::{Answer, Stop, texts_of};
 
 /// `line_of WORD..`: the command with its words, a line each; or the kind of `clap`'s error, and its text.
-pub(crate) fn asked(alloc: Global, arguments: &[Vec<u8>]) -> Result<Vec<u8>, Stop> {
+pub(crate) fn asked(alloc: Global, arguments: &[Vec<u8>]) -> Result<Answer, Stop> {
     let words = texts_of(alloc, arguments)?;
     match line_of(alloc, words.as_slice()) {
-        Ok(line) => Ok(told(alloc, &line)?.into_bytes()),
-        Err(error) => refused(alloc, &error),
+        Ok(line) => Ok(told(Answer::new(alloc), &line)),
+        Err(error) => Ok(refused(Answer::new(alloc), &error)),
     }
 }
 
-fn refused(alloc: Global, error: &clap::Error) -> Result<Vec<u8>, Stop> {
-    let kind = error.kind();
-    Ok(format!(in alloc; "refused {kind:?}\n{error}")?.into_bytes())
+fn refused(answer: Answer, error: &clap::Error) -> Answer {
+    let answer = answer.text("refused ").debug(error.kind());
+    answer.text("\n").shown(error)
 }
 
-fn told(alloc: Global, line: &Line) -> Result<String, AllocError> {
+fn told(answer: Answer, line: &Line) -> Answer {
     match line {
-        Line::Init => String::from_str(alloc, "init\n"),
-        Line::Try { config, paths } => of_try(alloc, config, paths.as_slice()),
-        Line::Check => String::from_str(alloc, "check\n"),
-        Line::Add { path, mode } => of_path(alloc, word_of_add(*mode), path),
-        Line::Remove { path } => of_path(alloc, "remove", path),
-        Line::Status => String::from_str(alloc, "status\n"),
+        Line::Try { config, paths } => {
+            with_lines(with_line(answer.text("try\n"), config), paths.as_slice())
+        }
+        Line::Add { path, mode } => with_line(answer.text(word_of_add(*mode)), path),
+        Line::Remove { path } => with_line(answer.text("remove\n"), path),
+        Line::Commit { message, no_verify } => with_line(
+            answer.text(word_of_commit(*no_verify)),
+            message,
+        ),
+        Line::Cat { path } => with_line(answer.text("cat\n"), path),
+        Line::Show { number } => answer.text("show\n").shown(*number).text("\n"),
         Line::Run {
             files,
             only,
             stage,
             fresh,
-        } => of_run(alloc, files, only, *stage, *fresh),
-        Line::Fixes => String::from_str(alloc, "fixes\n"),
-        Line::Commit {
-            message,
-            no_verify: false,
-        } => of_path(alloc, "commit", message),
-        Line::Commit {
-            message,
-            no_verify: true,
-        } => of_path(alloc, "commit unverified", message),
-        Line::Accept => String::from_str(alloc, "accept\n"),
-        Line::Cat { path } => of_path(alloc, "cat", path),
-        Line::Log => String::from_str(alloc, "log\n"),
-        Line::Show { number } => format!(in alloc; "show\n{number}\n"),
+        } => with_run(answer, files, only, *stage, *fresh),
+        _ => answer.text(word_alone(line)),
+    }
+}
+
+// The command that is a word alone.
+fn word_alone(line: &Line) -> &'static str {
+    match line {
+        Line::Init => "init\n",
+        Line::Check => "check\n",
+        Line::Status => "status\n",
+        Line::Fixes => "fixes\n",
+        Line::Accept => "accept\n",
+        Line::Log => "log\n",
+        _ => "another command\n",
     }
 }
 
 fn word_of_add(mode: Option<Mode>) -> &'static str {
     match mode {
-        None => "add",
-        Some(Mode::Plain) => "add plain",
-        Some(Mode::Executable) => "add executable",
+        None => "add\n",
+        Some(Mode::Plain) => "add plain\n",
+        Some(Mode::Executable) => "add executable\n",
     }
 }
 
-fn of_path(alloc: Global, word: &str, path: &Text) -> Result<String, AllocError> {
-    let mut text = String::from_str(alloc, word)?;
-    text.push_str("\n")?;
-    push_line(&mut text, path)?;
-    Ok(text)
-}
-
-fn of_try(alloc: Global, config: &Text, paths: &[Text]) -> Result<String, AllocError> {
-    let mut text = String::from_str(alloc, "try\n")?;
-    push_line(&mut text, config)?;
-    push_lines(&mut text, paths)?;
-    Ok(text)
+fn word_of_commit(no_verify: bool) -> &'static str {
+    if no_verify {
+        "commit unverified\n"
+    } else {
+        "commit\n"
+    }
 }
 
 // The stage, the files, whether it is fresh, and then the name that is asked for and the paths, a line each.
-fn of_run(
-    alloc: Global,
+fn with_run(
+    answer: Answer,
     files: &FileChoice,
     only: &Option<Text>,
     stage: StageChoice,
     fresh: bool,
-) -> Result<String, AllocError> {
-    let stage = match stage {
+) -> Answer {
+    let fresh = if fresh { " fresh\n" } else { "\n" };
+    let (files, paths) = files_of(files);
+    let answer = answer.texts(&["run ", word_of_stage(stage), files, fresh]);
+    with_lines(with_name(answer, only), paths)
+}
+
+fn word_of_stage(stage: StageChoice) -> &'static str {
+    match stage {
         StageChoice::PreCommit => "pre-commit",
         StageChoice::Manual => "manual",
-    };
-    let fresh = if fresh { " fresh" } else { "" };
-    let (files, paths) = match files {
-        FileChoice::Changed => ("changed", &[] as &[Text]),
-        FileChoice::All => ("all", &[] as &[Text]),
-        FileChoice::Named(paths) => ("named", paths.as_slice()),
-    };
-    let mut text = format!(in alloc; "run {stage} {files}{fresh}\n")?;
-    if let Some(name) = only {
-        push_line(&mut text, name)?;
     }
-    push_lines(&mut text, paths)?;
-    Ok(text)
 }
 
-fn push_lines(text: &mut String, words: &[Text]) -> Result<(), AllocError> {
+fn files_of(files: &FileChoice) -> (&'static str, &[Text]) {
+    match files {
+        FileChoice::Changed => (" changed", &[] as &[Text]),
+        FileChoice::All => (" all", &[] as &[Text]),
+        FileChoice::Named(paths) => (" named", paths.as_slice()),
+    }
+}
+
+fn with_name(answer: Answer, name: &Option<Text>) -> Answer {
+    match name {
+        Some(name) => with_line(answer, name),
+        None => answer,
+    }
+}
+
+fn with_lines(answer: Answer, words: &[Text]) -> Answer {
+    let mut answer = answer;
     for word in words {
-        push_line(text, word)?;
+        answer = with_line(answer, word);
     }
-    Ok(())
+    answer
 }
 
-fn push_line(text: &mut String, word: &Text) -> Result<(), AllocError> {
-    text.push_str(word.as_str())?;
-    text.push_str("\n")
+fn with_line(answer: Answer, word: &Text) -> Answer {
+    answer.texts(&[word.as_str(), "\n"])
 }

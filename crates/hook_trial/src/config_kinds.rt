@@ -2,19 +2,19 @@
 
 use hook_config::{ConfigFault, ConfigKind};
 use std::alloc::Global;
-use trial_rows::{Stop, only, text_of};
+use trial_rows::{Answer, Stop, only, text_of};
 use yaml_profile::{YamlFault, YamlKind};
 
 /// `config_kind NAME`: the kind's number and name, what it is shown as, and what a fault of it is shown as; then the
 /// number and the name of that fault.
-pub(crate) fn told(alloc: Global, arguments: &[Vec<u8>]) -> Result<Vec<u8>, Stop> {
+pub(crate) fn told(alloc: Global, arguments: &[Vec<u8>]) -> Result<Answer, Stop> {
     let kind = kind_of(text_of(only(arguments)?)?).ok_or(Stop::BadLine)?;
     let fault = ConfigFault { kind, at: 3 };
-    let (number, name) = (kind.number(), kind.name());
-    let mut line = format!(in alloc; "{number} {name}: {kind}\n")?;
-    let (number, name) = (fault.number(), fault.name());
-    line.push_str(format!(in alloc; "{number} {name}: {fault}\n")?.as_str())?;
-    Ok(line.into_bytes())
+    let answer = Answer::new(alloc).shown(kind.number());
+    let answer = answer.texts(&[" ", kind.name(), ": "]).shown(kind);
+    let answer = answer.text("\n").shown(fault.number());
+    let answer = answer.texts(&[" ", fault.name(), ": "]).shown(fault);
+    Ok(answer.text("\n"))
 }
 
 fn kind_of(word: &str) -> Option<ConfigKind> {

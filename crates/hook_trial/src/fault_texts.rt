@@ -1,6 +1,5 @@
 //! What refusals are shown as that no other row shows.
 
-use crate::host_words::tell;
 use arg_partition::WordsFault;
 use commit_flow::HostRefusal;
 use hook_base::PathFault;
@@ -8,39 +7,46 @@ use hook_config::{ConfigFault, ConfigKind};
 use repo_store::StoreFault;
 use result_book::BookFault;
 use std::alloc::Global;
-use trial_rows::Stop;
+use trial_rows::{Answer, Stop};
 
 /// `fault_texts`: the number and the text of each refusal of words, of a book and of a host, a line each.
-pub(crate) fn told(alloc: Global) -> Result<Vec<u8>, Stop> {
-    let mut told = Vec::new(alloc);
-    tell_words(alloc, &mut told)?;
-    tell_books(alloc, &mut told)?;
-    tell_hosts(alloc, &mut told)?;
-    Ok(told)
+pub(crate) fn told(alloc: Global) -> Result<Answer, Stop> {
+    Ok(with_hosts(with_books(with_words(Answer::new(alloc)))))
 }
 
-fn tell_words(alloc: Global, told: &mut Vec<u8>) -> Result<(), Stop> {
+fn with_words(answer: Answer) -> Answer {
+    let mut answer = answer;
     for fault in [
         WordsFault::OpenQuote,
         WordsFault::NothingEscaped,
         WordsFault::OutOfMemory,
     ] {
-        tell(told, format!(in alloc; "{} {fault}\n", fault.number())?)?;
+        answer = answer
+            .shown(fault.number())
+            .text(" ")
+            .shown(fault)
+            .text("\n");
     }
-    Ok(())
+    answer
 }
 
-fn tell_books(alloc: Global, told: &mut Vec<u8>) -> Result<(), Stop> {
+fn with_books(answer: Answer) -> Answer {
+    let mut answer = answer;
     for fault in [
         BookFault::OutOfMemory,
         BookFault::Store(StoreFault::TooMany),
     ] {
-        tell(told, format!(in alloc; "{} {fault}\n", fault.number())?)?;
+        answer = answer
+            .shown(fault.number())
+            .text(" ")
+            .shown(fault)
+            .text("\n");
     }
-    Ok(())
+    answer
 }
 
-fn tell_hosts(alloc: Global, told: &mut Vec<u8>) -> Result<(), Stop> {
+fn with_hosts(answer: Answer) -> Answer {
+    let mut answer = answer;
     for refusal in [
         HostRefusal::OutOfMemory,
         HostRefusal::Store(StoreFault::Damaged),
@@ -61,7 +67,11 @@ fn tell_hosts(alloc: Global, told: &mut Vec<u8>) -> Result<(), Stop> {
         HostRefusal::Spent,
         HostRefusal::Clash,
     ] {
-        tell(told, format!(in alloc; "{} {refusal}\n", refusal.number())?)?;
+        answer = answer
+            .shown(refusal.number())
+            .text(" ")
+            .shown(refusal)
+            .text("\n");
     }
-    Ok(())
+    answer
 }

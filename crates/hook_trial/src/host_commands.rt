@@ -13,23 +13,24 @@ ghost use Rattle.hook_base.specs.Paths.{message_path};
 
 use crate::child_rows::row_of;
 use crate::host_lines::line_played;
-use crate::host_words::{Words, mode_of, tell, tell_file};
+use crate::host_words::{Words, mode_of, with_file};
 use child_port::TableChildren;
 use hook_base::{Bytes, Change, Changes, Items, RepoPath};
 use repo_store::{FileRef, Store, StoreFault};
 use sqlite::{Connection, MemStore};
 use std::alloc::Global;
-use trial_rows::{Stop, text_of};
+use std::mem;
+use trial_rows::{Answer, Stop, text_of};
 
 /// The store of a row.
 pub(crate) type Kept = Store<MemStore>;
 
 /// `command_over STEP..`: what the lines and the store answer, one after the other.
-pub(crate) fn played(alloc: Global, arguments: &[Vec<u8>]) -> Result<Vec<u8>, Stop> {
+pub(crate) fn played(alloc: Global, arguments: &[Vec<u8>]) -> Result<Answer, Stop> {
     let mut words = Words { left: arguments };
     let mut children = children_of(alloc, &mut words)?;
     let mut store = empty_store(alloc)?;
-    let mut told = Vec::new(alloc);
+    let mut told = Answer::new(alloc);
     for _ in 0..arguments.len() {
         match words.next() {
             Some(step) => {
@@ -76,7 +77,7 @@ fn stepped(
     words: &mut Words<'_>,
     children: &mut TableChildren,
     store: Kept,
-    told: &mut Vec<u8>,
+    told: &mut Answer,
 ) -> Result<Kept, Stop> {
     let mut store = store;
     match step {
@@ -85,7 +86,7 @@ fn stepped(
         "unstage" => unstage(alloc, words, &mut store)?,
         "commit" => commit(words, &mut store)?,
         "fixes" => set_fixes(alloc, words, &mut store)?,
-        "store" => tell_store(alloc, &store, told)?,
+        "store" => tell_store(&store, told),
         _ => return Err(Stop::BadLine),
     }
     Ok(store)
@@ -143,31 +144,37 @@ fn fix_of(alloc: Global, line: &str) -> Result<Change, Stop> {
     }
 }
 
-fn tell_store(alloc: Global, store: &Kept, told: &mut Vec<u8>) -> Result<(), Stop> {
-    for index in 0..usize::MAX {
-        match store.staged_file(index) {
-            Some(file) => tell_file_of(alloc, "staged", &file, told)?,
-            None => break,
-        }
-    }
-    for index in 0..usize::MAX {
-        match store.head_file(index) {
-            Some(file) => tell_file_of(alloc, "head", &file, told)?,
-            None => break,
-        }
-    }
-    let (fixes, commits) = (store.count_fixes(), store.count_commits());
-    Ok(tell(
-        told,
-        format!(in alloc; "fixes {fixes}, commits {commits}\n")?,
-    )?)
+fn tell_store(store: &Kept, told: &mut Answer) {
+    let fresh = Answer::new(told.alloc());
+    let answer = mem::replace(told, fresh);
+    let answer = with_head(with_staged(answer, store), store);
+    let answer = answer.text("fixes ").shown(store.count_fixes());
+    let answer = answer.text(", commits ").shown(store.count_commits());
+    *told = answer.text("\n");
 }
 
-fn tell_file_of(
-    alloc: Global,
-    list: &str,
-    file: &FileRef<'_>,
-    told: &mut Vec<u8>,
-) -> Result<(), Stop> {
-    tell_file(alloc, list, file.mode, file.path.as_str(), file.bytes, told)
+fn with_staged(answer: Answer, store: &Kept) -> Answer {
+    let mut answer = answer;
+    for index in 0..usize::MAX {
+        match store.staged_file(index) {
+            Some(file) => answer = with_ref(answer, "staged", &file),
+            None => break,
+        }
+    }
+    answer
+}
+
+fn with_head(answer: Answer, store: &Kept) -> Answer {
+    let mut answer = answer;
+    for index in 0..usize::MAX {
+        match store.head_file(index) {
+            Some(file) => answer = with_ref(answer, "head", &file),
+            None => break,
+        }
+    }
+    answer
+}
+
+fn with_ref(answer: Answer, list: &str, file: &FileRef<'_>) -> Answer {
+    with_file(answer, list, file.mode, file.path.as_str(), file.bytes)
 }

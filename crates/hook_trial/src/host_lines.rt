@@ -8,14 +8,15 @@ ghost use Rattle.hook_cli.specs.CommandOver.{IsOverHost};
 
 use crate::host_asks::{asked_name, chosen_files, chosen_stage, files_of, is_unverified, stage_of};
 use crate::host_commands::Kept;
-use crate::host_words::{Words, mode_of, tell};
+use crate::host_words::{Words, mode_of};
 use crate::host_writers::HabitWriter;
 use child_port::TableChildren;
 use commit_flow::Host;
 use hook_base::{Items, Text};
 use hook_cli::{Line, command_over, skip_list_of};
-use std::alloc::{AllocError, Global};
-use trial_rows::Stop;
+use std::alloc::Global;
+use std::mem;
+use trial_rows::{Answer, Stop};
 
 /// Hands the store to a host for one command.
 pub(crate) fn line_played(
@@ -23,7 +24,7 @@ pub(crate) fn line_played(
     words: &mut Words<'_>,
     children: &mut TableChildren,
     store: Kept,
-    told: &mut Vec<u8>,
+    told: &mut Answer,
 ) -> Result<Kept, Stop> {
     let mut out = HabitWriter::of(alloc, words.bytes()?)?;
     let mut err = HabitWriter::of(alloc, words.bytes()?)?;
@@ -42,7 +43,7 @@ pub(crate) fn line_played(
         &mut out,
         &mut err,
     );
-    tell_end(alloc, status, out, err, told)?;
+    tell_end(status, out, err, told);
     Ok(host.into_store())
 }
 
@@ -110,30 +111,22 @@ fn zeros(alloc: Global, count: u32) -> Result<Vec<u8>, Stop> {
     Ok(bytes)
 }
 
-fn tell_end(
-    alloc: Global,
-    status: u8,
-    out: HabitWriter,
-    err: HabitWriter,
-    told: &mut Vec<u8>,
-) -> Result<(), Stop> {
-    tell(told, format!(in alloc; "status {status}, out ")?)?;
-    tell_flushes(alloc, &out, told)?;
+fn tell_end(status: u8, out: HabitWriter, err: HabitWriter, told: &mut Answer) {
+    let fresh = Answer::new(told.alloc());
+    let answer = mem::replace(told, fresh);
+    let answer = answer.text("status ").shown(status).text(", out ");
+    let answer = with_flushes(answer, out.told_flushes());
     let out = out.into_bytes();
-    let length = out.len();
-    tell(told, format!(in alloc; "{length}, err ")?)?;
-    tell_flushes(alloc, &err, told)?;
+    let answer = answer.shown(out.len()).text(", err ");
+    let answer = with_flushes(answer, err.told_flushes());
     let err = err.into_bytes();
-    let length = err.len();
-    tell(told, format!(in alloc; "{length}\n")?)?;
-    told.extend_from_slice(out.as_slice())?;
-    told.extend_from_slice(err.as_slice())?;
-    Ok(())
+    let answer = answer.shown(err.len()).text("\n");
+    *told = answer.bytes(out.as_slice()).bytes(err.as_slice());
 }
 
-fn tell_flushes(alloc: Global, writer: &HabitWriter, told: &mut Vec<u8>) -> Result<(), AllocError> {
-    match writer.told_flushes() {
-        Some(count) => tell(told, format!(in alloc; "flushed {count} times ")?),
-        None => Ok(()),
+fn with_flushes(answer: Answer, flushes: Option<u32>) -> Answer {
+    match flushes {
+        Some(count) => answer.text("flushed ").shown(count).text(" times "),
+        None => answer,
     }
 }

@@ -1,8 +1,7 @@
 //! The words of a row of commands over a repository.
 
 use hook_base::Mode;
-use std::alloc::{AllocError, Global};
-use trial_rows::{Stop, number_of, text_of};
+use trial_rows::{Answer, Stop, number_of, text_of};
 
 /// The words of a row that are still to be read.
 #[derive(Drop)]
@@ -54,25 +53,18 @@ pub(crate) fn mode_of(words: &mut Words<'_>) -> Result<Option<Mode>, Stop> {
     }
 }
 
-/// Puts a text behind the answer.
-pub(crate) fn tell(told: &mut Vec<u8>, text: String) -> Result<(), AllocError> {
-    told.extend_from_slice(text.as_bytes())
-}
-
-/// Puts a line with the mode, the path and the length of a file behind the answer, and then its bytes.
-pub(crate) fn tell_file(
-    alloc: Global,
+/// Adds a line with the mode, the path and the length of a file, and then its bytes.
+pub(crate) fn with_file(
+    answer: Answer,
     list: &str,
     mode: Mode,
     path: &str,
     bytes: &[u8],
-    told: &mut Vec<u8>,
-) -> Result<(), Stop> {
+) -> Answer {
     let mode = match mode {
-        Mode::Plain => "plain",
-        Mode::Executable => "executable",
+        Mode::Plain => " plain ",
+        Mode::Executable => " executable ",
     };
-    let length = bytes.len();
-    tell(told, format!(in alloc; "{list} {mode} {path} {length}\n")?)?;
-    Ok(told.extend_from_slice(bytes)?)
+    let answer = answer.texts(&[list, mode, path, " "]);
+    answer.shown(bytes.len()).text("\n").bytes(bytes)
 }

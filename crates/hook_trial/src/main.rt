@@ -30,34 +30,10 @@ mod stages;
 mod try_faults;
 mod writers;
 
-use calls::answer_of;
-use std::alloc::Global;
-use std::io::Read;
+use calls::Calls;
 use std::process::ExitCode;
-use trial_rows::{Row, Stop, answer_line};
+use trial_rows::play;
 
 fn main(rt: HostRuntime) -> ExitCode {
-    match play(&rt) {
-        Ok(()) => ExitCode::SUCCESS,
-        Err(stop) => {
-            let _said = rt.eprintln(stop.message());
-            ExitCode::from(stop.status())
-        }
-    }
-}
-
-fn play<R: Input + Print + AllocGlobal>(rt: &R) -> Result<(), Stop> {
-    let mut lines = String::new(rt.alloc());
-    rt.reader().read_to_string(&mut lines)?;
-    for line in lines.as_str().lines() {
-        let answer = answered(rt.alloc(), line)?;
-        rt.println(answer.as_str())?;
-    }
-    Ok(())
-}
-
-// The line that answers a line.
-fn answered(alloc: Global, line: &str) -> Result<String, Stop> {
-    let answer = answer_of(alloc, &Row::read(alloc, line)?)?;
-    answer_line(alloc, answer.as_slice())
+    play(&rt, &Calls)
 }

@@ -5,84 +5,83 @@ use crate::configurations::refusal;
 use hook_base::Tree;
 use hook_config::{Config, read_config};
 use hook_run::{Need, RunAsk, RunOut, RunPlan, RunRefusal};
-use report_text::{Ending, HookResult};
-use std::alloc::{AllocError, Global};
-use trial_rows::Stop;
+use report_text::Ending;
+use std::alloc::Global;
+use trial_rows::{Answer, Stop};
 
 /// `run CONFIGURATION STAGE CANDIDATES ONLY SKIP FILE..`: the run's refusal with its number, name and text; or a line that
 /// says that the plan is over, whether every hook passed, what became of the tree, and how many hooks are unsteady; then a
 /// line for each result, and the report. `Child` where the plan needs a child.
-pub(crate) fn played(alloc: Global, arguments: &[Vec<u8>]) -> Result<Vec<u8>, Stop> {
+pub(crate) fn played(alloc: Global, arguments: &[Vec<u8>]) -> Result<Answer, Stop> {
     let [configuration, rest @ ..] = arguments else {
         return Err(Stop::BadLine);
     };
     let Some((asked, files)) = rest.split_at_checked(4) else {
         return Err(Stop::BadLine);
     };
+    let (ask, tree) = (ask_of(alloc, asked)?, tree_of(alloc, files)?);
     match read_config(alloc, configuration.as_slice()) {
-        Ok(config) => planned(
-            alloc,
-            &config,
-            &ask_of(alloc, asked)?,
-            &tree_of(alloc, files)?,
-        ),
-        Err(fault) => refusal(alloc, fault),
+        Ok(config) => planned(alloc, &config, &ask, &tree),
+        Err(fault) => Ok(refusal(alloc, fault)),
     }
 }
 
-fn planned(alloc: Global, config: &Config, ask: &RunAsk, tree: &Tree) -> Result<Vec<u8>, Stop> {
+fn planned(alloc: Global, config: &Config, ask: &RunAsk, tree: &Tree) -> Result<Answer, Stop> {
     match RunPlan::begin(alloc, config, ask, tree) {
-        Ok(plan) => ended(alloc, plan, tree),
+        Ok(plan) => Ok(ended(alloc, plan, tree)),
         Err(refused) => refused_run(alloc, refused),
     }
 }
 
 /// A run's refusal, with its number, name and text.
-pub(crate) fn refused_run(alloc: Global, refused: RunRefusal) -> Result<Vec<u8>, Stop> {
+pub(crate) fn refused_run(alloc: Global, refused: RunRefusal) -> Result<Answer, Stop> {
     if refused == RunRefusal::OutOfMemory {
         return Err(Stop::OutOfMemory);
     }
-    let (number, name) = (refused.number(), refused.name());
-    Ok(format!(in alloc; "{number} {name}: {refused}")?.into_bytes())
+    let answer = Answer::new(alloc).shown(refused.number());
+    Ok(answer.texts(&[" ", refused.name(), ": "]).shown(refused))
 }
 
-fn ended(alloc: Global, plan: RunPlan, tree: &Tree) -> Result<Vec<u8>, Stop> {
+fn ended(alloc: Global, plan: RunPlan, tree: &Tree) -> Answer {
     match plan.next() {
         Need::Over => told(alloc, &plan.finish(), tree),
-        Need::Child => Ok(b"Child".to_vec(alloc)?),
+        Need::Child => Answer::new(alloc).text("Child"),
     }
 }
 
-fn told(alloc: Global, out: &RunOut, tree: &Tree) -> Result<Vec<u8>, Stop> {
-    let verdict = if out.passed { "passed" } else { "failed" };
-    let after = if out.tree == *tree {
-        "the same"
-    } else {
-        "another"
-    };
-    let unsteady = out.unsteady.len();
-    let head = format!(in alloc; "Over, {verdict}, {after} tree, {unsteady} unsteady\n")?;
-    with_results(alloc, head, out)
+fn told(alloc: Global, out: &RunOut, tree: &Tree) -> Answer {
+    let same = out.tree == *tree;
+    let after = if same { "the same" } else { "another" };
+    let answer = Answer::new(alloc).texts(&[
+        "Over, ",
+        verdict_of(out.passed),
+        ", ",
+        after,
+        " tree, ",
+    ]);
+    let answer = answer.shown(out.unsteady.len()).text(" unsteady\n");
+    with_results(answer, out)
 }
 
-/// The head, then a line for each result, and the report.
-pub(crate) fn with_results(alloc: Global, head: String, out: &RunOut) -> Result<Vec<u8>, Stop> {
-    let mut text = head;
+/// The word for whether every hook passed.
+pub(crate) fn verdict_of(passed: bool) -> &'static str {
+    if passed { "passed" } else { "failed" }
+}
+
+/// Adds a line for each result, and the report.
+pub(crate) fn with_results(answer: Answer, out: &RunOut) -> Answer {
+    let mut answer = answer;
     for hook in out.results.as_slice() {
-        push_hook(alloc, &mut text, hook)?;
+        answer = with_ending(answer.text(hook.id.as_str()), &hook.ending);
     }
-    let mut answer = text.into_bytes();
-    answer.extend_from_slice(out.report.as_slice())?;
-    Ok(answer)
+    answer.bytes(out.report.as_slice())
 }
 
-// The hook's id, and how it ended.
-fn push_hook(alloc: Global, text: &mut String, hook: &HookResult) -> Result<(), AllocError> {
-    let id = hook.id.as_str();
-    let line = match &hook.ending {
-        Ending::SkippedAsked => format!(in alloc; "{id}: skipped as asked\n")?,
-        Ending::SkippedNoFiles => format!(in alloc; "{id}: skipped, no files\n")?,
-        Ending::Ran { status, .. } => format!(in alloc; "{id}: ran, status {status}\n")?,
-    };
-    text.push_str(line.as_str())
+// How a hook ended.
+fn with_ending(answer: Answer, ending: &Ending) -> Answer {
+    match ending {
+        Ending::SkippedAsked => answer.text(": skipped as asked\n"),
+        Ending::SkippedNoFiles => answer.text(": skipped, no files\n"),
+        Ending::Ran { status, .. } => answer.text(": ran, status ").shown(*status).text("\n"),
+    }
 }

@@ -7,30 +7,37 @@
 
 use crate::host_asks::{asked_name, files_of, is_unverified, stage_of};
 use crate::host_commands::{children_of, empty_store};
-use crate::host_words::{Words, mode_of, tell, tell_file};
-use crate::replies::{tell_change, tell_refusal, tell_reply};
+use crate::host_words::{Words, mode_of, with_file};
+use crate::replies::{with_changes, with_length, with_refusal, with_reply};
 use child_port::{Children, TableChildren};
-use commit_flow::{Command, Host, HostAsk};
+use commit_flow::{Command, Host, HostAsk, Reply};
 use hook_base::{Bytes, Text, Tree};
 use hook_cli::skip_list_of;
 use sqlite::MemStore;
 use std::alloc::Global;
-use trial_rows::Stop;
+use trial_rows::{Answer, Stop};
+
+// The host of a row.
+type Played = Host<MemStore>;
 
 /// `play COMMAND..`: the replies, the counts, and the repository.
-pub(crate) fn played(alloc: Global, arguments: &[Vec<u8>]) -> Result<Vec<u8>, Stop> {
+pub(crate) fn played(alloc: Global, arguments: &[Vec<u8>]) -> Result<Answer, Stop> {
     let mut words = Words { left: arguments };
     let mut children = children_of(alloc, &mut words)?;
     let commands = commands_of(alloc, &mut words)?;
     let mut host = Host::over(alloc, empty_store(alloc)?);
     let replies = host.play(alloc, &mut children, commands.as_slice())?;
-    let mut told = Vec::new(alloc);
-    for reply in replies.as_slice() {
-        tell_reply(alloc, reply, &mut told)?;
+    let answer = with_replies(Answer::new(alloc), replies.as_slice());
+    let answer = with_forgotten(with_counts(answer, &children, &host), &mut host);
+    with_repository(answer, &host)
+}
+
+fn with_replies(answer: Answer, replies: &[Reply]) -> Answer {
+    let mut answer = answer;
+    for reply in replies {
+        answer = with_reply(answer, reply);
     }
-    tell_counts(alloc, &children, &mut host, &mut told)?;
-    tell_repository(alloc, &host, &mut told)?;
-    Ok(told)
+    answer
 }
 
 fn commands_of(alloc: Global, words: &mut Words<'_>) -> Result<Vec<Command>, Stop> {
@@ -78,51 +85,52 @@ fn ask_of(alloc: Global, words: &mut Words<'_>) -> Result<HostAsk, Stop> {
     })
 }
 
-// How many children were asked and how many of them failed, how many answers are remembered, and how many of these `forget`
-// then forgets.
-fn tell_counts(
-    alloc: Global,
-    children: &TableChildren,
-    host: &mut Host<MemStore>,
-    told: &mut Vec<u8>,
-) -> Result<(), Stop> {
-    let (calls, faults) = (children.calls(), children.faults());
-    let remembered = host.remembered();
-    tell(
-        told,
-        format!(in alloc; "{calls} calls, {faults} faults, {remembered} remembered\n")?,
-    )?;
+// How many children were asked and how many of them failed, and how many answers are remembered.
+fn with_counts(answer: Answer, children: &TableChildren, host: &Played) -> Answer {
+    let answer = answer.shown(children.calls()).text(" calls, ");
+    let answer = answer.shown(children.faults()).text(" faults, ");
+    answer.shown(host.remembered()).text(" remembered\n")
+}
+
+// How many answers `forget` then forgets.
+fn with_forgotten(answer: Answer, host: &mut Played) -> Answer {
     match host.forget() {
-        Ok(number) => Ok(tell(told, format!(in alloc; "{number} forgotten\n")?)?),
-        Err(refusal) => tell_refusal(alloc, &refusal, told),
+        Ok(number) => answer.shown(number).text(" forgotten\n"),
+        Err(refusal) => with_refusal(answer, &refusal),
     }
 }
 
 // The staged files, those of HEAD, the fixes, and each commit with its files.
-fn tell_repository(alloc: Global, host: &Host<MemStore>, told: &mut Vec<u8>) -> Result<(), Stop> {
-    tell_tree(alloc, "staged", &host.staged()?, told)?;
-    tell_tree(alloc, "head", &host.head()?, told)?;
-    for fix in host.fixes()?.as_slice() {
-        tell_change(alloc, "fix", fix, told)?;
-    }
-    for entry in host.log()?.as_slice() {
-        let (number, message) = (entry.number, entry.message.as_slice());
-        let length = message.len();
-        tell(told, format!(in alloc; "commit {number} {length}\n")?)?;
-        told.extend_from_slice(message)?;
-        match host.tree_of(number)? {
-            Some(tree) => tell_tree(alloc, "committed", &tree, told)?,
-            None => told.extend_from_slice(b"no files\n")?,
-        }
-    }
-    Ok(())
+fn with_repository(answer: Answer, host: &Played) -> Result<Answer, Stop> {
+    let answer = with_tree(answer, "staged", &host.staged()?);
+    let answer = with_tree(answer, "head", &host.head()?);
+    let answer = with_changes(answer, "fix", host.fixes()?.as_slice());
+    with_commits(answer, host)
 }
 
-fn tell_tree(alloc: Global, list: &str, tree: &Tree, told: &mut Vec<u8>) -> Result<(), Stop> {
+fn with_commits(answer: Answer, host: &Played) -> Result<Answer, Stop> {
+    let mut answer = answer;
+    for entry in host.log()?.as_slice() {
+        answer = answer.text("commit ").shown(entry.number);
+        answer = with_length(answer, entry.message.as_slice());
+        answer = with_committed(answer, &host.tree_of(entry.number)?);
+    }
+    Ok(answer)
+}
+
+fn with_committed(answer: Answer, tree: &Option<Tree>) -> Answer {
+    match tree {
+        Some(tree) => with_tree(answer, "committed", tree),
+        None => answer.text("no files\n"),
+    }
+}
+
+fn with_tree(answer: Answer, list: &str, tree: &Tree) -> Answer {
+    let mut answer = answer;
     for index in 0..tree.len() {
         let file = tree.entry(index);
         let (mode, bytes) = (file.entry.mode, file.entry.bytes.as_slice());
-        tell_file(alloc, list, mode, file.path.as_str(), bytes, told)?;
+        answer = with_file(answer, list, mode, file.path.as_str(), bytes);
     }
-    Ok(())
+    answer
 }

@@ -1,112 +1,104 @@
 //! What the rows tell of the replies of a host: a line, and the reports behind it, each behind a line with its length.
 
-use crate::host_words::tell;
+use crate::plans::verdict_of;
 use commit_flow::{HostRefusal, PostCommit, Reply};
 use hook_base::{Bytes, Change, Items, Text};
-use std::alloc::Global;
-use trial_rows::Stop;
+use std::fmt::Display;
+use trial_rows::Answer;
 
-pub(crate) fn tell_reply(alloc: Global, reply: &Reply, told: &mut Vec<u8>) -> Result<(), Stop> {
+pub(crate) fn with_reply(answer: Answer, reply: &Reply) -> Answer {
     match reply {
-        Reply::Added => told.extend_from_slice(b"added\n")?,
-        Reply::Removed => told.extend_from_slice(b"removed\n")?,
-        Reply::Accepted(number) => tell(told, format!(in alloc; "accepted {number}\n")?)?,
+        Reply::Added => answer.text("added\n"),
+        Reply::Removed => answer.text("removed\n"),
+        Reply::Accepted(number) => with_number(answer, "accepted ", *number),
         Reply::Ran {
             passed,
             report,
             changes,
             unsteady,
-        } => tell_run(alloc, *passed, report, changes.as_slice(), unsteady, told)?,
+        } => with_run(answer, *passed, report, changes.as_slice(), unsteady),
         Reply::Committed {
             number,
             reports,
             post,
         } => {
-            tell(told, format!(in alloc; "committed {number}\n")?)?;
-            tell_reports(alloc, reports, told)?;
-            tell_post(alloc, post, told)?;
+            let answer = with_number(answer, "committed ", *number);
+            with_post(with_reports(answer, reports), post)
         }
         Reply::HooksFailed { stage, reports } => {
-            tell(told, format!(in alloc; "failed at {stage:?}\n")?)?;
-            tell_reports(alloc, reports, told)?;
+            let answer = answer.text("failed at ").debug(*stage).text("\n");
+            with_reports(answer, reports)
         }
-        Reply::Forgot(number) => tell(told, format!(in alloc; "forgot {number}\n")?)?,
-        Reply::Refused(refusal) => tell_refusal(alloc, refusal, told)?,
+        Reply::Forgot(number) => with_number(answer, "forgot ", *number),
+        Reply::Refused(refusal) => with_refusal(answer, refusal),
     }
-    Ok(())
 }
 
-fn tell_run(
-    alloc: Global,
+fn with_number(answer: Answer, word: &str, number: impl Display + Drop) -> Answer {
+    answer.text(word).shown(number).text("\n")
+}
+
+fn with_run(
+    answer: Answer,
     passed: bool,
     report: &Bytes,
     changes: &[Change],
     unsteady: &Items<Text>,
-    told: &mut Vec<u8>,
-) -> Result<(), Stop> {
-    let (verdict, unsteady) = (if passed { "passed" } else { "failed" }, unsteady.len());
-    tell(
-        told,
-        format!(in alloc; "ran, {verdict}, {unsteady} unsteady\n")?,
-    )?;
+) -> Answer {
+    let answer = answer.texts(&["ran, ", verdict_of(passed), ", "]);
+    let answer = answer.shown(unsteady.len()).text(" unsteady\n");
+    with_report(with_changes(answer, "change", changes), "report", report)
+}
+
+/// Adds the path of each change and its bytes, or that the file is gone.
+pub(crate) fn with_changes(answer: Answer, list: &str, changes: &[Change]) -> Answer {
+    let mut answer = answer;
     for change in changes {
-        tell_change(alloc, "change", change, told)?;
+        answer = with_change(answer.texts(&[list, " ", change.path.as_str()]), change);
     }
-    tell_report(alloc, "report", report, told)
+    answer
 }
 
-/// The path of a change and its bytes, or that the file is gone.
-pub(crate) fn tell_change(
-    alloc: Global,
-    list: &str,
-    change: &Change,
-    told: &mut Vec<u8>,
-) -> Result<(), Stop> {
-    let path = change.path.as_str();
+fn with_change(answer: Answer, change: &Change) -> Answer {
     match &change.now {
-        Some(bytes) => {
-            let length = bytes.len();
-            tell(told, format!(in alloc; "{list} {path} {length}\n")?)?;
-            Ok(told.extend_from_slice(bytes.as_slice())?)
-        }
-        None => Ok(tell(told, format!(in alloc; "{list} {path} gone\n")?)?),
+        Some(bytes) => with_length(answer, bytes.as_slice()),
+        None => answer.text(" gone\n"),
     }
 }
 
-fn tell_reports(alloc: Global, reports: &Items<Bytes>, told: &mut Vec<u8>) -> Result<(), Stop> {
+/// Adds to a line the length of bytes, and then these.
+pub(crate) fn with_length(answer: Answer, bytes: &[u8]) -> Answer {
+    let answer = answer.text(" ").shown(bytes.len());
+    answer.text("\n").bytes(bytes)
+}
+
+fn with_reports(answer: Answer, reports: &Items<Bytes>) -> Answer {
+    let mut answer = answer;
     for report in reports.as_slice() {
-        tell_report(alloc, "report", report, told)?;
+        answer = with_report(answer, "report", report);
     }
-    Ok(())
+    answer
 }
 
-fn tell_report(alloc: Global, name: &str, report: &Bytes, told: &mut Vec<u8>) -> Result<(), Stop> {
-    let length = report.len();
-    tell(told, format!(in alloc; "{name} {length}\n")?)?;
-    Ok(told.extend_from_slice(report.as_slice())?)
+fn with_report(answer: Answer, name: &str, report: &Bytes) -> Answer {
+    with_length(answer.text(name), report.as_slice())
 }
 
-fn tell_post(alloc: Global, post: &PostCommit, told: &mut Vec<u8>) -> Result<(), Stop> {
+fn with_post(answer: Answer, post: &PostCommit) -> Answer {
     match post {
-        PostCommit::Told(report) => tell_report(alloc, "post", report, told),
+        PostCommit::Told(report) => with_report(answer, "post", report),
         PostCommit::Stopped(refusal) => {
-            let (number, name) = (refusal.number(), refusal.name());
-            Ok(tell(told, format!(in alloc; "post stopped {number} {name}\n")?)?)
+            let answer = answer.text("post stopped ").shown(refusal.number());
+            answer.texts(&[" ", refusal.name(), "\n"])
         }
     }
 }
 
-pub(crate) fn tell_refusal(
-    alloc: Global,
-    refusal: &HostRefusal,
-    told: &mut Vec<u8>,
-) -> Result<(), Stop> {
-    let (number, name) = (refusal.number(), refusal.name());
-    Ok(tell(
-        told,
-        match refusal.inner_number() {
-            Some(inner) => format!(in alloc; "refused {number} {name} {inner}\n")?,
-            None => format!(in alloc; "refused {number} {name}\n")?,
-        },
-    )?)
+pub(crate) fn with_refusal(answer: Answer, refusal: &HostRefusal) -> Answer {
+    let answer = answer.text("refused ").shown(refusal.number());
+    let answer = answer.texts(&[" ", refusal.name()]);
+    match refusal.inner_number() {
+        Some(inner) => answer.text(" ").shown(inner).text("\n"),
+        None => answer.text("\n"),
+    }
 }

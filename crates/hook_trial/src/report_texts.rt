@@ -4,13 +4,13 @@ use child_port::Fault;
 use hook_base::{Bytes, Items, Text};
 use report_text::{Ending, HookResult, LineFault, MOST_NAME_BYTES, columns, hook_text};
 use std::alloc::Global;
-use trial_rows::{Stop, number_of, text_of, texts_of};
+use trial_rows::{Answer, Stop, number_of, text_of, texts_of};
 use unicode_width::UnicodeWidthStr;
 
 /// `hook_text COLUMNS NAME VERBOSE ENDING..`: the text of a hook with the id `t`, whose name must fit the columns. An
 /// ending is `asked`, `no files` or `ran STATUS MODIFIED OUTPUT FAULT..`. VERBOSE is `verbose` or has no bytes, and
 /// MODIFIED likewise.
-pub(crate) fn of_hook(alloc: Global, arguments: &[Vec<u8>]) -> Result<Vec<u8>, Stop> {
+pub(crate) fn of_hook(alloc: Global, arguments: &[Vec<u8>]) -> Result<Answer, Stop> {
     let [columns, name, verbose, ending @ ..] = arguments else {
         return Err(Stop::BadLine);
     };
@@ -29,12 +29,13 @@ fn hook_of(alloc: Global, name: &str, verbose: bool, ending: Ending) -> Result<H
     })
 }
 
-fn fitting(alloc: Global, columns: u32, hook: HookResult) -> Result<Vec<u8>, Stop> {
+fn fitting(alloc: Global, columns: u32, hook: HookResult) -> Result<Answer, Stop> {
     let columns = columns as usize;
     if columns < 30 || columns - 30 < hook.name.as_str().width() {
         return Err(Stop::BadLine);
     }
-    Ok(hook_text(alloc, columns, &hook)?)
+    let text = hook_text(alloc, columns, &hook)?;
+    Ok(Answer::new(alloc).bytes(text.as_slice()))
 }
 
 fn ending_of(alloc: Global, arguments: &[Vec<u8>]) -> Result<Ending, Stop> {
@@ -95,10 +96,10 @@ fn fault_of(word: &str) -> Option<LineFault> {
 }
 
 /// `columns NAME..`: the columns of a report on hooks of these names.
-pub(crate) fn for_names(alloc: Global, arguments: &[Vec<u8>]) -> Result<Vec<u8>, Stop> {
+pub(crate) fn for_names(alloc: Global, arguments: &[Vec<u8>]) -> Result<Answer, Stop> {
     let names = texts_of(alloc, arguments)?;
     if names.iter().any(|name| MOST_NAME_BYTES < name.len()) {
         return Err(Stop::BadLine);
     }
-    Ok(columns(names.as_slice()).to_string(alloc)?.into_bytes())
+    Ok(Answer::new(alloc).shown(columns(names.as_slice())))
 }

@@ -3,13 +3,13 @@
 use hook_cli::TryFault;
 use hook_config::{ConfigFault, ConfigKind};
 use std::alloc::Global;
-use trial_rows::{Stop, only, text_of};
+use trial_rows::{Answer, Stop, only, text_of};
 
 /// `try_fault NAME`: the refusal's number and name, and what it is shown as.
-pub(crate) fn told(alloc: Global, arguments: &[Vec<u8>]) -> Result<Vec<u8>, Stop> {
+pub(crate) fn told(alloc: Global, arguments: &[Vec<u8>]) -> Result<Answer, Stop> {
     let fault = fault_of(text_of(only(arguments)?)?).ok_or(Stop::BadLine)?;
-    let (number, name) = (fault.number(), fault.name());
-    Ok(format!(in alloc; "{number} {name}: {fault}")?.into_bytes())
+    let answer = Answer::new(alloc).shown(fault.number());
+    Ok(answer.texts(&[" ", fault.name(), ": "]).shown(fault))
 }
 
 fn fault_of(word: &str) -> Option<TryFault> {

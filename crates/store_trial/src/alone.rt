@@ -32,9 +32,9 @@ fn play_on<S: Alter>(
     rest: &str,
     answer: &mut Answer,
 ) -> Result<(), Stop> {
-    answer.begin("ok")?;
+    answer.begin("ok");
     let done = match word {
-        "read-tables" => add_counts(conn, answer)?,
+        "read-tables" => add_counts(conn, answer),
         "play-tables" => play_tables(conn, answer)?,
         "insert-alone" => {
             let bytes = contents_of(answer.alloc(), number(rest)?, 0, 0)?;
@@ -42,14 +42,14 @@ fn play_on<S: Alter>(
         }
         _ => conn.execute_batch(rest),
     };
-    match done {
-        Ok(()) => Ok(()),
-        Err(error) => answer.refused(&StoreFault::from(error)),
+    if let Err(error) = done {
+        answer.refused(&StoreFault::from(error));
     }
+    Ok(())
 }
 
 /// The refusals of a store, each as it is answered.
-pub(crate) fn add_faults(answer: &mut Answer) -> Result<(), Stop> {
+pub(crate) fn add_faults(answer: &mut Answer) {
     let faults = [
         StoreFault::NotAStore,
         StoreFault::Damaged,
@@ -60,9 +60,8 @@ pub(crate) fn add_faults(answer: &mut Answer) -> Result<(), Stop> {
         StoreFault::TooLarge,
         StoreFault::TooMany,
     ];
-    answer.begin("ok")?;
+    answer.begin("ok");
     for fault in &faults {
-        answer.add_fault(fault)?;
+        answer.add_fault(fault);
     }
-    Ok(())
 }

@@ -8,11 +8,13 @@ use repo_store::{LogEntry, StoreFault};
 use std::alloc::Global;
 use std::fmt::Display;
 
-/// The answer to a line. It is one for the whole play, so that no call owns it.
+/// The answer to a line. It is one for the whole play, so that no call owns it. A field for which there is no memory is
+/// remembered, so that only the line's end asks whether all went well, since each question costs the checker more than a field.
 #[derive(Drop)]
 pub(crate) struct Answer {
     alloc: Global,
     line: Vec<u8>,
+    is_refused: bool,
 }
 
 impl Answer {
@@ -20,6 +22,7 @@ impl Answer {
         Answer {
             alloc,
             line: Vec::new(alloc),
+            is_refused: false,
         }
     }
 
@@ -28,14 +31,19 @@ impl Answer {
     }
 
     /// Begins an answer by its first field.
-    pub(crate) fn begin(&mut self, word: &str) -> Result<(), Stop> {
+    pub(crate) fn begin(&mut self, word: &str) {
         self.line.clear();
-        self.line.extend_from_slice(word.as_bytes())?;
-        Ok(())
+        self.push(word.as_bytes());
+    }
+
+    fn push(&mut self, bytes: &[u8]) {
+        if self.line.extend_from_slice(bytes).is_err() {
+            self.is_refused = true;
+        }
     }
 
     /// The answer to a call that gives nothing.
-    pub(crate) fn done(&mut self, given: Result<(), StoreFault>) -> Result<(), Stop> {
+    pub(crate) fn done(&mut self, given: Result<(), StoreFault>) {
         match given {
             Ok(()) => self.begin("ok"),
             Err(fault) => self.refused(&fault),
@@ -43,105 +51,106 @@ impl Answer {
     }
 
     /// The answer to a call that gives a number.
-    pub(crate) fn numbered(&mut self, given: Result<u32, StoreFault>) -> Result<(), Stop> {
+    pub(crate) fn numbered(&mut self, given: Result<u32, StoreFault>) {
         match given {
             Ok(number) => {
-                self.begin("ok")?;
+                self.begin("ok");
                 self.show(number)
             }
             Err(fault) => self.refused(&fault),
         }
     }
 
-    pub(crate) fn refused(&mut self, fault: &StoreFault) -> Result<(), Stop> {
-        self.begin("refused")?;
+    pub(crate) fn refused(&mut self, fault: &StoreFault) {
+        self.begin("refused");
         self.add_fault(fault)
     }
 
     /// Adds a refusal's number, its name and what it says.
-    pub(crate) fn add_fault(&mut self, fault: &StoreFault) -> Result<(), Stop> {
-        self.show(fault.number())?;
-        self.add(fault.name().as_bytes())?;
+    pub(crate) fn add_fault(&mut self, fault: &StoreFault) {
+        self.show(fault.number());
+        self.add(fault.name().as_bytes());
         self.show(fault)
     }
 
     /// Adds a field of these bytes.
-    pub(crate) fn add(&mut self, bytes: &[u8]) -> Result<(), Stop> {
-        self.line.push(b'\t')?;
-        write_text(&mut self.line, bytes)
+    pub(crate) fn add(&mut self, bytes: &[u8]) {
+        self.push(b"\t");
+        if write_text(&mut self.line, bytes).is_err() {
+            self.is_refused = true;
+        }
     }
 
     /// Adds a field of each of these bytes.
-    pub(crate) fn add_all(&mut self, fields: &[&[u8]]) -> Result<(), Stop> {
+    pub(crate) fn add_all(&mut self, fields: &[&[u8]]) {
         for field in fields {
-            self.add(field)?;
+            self.add(field);
         }
-        Ok(())
     }
 
     /// Adds a field of what a value shows.
-    pub(crate) fn show(&mut self, value: impl Display + Drop) -> Result<(), Stop> {
-        let text = value.to_string(self.alloc)?;
-        self.add(text.as_bytes())
+    pub(crate) fn show(&mut self, value: impl Display + Drop) {
+        match value.to_string(self.alloc) {
+            Ok(text) => self.add(text.as_bytes()),
+            Err(_) => self.is_refused = true,
+        }
     }
 
     /// Adds the mode, the path and the contents of each file.
-    pub(crate) fn add_tree(&mut self, tree: &Tree) -> Result<(), Stop> {
+    pub(crate) fn add_tree(&mut self, tree: &Tree) {
         for at in 0..tree.len() {
             let file = tree.entry(at);
-            self.add_file(file.entry.mode, &file.path, file.entry.bytes.as_slice())?;
+            self.add_file(file.entry.mode, &file.path, file.entry.bytes.as_slice());
         }
-        Ok(())
     }
 
     /// Adds the mode, the path and the contents of a file.
-    pub(crate) fn add_file(
-        &mut self,
-        mode: Mode,
-        path: &RepoPath,
-        bytes: &[u8],
-    ) -> Result<(), Stop> {
-        self.add(word_of(mode).as_bytes())?;
-        self.add_all(&[path.as_str().as_bytes(), bytes])
+    pub(crate) fn add_file(&mut self, mode: Mode, path: &RepoPath, bytes: &[u8]) {
+        self.add(word_of(mode).as_bytes());
+        self.add(path.as_str().as_bytes());
+        self.add(bytes);
     }
 
     /// Adds the path of each fix, and its contents after `now`, or `gone`.
-    pub(crate) fn add_fixes(&mut self, fixes: &[Change]) -> Result<(), Stop> {
+    pub(crate) fn add_fixes(&mut self, fixes: &[Change]) {
         for fix in fixes {
-            self.add(fix.path.as_str().as_bytes())?;
+            self.add(fix.path.as_str().as_bytes());
             match &fix.now {
-                None => self.add(b"gone")?,
-                Some(bytes) => {
-                    self.add(b"now")?;
-                    self.add(bytes.as_slice())?;
-                }
+                None => self.add(b"gone"),
+                Some(bytes) => self.add_all(&[b"now", bytes.as_slice()]),
             }
         }
-        Ok(())
     }
 
     /// Adds the number and the message of each commit.
-    pub(crate) fn add_log(&mut self, log: &[LogEntry]) -> Result<(), Stop> {
+    pub(crate) fn add_log(&mut self, log: &[LogEntry]) {
         for entry in log {
-            self.show(entry.number)?;
-            self.add(entry.message.as_slice())?;
+            self.show(entry.number);
+            self.add(entry.message.as_slice());
         }
-        Ok(())
     }
 
     /// Adds bytes in hexadecimal.
-    pub(crate) fn add_hex(&mut self, bytes: &[u8]) -> Result<(), Stop> {
-        self.line.push(b'\t')?;
+    pub(crate) fn add_hex(&mut self, bytes: &[u8]) {
+        self.push(b"\t");
         for byte in bytes {
-            let digits = format!(in self.alloc; "{byte:02x}")?;
-            self.line.extend_from_slice(digits.as_bytes())?;
+            self.push_hex(*byte);
         }
-        Ok(())
     }
 
-    /// The line, with its end.
+    fn push_hex(&mut self, byte: u8) {
+        match format!(in self.alloc; "{byte:02x}") {
+            Ok(digits) => self.push(digits.as_bytes()),
+            Err(_) => self.is_refused = true,
+        }
+    }
+
+    /// The line, with its end. `OutOfMemory` where there was none for a field, or is none for the end.
     pub(crate) fn end(&mut self) -> Result<&[u8], Stop> {
-        self.line.push(b'\n')?;
+        self.push(b"\n");
+        if self.is_refused {
+            return Err(Stop::OutOfMemory);
+        }
         Ok(self.line.as_slice())
     }
 }

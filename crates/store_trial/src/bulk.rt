@@ -32,10 +32,12 @@ pub(crate) fn stage_many<S: Alter>(
     for at in 0..count {
         let bytes = contents_of(answer.alloc(), size, seed, at)?;
         if let Err(fault) = stage_one(answer.alloc(), store, at, bytes.as_slice())? {
-            return answer.refused(&fault);
+            answer.refused(&fault);
+            return Ok(());
         }
     }
-    answer.begin("ok")
+    answer.begin("ok");
+    Ok(())
 }
 
 fn stage_one<S: Alter>(

@@ -41,7 +41,10 @@ pub(crate) fn play_call<S: Alter>(
         "stage" => stage(store, rest, answer),
         "stage-many" => stage_many(store, rest, answer),
         "unstage" => unstage(store, rest, answer),
-        "accept" => answer.numbered(store.accept()),
+        "accept" => {
+            answer.numbered(store.accept());
+            Ok(())
+        }
         _ => play_further(store, word, rest, answer),
     }
 }
@@ -59,7 +62,7 @@ fn play_further<S: Alter>(
         "blob" => keep_text(store, rest, answer),
         "blob-of" => keep_of(store, rest, answer),
         _ => {
-            answer.begin("ok")?;
+            answer.begin("ok");
             show(store, word, rest, answer)
         }
     }
@@ -77,8 +80,9 @@ fn show<S: Alter>(
         "head" => answer.add_tree(&store.head()?),
         "fixes" => answer.add_fixes(store.fixes()?.as_slice()),
         "log" => answer.add_log(store.log()?.as_slice()),
-        _ => show_facts(store, word, rest, answer),
+        _ => return show_facts(store, word, rest, answer),
     }
+    Ok(())
 }
 
 fn show_facts<S: Alter>(
@@ -91,10 +95,22 @@ fn show_facts<S: Alter>(
         "trees" => add_trees(store, answer),
         "weigh" => weigh(store, answer),
         "look" => look(store, rest, answer),
+        _ => show_counts(store, word, rest, answer),
+    }
+}
+
+fn show_counts<S: Alter>(
+    store: &Store<S>,
+    word: &str,
+    rest: &str,
+    answer: &mut Answer,
+) -> Result<(), Stop> {
+    match word {
         "count" => count(store, answer),
         "walk" => walk(store, answer),
-        _ => show_commit(store, word, number(rest)?, answer),
+        _ => return show_commit(store, word, number(rest)?, answer),
     }
+    Ok(())
 }
 
 fn show_commit<S: Alter>(
@@ -104,11 +120,12 @@ fn show_commit<S: Alter>(
     answer: &mut Answer,
 ) -> Result<(), Stop> {
     match word {
-        "tree" => add_tree_of(store, number, answer),
+        "tree" => add_tree_of(store, number, answer)?,
         "files" => add_files(store, number, answer),
         "message" => add_message(store, number, answer),
-        _ => Err(Stop::BadLine),
+        _ => return Err(Stop::BadLine),
     }
+    Ok(())
 }
 
 /// Adds the files of a commit, or `none`.
@@ -117,12 +134,13 @@ fn add_tree_of<S: Alter>(store: &Store<S>, number: u32, answer: &mut Answer) -> 
         None => answer.add(b"none"),
         Some(tree) => answer.add_tree(&tree),
     }
+    Ok(())
 }
 
 /// Adds the number of each commit, and its files after it.
 fn add_trees<S: Alter>(store: &Store<S>, answer: &mut Answer) -> Result<(), Stop> {
     for commit in store.log()?.as_slice() {
-        answer.show(commit.number)?;
+        answer.show(commit.number);
         add_tree_of(store, commit.number, answer)?;
     }
     Ok(())
@@ -135,8 +153,9 @@ fn weigh<S: Alter>(store: &Store<S>, answer: &mut Answer) -> Result<(), Stop> {
     for at in 0..tree.len() {
         bytes = bytes.saturating_add(tree.entry(at).entry.bytes.len() as u64);
     }
-    answer.show(tree.len())?;
-    answer.show(bytes)
+    answer.show(tree.len());
+    answer.show(bytes);
+    Ok(())
 }
 
 fn stage<S: Alter>(store: &mut Store<S>, rest: &str, answer: &mut Answer) -> Result<(), Stop> {
@@ -145,7 +164,8 @@ fn stage<S: Alter>(store: &mut Store<S>, rest: &str, answer: &mut Answer) -> Res
     let mode = read_mode(mode)?;
     let bytes = read_text(answer.alloc(), text)?;
     let path = staged_path(answer.alloc(), path)?;
-    answer.done(store.stage(&path, mode, bytes.as_slice()))
+    answer.done(store.stage(&path, mode, bytes.as_slice()));
+    Ok(())
 }
 
 /// The mode of a word.
@@ -159,28 +179,32 @@ pub(crate) fn read_mode(word: &str) -> Result<Mode, Stop> {
 
 fn unstage<S: Alter>(store: &mut Store<S>, path: &str, answer: &mut Answer) -> Result<(), Stop> {
     let path = RepoPath::read(answer.alloc(), path)?;
-    answer.done(store.unstage(&path))
+    answer.done(store.unstage(&path));
+    Ok(())
 }
 
 fn commit<S: Alter>(store: &mut Store<S>, text: &str, answer: &mut Answer) -> Result<(), Stop> {
     let message = read_text(answer.alloc(), text)?;
-    answer.numbered(store.commit(message.as_slice()))
+    answer.numbered(store.commit(message.as_slice()));
+    Ok(())
 }
 
 fn keep_text<S: Alter>(store: &mut Store<S>, text: &str, answer: &mut Answer) -> Result<(), Stop> {
     let bytes = read_text(answer.alloc(), text)?;
-    keep(store, bytes.as_slice(), answer)
+    keep(store, bytes.as_slice(), answer);
+    Ok(())
 }
 
 fn keep_of<S: Alter>(store: &mut Store<S>, size: &str, answer: &mut Answer) -> Result<(), Stop> {
     let bytes = contents_of(answer.alloc(), number(size)?, 0, 0)?;
-    keep(store, bytes.as_slice(), answer)
+    keep(store, bytes.as_slice(), answer);
+    Ok(())
 }
 
-fn keep<S: Alter>(store: &mut Store<S>, bytes: &[u8], answer: &mut Answer) -> Result<(), Stop> {
+fn keep<S: Alter>(store: &mut Store<S>, bytes: &[u8], answer: &mut Answer) {
     match store.blob_put(bytes) {
         Ok(digest) => {
-            answer.begin("ok")?;
+            answer.begin("ok");
             answer.add_hex(&digest.bytes)
         }
         Err(fault) => answer.refused(&fault),

@@ -24,7 +24,8 @@ pub(crate) fn collect(
         },
     };
     fixes.push(change)?;
-    answer.begin("ok")
+    answer.begin("ok");
+    Ok(())
 }
 
 fn read_fix(alloc: Global, rest: &str) -> Result<Change, Stop> {
@@ -45,7 +46,10 @@ pub(crate) fn set<S: Alter>(
     let mut waiting = mem::replace(fixes, Vec::new(answer.alloc()));
     waiting.sort_by(|one, other| one.path.cmp(&other.path))?;
     match Changes::from_rising(waiting) {
-        Ok(changes) => answer.done(store.set_fixes(changes.as_slice())),
+        Ok(changes) => {
+            answer.done(store.set_fixes(changes.as_slice()));
+            Ok(())
+        }
         Err(_) => Err(Stop::BadLine),
     }
 }

@@ -36,8 +36,14 @@ pub(crate) fn play_command<S: Alter>(
 ) -> Result<(), Stop> {
     match word {
         "add" => add(host, rest, answer),
-        "remove" => done(host.remove(answer.alloc(), rest), answer),
-        "accept-fixes" => accept(host, answer),
+        "remove" => {
+            done(host.remove(answer.alloc(), rest), answer);
+            Ok(())
+        }
+        "accept-fixes" => {
+            accept(host, answer);
+            Ok(())
+        }
         "run-hooks" => run(host, rows, rest, answer),
         "commit-verified" => commit(host, rows, rest, false, answer),
         _ => commit(host, rows, rest, true, answer),
@@ -54,20 +60,21 @@ fn add<S: Alter>(host: &mut Host<S>, rest: &str, answer: &mut Answer) -> Result<
     };
     let bytes = read_text(answer.alloc(), text)?;
     let added = host.add(answer.alloc(), path, bytes.as_slice(), mode);
-    done(added, answer)
+    done(added, answer);
+    Ok(())
 }
 
-fn done(given: Result<(), HostRefusal>, answer: &mut Answer) -> Result<(), Stop> {
+fn done(given: Result<(), HostRefusal>, answer: &mut Answer) {
     match given {
         Ok(()) => answer.begin("ok"),
         Err(refusal) => refused(&refusal, answer),
     }
 }
 
-fn accept<S: Alter>(host: &mut Host<S>, answer: &mut Answer) -> Result<(), Stop> {
+fn accept<S: Alter>(host: &mut Host<S>, answer: &mut Answer) {
     match host.accept() {
         Ok(number) => {
-            answer.begin("ok")?;
+            answer.begin("ok");
             answer.show(number)
         }
         Err(refusal) => refused(&refusal, answer),
@@ -87,6 +94,7 @@ fn run<S: Alter>(
         Ok(ran) => add_run(&ran, answer),
         Err(refusal) => refused(&refusal, answer),
     }
+    Ok(())
 }
 
 fn read_ask(alloc: Global, which: &str) -> Result<HostAsk, Stop> {
@@ -105,9 +113,9 @@ fn read_ask(alloc: Global, which: &str) -> Result<HostAsk, Stop> {
 }
 
 // Whether no hook failed, and the fixes.
-fn add_run(ran: &StagedRun, answer: &mut Answer) -> Result<(), Stop> {
-    answer.begin("ok")?;
-    answer.add(if ran.passed { b"passed" } else { b"failed" })?;
+fn add_run(ran: &StagedRun, answer: &mut Answer) {
+    answer.begin("ok");
+    answer.add(if ran.passed { b"passed" } else { b"failed" });
     answer.add_fixes(ran.changes.as_slice())
 }
 
@@ -130,19 +138,20 @@ fn commit<S: Alter>(
         Ok(ending) => add_ending(&ending, answer),
         Err(refusal) => refused(&refusal, answer),
     }
+    Ok(())
 }
 
 // The commit's number, and whether the hooks behind it were told of or stopped; or the stage in which a hook failed.
-fn add_ending(ending: &CommitEnding, answer: &mut Answer) -> Result<(), Stop> {
-    answer.begin("ok")?;
+fn add_ending(ending: &CommitEnding, answer: &mut Answer) {
+    answer.begin("ok");
     match ending {
         CommitEnding::Committed { number, post, .. } => {
-            answer.add(b"committed")?;
-            answer.show(*number)?;
+            answer.add(b"committed");
+            answer.show(*number);
             answer.add(word_of_post(post).as_bytes())
         }
         CommitEnding::HooksFailed { stage, .. } => {
-            answer.add(b"failed")?;
+            answer.add(b"failed");
             answer.add(word_of_stage(*stage).as_bytes())
         }
     }
@@ -165,10 +174,10 @@ fn word_of_stage(stage: Stage) -> &'static str {
     }
 }
 
-fn refused(refusal: &HostRefusal, answer: &mut Answer) -> Result<(), Stop> {
-    answer.begin("refused")?;
-    answer.show(refusal.number())?;
-    answer.add(refusal.name().as_bytes())?;
+fn refused(refusal: &HostRefusal, answer: &mut Answer) {
+    answer.begin("refused");
+    answer.show(refusal.number());
+    answer.add(refusal.name().as_bytes());
     match refusal.inner_number() {
         Some(number) => answer.show(number),
         None => answer.add(b"none"),

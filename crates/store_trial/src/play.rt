@@ -77,11 +77,11 @@ impl<S: Alter + Drop> Play<S> {
         match begun(answer.alloc(), conn, is_new) {
             Ok(store) => {
                 self.store = Some(store);
-                answer.begin("ok")?;
+                answer.begin("ok");
                 Ok(Ask::Nothing)
             }
             Err((fault, conn)) => {
-                answer.refused(&fault)?;
+                answer.refused(&fault);
                 Ok(Ask::GiveBack(conn.into_store()))
             }
         }
@@ -90,7 +90,7 @@ impl<S: Alter + Drop> Play<S> {
     fn close(&mut self, answer: &mut Answer) -> Result<Ask<S>, Stop> {
         match self.store.take() {
             None => {
-                answer.begin("no store")?;
+                answer.begin("no store");
                 Ok(Ask::Nothing)
             }
             Some(store) => Ok(Ask::Closing(store.into_connection())),
@@ -107,7 +107,8 @@ impl<S: Alter + Drop> Play<S> {
 
     fn call(&mut self, line: &str, answer: &mut Answer) -> Result<(), Stop> {
         if line == "faults" {
-            return add_faults(answer);
+            add_faults(answer);
+            return Ok(());
         }
         if is_of(line, &[], &["child"]) {
             return self.child(line, answer);
@@ -120,7 +121,10 @@ impl<S: Alter + Drop> Play<S> {
         }
         let (word, rest) = parted(line);
         match &mut self.store {
-            None => answer.begin("no store"),
+            None => {
+                answer.begin("no store");
+                Ok(())
+            }
             Some(store) => match word {
                 "fix" | "fix-gone" => collect(&mut self.fixes, word, rest, answer),
                 "set" => set(store, &mut self.fixes, answer),
@@ -134,13 +138,17 @@ impl<S: Alter + Drop> Play<S> {
         let (_word, rest) = parted(line);
         let _row = read_row(answer.alloc(), rest)?;
         self.rows.push(Text::copy_of(answer.alloc(), rest)?)?;
-        answer.begin("ok")
+        answer.begin("ok");
+        Ok(())
     }
 
     /// Hands the store to a host for one command.
     fn command(&mut self, line: &str, answer: &mut Answer) -> Result<(), Stop> {
         match self.store.take() {
-            None => answer.begin("no store"),
+            None => {
+                answer.begin("no store");
+                Ok(())
+            }
             Some(store) => {
                 let (word, rest) = parted(line);
                 let mut host = Host::over(answer.alloc(), store);

@@ -39,7 +39,10 @@ fn play_line(
     match play.begin(line, answer)? {
         Ask::Connection => match Connection::open(rt, name) {
             Ok(conn) => end(play.go_on(line, conn, answer)?, answer),
-            Err(error) => answer.refused(&StoreFault::from(error)),
+            Err(error) => {
+                answer.refused(&StoreFault::from(error));
+                Ok(())
+            }
         },
         ask => end(ask, answer),
     }
@@ -48,7 +51,10 @@ fn play_line(
 fn end(ask: Ask<FileStore<File>>, answer: &mut Answer) -> Result<(), Stop> {
     match ask {
         Ask::Nothing | Ask::GiveBack(_) => Ok(()),
-        Ask::Closing(conn) => answer.done(conn.close().map_err(|error| StoreFault::from(error))),
+        Ask::Closing(conn) => {
+            answer.done(conn.close().map_err(|error| StoreFault::from(error)));
+            Ok(())
+        }
         Ask::Connection | Ask::Crash(_) => Err(Stop::BadLine),
     }
 }

@@ -67,7 +67,10 @@ fn play_line(
     match play.begin(line, answer)? {
         Ask::Connection => match connect(answer.alloc(), files)? {
             Ok(conn) => end(files, play.go_on(line, conn, answer)?, answer),
-            Err(error) => answer.refused(&StoreFault::from(error)),
+            Err(error) => {
+                answer.refused(&StoreFault::from(error));
+                Ok(())
+            }
         },
         ask => end(files, ask, answer),
     }
@@ -107,7 +110,8 @@ fn end(
                 *files = Some(store.close());
             }
             crash(files)?;
-            answer.begin("ok")
+            answer.begin("ok");
+            Ok(())
         }
         Ask::Closing(conn) => {
             let _closed = conn.close();

@@ -2,7 +2,6 @@
 //! database costs, and the rows that a store left can be counted.
 
 use crate::answer::Answer;
-use crate::stop::Stop;
 use sha2::{Digest as _, Sha256};
 use sqlite::{Alter, Connection, Error, Transaction};
 use std::alloc::Global;
@@ -24,16 +23,12 @@ struct Counts {
 pub(crate) fn add_counts<S: Alter>(
     conn: &mut Connection<S>,
     answer: &mut Answer,
-) -> Result<Result<(), Error>, Stop> {
-    match read_tables(answer.alloc(), conn) {
-        Ok(counts) => {
-            answer.show(counts.rows)?;
-            answer.show(counts.contents)?;
-            answer.show(counts.strays)?;
-            Ok(Ok(()))
-        }
-        Err(error) => Ok(Err(error)),
-    }
+) -> Result<(), Error> {
+    let counts = read_tables(answer.alloc(), conn)?;
+    answer.show(counts.rows);
+    answer.show(counts.contents);
+    answer.show(counts.strays);
+    Ok(())
 }
 
 fn read_tables<S: Alter>(alloc: Global, conn: &mut Connection<S>) -> Result<Counts, Error> {

@@ -27,10 +27,10 @@ pub(crate) fn play_tables<S: Alter>(
     fill_more(&mut tx)?;
     add_rows(&mut tx, answer)?;
     change_some(&mut tx)?;
-    answer.add(b"changed")?;
+    answer.add(b"changed");
     add_rows(&mut tx, answer)?;
     empty_some(&mut tx)?;
-    answer.add(b"emptied")?;
+    answer.add(b"emptied");
     add_rows(&mut tx, answer)?;
     Ok(Ok(()))
 }
@@ -83,31 +83,31 @@ fn add_rows<S: Alter>(tx: &mut Transaction<'_, S>, answer: &mut Answer) -> Resul
 
 fn add_meta<S: Alter>(tx: &mut Transaction<'_, S>, answer: &mut Answer) -> Result<(), Stop> {
     for row in &read_meta(answer.alloc(), tx)? {
-        answer.add_all(&[b"meta", row.name.as_slice()])?;
-        answer.show(row.value)?;
+        answer.add_all(&[b"meta", row.name.as_slice()]);
+        answer.show(row.value);
     }
     Ok(())
 }
 
 fn add_blobs<S: Alter>(tx: &mut Transaction<'_, S>, answer: &mut Answer) -> Result<(), Stop> {
     for row in &read_blobs(answer.alloc(), tx)? {
-        answer.add_all(&[b"blobs", row.digest.as_slice(), row.bytes.as_slice()])?;
+        answer.add_all(&[b"blobs", row.digest.as_slice(), row.bytes.as_slice()]);
     }
     Ok(())
 }
 
 fn add_staged<S: Alter>(tx: &mut Transaction<'_, S>, answer: &mut Answer) -> Result<(), Stop> {
     for row in &read_staged(answer.alloc(), tx)? {
-        answer.add_all(&[b"staged", row.path.as_slice(), row.digest.as_slice()])?;
-        answer.show(row.mode)?;
+        answer.add_all(&[b"staged", row.path.as_slice(), row.digest.as_slice()]);
+        answer.show(row.mode);
     }
     Ok(())
 }
 
 fn add_fixes<S: Alter>(tx: &mut Transaction<'_, S>, answer: &mut Answer) -> Result<(), Stop> {
     for row in &read_fixes(answer.alloc(), tx)? {
-        answer.add_all(&[b"fixes", row.path.as_slice(), digest_of(row)])?;
-        answer.show(row.gone)?;
+        answer.add_all(&[b"fixes", row.path.as_slice(), digest_of(row)]);
+        answer.show(row.gone);
     }
     Ok(())
 }
@@ -121,26 +121,26 @@ fn digest_of(row: &FixRow) -> &[u8] {
 
 fn add_commits<S: Alter>(tx: &mut Transaction<'_, S>, answer: &mut Answer) -> Result<(), Stop> {
     for row in &read_commits(answer.alloc(), tx)? {
-        answer.add_all(&[b"commits", row.message.as_slice()])?;
-        answer.show(row.n)?;
+        answer.add_all(&[b"commits", row.message.as_slice()]);
+        answer.show(row.n);
     }
     Ok(())
 }
 
 fn add_entries<S: Alter>(tx: &mut Transaction<'_, S>, answer: &mut Answer) -> Result<(), Stop> {
     for row in &read_entries(answer.alloc(), tx)? {
-        answer.add_all(&[b"entries", row.path.as_slice(), row.digest.as_slice()])?;
-        answer.show(row.n)?;
-        answer.show(row.mode)?;
+        answer.add_all(&[b"entries", row.path.as_slice(), row.digest.as_slice()]);
+        answer.show(row.n);
+        answer.show(row.mode);
     }
     Ok(())
 }
 
 fn add_answers<S: Alter>(tx: &mut Transaction<'_, S>, answer: &mut Answer) -> Result<(), Stop> {
     for row in &read_answers(answer.alloc(), tx)? {
-        answer.add_all(&[b"answers", row.words.as_slice(), row.seen.as_slice()])?;
-        answer.add_all(&[row.output.as_slice(), row.changes.as_slice()])?;
-        answer.show(row.status)?;
+        answer.add_all(&[b"answers", row.words.as_slice(), row.seen.as_slice()]);
+        answer.add_all(&[row.output.as_slice(), row.changes.as_slice()]);
+        answer.show(row.status);
     }
     Ok(())
 }

@@ -2,7 +2,7 @@
 //! byte as it is.
 
 use crate::stop::Stop;
-use std::alloc::Global;
+use std::alloc::{AllocError, Global};
 
 /// The bytes that a text stands for. A backslash before any other byte is no text.
 pub(crate) fn read_text(alloc: Global, text: &str) -> Result<Vec<u8>, Stop> {
@@ -34,7 +34,7 @@ fn escaped_by(letter: u8) -> Option<u8> {
 }
 
 /// Writes bytes as a text at the end of a line.
-pub(crate) fn write_text(line: &mut Vec<u8>, bytes: &[u8]) -> Result<(), Stop> {
+pub(crate) fn write_text(line: &mut Vec<u8>, bytes: &[u8]) -> Result<(), AllocError> {
     for byte in bytes {
         match *byte {
             b'\\' => line.extend_from_slice(b"\\\\")?,

@@ -24,6 +24,11 @@ impl Answer {
         }
     }
 
+    /// What gives the answer its memory.
+    pub fn alloc(&self) -> Global {
+        self.alloc
+    }
+
     /// Puts bytes behind the answer.
     pub fn add(&mut self, bytes: &[u8]) {
         if self.bytes.extend_from_slice(bytes).is_err() {
