@@ -14,7 +14,6 @@ use Rattle.command_line.specs.declared.line.Line.{Line}
 use Rattle.command_line.specs.declared.line.Line.TheVariants.{Add, Run, Commit}
 use Rattle.hook_base.specs.declared.file.File.{File}
 use Rattle.repository_files.specs.RepositoryFaults.{IsFaultOfOpening}
-use Rattle.repository_files.specs.declared.repository_fault.RepositoryFault.{RepositoryFault}
 use Rattle.hookhost.specs.FileTrees.{AreFilesOf}
 use Rattle.hookhost.specs.declared.stop.Stop.{Stop}
 use Rattle.hookhost.specs.declared.stop.Stop.TheVariants.{Usage, NotText, CannotUse, Refused, NoConfiguration, NoRepository, RefusedCommand}
