@@ -6,10 +6,10 @@
 //! and [`laws`] says by `specs/DueCut.antt` what a crash may leave.
 #![tactic(auto)]
 
-#[cfg(test)]
-mod counted;
 pub mod laws;
 mod lazy_disk;
+#[cfg(test)]
+mod noted;
 mod settled;
 #[cfg(test)]
 mod tests;

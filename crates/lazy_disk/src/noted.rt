@@ -1,15 +1,22 @@
-//! A disk that counts its syncs, for tests.
+//! A disk that notes the calls which change or read its file, for tests.
 
 use sqlite_disk::{Crash, Disk, Tally};
 use std::io;
 
 #[derive(Drop)]
-pub(crate) struct Counted<D: Disk> {
+pub(crate) struct Noted<D: Disk> {
     pub(crate) inner: D,
-    pub(crate) syncs: u64,
+    /// A letter for each call, in order: `r` for a read, `l` for the length, `w` for a write, `c` for a new length, `s` for
+    /// a sync.
+    pub(crate) calls: Vec<u8>,
 }
 
-impl<D: Disk> Disk for Counted<D> {
+fn note(calls: &mut Vec<u8>, letter: u8) {
+    // A letter that is lost is missed in what a test compares.
+    let _noted = calls.push(letter);
+}
+
+impl<D: Disk> Disk for Noted<D> {
     ghost seen = { λ f. D.Disk.seen f.inner };
 
     ghost may_leave = { λ f. D.Disk.may_leave f.inner };
@@ -51,32 +58,37 @@ impl<D: Disk> Disk for Counted<D> {
     }
 
     fn len(&mut self) -> io::Result<usize> {
+        note(&mut self.calls, b'l');
         self.inner.len()
     }
 
     fn read_at(&mut self, at: usize, buf: &mut [u8]) -> io::Result<()> {
+        note(&mut self.calls, b'r');
         self.inner.read_at(at, buf)
     }
 
     fn read_checked(&mut self, key: u64, want: u64, at: usize, buf: &mut [u8]) -> io::Result<()> {
+        note(&mut self.calls, b'r');
         self.inner.read_checked(key, want, at, buf)
     }
 
     fn write_at(&mut self, at: usize, bytes: &[u8]) -> io::Result<()> {
+        note(&mut self.calls, b'w');
         self.inner.write_at(at, bytes)
     }
 
     fn set_len(&mut self, len: usize) -> io::Result<()> {
+        note(&mut self.calls, b'c');
         self.inner.set_len(len)
     }
 
     fn sync(&mut self) -> io::Result<()> {
-        self.syncs = self.syncs.saturating_add(1);
+        note(&mut self.calls, b's');
         self.inner.sync()
     }
 }
 
-impl<D: Crash> Crash for Counted<D> {
+impl<D: Crash> Crash for Noted<D> {
     fn crash(&mut self) {
         self.inner.crash();
     }
