@@ -523,7 +523,8 @@ COMMITS = [
     (*BEFORE, *commit(), done("commit 1\n")),
     # Of a commit whose text isn't taken standard error says that it was made, as far as it takes this.
     *((*BEFORE, *commit(out=str(count)), *line("log"), cut_off("commit 1\n"[:count], UNTAKEN + MADE) + done("1 m\n")) for count in [0, 1, 8]),
-    (*BEFORE, *commit(out="unflushed"), *line("log"), cut_off("commit 1\n", UNTAKEN + MADE) + done("1 m\n")),
+    # The reports, of which there are none, are flushed before the commit's number is written.
+    (*BEFORE, *commit(out="unflushed"), *line("log"), cut_off(err=UNTAKEN + MADE) + done("1 m\n")),
     *(
         (*BEFORE, *commit(out="0", err=str(count)), *line("log"), cut_off(err=(UNTAKEN + MADE)[:count]) + done("1 m\n"))
         for count in [0, 1, len(UNTAKEN), len(UNTAKEN) + 1, len(UNTAKEN + MADE) - 1, len(UNTAKEN + MADE)]
