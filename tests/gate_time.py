@@ -22,8 +22,8 @@ import time
 from collections import defaultdict
 from concurrent.futures import ThreadPoolExecutor
 
-# What the whole gate may take, in processor minutes: a tenth more than it should take from nothing by the figures of 26 November
-# 2026, which are some 190 for proofs and programs, 40 for must-fail edits and 18 for scripts. Who adds a crate says what it adds.
+# What the whole gate may take, in processor minutes: a tenth more than the 250 that are estimated, by a run of 26 November 2026
+# that was cut off after 211 with most edits and all scripts to come. Who adds a crate says what it adds.
 BUDGET = 275
 PAUSE = 0.5
 START = time.monotonic()
