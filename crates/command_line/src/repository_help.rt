@@ -128,10 +128,10 @@ staged files that each selects: of those that differ from the last commit, or wi
 commas between them, are skipped. What the hooks change isn't staged: these are the
 fixes, which hookhost fixes lists and hookhost accept applies.
 
-The commands of hooks run in .hookhost/scratch, over copies of the staged files. No
-answer of theirs is remembered yet: each run starts them all, with --fresh as
-without it, and no hook is told as unsteady: ID, which is that it answers otherwise
-than is remembered.
+The commands of hooks run in .hookhost/scratch, over copies of the staged files.
+What a command answered is remembered until the run ends: on the same files it
+isn't started again. With --fresh each is, and unsteady: ID tells of each hook that
+answers otherwise than is remembered. The next run remembers nothing at first.
 
 Examples:
   hookhost run

@@ -7,6 +7,7 @@ use Rattle.hook_base.specs.Trees.{changes_between}
 use Rattle.child_port.specs.declared.answer.Outcome.{Outcome}
 use Rattle.child_port.specs.Telling.{SameTells}
 use Rattle.hook_config.specs.declared.stage.Stage.{Stage}
+use Rattle.hook_run.specs.Moments.{Moment}
 use Rattle.repo_store.specs.Kept.{Kept, committing, setting}
 use Rattle.repo_store.specs.Shown.{Leaves, Shown}
 use Rattle.commit_flow.specs.declared.command.Command.{Command}
@@ -29,29 +30,29 @@ use Rattle.commit_flow.proofs.CommandLemmas.{unchanged}
 use Rattle.commit_flow.proofs.CommitLemmas.{step_committed, step_failed, step_uncommitted, step_unfixed}
 use Rattle.commit_flow.proofs.CommitStoreLemmas.{command_refused, commit_reached, fix_reached, same_fixing}
 
-module _ (tells : List (List ℕ) → List File → Outcome → Type 0) (calls calls_after faults faults_after : ℕ) (kept : Kept) (message : List ℕ) (no_verify : Bool) (skip : List (List ℕ)) (through : Through)
-    (ran : IsThrough tells calls calls_after faults faults_after kept.repo message no_verify skip through) where
+module _ (tells : List (List ℕ) → List File → Outcome → Type 0) (from to : Moment) (kept : Kept) (message : List ℕ) (no_verify : Bool) (skip : List (List ℕ)) (through : Through)
+    (ran : IsThrough tells from to kept.repo message no_verify skip through) where
   over_as : (end : StagesEnd) → through.end ≡ end
-      → AreRunOver tells calls calls_after faults faults_after through.config (changed_paths kept.repo) skip (stages_before_commit no_verify) (course_of kept.repo message) end
+      → AreRunOver tells from to through.config (changed_paths kept.repo) skip (stages_before_commit no_verify) (course_of kept.repo message) end
   over_as end is =
-      subst (λ (at : StagesEnd). AreRunOver tells calls calls_after faults faults_after through.config (changed_paths kept.repo) skip (stages_before_commit no_verify) (course_of kept.repo message) at) is ran.run
+      subst (λ (at : StagesEnd). AreRunOver tells from to through.config (changed_paths kept.repo) skip (stages_before_commit no_verify) (course_of kept.repo message) at) is ran.run
 
   -- ---- a hook failed
 
   module _ (stage : Stage) (reports : List (List ℕ)) (left : Course) (is : through.end ≡ Failed stage reports left) where
-    over_failed : AreStagesOver tells calls calls_after faults faults_after reports (λ told. FailedAt through.config (changed_paths kept.repo) skip (stages_before_commit no_verify) (course_of kept.repo message) told stage left)
+    over_failed : AreStagesOver tells from to reports (λ told. FailedAt through.config (changed_paths kept.repo) skip (stages_before_commit no_verify) (course_of kept.repo message) told stage left)
     over_failed = over_as (Failed stage reports left) is
 
     pub unfixed_step : (refusal : HostRefusal) (after : Kept) → IsUnfixed kept (changes_between kept.repo.staged left.tree) refusal → after ≡ kept
-        → IsCommitStep tells calls calls_after faults faults_after kept message no_verify skip (Refused refusal) after.repo
+        → IsCommitStep tells from to kept message no_verify skip (Refused refusal) after.repo
     unfixed_step refusal after why same =
-        subst (λ (now : Kept). IsCommitStep tells calls calls_after faults faults_after kept message no_verify skip (Refused refusal) now.repo) (sym same)
-        (step_unfixed tells kept message no_verify skip calls calls_after faults faults_after ran.committable through.config ran.configured reports stage left over_failed refusal why)
+        subst (λ (now : Kept). IsCommitStep tells from to kept message no_verify skip (Refused refusal) now.repo) (sym same)
+        (step_unfixed tells kept message no_verify skip from to ran.committable through.config ran.configured reports stage left over_failed refusal why)
 
     pub failed_step : (after : Kept) → after ≡ setting (changes_between kept.repo.staged left.tree) kept
-        → IsCommitStep tells calls calls_after faults faults_after kept message no_verify skip (HooksFailed stage reports) after.repo
+        → IsCommitStep tells from to kept message no_verify skip (HooksFailed stage reports) after.repo
     failed_step after made =
-        step_failed tells kept message no_verify skip calls calls_after faults faults_after ran.committable through.config ran.configured reports stage left after.repo over_failed
+        step_failed tells kept message no_verify skip from to ran.committable through.config ran.configured reports stage left over_failed after.repo
         (ap (λ (now : Kept). now.repo) made ∙ same_fixing kept.repo left.tree)
 
     pub failed_reached : (trees : Trees) → Leaves (setting (changes_between kept.repo.staged left.tree) kept) trees → LeavesDone kept.repo (Commit message no_verify skip) trees
@@ -61,25 +62,25 @@ module _ (tells : List (List ℕ) → List File → Outcome → Type 0) (calls c
   -- ---- the stages passed
 
   module _ (reports : List (List ℕ)) (left : Course) (is : through.end ≡ Passed reports left) where
-    over_passed : AreStagesOver tells calls calls_after faults faults_after reports (λ told. HavePassed through.config (changed_paths kept.repo) skip (stages_before_commit no_verify) (course_of kept.repo message) told left)
+    over_passed : AreStagesOver tells from to reports (λ told. HavePassed through.config (changed_paths kept.repo) skip (stages_before_commit no_verify) (course_of kept.repo message) told left)
     over_passed = over_as (Passed reports left) is
 
     pub uncommitted_step : (refusal : HostRefusal) (after : Kept) (last : List ℕ) → last ≡ left.message → IsUncommitted kept.repo (cleaned_message last) refusal → after ≡ kept
-        → IsCommitStep tells calls calls_after faults faults_after kept message no_verify skip (Refused refusal) after.repo
+        → IsCommitStep tells from to kept message no_verify skip (Refused refusal) after.repo
     uncommitted_step refusal after last same_message why same =
-        subst (λ (now : Kept). IsCommitStep tells calls calls_after faults faults_after kept message no_verify skip (Refused refusal) now.repo) (sym same)
-        (step_uncommitted tells kept message no_verify skip calls calls_after faults faults_after ran.committable through.config ran.configured reports left over_passed refusal
+        subst (λ (now : Kept). IsCommitStep tells from to kept message no_verify skip (Refused refusal) now.repo) (sym same)
+        (step_uncommitted tells kept message no_verify skip from to ran.committable through.config ran.configured reports left over_passed refusal
         (subst (λ (bytes : List ℕ). IsUncommitted kept.repo (cleaned_message bytes) refusal) same_message why))
 
-    pub committed_step : (next : List (List ℕ) → List File → Outcome → Type 0) (calls_end faults_end number : ℕ) (after : Kept) (last : List ℕ) (post : PostCommit) → last ≡ left.message → SameTells tells next
+    pub committed_step : (next : List (List ℕ) → List File → Outcome → Type 0) (end : Moment) (number : ℕ) (after : Kept) (last : List ℕ) (post : PostCommit) → last ≡ left.message → SameTells tells next
         → MayCommit kept.repo (cleaned_message last) → number ≡ length kept.repo.history + 1 → after ≡ committing (cleaned_message last) kept
-        → IsPostOver next calls_after calls_end faults_after faults_end through.config after.repo.staged skip post
-        → IsCommitStep tells calls calls_end faults faults_end kept message no_verify skip (Committed number reports post) after.repo
-    committed_step next calls_end faults_end number after last post same_message same may counted made behind =
+        → IsPostOver next to end through.config after.repo.staged skip post
+        → IsCommitStep tells from end kept message no_verify skip (Committed number reports post) after.repo
+    committed_step next end number after last post same_message same may counted made behind =
         let made_of : after ≡ committing (cleaned_message left.message) kept = made ∙ ap (λ (bytes : List ℕ). committing (cleaned_message bytes) kept) same_message in
-        step_committed tells kept message no_verify skip calls calls_after faults faults_after ran.committable through.config ran.configured reports left over_passed next calls_end faults_end number after.repo same
+        step_committed tells kept message no_verify skip from to ran.committable through.config ran.configured reports left over_passed next end number after.repo same
         (subst (λ (bytes : List ℕ). MayCommit kept.repo (cleaned_message bytes)) same_message may) counted (ap (λ (now : Kept). now.repo) made_of) post
-        (subst (λ (files : List File). IsPostOver next calls_after calls_end faults_after faults_end through.config files skip post) (ap (λ (now : Kept). now.repo.staged) made) behind)
+        (subst (λ (files : List File). IsPostOver next to end through.config files skip post) (ap (λ (now : Kept). now.repo.staged) made) behind)
 
     pub passed_reached : (last : List ℕ) → last ≡ left.message → (cleaned_message last ≡ [] → ⊥)
         → (trees : Trees) → Leaves (committing (cleaned_message last) kept) trees → LeavesDone kept.repo (Commit message no_verify skip) trees

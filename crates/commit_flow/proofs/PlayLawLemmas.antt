@@ -1,9 +1,12 @@
 -- What follows for a step and for a list of commands.
-use Rattle.std.proofs.Common.{◌≡◌, ◌∙◌, rules, sym, subst, refl, ap, arith, ℕ, zero, suc, ◌+◌, ◌-◌, ◌^◌, ◌≤◌, List, [], ◌∷◌, ◌++◌, length}
+use Rattle.std.proofs.Common.{◌≡◌, ◌∙◌, rules, sym, subst, refl, ap, arith, ℕ, zero, suc, Bool, ◌+◌, ◌-◌, ◌^◌, ◌≤◌, List, [], ◌∷◌, ◌++◌, length}
 use Rattle.std.specs.Prelude.{All, Any}
 use Rattle.std.proofs.lemmas.List.Elements.{All-head, All-tail}
 use Rattle.hook_base.specs.declared.file.File.{File}
 use Rattle.child_port.specs.declared.answer.Outcome.{Outcome}
+use Rattle.hook_run.specs.Answers.{AreAnswered}
+use Rattle.hook_run.specs.AnswerLemmas.{faults-append, so-far-faults, so-far-rises}
+use Rattle.hook_run.specs.Moments.{Moment}
 use Rattle.hook_run.specs.Parts.{Part, faults_of}
 use Rattle.repo_store.specs.Repository.{Repository, with_new_commit}
 use Rattle.commit_flow.specs.declared.command.Command.{Command}
@@ -12,9 +15,9 @@ use Rattle.commit_flow.specs.declared.host_refusal.HostRefusal.{HostRefusal}
 use Rattle.commit_flow.specs.declared.reply.PostCommit.{PostCommit}
 use Rattle.commit_flow.specs.declared.reply.Reply.{Reply}
 use Rattle.commit_flow.specs.declared.reply.Reply.TheVariants.{Added, Removed, Accepted, Ran, Committed, HooksFailed, Forgot, Refused}
-use Rattle.commit_flow.specs.CommitSteps.{SaysSpent}
+use Rattle.commit_flow.specs.CommitSteps.{SaysSpent, StandsOnAll}
 use Rattle.commit_flow.specs.Messages.{cleaned_message}
-use Rattle.commit_flow.specs.Plays.{ArePlayed, RunsHooks, StandsOnAll}
+use Rattle.commit_flow.specs.Plays.{ArePlayed, Makes, MakesSoFar, RunsHooks, is_fresh}
 use Rattle.commit_flow.specs.PlayLaws.{HasCommitted, SaysCommitted}
 use Rattle.commit_flow.specs.Steps.{Step}
 
@@ -69,93 +72,111 @@ runless_parts before after Accept (Refused refusal) parts step runless = step.0.
 runless_parts before after Forget (Refused refusal) parts step runless = step.0.1
 runless_parts before after command reply parts step runless = absurd step
 
+-- ---- what a command makes
+
+module _ (tells : List (List ℕ) → List File → Outcome → Type 0) (from to : Moment) where
+  made_faults : (command : Command) (reply : Reply) (parts : List Part) → MakesSoFar tells from to command reply parts → to.faults ≡ from.faults + faults_of parts
+  made_faults Forget reply parts makes =
+      let faulted = makes.1.faulted in
+      let none = ap faults_of makes.0 in
+      omega arith
+  made_faults command reply parts makes = so-far-faults tells (is_fresh command) from to parts makes
+
+  made_calls : (command : Command) (reply : Reply) (parts : List Part) → MakesSoFar tells from to command reply parts → from.calls ≤ to.calls
+  made_calls Forget reply parts makes = let called = makes.1.called in omega arith
+  made_calls command reply parts makes = (so-far-rises tells (is_fresh command) from to parts makes).calls
+
+  none_started : (fresh : Bool) (parts : List Part) → AreAnswered tells fresh from to parts → parts ≡ [] → (to.calls ≡ from.calls) × (to.faults ≡ from.faults)
+  none_started fresh parts answered no_parts =
+      let none = subst (AreAnswered tells fresh from to) no_parts answered in
+      let called = none.counted.called in
+      let faulted = none.counted.faulted in
+      let no_calls = ap (λ (all : List Part). length all) none.starts.1 in
+      let no_faults = ap faults_of none.starts.1 in
+      (omega arith, omega arith)
+
+  -- without parts no child is started
+  made_none : (command : Command) (reply : Reply) (parts : List Part) → Makes tells from to command reply parts → parts ≡ [] → (to.calls ≡ from.calls) × (to.faults ≡ from.faults)
+  made_none Forget reply parts makes no_parts = (makes.1.called, makes.1.faulted)
+  made_none command reply parts makes no_parts = none_started (is_fresh command) parts makes no_parts
+
 -- ---- a list of commands
 
-faults-append : (parts more : List Part) → faults_of (parts ++ more) ≡ faults_of parts + faults_of more
-faults-append [] more = omega arith
-faults-append (part ∷ parts) more = let rest = faults-append parts more in omega arith
+module _ (tells : List (List ℕ) → List File → Outcome → Type 0) (to : Moment) (after : Repository) where
+  pub one_reply_a_command : (from : Moment) (before : Repository) (commands : List Command) (replies : List Reply) (parts : List Part)
+      → ArePlayed tells from to before commands replies parts after → length replies ≡ length commands
+  one_reply_a_command from before [] [] parts played = refl
+  one_reply_a_command from before (command ∷ commands) (reply ∷ replies) parts played =
+      let rest = one_reply_a_command played.between played.repo_between commands replies played.further played.rest in omega arith
+  one_reply_a_command from before commands replies parts played = absurd played
 
-module _ (tells : List (List ℕ) → List File → Outcome → Type 0) (calls_after faults_after : ℕ) (after : Repository) where
-  pub one_reply_a_command : (calls faults : ℕ) (before : Repository) (commands : List Command) (replies : List Reply) (parts : List Part)
-      → ArePlayed tells calls calls_after faults faults_after before commands replies parts after → length replies ≡ length commands
-  one_reply_a_command calls faults before [] [] parts played = refl
-  one_reply_a_command calls faults before (command ∷ commands) (reply ∷ replies) parts played =
-      let rest = one_reply_a_command played.calls_then played.faults_then played.repo_then commands replies played.further played.rest in omega arith
-  one_reply_a_command calls faults before commands replies parts played = absurd played
-
-  pub faults_at_least : (calls faults : ℕ) (before : Repository) (commands : List Command) (replies : List Reply) (parts : List Part)
-      → ArePlayed tells calls calls_after faults faults_after before commands replies parts after → faults + faults_of parts ≤ faults_after
-  faults_at_least calls faults before [] [] parts played =
+  pub faults_at_least : (from : Moment) (before : Repository) (commands : List Command) (replies : List Reply) (parts : List Part)
+      → ArePlayed tells from to before commands replies parts after → from.faults + faults_of parts ≤ to.faults
+  faults_at_least from before [] [] parts played =
       let none = ap faults_of played.no_parts in
-      let unfaulted = played.unfaulted in
+      let unfaulted = ap (λ (at : Moment). at.faults) played.unmade in
       omega arith
-  faults_at_least calls faults before (command ∷ commands) (reply ∷ replies) parts played =
-      let rest = faults_at_least played.calls_then played.faults_then played.repo_then commands replies played.further played.rest in
-      let first = played.first.told.counted.faulted in
+  faults_at_least from before (command ∷ commands) (reply ∷ replies) parts played =
+      let rest = faults_at_least played.between played.repo_between commands replies played.further played.rest in
+      let first = made_faults tells from played.between command reply (played.first.parts ++ played.first.untold) played.first.makes in
       let first_faults = faults-append played.first.parts played.first.untold in
       let all_faults = ap faults_of played.joined ∙ faults-append played.first.parts played.further in
       omega arith
-  faults_at_least calls faults before commands replies parts played = absurd played
+  faults_at_least from before commands replies parts played = absurd played
 
-  pub faults_exactly : (calls faults : ℕ) (before : Repository) (commands : List Command) (replies : List Reply) (parts : List Part)
-      → ArePlayed tells calls calls_after faults faults_after before commands replies parts after → All StandsOnAll replies → faults_after ≡ faults + faults_of parts
-  faults_exactly calls faults before [] [] parts played stand =
+  pub faults_exactly : (from : Moment) (before : Repository) (commands : List Command) (replies : List Reply) (parts : List Part)
+      → ArePlayed tells from to before commands replies parts after → All StandsOnAll replies → to.faults ≡ from.faults + faults_of parts
+  faults_exactly from before [] [] parts played stand =
       let none = ap faults_of played.no_parts in
-      let unfaulted = played.unfaulted in
+      let unfaulted = ap (λ (at : Moment). at.faults) played.unmade in
       omega arith
-  faults_exactly calls faults before (command ∷ commands) (reply ∷ replies) parts played stand =
-      let rest = faults_exactly played.calls_then played.faults_then played.repo_then commands replies played.further played.rest (All-tail StandsOnAll reply replies stand) in
-      let first = played.first.told.counted.faulted in
+  faults_exactly from before (command ∷ commands) (reply ∷ replies) parts played stand =
+      let rest = faults_exactly played.between played.repo_between commands replies played.further played.rest (All-tail StandsOnAll reply replies stand) in
+      let first = made_faults tells from played.between command reply (played.first.parts ++ played.first.untold) played.first.makes in
       let first_faults = faults-append played.first.parts played.first.untold in
-      let no_more = ap faults_of (played.first.whole (All-head StandsOnAll reply replies stand)) in
+      let no_more = ap faults_of (played.first.whole (All-head StandsOnAll reply replies stand)).0 in
       let all_faults = ap faults_of played.joined ∙ faults-append played.first.parts played.further in
       omega arith
-  faults_exactly calls faults before commands replies parts played stand = absurd played
+  faults_exactly from before commands replies parts played stand = absurd played
 
-  calls_rise : (calls faults : ℕ) (before : Repository) (commands : List Command) (replies : List Reply) (parts : List Part)
-      → ArePlayed tells calls calls_after faults faults_after before commands replies parts after → calls ≤ calls_after
-  calls_rise calls faults before [] [] parts played = let uncalled = played.uncalled in omega arith
-  calls_rise calls faults before (command ∷ commands) (reply ∷ replies) parts played =
-      let rest = calls_rise played.calls_then played.faults_then played.repo_then commands replies played.further played.rest in
-      let first = played.first.told.counted.called in
+  calls_rise : (from : Moment) (before : Repository) (commands : List Command) (replies : List Reply) (parts : List Part)
+      → ArePlayed tells from to before commands replies parts after → from.calls ≤ to.calls
+  calls_rise from before [] [] parts played = let uncalled = ap (λ (at : Moment). at.calls) played.unmade in omega arith
+  calls_rise from before (command ∷ commands) (reply ∷ replies) parts played =
+      let rest = calls_rise played.between played.repo_between commands replies played.further played.rest in
+      let first = made_calls tells from played.between command reply (played.first.parts ++ played.first.untold) played.first.makes in
       omega arith
-  calls_rise calls faults before commands replies parts played = absurd played
+  calls_rise from before commands replies parts played = absurd played
 
-  pub spent_at_last : (calls faults : ℕ) (before : Repository) (commands : List Command) (replies : List Reply) (parts : List Part)
-      → ArePlayed tells calls calls_after faults faults_after before commands replies parts after → calls_after ≤ 2 ^ 64 - 1 → Any SaysSpent replies → calls_after ≡ 2 ^ 64 - 1
-  spent_at_last calls faults before [] [] parts played most says = absurd (search rules)
-  spent_at_last calls faults before (command ∷ commands) (reply ∷ replies) parts played most (zero, spent, within, is, says) =
+  pub spent_at_last : (from : Moment) (before : Repository) (commands : List Command) (replies : List Reply) (parts : List Part)
+      → ArePlayed tells from to before commands replies parts after → to.calls ≤ 2 ^ 64 - 1 → Any SaysSpent replies → to.calls ≡ 2 ^ 64 - 1
+  spent_at_last from before [] [] parts played most says = absurd (search rules)
+  spent_at_last from before (command ∷ commands) (reply ∷ replies) parts played most (zero, spent, within, is, says) =
       let all = played.first.spent (subst SaysSpent (sym is) says) in
-      let rest = calls_rise played.calls_then played.faults_then played.repo_then commands replies played.further played.rest in
+      let rest = calls_rise played.between played.repo_between commands replies played.further played.rest in
       omega arith
-  spent_at_last calls faults before (command ∷ commands) (reply ∷ replies) parts played most (suc k, spent, within, is, says) =
-      spent_at_last played.calls_then played.faults_then played.repo_then commands replies played.further played.rest most (k, spent, omega arith, is, says)
-  spent_at_last calls faults before commands replies parts played most says = absurd played
+  spent_at_last from before (command ∷ commands) (reply ∷ replies) parts played most (suc k, spent, within, is, says) =
+      spent_at_last played.between played.repo_between commands replies played.further played.rest most (k, spent, omega arith, is, says)
+  spent_at_last from before commands replies parts played most says = absurd played
 
-  pub no_child_started : (calls faults : ℕ) (before : Repository) (commands : List Command) (replies : List Reply) (parts : List Part)
-      → ArePlayed tells calls calls_after faults faults_after before commands replies parts after → All (λ command. ¬ RunsHooks command) commands
-      → (calls_after ≡ calls) × (faults_after ≡ faults)
-  no_child_started calls faults before [] [] parts played runless = (played.uncalled, played.unfaulted)
-  no_child_started calls faults before (command ∷ commands) (reply ∷ replies) parts played runless =
+  pub no_child_started : (from : Moment) (before : Repository) (commands : List Command) (replies : List Reply) (parts : List Part)
+      → ArePlayed tells from to before commands replies parts after → All (λ command. ¬ RunsHooks command) commands
+      → (to.calls ≡ from.calls) × (to.faults ≡ from.faults)
+  no_child_started from before [] [] parts played runless = (ap (λ (at : Moment). at.calls) played.unmade, ap (λ (at : Moment). at.faults) played.unmade)
+  no_child_started from before (command ∷ commands) (reply ∷ replies) parts played runless =
       let first = played.first in
       let runs_none = All-head (λ command. ¬ RunsHooks command) command commands runless in
-      let rest = no_child_started played.calls_then played.faults_then played.repo_then commands replies played.further played.rest (All-tail (λ command. ¬ RunsHooks command) command commands runless) in
-      let calls_same = rest.0 in
-      let faults_same = rest.1 in
-      let no_parts = runless_parts before played.repo_then command reply first.parts first.step runs_none in
-      let none : first.parts ++ first.untold ≡ [] = rw (no_parts, first.runless runs_none) refl in
-      let called = first.told.counted.called in
-      let faulted = first.told.counted.faulted in
-      let no_calls = ap (λ (all : List Part). length all) none in
-      let no_faults = ap faults_of none in
-      (omega arith, omega arith)
-  no_child_started calls faults before commands replies parts played runless = absurd played
+      let rest = no_child_started played.between played.repo_between commands replies played.further played.rest (All-tail (λ command. ¬ RunsHooks command) command commands runless) in
+      let no_parts = runless_parts before played.repo_between command reply first.parts first.step runs_none in
+      let none = made_none tells from played.between command reply first.parts (first.runless runs_none).1 no_parts in
+      (rest.0 ∙ none.0, rest.1 ∙ none.1)
+  no_child_started from before commands replies parts played runless = absurd played
 
   -- where no reply tells of a commit, there is none more
-  pub all_history_kept : (calls faults : ℕ) (before : Repository) (commands : List Command) (replies : List Reply) (parts : List Part)
-      → ArePlayed tells calls calls_after faults faults_after before commands replies parts after → All (λ reply. ¬ SaysCommitted reply) replies → after.history ≡ before.history
-  all_history_kept calls faults before [] [] parts played none = same_history before after played.same
-  all_history_kept calls faults before (command ∷ commands) (reply ∷ replies) parts played none =
-      all_history_kept played.calls_then played.faults_then played.repo_then commands replies played.further played.rest (All-tail (λ reply. ¬ SaysCommitted reply) reply replies none)
-      ∙ history_kept before played.repo_then command reply played.first.parts played.first.step (All-head (λ reply. ¬ SaysCommitted reply) reply replies none)
-  all_history_kept calls faults before commands replies parts played none = absurd played
+  pub all_history_kept : (from : Moment) (before : Repository) (commands : List Command) (replies : List Reply) (parts : List Part)
+      → ArePlayed tells from to before commands replies parts after → All (λ reply. ¬ SaysCommitted reply) replies → after.history ≡ before.history
+  all_history_kept from before [] [] parts played none = same_history before after played.same
+  all_history_kept from before (command ∷ commands) (reply ∷ replies) parts played none =
+      all_history_kept played.between played.repo_between commands replies played.further played.rest (All-tail (λ reply. ¬ SaysCommitted reply) reply replies none)
+      ∙ history_kept before played.repo_between command reply played.first.parts played.first.step (All-head (λ reply. ¬ SaysCommitted reply) reply replies none)
+  all_history_kept from before commands replies parts played none = absurd played

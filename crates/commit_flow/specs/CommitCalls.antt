@@ -12,9 +12,11 @@ use Rattle.hook_config.specs.declared.stage.Stage.TheVariants as stage
 use Rattle.hook_run.specs.declared.run_ask.RunAsk.{RunAsk}
 use Rattle.hook_run.specs.declared.run_refusal.RunRefusal.{RunRefusal}
 use Rattle.hook_run.specs.declared.run_refusal.RunRefusal.TheVariants as run
+use Rattle.hook_run.specs.Answers.{AreAnswered, AreAnsweredSoFar}
+use Rattle.hook_run.specs.Moments.{Moment}
 use Rattle.hook_run.specs.Parts.{Part, all_parts}
 use Rattle.hook_run.specs.Refusals.{is_of_book}
-use Rattle.hook_run.specs.RunOuts.{NeedsPart}
+use Rattle.hook_run.specs.RunOuts.{NeedsChild}
 use Rattle.repo_store.specs.Kept.{FixCollides, Kept}
 use Rattle.repo_store.specs.Limits.{IsSmall, most_commits}
 use Rattle.repo_store.specs.Repository.{Repository}
@@ -35,18 +37,18 @@ use Rattle.commit_flow.specs.Configured.{IsConfigured, IsMisconfigured, LacksCon
 use Rattle.commit_flow.specs.RunRefusals.{IsOfFixes}
 use Rattle.commit_flow.specs.RunSteps.{IsUnset}
 use Rattle.commit_flow.specs.Runs.{changed_paths}
-use Rattle.commit_flow.specs.CommitSteps.{AreTold, IsUnkept}
+use Rattle.commit_flow.specs.CommitSteps.{IsUnkept}
 
 -- ---- one run
 
 -- the hooks of a stage were stopped
-pub record IsRunStopped (tells : List (List ℕ) → List File → Outcome → Type 0) (calls calls_after faults faults_after : ℕ) (config : Config) (ask : RunAsk) (tree : List File) (refusal : RunRefusal) : Type 0 where
+pub record IsRunStopped (tells : List (List ℕ) → List File → Outcome → Type 0) (from to : Moment) (config : Config) (ask : RunAsk) (tree : List File) (refusal : RunRefusal) : Type 0 where
   pub untold : List Part
-  pub told : AreTold tells calls calls_after faults faults_after untold
+  pub answered : AreAnsweredSoFar tells false from to untold
   pub not_named : refusal ≢ run.NoSuchHook
   pub not_book : is_of_book refusal ≡ false
-  pub needs : refusal ≡ run.Spent → NeedsPart config ask tree untold
-  pub spent : refusal ≡ run.Spent → calls_after ≡ 2 ^ 64 - 1
+  pub needs : refusal ≡ run.Spent → NeedsChild to.remembered config ask tree untold
+  pub spent : refusal ≡ run.Spent → to.calls ≡ 2 ^ 64 - 1
 
 -- ---- the stages
 
@@ -56,38 +58,38 @@ IsHalt OutOfMemory = Unit {0}
 IsHalt Spent = Unit {0}
 IsHalt refusal = ⊥
 
--- the hooks were stopped, and children had told these parts by then; where they are spent, there is a further one
-pub record IsHalted (tells : List (List ℕ) → List File → Outcome → Type 0) (calls calls_after faults faults_after : ℕ) (further : List Part → Type 0) (refusal : HostRefusal) : Type 0 where
+-- the hooks were stopped, and these parts were answered by then; where the children are spent, there is a further one
+pub record IsHalted (tells : List (List ℕ) → List File → Outcome → Type 0) (from to : Moment) (further : List Part → Type 0) (refusal : HostRefusal) : Type 0 where
   pub untold : List Part
-  pub told : AreTold tells calls calls_after faults faults_after untold
+  pub answered : AreAnsweredSoFar tells false from to untold
   pub why : IsHalt refusal
   pub needs : refusal ≡ Spent → further untold
-  pub spent : refusal ≡ Spent → calls_after ≡ 2 ^ 64 - 1
+  pub spent : refusal ≡ Spent → to.calls ≡ 2 ^ 64 - 1
 
 -- the hooks of a stage were run, and this is passed on
-pub record IsStageOver (tells : List (List ℕ) → List File → Outcome → Type 0) (calls calls_after faults faults_after : ℕ)
+pub record IsStageOver (tells : List (List ℕ) → List File → Outcome → Type 0) (from to : Moment)
     (config : Config) (changed skip : List (List ℕ)) (stage : Stage) (course : Course) (end : StageEnd) : Type 0 where
   pub told : StageTold
   pub run : IsStageTold config changed skip stage course told
-  pub all_told : AreTold tells calls calls_after faults faults_after (all_parts told.trace)
+  pub answered : AreAnswered tells false from to (all_parts told.trace)
   pub passed : end.passed ≡ told.out.passed
   pub reported : end.report ≡ told.out.report
   pub left : end.course ≡ course_after stage course told.out.tree
 
 -- stages were run in this way, and reported so
-pub record AreStagesOver (tells : List (List ℕ) → List File → Outcome → Type 0) (calls calls_after faults faults_after : ℕ)
+pub record AreStagesOver (tells : List (List ℕ) → List File → Outcome → Type 0) (from to : Moment)
     (reports : List (List ℕ)) (ran : List StageTold → Type 0) : Type 0 where
   pub told : List StageTold
   pub ran_so : ran told
-  pub all_told : AreTold tells calls calls_after faults faults_after (parts_of told)
+  pub answered : AreAnswered tells false from to (parts_of told)
   pub reported : reports ≡ reports_of told
 
 -- the stages were run in order, up to the first that failed
-abbrev pub AreRunOver : (List (List ℕ) → List File → Outcome → Type 0) → ℕ → ℕ → ℕ → ℕ → Config → List (List ℕ) → List (List ℕ) → List Stage → Course → StagesEnd → Type 0
-AreRunOver tells calls calls_after faults faults_after config changed skip stages course (Passed reports left) =
-    AreStagesOver tells calls calls_after faults faults_after reports (λ told. HavePassed config changed skip stages course told left)
-AreRunOver tells calls calls_after faults faults_after config changed skip stages course (Failed stage reports left) =
-    AreStagesOver tells calls calls_after faults faults_after reports (λ told. FailedAt config changed skip stages course told stage left)
+abbrev pub AreRunOver : (List (List ℕ) → List File → Outcome → Type 0) → Moment → Moment → Config → List (List ℕ) → List (List ℕ) → List Stage → Course → StagesEnd → Type 0
+AreRunOver tells from to config changed skip stages course (Passed reports left) =
+    AreStagesOver tells from to reports (λ told. HavePassed config changed skip stages course told left)
+AreRunOver tells from to config changed skip stages course (Failed stage reports left) =
+    AreStagesOver tells from to reports (λ told. FailedAt config changed skip stages course told stage left)
 
 -- ---- the beginning
 
@@ -108,29 +110,28 @@ IsUnbegun repo message OutOfMemory = IsCommittable repo message
 IsUnbegun repo message refusal = ⊥
 
 -- the stages before the commit were run on what it began with
-pub record IsThrough (tells : List (List ℕ) → List File → Outcome → Type 0) (calls calls_after faults faults_after : ℕ)
+pub record IsThrough (tells : List (List ℕ) → List File → Outcome → Type 0) (from to : Moment)
     (repo : Repository) (message : List ℕ) (no_verify : Bool) (skip : List (List ℕ)) (through : Through) : Type 0 where
   pub committable : IsCommittable repo message
   pub configured : IsConfigured repo through.config
-  pub run : AreRunOver tells calls calls_after faults faults_after through.config (changed_paths repo) skip (stages_before_commit no_verify) (course_of repo message) through.end
+  pub run : AreRunOver tells from to through.config (changed_paths repo) skip (stages_before_commit no_verify) (course_of repo message) through.end
 
 -- the hooks of a commit were stopped that had begun
-pub record IsStoppedIn (tells : List (List ℕ) → List File → Outcome → Type 0) (calls calls_after faults faults_after : ℕ) (repo : Repository) (message : List ℕ) (no_verify : Bool) (skip : List (List ℕ)) (refusal : HostRefusal) : Type 0 where
+pub record IsStoppedIn (tells : List (List ℕ) → List File → Outcome → Type 0) (from to : Moment) (repo : Repository) (message : List ℕ) (no_verify : Bool) (skip : List (List ℕ)) (refusal : HostRefusal) : Type 0 where
   pub committable : IsCommittable repo message
   pub config : Config
   pub configured : IsConfigured repo config
-  pub halted : IsHalted tells calls calls_after faults faults_after (HaveFurther config (changed_paths repo) skip (stages_before_commit no_verify) (course_of repo message)) refusal
+  pub halted : IsHalted tells from to (HaveFurther to.remembered config (changed_paths repo) skip (stages_before_commit no_verify) (course_of repo message)) refusal
 
--- no child was started, and the commit isn't begun
-pub record IsNotBegun (calls calls_after faults faults_after : ℕ) (repo : Repository) (message : List ℕ) (refusal : HostRefusal) : Type 0 where
-  pub uncalled : calls_after ≡ calls
-  pub unfaulted : faults_after ≡ faults
+-- nothing was looked up and no child started, and the commit isn't begun
+pub record IsNotBegun (from to : Moment) (repo : Repository) (message : List ℕ) (refusal : HostRefusal) : Type 0 where
+  pub unmade : to ≡ from
   pub unbegun : IsUnbegun repo message refusal
 
 -- why a commit doesn't get through the stages before it
-abbrev pub IsUnthrough : (List (List ℕ) → List File → Outcome → Type 0) → ℕ → ℕ → ℕ → ℕ → Repository → List ℕ → Bool → List (List ℕ) → HostRefusal → Type 0
-IsUnthrough tells calls calls_after faults faults_after repo message no_verify skip refusal =
-    IsNotBegun calls calls_after faults faults_after repo message refusal ⊎ IsStoppedIn tells calls calls_after faults faults_after repo message no_verify skip refusal
+abbrev pub IsUnthrough : (List (List ℕ) → List File → Outcome → Type 0) → Moment → Moment → Repository → List ℕ → Bool → List (List ℕ) → HostRefusal → Type 0
+IsUnthrough tells from to repo message no_verify skip refusal =
+    IsNotBegun from to repo message refusal ⊎ IsStoppedIn tells from to repo message no_verify skip refusal
 
 -- ---- the commit
 
@@ -158,14 +159,14 @@ pub record IsOneChange {S A : Type 0} (g : Ghosts S) (old new : Shown S) (result
 -- ---- behind the commit
 
 -- the hooks behind a commit were run on the staged files, and this is reported
-pub record IsPostTold (tells : List (List ℕ) → List File → Outcome → Type 0) (calls calls_after faults faults_after : ℕ) (config : Config) (staged : List File) (skip : List (List ℕ)) (report : List ℕ) : Type 0 where
+pub record IsPostTold (tells : List (List ℕ) → List File → Outcome → Type 0) (from to : Moment) (config : Config) (staged : List File) (skip : List (List ℕ)) (report : List ℕ) : Type 0 where
   pub told : StageTold
   pub run : IsStageTold config [] skip stage.PostCommit (record { tree = staged; message = [] }) told
-  pub all_told : AreTold tells calls calls_after faults faults_after (all_parts told.trace)
+  pub answered : AreAnswered tells false from to (all_parts told.trace)
   pub reported : report ≡ told.out.report
 
 -- what became of the hooks behind a commit
-abbrev pub IsPostOver : (List (List ℕ) → List File → Outcome → Type 0) → ℕ → ℕ → ℕ → ℕ → Config → List File → List (List ℕ) → PostCommit → Type 0
-IsPostOver tells calls calls_after faults faults_after config staged skip (Told report) = IsPostTold tells calls calls_after faults faults_after config staged skip report
-IsPostOver tells calls calls_after faults faults_after config staged skip (Stopped refusal) =
-    IsRunStopped tells calls calls_after faults faults_after config (ask_in [] skip stage.PostCommit) staged refusal
+abbrev pub IsPostOver : (List (List ℕ) → List File → Outcome → Type 0) → Moment → Moment → Config → List File → List (List ℕ) → PostCommit → Type 0
+IsPostOver tells from to config staged skip (Told report) = IsPostTold tells from to config staged skip report
+IsPostOver tells from to config staged skip (Stopped refusal) =
+    IsRunStopped tells from to config (ask_in [] skip stage.PostCommit) staged refusal

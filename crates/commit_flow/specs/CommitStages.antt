@@ -9,10 +9,11 @@ use Rattle.hook_base.specs.Trees.{entry_of, put_file, remove_file}
 use Rattle.hook_config.specs.declared.configuration.Config.{Config}
 use Rattle.hook_config.specs.declared.stage.Stage.{Stage}
 use Rattle.hook_config.specs.declared.stage.Stage.TheVariants.{PreCommit, PrepareCommitMsg, CommitMsg}
+use Rattle.result_book.specs.Contents.{Contents}
 use Rattle.hook_run.specs.declared.run_ask.RunAsk.{RunAsk}
 use Rattle.hook_run.specs.declared.run_out.RunOut.{RunOut}
 use Rattle.hook_run.specs.Parts.{Part, all_parts}
-use Rattle.hook_run.specs.RunOuts.{IsRunOut, NeedsPart}
+use Rattle.hook_run.specs.RunOuts.{IsRunOut, NeedsChild}
 use Rattle.repo_store.specs.Repository.{Repository}
 use Rattle.commit_flow.specs.declared.course.Course.{Course}
 use Rattle.commit_flow.specs.Messages.{begun_message}
@@ -84,14 +85,15 @@ FailedAt config changed skip (stage ∷ stages) course (told ∷ more) failed la
     ((more ≡ []) × (failed ≡ stage) × (last ≡ course_after stage course told.out.tree))
 FailedAt config changed skip _ course _ failed last = ⊥
 
--- the stages were run in order up to this one, each before it passed, and it has a further part behind these of its own
-abbrev pub NeedsPartAt : Config → List (List ℕ) → List (List ℕ) → List Stage → Course → List StageTold → List Part → Type 0
-NeedsPartAt config changed skip (stage ∷ stages) course [] begun = NeedsPart config (ask_in changed skip stage) (tree_in stage course) begun
-NeedsPartAt config changed skip (stage ∷ stages) course (told ∷ more) begun =
+-- the stages were run in order up to this one, each before it passed, and it has a further part behind these of its own, which
+-- needs a child
+abbrev pub NeedsChildAt : Contents → Config → List (List ℕ) → List (List ℕ) → List Stage → Course → List StageTold → List Part → Type 0
+NeedsChildAt remembered config changed skip (stage ∷ stages) course [] begun = NeedsChild remembered config (ask_in changed skip stage) (tree_in stage course) begun
+NeedsChildAt remembered config changed skip (stage ∷ stages) course (told ∷ more) begun =
     IsStageTold config changed skip stage course told
     × (told.out.passed ≡ true)
-    × NeedsPartAt config changed skip stages (course_after stage course told.out.tree) more begun
-NeedsPartAt config changed skip [] course told begun = ⊥
+    × NeedsChildAt remembered config changed skip stages (course_after stage course told.out.tree) more begun
+NeedsChildAt remembered config changed skip [] course told begun = ⊥
 
 -- a commit begins with the staged files, and with its message ended by a line feed
 abbrev pub course_of : Repository → List ℕ → Course
@@ -105,9 +107,9 @@ abbrev pub reports_of : List StageTold → List (List ℕ)
 reports_of [] = []
 reports_of (told ∷ more) = told.out.report ∷ reports_of more
 
--- the stages have a further part behind these, of those that passed and of the next one so far
-pub record HaveFurther (config : Config) (changed skip : List (List ℕ)) (stages : List Stage) (course : Course) (parts : List Part) : Type 0 where
+-- the stages have a further part behind these, of those that passed and of the next one so far, and it needs a child
+pub record HaveFurther (remembered : Contents) (config : Config) (changed skip : List (List ℕ)) (stages : List Stage) (course : Course) (parts : List Part) : Type 0 where
   pub told : List StageTold
   pub begun : List Part
-  pub needs : NeedsPartAt config changed skip stages course told begun
+  pub needs : NeedsChildAt remembered config changed skip stages course told begun
   pub traced : parts ≡ parts_of told ++ begun

@@ -44,7 +44,7 @@ pub record IsVerified (before : Repository) (message : List ℕ) (no_verify : Bo
   pub message_left : last ≡ left.message
 
 -- the hooks behind the commit ran on the committed files, without any to get, and this is reported; or their run was stopped
--- for want of memory or of a number for a child, and what they were told by then isn't among the parts
+-- for want of memory or of a number for a child, and what they were answered by then isn't among the parts
 abbrev pub IsPost : Config → Repository → List (List ℕ) → PostCommit → List Part → Type 0
 IsPost config before skip (Told report) parts =
     (told : StageTold) × IsStageTold config (changed_paths before) skip stage.PostCommit (record { tree = before.staged; message = [] }) told

@@ -5,7 +5,7 @@ use Rattle.hook_base.specs.declared.file.File.{File}
 use Rattle.hook_base.specs.Trees.{IsRising, changes_between}
 use Rattle.child_port.specs.declared.answer.Outcome.{Outcome}
 use Rattle.hook_config.specs.declared.configuration.Config.{Config}
-use Rattle.result_book.specs.Contents.{Contents}
+use Rattle.hook_run.specs.Moments.{Moment}
 use Rattle.hook_run.specs.declared.run_ask.RunAsk.{RunAsk}
 use Rattle.hook_run.specs.declared.run_out.RunOut.{RunOut}
 use Rattle.hook_run.specs.declared.run_refusal.RunRefusal.{RunRefusal}
@@ -61,38 +61,38 @@ pub record IsPrepared (repo : Repository) (ask : HostAsk) (ready : Prepared) : T
 abbrev pub IsUnprepared : Repository → HostAsk → HostRefusal → Type 0
 IsUnprepared repo ask refusal = IsConfigRefusal repo refusal ⊎ (HasReadableConfig repo × IsNamesFault repo (names_in ask.which) refusal)
 
--- ---- a run of hooks, where `book` and `book_after` are remembered before it and after it
+-- ---- a run of hooks, between two moments
 
 -- hooks of the stage have the name that is asked for, and were run
-pub record HaveRun (tells : List (List ℕ) → List File → Outcome → Type 0) (calls calls_after faults faults_after : ℕ) (book book_after : Contents) (config : Config) (ask : RunAsk) (tree : List File) (out : RunOut) : Type 0 where
+pub record HaveRun (tells : List (List ℕ) → List File → Outcome → Type 0) (from to : Moment) (config : Config) (ask : RunAsk) (tree : List File) (out : RunOut) : Type 0 where
   pub known : names_no_hook config ask ≡ false
-  pub over : IsRunOver tells calls calls_after faults faults_after book book_after config ask tree out
+  pub over : IsRunOver tells from to config ask tree out
 
 -- their run was refused
-pub record HaveStopped (tells : List (List ℕ) → List File → Outcome → Type 0) (calls calls_after faults faults_after : ℕ) (book book_after : Contents) (config : Config) (ask : RunAsk) (tree : List File) (refusal : RunRefusal) : Type 0 where
+pub record HaveStopped (tells : List (List ℕ) → List File → Outcome → Type 0) (from to : Moment) (config : Config) (ask : RunAsk) (tree : List File) (refusal : RunRefusal) : Type 0 where
   pub unknown : refusal ≡ run.NoSuchHook → names_no_hook config ask ≡ true
   pub known : refusal ≢ run.NoSuchHook → names_no_hook config ask ≡ false
   pub not_book : is_of_book refusal ≡ false
-  pub over : IsStoppedRun tells calls calls_after faults faults_after book book_after config ask tree refusal
+  pub over : IsStoppedRun tells from to config ask tree refusal
 
 -- what is given of a run on the staged files
 abbrev pub staged_run_of : List File → RunOut → StagedRun
 staged_run_of staged out = record { passed = out.passed; report = out.report; changes = changes_between staged out.tree; unsteady = out.unsteady }
 
 -- the hooks that are ready were run, and this is given of it
-pub record HasRunReady (tells : List (List ℕ) → List File → Outcome → Type 0) (calls calls_after faults faults_after : ℕ) (book book_after : Contents) (ready : Prepared) (ran : StagedRun) : Type 0 where
+pub record HasRunReady (tells : List (List ℕ) → List File → Outcome → Type 0) (from to : Moment) (ready : Prepared) (ran : StagedRun) : Type 0 where
   pub out : RunOut
-  pub run : HaveRun tells calls calls_after faults faults_after book book_after ready.config ready.ask ready.tree out
+  pub run : HaveRun tells from to ready.config ready.ask ready.tree out
   pub gives : ran ≡ staged_run_of ready.tree out
 
 -- a run on the staged files was made ready, its hooks were run, and this is given of it
-pub record HasRunOnStaged (tells : List (List ℕ) → List File → Outcome → Type 0) (calls calls_after faults faults_after : ℕ) (book book_after : Contents) (repo : Repository) (ask : HostAsk) (ran : StagedRun) : Type 0 where
+pub record HasRunOnStaged (tells : List (List ℕ) → List File → Outcome → Type 0) (from to : Moment) (repo : Repository) (ask : HostAsk) (ran : StagedRun) : Type 0 where
   pub prepared : Prepared
   pub ready : IsPrepared repo ask prepared
-  pub run : HasRunReady tells calls calls_after faults faults_after book book_after prepared ran
+  pub run : HasRunReady tells from to prepared ran
 
 -- their run was refused as this
-pub record HasStoppedReady (tells : List (List ℕ) → List File → Outcome → Type 0) (calls calls_after faults faults_after : ℕ) (book book_after : Contents) (ready : Prepared) (refusal : HostRefusal) : Type 0 where
+pub record HasStoppedReady (tells : List (List ℕ) → List File → Outcome → Type 0) (from to : Moment) (ready : Prepared) (refusal : HostRefusal) : Type 0 where
   pub inner : RunRefusal
-  pub stopped : HaveStopped tells calls calls_after faults faults_after book book_after ready.config ready.ask ready.tree inner
+  pub stopped : HaveStopped tells from to ready.config ready.ask ready.tree inner
   pub is : refusal ≡ of_run inner

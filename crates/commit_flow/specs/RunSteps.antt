@@ -6,10 +6,12 @@ use Rattle.hook_base.specs.Trees.{changes_between}
 use Rattle.child_port.specs.declared.answer.Outcome.{Outcome}
 use Rattle.hook_config.specs.declared.configuration.Config.{Config}
 use Rattle.result_book.specs.Contents.{Contents}
+use Rattle.result_book.specs.Told.{IsTold}
 use Rattle.hook_run.specs.declared.run_out.RunOut.{RunOut}
+use Rattle.hook_run.specs.Answers.{AreAnswered, AreAnsweredSoFar}
+use Rattle.hook_run.specs.Moments.{Moment}
 use Rattle.hook_run.specs.Parts.{AllTold, Part, all_parts}
-use Rattle.hook_run.specs.RunOuts.{IsBegun, IsCounted, IsRunOut, NeedsPart}
-use Rattle.hook_run.specs.Starts.{Starts}
+use Rattle.hook_run.specs.RunOuts.{IsBegun, IsRunOut, NeedsChild}
 use Rattle.repo_store.specs.declared.fault.StoreFault.{StoreFault}
 use Rattle.repo_store.specs.declared.fault.StoreFault.TheVariants.{TooLarge}
 use Rattle.repo_store.specs.Kept.{FixCollides, HasLarge, Kept}
@@ -33,14 +35,13 @@ abbrev pub changes_in : Result StagedRun HostRefusal → List Change
 changes_in (Ok ran) = ran.changes
 changes_in (Err refusal) = []
 
--- The run is a step of the machine, over parts that the children told and counted, where `book` and `book_after` are
--- remembered before it and after it.
-pub record IsRunStep (tells : List (List ℕ) → List File → Outcome → Type 0) (calls calls_after faults faults_after : ℕ) (book book_after : Contents) (before : Repository) (ask : HostAsk) (ran : StagedRun) (after : Repository) : Type 0 where
+-- The run is a step of the machine, over parts that were answered between two moments. Where each answer that was remembered
+-- before is one that the children may tell, so is each outcome.
+pub record IsRunStep (tells : List (List ℕ) → List File → Outcome → Type 0) (from to : Moment) (before : Repository) (ask : HostAsk) (ran : StagedRun) (after : Repository) : Type 0 where
   pub parts : List Part
   pub step : Step before (Run ask) (reply_of_run ran) parts after
-  pub told : AllTold tells parts
-  pub starts : Starts ask.fresh book book_after parts
-  pub counted : IsCounted calls calls_after faults faults_after parts
+  pub answered : AreAnswered tells ask.fresh from to parts
+  pub told : IsTold tells from.remembered → AllTold tells parts
 
 -- ---- a run that is refused
 
@@ -50,11 +51,11 @@ pub record HasBegun (before : Repository) (ask : HostAsk) (parts : List Part) : 
   pub runnable : IsRunnable before ask config
   pub begun : IsBegun config (run_ask_of ask before) before.staged parts
 
--- it has a further part behind these
-pub record HasFurther (before : Repository) (ask : HostAsk) (parts : List Part) : Type 0 where
+-- it has a further part behind these, which needs a child
+pub record HasFurther (before : Repository) (ask : HostAsk) (remembered : Contents) (parts : List Part) : Type 0 where
   pub config : Config
   pub runnable : IsRunnable before ask config
-  pub needs : NeedsPart config (run_ask_of ask before) before.staged parts
+  pub needs : NeedsChild remembered config (run_ask_of ask before) before.staged parts
 
 -- it has these parts, and what they did to the staged files can't be the fixes for this reason
 pub record HasRunBut (before : Repository) (ask : HostAsk) (parts : List Part) (reason : List Change → Type 0) : Type 0 where
@@ -71,22 +72,24 @@ abbrev pub IsUnset : StoreFault → List Change → Type 0
 IsUnset TooLarge fixes = HasLarge fixes
 IsUnset fault fixes = Unit {0}
 
--- How far a run came that is refused so, with these parts and this count of calls: it is spent where it has a further part
--- and no call more can be counted, the store refuses behind its last part, and want of memory may come anywhere. The other
--- refusals come before any part.
-abbrev pub IsStoppedAt : Kept → HostAsk → List Part → ℕ → HostRefusal → Type 0
-IsStoppedAt kept ask parts calls Spent = HasFurther kept.repo ask parts × (calls ≡ 2 ^ 64 - 1)
-IsStoppedAt kept ask parts calls Collision = HasRunBut kept.repo ask parts (λ fixes. FixCollides fixes kept.contents)
-IsStoppedAt kept ask parts calls (Store fault) = HasRunBut kept.repo ask parts (IsUnset fault)
-IsStoppedAt kept ask parts calls OutOfMemory = (parts ≡ []) ⊎ HasBegun kept.repo ask parts
-IsStoppedAt kept ask parts calls refusal = parts ≡ []
+-- nothing was run, and nothing looked up
+abbrev pub IsUnrun : Moment → Moment → List Part → Type 0
+IsUnrun from to parts = (parts ≡ []) × (to ≡ from)
 
--- The refused run is a step of the machine that leaves the repository as it was. The children told and counted the parts
--- that it came to.
-pub record IsStoppedStep (tells : List (List ℕ) → List File → Outcome → Type 0) (calls calls_after faults faults_after : ℕ) (book book_after : Contents) (kept : Kept) (ask : HostAsk) (refusal : HostRefusal) : Type 0 where
+-- How far a run came that is refused so, with these parts, between two moments: it is spent where it has a further part that
+-- needs a child and no call more can be counted, the store refuses behind its last part, and want of memory may come anywhere.
+-- The other refusals come before any part.
+abbrev pub IsStoppedAt : Kept → HostAsk → List Part → Moment → Moment → HostRefusal → Type 0
+IsStoppedAt kept ask parts from to Spent = HasFurther kept.repo ask to.remembered parts × (to.calls ≡ 2 ^ 64 - 1)
+IsStoppedAt kept ask parts from to Collision = HasRunBut kept.repo ask parts (λ fixes. FixCollides fixes kept.contents)
+IsStoppedAt kept ask parts from to (Store fault) = HasRunBut kept.repo ask parts (IsUnset fault)
+IsStoppedAt kept ask parts from to OutOfMemory = IsUnrun from to parts ⊎ HasBegun kept.repo ask parts
+IsStoppedAt kept ask parts from to refusal = IsUnrun from to parts
+
+-- The refused run is a step of the machine that leaves the repository as it was. Its parts up to there were answered.
+pub record IsStoppedStep (tells : List (List ℕ) → List File → Outcome → Type 0) (from to : Moment) (kept : Kept) (ask : HostAsk) (refusal : HostRefusal) : Type 0 where
   pub parts : List Part
   pub step : Step kept.repo (Run ask) (Refused refusal) [] kept.repo
-  pub told : AllTold tells parts
-  pub starts : Starts ask.fresh book book_after parts
-  pub counted : IsCounted calls calls_after faults faults_after parts
-  pub stopped : IsStoppedAt kept ask parts calls_after refusal
+  pub answered : AreAnsweredSoFar tells ask.fresh from to parts
+  pub told : IsTold tells from.remembered → AllTold tells parts
+  pub stopped : IsStoppedAt kept ask parts from to refusal

@@ -1,7 +1,8 @@
 //! A commit of the staged files, through its hooks.
 
-ghost use Rattle.std.specs.Prelude.{◌≡◌, IfOk, IfErr};
+ghost use Rattle.std.specs.Prelude.{IfOk, IfErr};
 ghost use Rattle.child_port.specs.Telling.{SameTells};
+ghost use Rattle.hook_run.specs.Moments.{moment};
 ghost use Rattle.commit_flow.specs.declared.command.Command.TheVariants.{Commit};
 ghost use Rattle.commit_flow.specs.Commands.{reply_of, reply_of_ending};
 ghost use Rattle.commit_flow.specs.CommitCalls.{IsThrough, IsUnthrough};
@@ -18,7 +19,7 @@ use child_port::Children;
 use hook_base::Text;
 use hook_config::Config;
 use repo_store::Store;
-use result_book::Book;
+use result_book::ListBook;
 use sqlite::Alter;
 use std::alloc::Global;
 
@@ -46,7 +47,8 @@ impl<S: Alter> Host<S> {
     /// more than 100,000 commits (`TooMany`); where a hook failed, fixes whose contents have the digest of others
     /// (`Collision`), and fixes of more than 16 MiB (`Store`). `Store` comes also where the database refuses a commit that none
     /// of these speaks against, or fixes, and `OutOfMemory` where memory is refused. A refusal leaves the repository as it was,
-    /// and the children with the outcomes that they have told.
+    /// the children with the outcomes that they have told, and what was remembered by then. No stage is run afresh: where the
+    /// answer to a child is remembered, none is started, behind the commit too.
     pub fn commit<C: Children>(
         &mut self,
         alloc: Global,
@@ -55,11 +57,10 @@ impl<S: Alter> Host<S> {
         no_verify: bool,
         skip: &[Text],
     ) -> Result<CommitEnding, HostRefusal>
-        ensures step { IsCommitStep (C.tells children.old) (C.call_count children.old) (C.call_count children.new) (C.fault_count children.old) (C.fault_count children.new) self.old.store.kept message.now no_verify skip.now (reply_of reply_of_ending result) self.new.store.kept.repo }
+        ensures step { IsCommitStep (C.tells children.old) (moment (C.call_count children.old) (C.fault_count children.old) self.old.book) (moment (C.call_count children.new) (C.fault_count children.new) self.new.book) self.old.store.kept message.now no_verify skip.now (reply_of reply_of_ending result) self.new.store.kept.repo }
         ensures kept { KeepsFor self.old.store.kept self.new.store.kept result }
         ensures command { IsOneCommand S.Store self.old.store self.new.store (Commit message.now no_verify skip.now) result }
         ensures same { SameTells (C.tells children.old) (C.tells children.new) }
-        ensures book { self.new.book ≡ self.old.book }
     {
         commit_in(
             alloc,
@@ -74,20 +75,19 @@ impl<S: Alter> Host<S> {
 }
 
 // The commit, on the host's store.
-fn commit_in<C: Children, B: Book, S: Alter>(
+fn commit_in<C: Children, S: Alter>(
     alloc: Global,
     children: &mut C,
-    book: &mut B,
+    book: &mut ListBook,
     store: &mut Store<S>,
     message: &[u8],
     no_verify: bool,
     skip: &[Text],
 ) -> Result<CommitEnding, HostRefusal>
-    ensures step { IsCommitStep (C.tells children.old) (C.call_count children.old) (C.call_count children.new) (C.fault_count children.old) (C.fault_count children.new) store.old.kept message.now no_verify skip.now (reply_of reply_of_ending result) store.new.kept.repo }
+    ensures step { IsCommitStep (C.tells children.old) (moment (C.call_count children.old) (C.fault_count children.old) book.old) (moment (C.call_count children.new) (C.fault_count children.new) book.new) store.old.kept message.now no_verify skip.now (reply_of reply_of_ending result) store.new.kept.repo }
     ensures kept { KeepsFor store.old.kept store.new.kept result }
     ensures command { IsOneCommand S.Store store.old store.new (Commit message.now no_verify skip.now) result }
     ensures same { SameTells (C.tells children.old) (C.tells children.new) }
-    ensures book { book.new ≡ book.old }
 {
     let through = go_through(alloc, children, book, store, message, no_verify, skip)?;
     let Through { config, end } = through;
@@ -113,19 +113,18 @@ fn commit_in<C: Children, B: Book, S: Alter>(
 }
 
 // Runs the hooks before the commit.
-fn go_through<C: Children, B: Book, S: Alter>(
+fn go_through<C: Children, S: Alter>(
     alloc: Global,
     children: &mut C,
-    book: &mut B,
+    book: &mut ListBook,
     store: &Store<S>,
     message: &[u8],
     no_verify: bool,
     skip: &[Text],
 ) -> Result<Through, HostRefusal>
-    ensures through { IfOk result (IsThrough (C.tells children.old) (C.call_count children.old) (C.call_count children.new) (C.fault_count children.old) (C.fault_count children.new) store.now.kept.repo message.now no_verify skip.now) }
-    ensures refused { IfErr result (IsUnthrough (C.tells children.old) (C.call_count children.old) (C.call_count children.new) (C.fault_count children.old) (C.fault_count children.new) store.now.kept.repo message.now no_verify skip.now) }
+    ensures through { IfOk result (IsThrough (C.tells children.old) (moment (C.call_count children.old) (C.fault_count children.old) book.old) (moment (C.call_count children.new) (C.fault_count children.new) book.new) store.now.kept.repo message.now no_verify skip.now) }
+    ensures refused { IfErr result (IsUnthrough (C.tells children.old) (moment (C.call_count children.old) (C.fault_count children.old) book.old) (moment (C.call_count children.new) (C.fault_count children.new) book.new) store.now.kept.repo message.now no_verify skip.now) }
     ensures same { SameTells (C.tells children.old) (C.tells children.new) }
-    ensures book { book.new ≡ book.old }
 {
     let begun = begin_commit(alloc, store, message)?;
     let CommitBegun {

@@ -1,10 +1,11 @@
 //! How a commit ends.
 
-ghost use Rattle.std.specs.Prelude.{◌≡◌, [], IfOk, IfErr};
+ghost use Rattle.std.specs.Prelude.{[], IfOk, IfErr};
 ghost use Rattle.child_port.specs.Telling.{SameTells};
 ghost use Rattle.hook_base.specs.Trees.{changes_between};
 ghost use Rattle.repo_store.specs.AllOrNothing.{IsAllOrNothing};
 ghost use Rattle.repo_store.specs.Kept.{setting};
+ghost use Rattle.hook_run.specs.Moments.{moment};
 ghost use Rattle.commit_flow.specs.CommitCalls.{IsOneChange, IsPostOver, IsRunStopped, IsUnfixed};
 ghost use Rattle.commit_flow.specs.CommitStages.{ask_in};
 ghost use Rattle.commit_flow.specs.Preparations.{HaveRun};
@@ -16,7 +17,7 @@ use hook_base::{Bytes, Items, Text, Tree};
 use hook_config::{Config, Stage};
 use hook_run::{RunOut, RunRefusal};
 use repo_store::Store;
-use result_book::Book;
+use result_book::ListBook;
 use sqlite::Alter;
 use std::alloc::Global;
 
@@ -56,17 +57,16 @@ pub(crate) fn set_fixes_to<S: Alter>(store: &mut Store<S>, tree: &Tree) -> Resul
 }
 
 /// Runs the hooks behind a commit on the staged files, without any that they may get. What they do to files is dropped.
-pub(crate) fn run_post_commit<C: Children, B: Book, S: Alter>(
+pub(crate) fn run_post_commit<C: Children, S: Alter>(
     alloc: Global,
     children: &mut C,
-    book: &mut B,
+    book: &mut ListBook,
     store: &Store<S>,
     config: &Config,
     skip: &[Text],
 ) -> PostCommit
-    ensures post { IsPostOver (C.tells children.old) (C.call_count children.old) (C.call_count children.new) (C.fault_count children.old) (C.fault_count children.new) config.now store.now.kept.repo.staged skip.now result }
+    ensures post { IsPostOver (C.tells children.old) (moment (C.call_count children.old) (C.fault_count children.old) book.old) (moment (C.call_count children.new) (C.fault_count children.new) book.new) config.now store.now.kept.repo.staged skip.now result }
     ensures same { SameTells (C.tells children.old) (C.tells children.new) }
-    ensures book { book.new ≡ book.old }
 {
     match run_on_staged(alloc, children, book, store, config, skip) {
         Ok(
@@ -82,18 +82,17 @@ pub(crate) fn run_post_commit<C: Children, B: Book, S: Alter>(
     }
 }
 
-fn run_on_staged<C: Children, B: Book, S: Alter>(
+fn run_on_staged<C: Children, S: Alter>(
     alloc: Global,
     children: &mut C,
-    book: &mut B,
+    book: &mut ListBook,
     store: &Store<S>,
     config: &Config,
     skip: &[Text],
 ) -> Result<RunOut, RunRefusal>
-    ensures run { IfOk result (HaveRun (C.tells children.old) (C.call_count children.old) (C.call_count children.new) (C.fault_count children.old) (C.fault_count children.new) (B.contents book.old) (B.contents book.new) config.now (ask_in [] skip.now Stage.PostCommit) store.now.kept.repo.staged) }
-    ensures stopped { IfErr result (IsRunStopped (C.tells children.old) (C.call_count children.old) (C.call_count children.new) (C.fault_count children.old) (C.fault_count children.new) config.now (ask_in [] skip.now Stage.PostCommit) store.now.kept.repo.staged) }
+    ensures run { IfOk result (HaveRun (C.tells children.old) (moment (C.call_count children.old) (C.fault_count children.old) book.old) (moment (C.call_count children.new) (C.fault_count children.new) book.new) config.now (ask_in [] skip.now Stage.PostCommit) store.now.kept.repo.staged) }
+    ensures stopped { IfErr result (IsRunStopped (C.tells children.old) (moment (C.call_count children.old) (C.fault_count children.old) book.old) (moment (C.call_count children.new) (C.fault_count children.new) book.new) config.now (ask_in [] skip.now Stage.PostCommit) store.now.kept.repo.staged) }
     ensures same { SameTells (C.tells children.old) (C.tells children.new) }
-    ensures book { book.new ≡ book.old }
 {
     let staged = store.staged()?;
     run_hooks_of(

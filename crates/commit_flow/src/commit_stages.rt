@@ -3,7 +3,8 @@
 ghost use Rattle.std.specs.Prelude.{◌≡◌, [], ◌∷◌, ◌++◌, IfOk, IfErr, OnOk};
 ghost use Rattle.child_port.specs.Telling.{SameTells};
 ghost use Rattle.hook_base.specs.Paths.{message_path};
-ghost use Rattle.hook_run.specs.RunOuts.{NeedsPart};
+ghost use Rattle.hook_run.specs.RunOuts.{NeedsChild};
+ghost use Rattle.hook_run.specs.Moments.{moment};
 ghost use Rattle.commit_flow.specs.CommitCalls.{AreRunOver, IsHalted, IsRunStopped, IsStageOver};
 ghost use Rattle.commit_flow.specs.CommitStages.{HaveFurther, ask_in, candidates_in, stages_before_commit, tree_in};
 ghost use Rattle.commit_flow.specs.Preparations.{HaveRun};
@@ -15,7 +16,7 @@ use child_port::Children;
 use hook_base::{Bytes, Items, OutOfMemory, RepoPath, Text, Tree, copy_texts};
 use hook_config::{Config, Stage};
 use hook_run::{RunAsk, RunOut, RunRefusal};
-use result_book::Book;
+use result_book::ListBook;
 use std::alloc::Global;
 
 /// How a stage of a commit ended.
@@ -62,20 +63,19 @@ pub(crate) fn stages_before_commit(no_verify: bool) -> &'static [Stage]
 }
 
 /// Runs the hooks of the stages in order, each on what the one before it passes on, up to the first in which a hook fails.
-pub(crate) fn run_stages<C: Children, B: Book>(
+pub(crate) fn run_stages<C: Children>(
     alloc: Global,
     children: &mut C,
-    book: &mut B,
+    book: &mut ListBook,
     config: &Config,
     changed: &[RepoPath],
     skip: &[Text],
     stages: &[Stage],
     course: Course,
 ) -> Result<StagesEnd, HostRefusal>
-    ensures run { IfOk result (AreRunOver (C.tells children.old) (C.call_count children.old) (C.call_count children.new) (C.fault_count children.old) (C.fault_count children.new) config.now changed.now skip.now stages.now course) }
-    ensures halted { IfErr result (IsHalted (C.tells children.old) (C.call_count children.old) (C.call_count children.new) (C.fault_count children.old) (C.fault_count children.new) (HaveFurther config.now changed.now skip.now stages.now course)) }
+    ensures run { IfOk result (AreRunOver (C.tells children.old) (moment (C.call_count children.old) (C.fault_count children.old) book.old) (moment (C.call_count children.new) (C.fault_count children.new) book.new) config.now changed.now skip.now stages.now course) }
+    ensures halted { IfErr result (IsHalted (C.tells children.old) (moment (C.call_count children.old) (C.fault_count children.old) book.old) (moment (C.call_count children.new) (C.fault_count children.new) book.new) (HaveFurther book.new config.now changed.now skip.now stages.now course)) }
     ensures same { SameTells (C.tells children.old) (C.tells children.new) }
-    ensures book { book.new ≡ book.old }
 {
     let mut reports = Vec::new(alloc);
     let mut course = course;
@@ -110,20 +110,19 @@ fn add_report(reports: &mut Vec<Bytes>, report: Bytes) -> Result<(), OutOfMemory
 }
 
 // Runs the hooks of a stage on what is passed to it.
-fn run_stage<C: Children, B: Book>(
+fn run_stage<C: Children>(
     alloc: Global,
     children: &mut C,
-    book: &mut B,
+    book: &mut ListBook,
     config: &Config,
     changed: &[RepoPath],
     skip: &[Text],
     stage: Stage,
     course: Course,
 ) -> Result<StageEnd, HostRefusal>
-    ensures run { IfOk result (IsStageOver (C.tells children.old) (C.call_count children.old) (C.call_count children.new) (C.fault_count children.old) (C.fault_count children.new) config.now changed.now skip.now stage course) }
-    ensures halted { IfErr result (IsHalted (C.tells children.old) (C.call_count children.old) (C.call_count children.new) (C.fault_count children.old) (C.fault_count children.new) (NeedsPart config.now (ask_in changed.now skip.now stage) (tree_in stage course))) }
+    ensures run { IfOk result (IsStageOver (C.tells children.old) (moment (C.call_count children.old) (C.fault_count children.old) book.old) (moment (C.call_count children.new) (C.fault_count children.new) book.new) config.now changed.now skip.now stage course) }
+    ensures halted { IfErr result (IsHalted (C.tells children.old) (moment (C.call_count children.old) (C.fault_count children.old) book.old) (moment (C.call_count children.new) (C.fault_count children.new) book.new) (NeedsChild book.new config.now (ask_in changed.now skip.now stage) (tree_in stage course))) }
     ensures same { SameTells (C.tells children.old) (C.tells children.new) }
-    ensures book { book.new ≡ book.old }
 {
     let begun = course.into_stage(alloc, stage)?;
     let out = run_hooks_of(
@@ -152,20 +151,19 @@ fn run_stage<C: Children, B: Book>(
 }
 
 /// Runs the hooks of a stage on the files of the tree.
-pub(crate) fn run_hooks_of<C: Children, B: Book>(
+pub(crate) fn run_hooks_of<C: Children>(
     alloc: Global,
     children: &mut C,
-    book: &mut B,
+    book: &mut ListBook,
     config: &Config,
     changed: &[RepoPath],
     skip: &[Text],
     stage: Stage,
     tree: &Tree,
 ) -> Result<RunOut, RunRefusal>
-    ensures run { IfOk result (HaveRun (C.tells children.old) (C.call_count children.old) (C.call_count children.new) (C.fault_count children.old) (C.fault_count children.new) (B.contents book.old) (B.contents book.new) config.now (ask_in changed.now skip.now stage) tree.now) }
-    ensures stopped { IfErr result (IsRunStopped (C.tells children.old) (C.call_count children.old) (C.call_count children.new) (C.fault_count children.old) (C.fault_count children.new) config.now (ask_in changed.now skip.now stage) tree.now) }
+    ensures run { IfOk result (HaveRun (C.tells children.old) (moment (C.call_count children.old) (C.fault_count children.old) book.old) (moment (C.call_count children.new) (C.fault_count children.new) book.new) config.now (ask_in changed.now skip.now stage) tree.now) }
+    ensures stopped { IfErr result (IsRunStopped (C.tells children.old) (moment (C.call_count children.old) (C.fault_count children.old) book.old) (moment (C.call_count children.new) (C.fault_count children.new) book.new) config.now (ask_in changed.now skip.now stage) tree.now) }
     ensures same { SameTells (C.tells children.old) (C.tells children.new) }
-    ensures book { book.new ≡ book.old }
 {
     let ask = ask_in(alloc, changed, skip, stage)?;
     run_with_book(alloc, children, book, config, &ask, tree)

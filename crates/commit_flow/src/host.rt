@@ -9,7 +9,8 @@ ghost use Rattle.repo_store.specs.Kept.{accepting, staging, unstaging};
 ghost use Rattle.repo_store.specs.Log.{log_from};
 ghost use Rattle.repo_store.specs.Repository.{Commit, commit_at, last_tree};
 ghost use Rattle.repo_store.specs.Shown.{LeavesOnly};
-ghost use Rattle.result_book.specs.Contents.{count_of, unlimited};
+ghost use Rattle.result_book.specs.Calls.{AfterForget};
+ghost use Rattle.result_book.specs.Contents.{count_of, nothing};
 ghost use Rattle.commit_flow.specs.declared.command.Command.TheVariants.{Add, Remove, Accept, Forget};
 ghost use Rattle.commit_flow.specs.declared.reply.Reply.TheVariants.{Added, Removed, Accepted, Forgot};
 ghost use Rattle.commit_flow.specs.Commands.{reply_of};
@@ -46,14 +47,14 @@ impl<S: Alter> Model for Host<S> {
 
     ghost coded = { hosted_code S.code };
 
-    ghost view = { λ host. record { store = host.store; book = ⟦<ListBook as Book>⟧.contents host.book } };
+    ghost view = { λ host. record { store = host.store; book = host.book } };
 }
 
 impl<S: Alter> Host<S> {
     /// The host of the repository in a store, which remembers nothing yet. It takes no memory: what it remembers later comes
     /// from the allocator.
     pub fn over(alloc: Global, store: Store<S>) -> Host<S>
-        ensures { result ≡ record { store = store; book = unlimited [] } }
+        ensures { result ≡ record { store = store; book = nothing } }
     {
         Host {
             store,
@@ -139,7 +140,7 @@ impl<S: Alter> Host<S> {
         ensures store { self.new.store ≡ self.old.store }
         ensures command { LeavesOnly S.Store self.old.store.conn self.old.store.kept → IsOneCommand S.Store self.old.store self.new.store Forget result }
         ensures number { IfOk result (λ number. number ≡ count_of self.old.book) }
-        ensures forgotten { OnOk result (self.new.book.rows ≡ []) }
+        ensures forgotten { OnOk result (AfterForget self.old.book self.new.book) }
         ensures refused { OnErr result (self.new.book ≡ self.old.book) }
     {
         Ok(self.book.forget()?)

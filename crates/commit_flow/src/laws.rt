@@ -2,6 +2,7 @@
 //! over the definitions alone.
 
 ghost use Rattle.std.specs.Prelude.{◌≡◌, ◌+◌, ◌-◌, ◌^◌, ◌≤◌, ℕ, All, Any, List, length};
+ghost use Rattle.hook_run.specs.Moments.{Moment};
 ghost use Rattle.hook_run.specs.Parts.{Part, faults_of};
 ghost use Rattle.repo_store.specs.Repository.{Repository};
 ghost use Rattle.commit_flow.specs.declared.command.Command.{Command};
@@ -9,9 +10,9 @@ ghost use Rattle.commit_flow.specs.declared.host_refusal.HostRefusal.{HostRefusa
 ghost use Rattle.commit_flow.specs.declared.reply.PostCommit.{PostCommit};
 ghost use Rattle.commit_flow.specs.declared.reply.Reply.{Reply};
 ghost use Rattle.commit_flow.specs.declared.reply.Reply.TheVariants.{Committed, Refused};
-ghost use Rattle.commit_flow.specs.CommitSteps.{SaysSpent};
+ghost use Rattle.commit_flow.specs.CommitSteps.{SaysSpent, StandsOnAll};
 ghost use Rattle.commit_flow.specs.PlayLaws.{HasCommitted, SaysCommitted};
-ghost use Rattle.commit_flow.specs.Plays.{ArePlayed, RunsHooks, StandsOnAll};
+ghost use Rattle.commit_flow.specs.Plays.{ArePlayed, RunsHooks};
 ghost use Rattle.commit_flow.specs.StepLaws.{IsDecided, IsRunless};
 ghost use Rattle.commit_flow.specs.Steps.{Step};
 
@@ -34,28 +35,28 @@ pub fn the_history_grows_by_commits_alone()
 
 /// A list of commands adds to the history only where a reply says that a commit was made.
 pub fn a_play_without_commits_leaves_history<C: Children>(children: &C)
-    ensures { (calls calls_after faults faults_after : ℕ) (before after : Repository) (commands : List Command) (replies : List Reply) (parts : List Part) → ArePlayed (C.tells children.now) calls calls_after faults faults_after before commands replies parts after → All (λ reply. ¬ SaysCommitted reply) replies → after.history ≡ before.history }
+    ensures { (from to : Moment) (before after : Repository) (commands : List Command) (replies : List Reply) (parts : List Part) → ArePlayed (C.tells children.now) from to before commands replies parts after → All (λ reply. ¬ SaysCommitted reply) replies → after.history ≡ before.history }
 {}
 
 /// The children count at least the faults of the parts that the replies stand on, and no others where each reply stands on all
 /// that they told for it.
 pub fn a_play_counts_its_faults<C: Children>(children: &C)
-    ensures at_least { (calls calls_after faults faults_after : ℕ) (before after : Repository) (commands : List Command) (replies : List Reply) (parts : List Part) → ArePlayed (C.tells children.now) calls calls_after faults faults_after before commands replies parts after → faults + faults_of parts ≤ faults_after }
-    ensures exactly { (calls calls_after faults faults_after : ℕ) (before after : Repository) (commands : List Command) (replies : List Reply) (parts : List Part) → ArePlayed (C.tells children.now) calls calls_after faults faults_after before commands replies parts after → All StandsOnAll replies → faults_after ≡ faults + faults_of parts }
+    ensures at_least { (from to : Moment) (before after : Repository) (commands : List Command) (replies : List Reply) (parts : List Part) → ArePlayed (C.tells children.now) from to before commands replies parts after → from.faults + faults_of parts ≤ to.faults }
+    ensures exactly { (from to : Moment) (before after : Repository) (commands : List Command) (replies : List Reply) (parts : List Part) → ArePlayed (C.tells children.now) from to before commands replies parts after → All StandsOnAll replies → to.faults ≡ from.faults + faults_of parts }
 {}
 
 /// Commands that run no hooks start no child.
 pub fn a_play_without_hooks_starts_no_child<C: Children>(children: &C)
-    ensures { (calls calls_after faults faults_after : ℕ) (before after : Repository) (commands : List Command) (replies : List Reply) (parts : List Part) → ArePlayed (C.tells children.now) calls calls_after faults faults_after before commands replies parts after → All (λ command. ¬ RunsHooks command) commands → (calls_after ≡ calls) × (faults_after ≡ faults) }
+    ensures { (from to : Moment) (before after : Repository) (commands : List Command) (replies : List Reply) (parts : List Part) → ArePlayed (C.tells children.now) from to before commands replies parts after → All (λ command. ¬ RunsHooks command) commands → (to.calls ≡ from.calls) × (to.faults ≡ from.faults) }
 {}
 
 /// A reply says that the children are spent only where they have told as many outcomes as can be counted, also once all the
 /// commands are made.
 pub fn spent_only_at_the_last_count<C: Children>(children: &C)
-    ensures { (calls calls_after faults faults_after : ℕ) (before after : Repository) (commands : List Command) (replies : List Reply) (parts : List Part) → ArePlayed (C.tells children.now) calls calls_after faults faults_after before commands replies parts after → calls_after ≤ 2 ^ 64 - 1 → Any SaysSpent replies → calls_after ≡ 2 ^ 64 - 1 }
+    ensures { (from to : Moment) (before after : Repository) (commands : List Command) (replies : List Reply) (parts : List Part) → ArePlayed (C.tells children.now) from to before commands replies parts after → to.calls ≤ 2 ^ 64 - 1 → Any SaysSpent replies → to.calls ≡ 2 ^ 64 - 1 }
 {}
 
 /// Each command that is played has one reply.
 pub fn a_played_command_has_one_reply<C: Children>(children: &C)
-    ensures { (calls calls_after faults faults_after : ℕ) (before after : Repository) (commands : List Command) (replies : List Reply) (parts : List Part) → ArePlayed (C.tells children.now) calls calls_after faults faults_after before commands replies parts after → length replies ≡ length commands }
+    ensures { (from to : Moment) (before after : Repository) (commands : List Command) (replies : List Reply) (parts : List Part) → ArePlayed (C.tells children.now) from to before commands replies parts after → length replies ≡ length commands }
 {}

@@ -2,9 +2,11 @@
 
 ghost use Rattle.std.specs.Prelude.{◌≡◌, [], IfOk, OnErr};
 ghost use Rattle.child_port.specs.Telling.{SameTells};
+ghost use Rattle.hook_run.specs.Moments.{moment};
+ghost use Rattle.repo_store.specs.Shown.{Stands};
 ghost use Rattle.commit_flow.specs.declared.command.Command.TheVariants.{Add, Remove, Accept, Run, Commit, Forget};
 ghost use Rattle.commit_flow.specs.Commands.{reply_of_ending};
-ghost use Rattle.commit_flow.specs.Plays.{IsPlay, IsPlayed};
+ghost use Rattle.commit_flow.specs.Plays.{HasForgotten, IsPlay, IsPlayed};
 ghost use Rattle.commit_flow.specs.Steps.{Step};
 
 use crate::{Command, CommitEnding, Host, HostAsk, Reply, StagedRun};
@@ -14,8 +16,8 @@ use sqlite::Alter;
 use std::alloc::Global;
 
 impl<S: Alter> Host<S> {
-    /// Makes the commands, in order, each on what the one before it left, and answers their replies. A command that is refused
-    /// has a reply like any other, and those behind it are made too.
+    /// Makes the commands, in order, each on what the one before it left, the remembered answers too, and answers their replies. A
+    /// command that is refused has a reply like any other, and those behind it are made too.
     ///
     /// `OutOfMemory` comes where there is no room for the replies. Nothing is done then.
     pub fn play<C: Children>(
@@ -24,7 +26,8 @@ impl<S: Alter> Host<S> {
         children: &mut C,
         commands: &[Command],
     ) -> Result<Vec<Reply>, OutOfMemory>
-        ensures run { IfOk result (λ replies. IsPlay (C.tells children.old) (C.call_count children.old) (C.call_count children.new) (C.fault_count children.old) (C.fault_count children.new) self.old.store.kept.repo commands.now replies.items self.new.store.kept.repo) }
+        ensures run { IfOk result (λ replies. IsPlay (C.tells children.old) (moment (C.call_count children.old) (C.fault_count children.old) self.old.book) (moment (C.call_count children.new) (C.fault_count children.new) self.new.book) self.old.store.kept.repo commands.now replies.items self.new.store.kept.repo) }
+        ensures stands { Stands S.Store self.old.store.conn self.old.store.kept → Stands S.Store self.new.store.conn self.new.store.kept }
         ensures refused { OnErr result (self.new ≡ self.old) }
         ensures uncalled { OnErr result (children.new ≡ children.old) }
         ensures same { SameTells (C.tells children.old) (C.tells children.new) }
@@ -39,7 +42,8 @@ impl<S: Alter> Host<S> {
 
     // Makes a command.
     fn played<C: Children>(&mut self, alloc: Global, children: &mut C, command: &Command) -> Reply
-        ensures played { IsPlayed (C.tells children.old) (C.call_count children.old) (C.call_count children.new) (C.fault_count children.old) (C.fault_count children.new) self.old.store.kept.repo command.now result self.new.store.kept.repo }
+        ensures played { IsPlayed (C.tells children.old) (moment (C.call_count children.old) (C.fault_count children.old) self.old.book) (moment (C.call_count children.new) (C.fault_count children.new) self.new.book) self.old.store.kept.repo command.now result self.new.store.kept.repo }
+        ensures stands { Stands S.Store self.old.store.conn self.old.store.kept → Stands S.Store self.new.store.conn self.new.store.kept }
         ensures same { SameTells (C.tells children.old) (C.tells children.new) }
     {
         match command {
@@ -57,7 +61,9 @@ impl<S: Alter> Host<S> {
     }
 
     fn play_add(&mut self, alloc: Global, path: &Text, bytes: &Bytes, mode: Option<Mode>) -> Reply
-        ensures { Step self.old.store.kept.repo (Add path.now bytes.now mode) result [] self.new.store.kept.repo }
+        ensures step { Step self.old.store.kept.repo (Add path.now bytes.now mode) result [] self.new.store.kept.repo }
+        ensures stands { Stands S.Store self.old.store.conn self.old.store.kept → Stands S.Store self.new.store.conn self.new.store.kept }
+        ensures book { self.new.book ≡ self.old.book }
     {
         match self.add(alloc, path.as_str(), bytes.as_slice(), mode) {
             Ok(()) => Reply::Added,
@@ -66,7 +72,9 @@ impl<S: Alter> Host<S> {
     }
 
     fn play_remove(&mut self, alloc: Global, path: &Text) -> Reply
-        ensures { Step self.old.store.kept.repo (Remove path.now) result [] self.new.store.kept.repo }
+        ensures step { Step self.old.store.kept.repo (Remove path.now) result [] self.new.store.kept.repo }
+        ensures stands { Stands S.Store self.old.store.conn self.old.store.kept → Stands S.Store self.new.store.conn self.new.store.kept }
+        ensures book { self.new.book ≡ self.old.book }
     {
         match self.remove(alloc, path.as_str()) {
             Ok(()) => Reply::Removed,
@@ -75,7 +83,9 @@ impl<S: Alter> Host<S> {
     }
 
     fn play_accept(&mut self) -> Reply
-        ensures { Step self.old.store.kept.repo Accept result [] self.new.store.kept.repo }
+        ensures step { Step self.old.store.kept.repo Accept result [] self.new.store.kept.repo }
+        ensures stands { Stands S.Store self.old.store.conn self.old.store.kept → Stands S.Store self.new.store.conn self.new.store.kept }
+        ensures book { self.new.book ≡ self.old.book }
     {
         match self.accept() {
             Ok(number) => Reply::Accepted(number),
@@ -84,7 +94,8 @@ impl<S: Alter> Host<S> {
     }
 
     fn play_run<C: Children>(&mut self, alloc: Global, children: &mut C, ask: &HostAsk) -> Reply
-        ensures played { IsPlayed (C.tells children.old) (C.call_count children.old) (C.call_count children.new) (C.fault_count children.old) (C.fault_count children.new) self.old.store.kept.repo (Run ask.now) result self.new.store.kept.repo }
+        ensures played { IsPlayed (C.tells children.old) (moment (C.call_count children.old) (C.fault_count children.old) self.old.book) (moment (C.call_count children.new) (C.fault_count children.new) self.new.book) self.old.store.kept.repo (Run ask.now) result self.new.store.kept.repo }
+        ensures stands { Stands S.Store self.old.store.conn self.old.store.kept → Stands S.Store self.new.store.conn self.new.store.kept }
         ensures same { SameTells (C.tells children.old) (C.tells children.new) }
     {
         match self.run(alloc, children, ask) {
@@ -113,7 +124,8 @@ impl<S: Alter> Host<S> {
         no_verify: bool,
         skip: &Items<Text>,
     ) -> Reply
-        ensures played { IsPlayed (C.tells children.old) (C.call_count children.old) (C.call_count children.new) (C.fault_count children.old) (C.fault_count children.new) self.old.store.kept.repo (Commit message.now no_verify skip.now) result self.new.store.kept.repo }
+        ensures played { IsPlayed (C.tells children.old) (moment (C.call_count children.old) (C.fault_count children.old) self.old.book) (moment (C.call_count children.new) (C.fault_count children.new) self.new.book) self.old.store.kept.repo (Commit message.now no_verify skip.now) result self.new.store.kept.repo }
+        ensures stands { Stands S.Store self.old.store.conn self.old.store.kept → Stands S.Store self.new.store.conn self.new.store.kept }
         ensures same { SameTells (C.tells children.old) (C.tells children.new) }
     {
         match self.commit(
@@ -129,7 +141,9 @@ impl<S: Alter> Host<S> {
     }
 
     fn play_forget(&mut self) -> Reply
-        ensures { Step self.old.store.kept.repo Forget result [] self.new.store.kept.repo }
+        ensures step { Step self.old.store.kept.repo Forget result [] self.new.store.kept.repo }
+        ensures forgotten { HasForgotten self.old.book self.new.book result }
+        ensures store { self.new.store ≡ self.old.store }
     {
         match self.forget() {
             Ok(number) => Reply::Forgot(number),

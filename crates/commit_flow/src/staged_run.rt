@@ -11,6 +11,7 @@ pub struct StagedRun {
     pub report: Bytes,
     /// What became of the staged files: the fixes, after the run.
     pub changes: Changes,
-    /// The ids of the hooks whose answer was another than the remembered one. There are none, since none is remembered.
+    /// The ids of the hooks of a fresh run of which an answer was another than the one that was remembered at that moment, in
+    /// the order of the configuration.
     pub unsteady: Items<Text>,
 }

@@ -10,7 +10,8 @@ use Rattle.hook_config.specs.declared.stage.Stage.TheVariants.{PreCommit}
 use Rattle.hook_config.specs.Configuration.{configuration_of}
 use Rattle.hook_config.specs.Gives.{UnlessLeftOpen}
 use Rattle.hook_config.specs.Refusals.{TellsTooLarge}
-use Rattle.result_book.specs.Contents.{Contents, unlimited}
+use Rattle.result_book.specs.Contents.{Contents, nothing}
+use Rattle.hook_run.specs.Moments.{moment}
 use Rattle.hook_run.specs.declared.run_ask.RunAsk.{RunAsk}
 use Rattle.hook_run.specs.declared.run_out.RunOut.{RunOut}
 use Rattle.hook_run.specs.declared.run_refusal.RunRefusal.{RunRefusal}
@@ -53,17 +54,23 @@ abbrev pub ask_for_all : List File → RunAsk
 ask_for_all tree =
     record { stage = PreCommit; candidates = map (λ row. row.path) tree; only = None; skip = []; fresh = false }
 
--- no answer is remembered
-abbrev pub nothing : Contents
-nothing = unlimited []
+-- a run of the hooks of this configuration on the tree gives this, between these counts. No answer is remembered before it, so
+-- that each outcome is one that the children may tell
+pub record IsRunOnAll (tells : List (List ℕ) → List File → Outcome → Type 0) (calls calls_after faults faults_after : ℕ) (config : Config) (tree : List File) (out : RunOut) : Type 0 where
+  pub remembered : Contents
+  pub run : IsRunOver tells (moment calls faults nothing) (moment calls_after faults_after remembered) config (ask_for_all tree) tree out
 
--- What was read is a configuration, and a run of its hooks on the tree gives this, with outcomes that the children told and
--- that are counted. It remembers nothing, before it and after it.
+-- such a run is refused so
+pub record IsStoppedOnAll (tells : List (List ℕ) → List File → Outcome → Type 0) (calls calls_after faults faults_after : ℕ) (config : Config) (tree : List File) (refusal : RunRefusal) : Type 0 where
+  pub remembered : Contents
+  pub stopped : IsStoppedRun tells (moment calls faults nothing) (moment calls_after faults_after remembered) config (ask_for_all tree) tree refusal
+
+-- What was read is a configuration, and a run of its hooks on the tree gives this.
 pub record IsReadAndRun (given left : Option (List ℕ)) (tells : List (List ℕ) → List File → Outcome → Type 0)
     (calls calls_after faults faults_after : ℕ) (tree : List File) (out : RunOut) : Type 0 where
   pub config : Config
   pub read : ReadsConfiguration given left config
-  pub run : IsRunOver tells calls calls_after faults faults_after nothing nothing config (ask_for_all tree) tree out
+  pub run : IsRunOnAll tells calls calls_after faults faults_after config tree out
 
 -- What was read is a configuration, there is a run of its hooks on the tree, and what was written is its report. `passed`
 -- says whether no hook failed. Of a writer that doesn't say its bytes nothing is claimed.
@@ -87,7 +94,7 @@ pub record IsReadAndStopped (given left : Option (List ℕ)) (tells : List (List
     (calls calls_after faults faults_after : ℕ) (tree : List File) (refusal : RunRefusal) : Type 0 where
   pub config : Config
   pub read : ReadsConfiguration given left config
-  pub stopped : IsStoppedRun tells calls calls_after faults faults_after nothing nothing config (ask_for_all tree) tree refusal
+  pub stopped : IsStoppedOnAll tells calls calls_after faults faults_after config tree refusal
 
 -- what was read is a configuration, there is a run of its hooks on the tree, and the writer took its report up to an error
 pub record IsCutOff (given left : Option (List ℕ)) (output : Output) (tells : List (List ℕ) → List File → Outcome → Type 0)
@@ -120,7 +127,7 @@ IsRefusedBy given left output tells calls calls_after faults faults_after tree S
 abbrev pub IsRefusedRun : (List (List ℕ) → List File → Outcome → Type 0) → ℕ → ℕ → ℕ → ℕ → Config → List File → TryFault → Type 0
 IsRefusedRun tells calls calls_after faults faults_after config tree OutOfMemory =
     NoneCalled calls calls_after faults faults_after
-    ⊎ IsStoppedRun tells calls calls_after faults faults_after nothing nothing config (ask_for_all tree) tree stop.OutOfMemory
+    ⊎ IsStoppedOnAll tells calls calls_after faults faults_after config tree stop.OutOfMemory
 IsRefusedRun tells calls calls_after faults faults_after config tree Spent =
-    IsStoppedRun tells calls calls_after faults faults_after nothing nothing config (ask_for_all tree) tree stop.Spent
+    IsStoppedOnAll tells calls calls_after faults faults_after config tree stop.Spent
 IsRefusedRun tells calls calls_after faults faults_after config tree _ = ⊥

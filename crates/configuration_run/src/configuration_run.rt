@@ -4,9 +4,8 @@
 
 ghost use Rattle.std.specs.Prelude.{◌≡◌, ◌≢◌, ◌≤◌, ◌+◌, IfOk, IfErr, OnOk, OnErr};
 ghost use Rattle.child_port.specs.Telling.{SameTells};
-ghost use Rattle.hook_run.specs.RunOuts.{IsRunOver};
 ghost use Rattle.text_output.specs.Outputs.{Has, HasBeginning};
-ghost use Rattle.configuration_run.specs.TryOver.{IsRefusedBy, IsRefusedRun, IsTriedOver, ReadsWithin, ask_for_all, most_bytes, nothing};
+ghost use Rattle.configuration_run.specs.TryOver.{IsRefusedBy, IsRefusedRun, IsRunOnAll, IsTriedOver, ReadsWithin, most_bytes};
 ghost use Rattle.configuration_run.specs.declared.try_fault.TryFault.TheVariants as fault;
 
 use crate::TryFault;
@@ -74,8 +73,8 @@ fn run_on_all<C: Children>(
     config: &Config,
     tree: &Tree,
 ) -> Result<RunOut, TryFault>
-    ensures run { IfOk result (IsRunOver (C.tells children.old) (C.call_count children.old) (C.call_count children.new)
-        (C.fault_count children.old) (C.fault_count children.new) nothing nothing config.now (ask_for_all tree.now) tree.now) }
+    ensures run { IfOk result (IsRunOnAll (C.tells children.old) (C.call_count children.old) (C.call_count children.new)
+        (C.fault_count children.old) (C.fault_count children.new) config.now tree.now) }
     ensures refused { IfErr result (IsRefusedRun (C.tells children.old) (C.call_count children.old) (C.call_count children.new)
         (C.fault_count children.old) (C.fault_count children.new) config.now tree.now) }
     ensures same { SameTells (C.tells children.old) (C.tells children.new) }
@@ -90,7 +89,7 @@ fn run_on_all<C: Children>(
         Ok(out) => Ok(out),
         Err(RunRefusal::OutOfMemory) => Err(TryFault::OutOfMemory),
         Err(RunRefusal::Spent) => Err(TryFault::Spent),
-        // No hook is asked for by its name, and the book isn't asked at all.
+        // No hook is asked for by its name, and a book in memory refuses for want of memory alone.
         Err(RunRefusal::NoSuchHook | RunRefusal::Book(_)) => unreachable!(),
     }
 }

@@ -7,6 +7,8 @@ use Rattle.sqlite.specs.State.{State, Survives}
 use Rattle.hook_base.specs.declared.file.File.{File}
 use Rattle.child_port.specs.declared.answer.Outcome.{Outcome}
 use Rattle.child_port.specs.Telling.{SameTells}
+use Rattle.hook_run.specs.AnswerLemmas.{answered-none, so-far}
+use Rattle.hook_run.specs.Moments.{moment}
 use Rattle.repo_store.specs.AllOrNothing.{IsAllOrNothing}
 use Rattle.repo_store.specs.Kept.{setting}
 use Rattle.repo_store.specs.Shown.{Shown}
@@ -25,7 +27,7 @@ use Rattle.commit_flow.specs.RunSteps.{IsRunStep, IsStoppedStep}
 use Rattle.commit_flow.specs.CommitSteps.{IsCommitStep}
 use Rattle.hook_cli.specs.declared.command_ending.CommandEnding.{CommandEnding}
 use Rattle.hook_cli.specs.declared.command_ending.CommandEnding.TheVariants as ends
-use Rattle.hook_cli.specs.CommandOver.{Counts, IsCommitOverHost, IsReplied, IsRunOverHost}
+use Rattle.hook_cli.specs.CommandOver.{Counts, IsCommitOverHost, IsReplied, IsRunOverHost, moment_after, moment_before}
 use Rattle.text_output.specs.Outputs.{IsSilent, Output}
 use Rattle.hook_cli.specs.Printing.{IsSaid, IsTold, ending_of, untaken_line}
 use Rattle.hook_cli.specs.RefusalText.{refusal_text}
@@ -53,7 +55,7 @@ unchanged g shown command refusal = record {
 
 module _ {S : Type 0} (g : Ghosts S) (tells : List (List ℕ) → List File → Outcome → Type 0) (counts : Counts) (old new : Hosted S) (ask : HostAsk) (out err : Output) (ending : CommandEnding) where
   pub run-said : (ran : StagedRun) (report : List ℕ) (unsteady : List (List ℕ)) → report ≡ ran.report → unsteady ≡ ran.unsteady
-      → IsRunStep tells counts.calls counts.calls_after counts.faults counts.faults_after old.book new.book old.store.kept.repo ask ran new.store.kept.repo
+      → IsRunStep tells (moment_before counts old) (moment_after counts new) old.store.kept.repo ask ran new.store.kept.repo
       → IsAllOrNothing {E = HostRefusal} old.store.kept new.store.kept (Ok ran) (setting ran.changes old.store.kept)
       → IsOneCommand g old.store new.store (command.Run ask) (Ok ran)
       → IsSaid (ending_of ran.passed) out (run_text report unsteady) err untaken_line ending
@@ -69,7 +71,7 @@ module _ {S : Type 0} (g : Ghosts S) (tells : List (List ℕ) → List File → 
   }
 
   pub run-refused : (refusal : HostRefusal)
-      → IsStoppedStep tells counts.calls counts.calls_after counts.faults counts.faults_after old.book new.book old.store.kept ask refusal
+      → IsStoppedStep tells (moment_before counts old) (moment_after counts new) old.store.kept ask refusal
       → IsAllOrNothing {A = StagedRun} old.store.kept new.store.kept (Err refusal) (setting [] old.store.kept)
       → IsOneCommand {A = StagedRun} g old.store new.store (command.Run ask) (Err refusal)
       → IsTold ends.Refused err (refusal_text refusal) ending → IsSilent out
@@ -93,10 +95,9 @@ run-unasked g tells calls faults host ask out err ending told silent = record {
   stopped = record {
     parts = [];
     step = ((tt, refl), refl);
-    told = tt;
-    starts = record { kept = refl; steady = search rules };
-    counted = record { called = omega arith; faulted = omega arith };
-    stopped = inl refl;
+    answered = so-far tells ask.fresh (moment calls faults host.book) (moment calls faults host.book) [] (answered-none tells ask.fresh (moment calls faults host.book));
+    told = λ _. tt;
+    stopped = inl (refl, refl);
   };
   change = record { done = tt; same = refl };
   one = unchanged g host.store (command.Run ask) OutOfMemory;
@@ -106,12 +107,11 @@ run-unasked g tells calls faults host ask out err ending told silent = record {
 -- a commit whose answer is printed: the bytes that the host got are the message
 pub commit-answered : {S : Type 0} (g : Ghosts S) (tells : List (List ℕ) → List File → Outcome → Type 0) (counts : Counts) (old new : Hosted S) (bytes message : List ℕ) (no_verify : Bool) (skip : List (List ℕ)) (out err : Output) (ending : CommandEnding)
     (answer : Result CommitEnding HostRefusal) → bytes ≡ message
-    → IsCommitStep tells counts.calls counts.calls_after counts.faults counts.faults_after old.store.kept bytes no_verify skip (reply_of reply_of_ending answer) new.store.kept.repo
+    → IsCommitStep tells (moment_before counts old) (moment_after counts new) old.store.kept bytes no_verify skip (reply_of reply_of_ending answer) new.store.kept.repo
     → KeepsFor old.store.kept new.store.kept answer
     → IsOneCommand g old.store new.store (command.Commit bytes no_verify skip) answer
-    → new.book ≡ old.book
     → IsReplied out err (reply_of reply_of_ending answer) ending
     → IsCommitOverHost g tells counts old new message no_verify skip out err ending
-commit-answered g tells counts old new bytes message no_verify skip out err ending answer is step change one book replied =
+commit-answered g tells counts old new bytes message no_verify skip out err ending answer is step change one replied =
     subst (λ (message : List ℕ). IsCommitOverHost g tells counts old new message no_verify skip out err ending) is
-    (record { answer = answer; step = step; change = change; one = one; book = book; replied = replied })
+    (record { answer = answer; step = step; change = change; one = one; replied = replied })

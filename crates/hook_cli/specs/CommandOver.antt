@@ -7,6 +7,7 @@ use Rattle.hook_base.specs.declared.file.Mode.{Mode}
 use Rattle.hook_base.specs.Paths.{path_fault}
 use Rattle.hook_base.specs.Trees.{entry_of}
 use Rattle.child_port.specs.declared.answer.Outcome.{Outcome}
+use Rattle.hook_run.specs.Moments.{Moment, moment}
 use Rattle.repo_store.specs.AllOrNothing.{IsAllOrNothing}
 use Rattle.repo_store.specs.Contents.{Collides}
 use Rattle.repo_store.specs.Kept.{Kept, accepting, setting, staging, unstaging}
@@ -118,6 +119,13 @@ pub record Counts : Type 0 where
   pub faults : ℕ
   pub faults_after : ℕ
 
+-- the counts with what the host remembers, before the command and after it
+abbrev pub moment_before : {S : Type 0} → Counts → Hosted S → Moment
+moment_before counts host = moment counts.calls counts.faults host.book
+
+abbrev pub moment_after : {S : Type 0} → Counts → Hosted S → Moment
+moment_after counts host = moment counts.calls_after counts.faults_after host.book
+
 -- the files and the stage of a line, as the host has them
 abbrev pub which_of : FileChoice → Which
 which_of Changed = which.Changed
@@ -136,8 +144,8 @@ ask_of files only stage fresh skip = record { which = which_of files; only = onl
 -- machine over the children, or stays as it is, and a writer's error undoes none of it.
 pub record IsRunOverHost {S : Type 0} (g : Ghosts S) (tells : List (List ℕ) → List File → Outcome → Type 0) (counts : Counts) (old new : Hosted S) (ask : HostAsk) (out err : Output) (ending : CommandEnding) : Type 0 where
   pub answer : Result StagedRun HostRefusal
-  pub step : IfOk answer (λ ran. IsRunStep tells counts.calls counts.calls_after counts.faults counts.faults_after old.book new.book old.store.kept.repo ask ran new.store.kept.repo)
-  pub stopped : IfErr answer (IsStoppedStep tells counts.calls counts.calls_after counts.faults counts.faults_after old.book new.book old.store.kept ask)
+  pub step : IfOk answer (λ ran. IsRunStep tells (moment_before counts old) (moment_after counts new) old.store.kept.repo ask ran new.store.kept.repo)
+  pub stopped : IfErr answer (IsStoppedStep tells (moment_before counts old) (moment_after counts new) old.store.kept ask)
   pub change : IsAllOrNothing old.store.kept new.store.kept answer (setting (changes_in answer) old.store.kept)
   pub one : IsOneCommand g old.store new.store (command.Run ask) answer
   pub replied : IsReplied out err (reply_of reply_of_run answer) ending
@@ -146,10 +154,9 @@ pub record IsRunOverHost {S : Type 0} (g : Ghosts S) (tells : List (List ℕ) �
 -- step of the host's machine over the children, or stays as it is, and a writer's error undoes none of it.
 pub record IsCommitOverHost {S : Type 0} (g : Ghosts S) (tells : List (List ℕ) → List File → Outcome → Type 0) (counts : Counts) (old new : Hosted S) (message : List ℕ) (no_verify : Bool) (skip : List (List ℕ)) (out err : Output) (ending : CommandEnding) : Type 0 where
   pub answer : Result CommitEnding HostRefusal
-  pub step : IsCommitStep tells counts.calls counts.calls_after counts.faults counts.faults_after old.store.kept message no_verify skip (reply_of reply_of_ending answer) new.store.kept.repo
+  pub step : IsCommitStep tells (moment_before counts old) (moment_after counts new) old.store.kept message no_verify skip (reply_of reply_of_ending answer) new.store.kept.repo
   pub change : KeepsFor old.store.kept new.store.kept answer
   pub one : IsOneCommand g old.store new.store (command.Commit message no_verify skip) answer
-  pub book : new.book ≡ old.book
   pub replied : IsReplied out err (reply_of reply_of_ending answer) ending
 
 -- ---- the commands that look something up

@@ -1,5 +1,5 @@
 -- The hooks of a run one after another.
-use Rattle.std.proofs.Common.{◌≡◌, ◌∙◌, ap, sym, subst, refl, add-one, arith, ℕ, zero, suc, ◌+◌, ◌<◌, ◌≤◌, Bool, false, List, [], ◌∷◌, ◌++◌, Bor, length, drop, get_or, map, Result, Ok, Err, IfOk}
+use Rattle.std.proofs.Common.{◌≡◌, ◌∙◌, ap, sym, subst, refl, add-one, arith, ℕ, zero, suc, ◌+◌, ◌<◌, ◌≤◌, Bool, false, List, [], ◌∷◌, ◌++◌, Bor, length, drop, get_or, map, Option, None, Some, Result, Ok, Err, IfOk}
 use Rattle.std.proofs.Math.Seq.{drop-cons}
 use Rattle.std.proofs.Math.ListN.{drop_of_length-le}
 use Rattle.std.proofs.lemmas.List.Elements.{All-append, All-cons, All-nil}
@@ -22,7 +22,9 @@ use Rattle.hook_run.specs.RunOuts.{out_of}
 use Rattle.hook_run.specs.HookRun.{IsEnding, commands_of}
 use Rattle.hook_run.specs.Parts.{Part}
 use Rattle.hook_run.specs.Plans.{AtHook, GoesOn, GoesOnAt, Plan, gathered_with, hooks_after, progress_with, result_of}
-use Rattle.hook_run.specs.Standing.{FitsName, FitsResults, HasBegun, HasGoneOn, IsCourse, IsFirstOf, IsPlanAt, IsPlanBehindHook, IsPlanFrom, IsSeenOn, IsToldFrom, at_hook, at_work, hooks_from, id_if, names_in, on_tree, part_at, with_gathered}
+use Rattle.hook_run.specs.Standing.{FitsName, FitsResults, HasBegun, HasGoneOn, IsCourse, IsFirstOf, IsPlanAt, IsPlanBehindHook, IsPlanFrom, IsSeenOn, IsToldFrom, at_hook, at_part, at_work, hooks_from, id_if, names_in, on_tree, part_at, with_gathered}
+use Rattle.hook_run.specs.PlanBounds.{most_left, most_of_hooks, parts_at}
+use Rattle.hook_run.proofs.BoundLemmas.{commands-short, most-after, most-shorter, outcome-shorter}
 use Rattle.hook_run.proofs.PlanLemmas.{hook-done, hook-ended, hook-waits, over-goes_on, part-told}
 
 -- whatever goes on from the second moment, goes on from the first
@@ -30,9 +32,10 @@ pub record LeadsOn (course : Course) (first : Progress) (first_place : ℕ) (sec
   pub leads : (parts : List Part) (out : RunOut) → GoesOn course.config.now course.ask.now second (hooks_from course second_place) parts out
       → GoesOn course.config.now course.ask.now first (hooks_from course first_place) parts out
   pub fits : FitsResults course second.results
+  pub within : most_of_hooks (hooks_from course second_place) second.tree ≤ most_of_hooks (hooks_from course first_place) first.tree
 
 pub leads_on-none : (course : Course) (done : Progress) (place : ℕ) → FitsResults course done.results → LeadsOn course done place done place
-leads_on-none course done place fits = record { leads = λ parts out on. on; fits = fits }
+leads_on-none course done place fits = record { leads = λ parts out on. on; fits = fits; within = omega arith }
 
 pub hooks-left : (course : Course) (place : ℕ) (hook : Bor Hook) → place < length course.hooks.items → hook ≡ get_or course.hooks.items place hook
     → hooks_from course place ≡ hook.now ∷ hooks_from course (place + 1)
@@ -80,6 +83,13 @@ leads_on-ended course first first_place done after place next hook ending unstea
       (hook-done course.config.now course.ask.now done hook (hooks_from course (place + 1)) [] ending (id_if unsteady hook) parts out ends
       (ap (λ (b : Bool). id_if b hook) steady) there));
   fits = progress-fits course done after hook ending (id_if unsteady hook) done.tree made so_far.fits fits;
+  within =
+      let before = so_far.within in
+      let here = ap (λ (hooks : List Hook). most_of_hooks hooks done.tree) here_is in
+      let fewer = most-after course.config.now hook ending (hooks_from course (place + 1)) done.tree in
+      let behind = ap (λ (hooks : List Hook). most_of_hooks hooks after.tree) left in
+      let same = ap (λ (p : Progress). most_of_hooks (hooks_after course.config.now hook ending (hooks_from course (place + 1))) p.tree) made in
+      omega arith;
 }
 
 -- a hook that waits
@@ -91,6 +101,17 @@ pub leads_on-waits : (course : Course) (first : Progress) (first_place : ℕ) (d
 leads_on-waits course first first_place done place hook at parts out so_far here_is begun on =
     so_far.leads parts out (subst (λ (hooks : List Hook). GoesOn course.config.now course.ask.now done hooks parts out) (sym here_is)
     (hook-waits course.config.now course.ask.now done hook (hooks_from course (place + 1)) at parts out begun on))
+
+-- the parts that may be left where it waits
+pub within-waits : (course : Course) (first : Progress) (first_place : ℕ) (done : Progress) (place : ℕ) (hook : Hook) (waiting : Waiting)
+    → LeadsOn course first first_place done place → hooks_from course place ≡ hook ∷ hooks_from course (place + 1)
+    → IsFirstOf (IsEnding course.config.now course.ask.now done.tree hook) hook done.tree (at_hook waiting)
+    → parts_at (Some (at_part waiting)) + most_of_hooks (hooks_from course (place + 1)) done.tree ≤ most_of_hooks (hooks_from course first_place) first.tree
+within-waits course first first_place done place hook waiting so_far here_is begun =
+    let before = so_far.within in
+    let here = ap (λ (hooks : List Hook). most_of_hooks hooks done.tree) here_is in
+    let few = commands-short course.config.now course.ask.now done.tree hook (at_hook waiting) begun in
+    omega arith
 
 -- ---- the report of a run that is over
 
@@ -173,3 +194,41 @@ behind-hook_if course done behind place next hook ending mark (Ok plan) hooks ma
     λ parts out on. subst (λ (p : Progress). GoesOn course.config.now course.ask.now p (hooks_after course.config.now hook ending (hooks_from course place)) parts out) made
     (subst (λ (all : List Hook). GoesOn course.config.now course.ask.now behind all parts out) hooks (from parts out on))
 behind-hook_if course done behind place next hook ending mark (Err refusal) hooks made from = tt
+
+-- ---- how many parts may be left
+
+pub waits-within : (course : Course) (done : Progress) (place : ℕ) (at : AtHook) (begun : Begun) (waiting : Waiting) → begun ≡ Waits waiting → HasGoneOn at done.tree begun
+    → parts_at (Some (at_part waiting)) + most_of_hooks (hooks_from course place) done.tree ≤ length at.commands + most_of_hooks (hooks_from course place) done.tree
+waits-within course done place at begun waiting same gone =
+    let is = subst (HasGoneOn at done.tree) same gone in
+    let long = ap (λ (a : AtHook). length a.commands) is.0 in
+    omega arith
+
+pub behind-within_if : {E : Type 0} (course : Course) (done behind : Progress) (place next : ℕ) (hook : Hook) (ending : Ending) (mark : Bool) (result : Result Plan E)
+    → hooks_from course next ≡ hooks_after course.config.now hook ending (hooks_from course place)
+    → behind ≡ progress_with done hook ending (id_if mark hook) done.tree
+    → IfOk result (λ plan. most_left plan ≤ most_of_hooks (hooks_from course next) behind.tree) → IfOk result (λ plan. most_left plan ≤ most_of_hooks (hooks_from course place) done.tree)
+behind-within_if course done behind place next hook ending mark (Ok plan) hooks made within =
+    let fewer = most-after course.config.now hook ending (hooks_from course place) done.tree in
+    let left = ap (λ (all : List Hook). most_of_hooks all behind.tree) hooks in
+    let same = ap (λ (p : Progress). most_of_hooks (hooks_after course.config.now hook ending (hooks_from course place)) p.tree) made in
+    omega arith
+behind-within_if course done behind place next hook ending mark (Err refusal) hooks made within = tt
+
+pub ended-within_if : {E : Type 0} (course : Course) (done : Progress) (place : ℕ) (at : AtHook) (result : Result Plan E)
+    → IfOk result (λ plan. most_left plan ≤ most_of_hooks (hooks_from course place) done.tree) → IfOk result (λ plan. most_left plan ≤ length at.commands + most_of_hooks (hooks_from course place) done.tree)
+ended-within_if course done place at (Ok plan) within = omega arith
+ended-within_if course done place at (Err refusal) within = tt
+
+pub told-within_if : {E : Type 0} (course : Course) (done after : Progress) (place : ℕ) (waiting : Waiting) (work : Work) (outcome : Outcome) (unsteady : Bool) (result : Result Plan E)
+    → after ≡ on_tree done (after_outcome done.tree outcome)
+    → at_work work ≡ with_gathered (at_work waiting.work) (gathered_with waiting.work.gathered outcome unsteady)
+    → IfOk result (λ plan. most_left plan ≤ length (at_work work).commands + most_of_hooks (hooks_from course place) after.tree)
+    → IfOk result (λ plan. most_left plan < parts_at (Some (at_part waiting)) + most_of_hooks (hooks_from course place) done.tree)
+told-within_if course done after place waiting work outcome unsteady (Ok plan) left worked within =
+    let shorter = outcome-shorter done.tree outcome in
+    let fewer = most-shorter (hooks_from course place) (after_outcome done.tree outcome) done.tree shorter in
+    let same = ap (λ (p : Progress). most_of_hooks (hooks_from course place) p.tree) left in
+    let commands = ap (λ (a : AtHook). length a.commands) worked in
+    omega arith
+told-within_if course done after place waiting work outcome unsteady (Err refusal) left worked within = tt

@@ -27,12 +27,12 @@ use Rattle.hook_run.proofs.SomeRunLemmas.{AllAnswered, answered_run, some_run, t
 abbrev pub AllFailed : List Part → Type 0
 AllFailed parts = AllAnswered (λ _ _. Failed NotStarted) parts
 
-record SomeParts (whole : Bool) (further : List File → List (List ℕ)) (commands : List (List (List ℕ))) (tree : List File) : Type 0 where
-  parts : List Part
-  are : ArePartsOf whole further commands tree parts
-  failed : AllFailed parts
+pub record SomeParts (whole : Bool) (further : List File → List (List ℕ)) (commands : List (List (List ℕ))) (tree : List File) : Type 0 where
+  pub parts : List Part
+  pub are : ArePartsOf whole further commands tree parts
+  pub failed : AllFailed parts
 
-some-parts : (whole : Bool) (further : List File → List (List ℕ)) (commands : List (List (List ℕ))) (tree : List File) → SomeParts whole further commands tree
+pub some-parts : (whole : Bool) (further : List File → List (List ℕ)) (commands : List (List (List ℕ))) (tree : List File) → SomeParts whole further commands tree
 some-parts whole further [] tree = record { parts = []; are = tt; failed = tt }
 some-parts whole further (words ∷ commands) tree =
     let rest = some-parts whole further commands tree in

@@ -15,14 +15,15 @@ use Rattle.report_text.specs.Report.{is_empty}
 use Rattle.report_text.specs.declared.hook_result.Ending.{Ending}
 use Rattle.report_text.specs.declared.hook_result.HookResult.{HookResult}
 use Rattle.report_text.specs.declared.hook_result.LineFault.{LineFault}
-use Rattle.result_book.specs.Contents.{Contents}
 use Rattle.hook_run.specs.declared.run_ask.RunAsk.{RunAsk}
 use Rattle.hook_run.specs.declared.run_out.RunOut.{RunOut}
+use Rattle.hook_run.specs.AnswerLemmas.{answered-faults, faults-append}
 use Rattle.hook_run.specs.Asks.{hooks_of_run, is_skipped}
 use Rattle.hook_run.specs.ChildFaults.{child_faults, child_faults_among, child_faults_in}
 use Rattle.hook_run.specs.Commands.{command_of}
 use Rattle.hook_run.specs.HookRun.{IsCommandRun, IsEnding, IsLanguageRun, names_for, rules_of}
 use Rattle.hook_run.specs.Limits.{most_command_bytes}
+use Rattle.hook_run.specs.Moments.{Moment}
 use Rattle.hook_run.specs.Parts.{Part, after_parts, all_parts, faults_of}
 use Rattle.hook_run.specs.PartsEnding.{line_faults, line_faults_in}
 use Rattle.hook_run.specs.RunOuts.{IsRunOut, IsRunOver}
@@ -42,11 +43,11 @@ parts-faults (part ∷ parts) = outcome-fault part.outcome (line_faults parts) �
 none-faults : (is : Ending) (parts : List Part) (ending : Ending) → child_faults_in is ≡ 0 → (parts ≡ []) × (ending ≡ is) → child_faults_in ending ≡ faults_of parts
 none-faults is parts ending none run = ap child_faults_in run.1 ∙ (none ∙ sym (ap faults_of run.0))
 
-either-way : {A B T : Type 0} (b : Bool) → (A → T) → (B → T) → MatchBool b A B → T
+pub either-way : {A B T : Type 0} (b : Bool) → (A → T) → (B → T) → MatchBool b A B → T
 either-way true first second run = first run
 either-way false first second run = second run
 
-option-way : {A T : Type 0} (o : Option ℕ) (B : ℕ → Type 0) → (A → T) → ((n : ℕ) → B n → T) → MatchOption o A B → T
+pub option-way : {A T : Type 0} (o : Option ℕ) (B : ℕ → Type 0) → (A → T) → ((n : ℕ) → B n → T) → MatchOption o A B → T
 option-way None B first second run = first run
 option-way (Some n) B first second run = second n run
 
@@ -73,10 +74,6 @@ hook-faults config ask tree hook parts ending run =
 
 -- ---- the hooks one after another
 
-faults-append : (first second : List Part) → faults_of (first ++ second) ≡ faults_of first + faults_of second
-faults-append [] second = omega arith
-faults-append (part ∷ first) second = let rest = faults-append first second in omega arith
-
 ended-faults : (trace : List (List Part)) (results : List HookResult) → (trace ≡ []) × (results ≡ []) → child_faults results ≡ faults_of (all_parts trace)
 ended-faults trace results ended = ap child_faults ended.1 ∙ sym (ap (λ (t : List (List Part)). faults_of (all_parts t)) ended.0)
 
@@ -100,8 +97,8 @@ faults-reported config ask tree trace out run =
     ∙ run-faults config ask tree (hooks_of_run config ask) trace run.results run.run
 
 -- over a run, the faults of the children rise by as many as its results report
-pub reported_if : {E : Type 0} (tells : List (List ℕ) → List File → Outcome → Type 0) (calls calls_after faults faults_after : ℕ) (before after : Contents) (config : Config) (ask : RunAsk) (tree : List File) (result : Result RunOut E)
-    → IfOk result (IsRunOver tells calls calls_after faults faults_after before after config ask tree) → IfOk result (λ out. faults_after ≡ faults + child_faults out.results)
-reported_if tells calls calls_after faults faults_after before after config ask tree (Ok out) over =
-    over.counted.faulted ∙ sym (ap (λ (more : ℕ). faults + more) (faults-reported config ask tree over.trace out over.run))
-reported_if tells calls calls_after faults faults_after before after config ask tree (Err refusal) over = tt
+pub reported_if : {E : Type 0} (tells : List (List ℕ) → List File → Outcome → Type 0) (from to : Moment) (config : Config) (ask : RunAsk) (tree : List File) (result : Result RunOut E)
+    → IfOk result (IsRunOver tells from to config ask tree) → IfOk result (λ out. to.faults ≡ from.faults + child_faults out.results)
+reported_if tells from to config ask tree (Ok out) over =
+    answered-faults tells ask.fresh from to (all_parts over.trace) over.answered ∙ sym (ap (λ (more : ℕ). from.faults + more) (faults-reported config ask tree over.trace out over.run))
+reported_if tells from to config ask tree (Err refusal) over = tt

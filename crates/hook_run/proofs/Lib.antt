@@ -1,10 +1,12 @@
 pub mod AdvanceLemmas
 pub mod BeginLemmas
+pub mod BoundLemmas
 pub mod CompletionLemmas
 pub mod FaultLemmas
 pub mod HookRefs
 pub mod NextLemmas
 pub mod OneRunLemmas
+pub mod PartLemmas
 pub mod PlanLemmas
 pub mod RowLemmas
 pub mod RunLemmas

@@ -1,220 +1,207 @@
--- A run over children, part by part.
-use Rattle.std.proofs.Common.{◌≡◌, ◌≢◌, ◌∙◌, sym, subst, refl, arith, append_assoc, ℕ, ◌+◌, ◌-◌, ◌^◌, false, List, [], ◌∷◌, ◌++◌, All, length-append, Option, None, Some, Result, Ok, Err, IfOk, IfErr, IsErrAnd}
+-- A run over children and what is remembered, part by part.
+use Rattle.std.proofs.Common.{◌≡◌, ◌≢◌, ◌⊎◌, ◌∙◌, ap, sym, subst, refl, inl, inr, arith, append_assoc, ℕ, ◌+◌, ◌-◌, ◌^◌, Bool, false, List, [], ◌∷◌, ◌++◌, Option, None, Some, Result, Ok, Err, IfOk, IfErr, IsErrAnd}
 use Rattle.std.proofs.lemmas.List.{append-nil}
-use Rattle.std.proofs.lemmas.List.Elements.{All-append, All-cons, All-nil}
 use Rattle.hook_base.specs.declared.file.File.{File}
-use Rattle.child_port.specs.Outcomes.{faults_in}
+use Rattle.child_port.specs.SeenLemmas.{IsPartOf-seen_of}
 use Rattle.child_port.specs.declared.answer.Outcome.{Outcome}
 use Rattle.child_port.specs.declared.answer.Outcome.TheVariants.{Failed}
 use Rattle.child_port.specs.declared.fault.Fault.TheVariants.{NotStarted}
-use Rattle.hook_run.proofs.CompletionLemmas.{begins-at-once, can-complete, can-follow}
+use Rattle.hook_base.specs.Trees.{IsPartOf}
 use Rattle.hook_config.specs.declared.configuration.Config.{Config}
+use Rattle.result_book.specs.declared.book_fault.BookFault.{BookFault}
+use Rattle.result_book.specs.declared.book_fault.BookFault.TheVariants as book
+use Rattle.result_book.specs.Contents.{Contents, Lacks}
+use Rattle.result_book.specs.Told.{AddsTold}
 use Rattle.hook_run.specs.declared.need.Need.TheVariants.{Child, Over}
 use Rattle.hook_run.specs.declared.run_ask.RunAsk.{RunAsk}
 use Rattle.hook_run.specs.declared.run_out.RunOut.{RunOut}
-use Rattle.child_port.specs.SeenLemmas.{IsPartOf-seen_of}
-use Rattle.hook_base.specs.Trees.{IsPartOf}
-use Rattle.hook_run.specs.HookRun.{further_of, sees_whole}
-use Rattle.hook_run.specs.Parts.{AllTold, Part, faults_of}
-use Rattle.result_book.specs.Contents.{Contents}
 use Rattle.hook_run.specs.declared.run_refusal.RunRefusal.{RunRefusal}
-use Rattle.hook_run.specs.declared.run_refusal.RunRefusal.TheVariants.{NoSuchHook, OutOfMemory, Spent}
-use Rattle.hook_run.specs.PlanRuns.{IsPlanRun, IsPlanStopped}
+use Rattle.hook_run.specs.declared.run_refusal.RunRefusal.TheVariants.{Book, NoSuchHook, OutOfMemory, Spent}
+use Rattle.hook_run.specs.AnswerLemmas.{answered-adds, answered-append, answered-none, answered-told, so-far, so-far-adds, so-far-append, so-far-last, so-far-told}
+use Rattle.hook_run.specs.Answers.{AreAnswered, AreAnsweredSoFar}
+use Rattle.hook_run.specs.HookRun.{further_of, sees_whole}
+use Rattle.hook_run.specs.Moments.{Moment}
+use Rattle.hook_run.specs.Parts.{AllTold, Part, all_parts}
+use Rattle.hook_run.specs.PlanRuns.{IsPartStopped, IsPlanRun, IsPlanStopped}
 use Rattle.hook_run.specs.Plans.{AtPart, CanComplete, Completes, CompletesAt, IsPlanAfter, IsPlanOf, Plan, need_at, need_of, out_of_plan, part_with, seen_at, seen_of_plan, tree_of_plan, words_of}
-use Rattle.hook_run.specs.RunOuts.{IsBegun, IsCounted, IsRunOver, IsStoppedRun}
-use Rattle.hook_run.specs.Starts.{Starts}
+use Rattle.hook_run.specs.Refusals.{IsOfBook, is_of_book, of_book}
+use Rattle.hook_run.specs.RunOuts.{IsBegun, IsRunOver, IsStoppedRun}
+use Rattle.hook_run.proofs.CompletionLemmas.{begins-at-once, can-complete, can-follow}
 
--- the parts that the children have told since the first moment, and the plan that they led to
-pub record ToldSoFar (tells : List (List ℕ) → List File → Outcome → Type 0) (calls calls_after faults faults_after : ℕ) (first plan : Plan) : Type 0 where
+-- ---- a plan, part by part
+
+-- the parts that are answered since the first moment, and the plan that they led to
+pub record PlanSoFar (tells : List (List ℕ) → List File → Outcome → Type 0) (fresh : Bool) (from to : Moment) (first plan : Plan) : Type 0 where
   pub parts : List Part
-  pub told : AllTold tells parts
-  pub steady : All (λ part. part.unsteady ≡ false) parts
-  pub counted : IsCounted calls calls_after faults faults_after parts
+  pub answered : AreAnswered tells fresh from to parts
   pub leads : (rest : List Part) (out : RunOut) → Completes plan rest out → Completes first (parts ++ rest) out
-
-pub told-none : (tells : List (List ℕ) → List File → Outcome → Type 0) (calls faults : ℕ) (plan : Plan) → ToldSoFar tells calls calls faults faults plan plan
-told-none tells calls faults plan = record {
-  parts = [];
-  told = tt;
-  steady = All-nil (λ part. part.unsteady ≡ false);
-  counted = record { called = omega arith; faulted = omega arith };
-  leads = λ rest out on. on;
-}
-
-told-append : (tells : List (List ℕ) → List File → Outcome → Type 0) (parts more : List Part) → AllTold tells parts → AllTold tells more → AllTold tells (parts ++ more)
-told-append tells [] more first second = second
-told-append tells (part ∷ parts) more first second = (first.0, told-append tells parts more first.1 second)
-
-faults-append : (parts more : List Part) → faults_of (parts ++ more) ≡ faults_of parts + faults_of more
-faults-append [] more = omega arith
-faults-append (part ∷ parts) more = let rest = faults-append parts more in omega arith
-
-pub told-more : (tells : List (List ℕ) → List File → Outcome → Type 0) (calls calls_now calls_after faults faults_now faults_after : ℕ) (first plan after : Plan) (outcome : Outcome)
-    → ToldSoFar tells calls calls_now faults faults_now first plan → tells (words_of plan) (seen_of_plan plan) outcome
-    → calls_after ≡ calls_now + 1 → faults_after ≡ faults_now + faults_in outcome → IsPlanAfter plan outcome false after
-    → ToldSoFar tells calls calls_after faults faults_after first after
-told-more tells calls calls_now calls_after faults faults_now faults_after first plan after outcome so_far told call fault follows =
-    let part = part_with plan outcome false in
-    let called = so_far.counted.called in
-    let faulted = so_far.counted.faulted in
-    let long = length-append so_far.parts (part ∷ []) in
-    let many = faults-append so_far.parts (part ∷ []) in
-    record {
-      parts = so_far.parts ++ part ∷ [];
-      told = told-append tells so_far.parts (part ∷ []) so_far.told (told, tt);
-      steady = All-append (λ one. one.unsteady ≡ false) so_far.parts (part ∷ []) so_far.steady
-          (All-cons (λ one. one.unsteady ≡ false) part [] refl (All-nil (λ one. one.unsteady ≡ false)));
-      counted = record { called = omega arith; faulted = omega arith };
-      leads = λ rest out on. subst (λ (all : List Part). Completes first all out) (sym (append_assoc so_far.parts (part ∷ []) rest))
-          (so_far.leads (part ∷ rest) out (follows rest out on));
-    }
 
 pub over-at : (plan : Plan) (waiting : Option AtPart) (out : RunOut) → need_at waiting ≡ Over → out ≡ out_of_plan plan → CompletesAt plan waiting [] out
 over-at plan None out need is = (refl, is)
 over-at plan (Some at) out need is = absurd (cc)
 
-pub told-all : (tells : List (List ℕ) → List File → Outcome → Type 0) (calls calls_after faults faults_after : ℕ) (first plan : Plan) (out : RunOut)
-    → ToldSoFar tells calls calls_after faults faults_after first plan → need_of plan ≡ Over → out ≡ out_of_plan plan
-    → IsPlanRun tells calls calls_after faults faults_after first out
-told-all tells calls calls_after faults faults_after first plan out so_far over is = record {
-  parts = so_far.parts;
-  told = so_far.told;
-  steady = so_far.steady;
-  counted = so_far.counted;
-  completes = subst (λ (all : List Part). Completes first all out) (append-nil so_far.parts) (so_far.leads [] out (over-at plan plan.waiting out over is));
-}
+module _ (tells : List (List ℕ) → List File → Outcome → Type 0) (fresh : Bool) where
+  pub plan-none : (at : Moment) (plan : Plan) → PlanSoFar tells fresh at at plan plan
+  plan-none at plan = record { parts = []; answered = answered-none tells fresh at; leads = λ rest out on. on }
 
--- what goes on from the plan goes on from the first
-lead-on : (tells : List (List ℕ) → List File → Outcome → Type 0) (calls calls_after faults faults_after : ℕ) (first plan : Plan) (front : List Part)
-    → (so_far : ToldSoFar tells calls calls_after faults faults_after first plan) → CanComplete plan front → CanComplete first (so_far.parts ++ front)
-lead-on tells calls calls_after faults faults_after first plan front so_far can = record {
-  rest = can.rest;
-  out = can.out;
-  completes = subst (λ (all : List Part). Completes first all can.out) (sym (append_assoc so_far.parts front can.rest))
-      (so_far.leads (front ++ can.rest) can.out can.completes);
-}
+  pub plan-more : (from now to : Moment) (first plan after : Plan) (outcome : Outcome) (unsteady : Bool) → PlanSoFar tells fresh from now first plan
+      → AreAnswered tells fresh now to (part_with plan outcome unsteady ∷ []) → IsPlanAfter plan outcome unsteady after → PlanSoFar tells fresh from to first after
+  plan-more from now to first plan after outcome unsteady it answered follows =
+      let part = part_with plan outcome unsteady in
+      record {
+        parts = it.parts ++ part ∷ [];
+        answered = answered-append tells fresh from now to it.parts (part ∷ []) it.answered answered;
+        leads = λ rest out on. subst (λ (all : List Part). Completes first all out) (sym (append_assoc it.parts (part ∷ []) rest))
+            (it.leads (part ∷ rest) out (follows rest out on));
+      }
 
--- what the children had told when no outcome came
-told-stopped : (tells : List (List ℕ) → List File → Outcome → Type 0) (calls calls_now calls_after faults faults_now faults_after : ℕ) (first plan : Plan) (refusal : RunRefusal)
-    → ToldSoFar tells calls calls_now faults faults_now first plan → need_of plan ≡ Child → calls_after ≡ calls_now → faults_after ≡ faults_now
-    → (refusal ≡ Spent → calls_after ≡ 2 ^ 64 - 1) → IsPlanStopped tells calls calls_after faults faults_after first refusal
-told-stopped tells calls calls_now calls_after faults faults_now faults_after first plan refusal so_far need call fault spent =
-    let called = so_far.counted.called in
-    let faulted = so_far.counted.faulted in
-    record {
-      parts = so_far.parts;
-      told = so_far.told;
-      steady = so_far.steady;
-      counted = record { called = call ∙ called; faulted = fault ∙ faulted };
-      begins = subst (CanComplete first) (append-nil so_far.parts) (lead-on tells calls calls_now faults faults_now first plan [] so_far (can-complete plan));
-      needs = λ _. (
-        part_with plan (Failed NotStarted) false,
-        lead-on tells calls calls_now faults faults_now first plan (part_with plan (Failed NotStarted) false ∷ []) so_far
-            (can-follow plan (Failed NotStarted) false need),
-      );
-      spent = spent;
-    }
+  pub plan-run : (from to : Moment) (first plan : Plan) (out : RunOut) → PlanSoFar tells fresh from to first plan → need_of plan ≡ Over → out ≡ out_of_plan plan → IsPlanRun tells fresh from to first out
+  plan-run from to first plan out it over is = record {
+    parts = it.parts;
+    answered = it.answered;
+    completes = subst (λ (all : List Part). Completes first all out) (append-nil it.parts) (it.leads [] out (over-at plan plan.waiting out over is));
+  }
 
-pub told-stopped_if : {T : Type 0} (tells : List (List ℕ) → List File → Outcome → Type 0) (calls calls_now calls_after faults faults_now faults_after : ℕ) (first plan : Plan) (result : Result T RunRefusal)
-    → ToldSoFar tells calls calls_now faults faults_now first plan → need_of plan ≡ Child → calls_after ≡ calls_now → faults_after ≡ faults_now
-    → IfErr result (λ refusal. refusal ≡ Spent → calls_after ≡ 2 ^ 64 - 1) → IfErr result (IsPlanStopped tells calls calls_after faults faults_after first)
-told-stopped_if tells calls calls_now calls_after faults faults_now faults_after first plan (Ok out) so_far need call fault spent = tt
-told-stopped_if tells calls calls_now calls_after faults faults_now faults_after first plan (Err refusal) so_far need call fault spent =
-    told-stopped tells calls calls_now calls_after faults faults_now faults_after first plan refusal so_far need call fault spent
+  -- what goes on from the plan goes on from the first
+  lead-on : (from to : Moment) (first plan : Plan) (front : List Part) → (it : PlanSoFar tells fresh from to first plan) → CanComplete plan front → CanComplete first (it.parts ++ front)
+  lead-on from to first plan front it can = record {
+    rest = can.rest;
+    out = can.out;
+    completes = subst (λ (all : List Part). Completes first all can.out) (sym (append_assoc it.parts front can.rest))
+        (it.leads (front ++ can.rest) can.out can.completes);
+  }
 
--- what they had told when there was no memory for an outcome
-told-lost : (tells : List (List ℕ) → List File → Outcome → Type 0) (calls calls_now calls_after faults faults_now faults_after : ℕ) (first plan : Plan) (outcome : Outcome) (refusal : RunRefusal)
-    → ToldSoFar tells calls calls_now faults faults_now first plan → tells (words_of plan) (seen_of_plan plan) outcome
-    → need_of plan ≡ Child → calls_after ≡ calls_now + 1 → faults_after ≡ faults_now + faults_in outcome → refusal ≡ OutOfMemory
-    → IsPlanStopped tells calls calls_after faults faults_after first refusal
-told-lost tells calls calls_now calls_after faults faults_now faults_after first plan outcome refusal so_far told need call fault is =
-    let part = part_with plan outcome false in
-    let called = so_far.counted.called in
-    let faulted = so_far.counted.faulted in
-    let long = length-append so_far.parts (part ∷ []) in
-    let many = faults-append so_far.parts (part ∷ []) in
-    record {
-      parts = so_far.parts ++ part ∷ [];
-      told = told-append tells so_far.parts (part ∷ []) so_far.told (told, tt);
-      steady = All-append (λ one. one.unsteady ≡ false) so_far.parts (part ∷ []) so_far.steady
-          (All-cons (λ one. one.unsteady ≡ false) part [] refl (All-nil (λ one. one.unsteady ≡ false)));
-      counted = record { called = omega arith; faulted = omega arith };
-      begins = lead-on tells calls calls_now faults faults_now first plan (part ∷ []) so_far (can-follow plan outcome false need);
-      needs = λ spent. absurd (cc);
-      spent = λ spent. absurd (cc);
-    }
+  no-last : (parts last : List Part) (part : Part) → last ≡ [] → (parts ++ last) ++ part ∷ [] ≡ parts ++ part ∷ []
+  no-last parts last part none = ap (λ (l : List Part). (parts ++ l) ++ part ∷ []) none ∙ ap (λ (l : List Part). l ++ part ∷ []) (append-nil parts)
 
-pub told-lost_if : {T : Type 0} (tells : List (List ℕ) → List File → Outcome → Type 0) (calls calls_now calls_after faults faults_now faults_after : ℕ) (first plan : Plan) (outcome : Outcome) (result : Result T RunRefusal)
-    → ToldSoFar tells calls calls_now faults faults_now first plan → tells (words_of plan) (seen_of_plan plan) outcome
-    → need_of plan ≡ Child → calls_after ≡ calls_now + 1 → faults_after ≡ faults_now + faults_in outcome → IsErrAnd result (λ refusal. refusal ≡ OutOfMemory)
-    → IfErr result (IsPlanStopped tells calls calls_after faults faults_after first)
-told-lost_if tells calls calls_now calls_after faults faults_now faults_after first plan outcome (Ok out) so_far told need call fault is = absurd is
-told-lost_if tells calls calls_now calls_after faults faults_now faults_after first plan outcome (Err refusal) so_far told need call fault is =
-    told-lost tells calls calls_now calls_after faults faults_now faults_after first plan outcome refusal so_far told need call fault is
+  -- the plan is stopped at a part
+  pub plan-stopped : (from now to : Moment) (first plan : Plan) (refusal : RunRefusal) → PlanSoFar tells fresh from now first plan → need_of plan ≡ Child
+      → IsPartStopped tells fresh now to plan refusal → IsPlanStopped tells fresh from to first refusal
+  plan-stopped from now to first plan refusal it need stop =
+      let part = part_with plan (Failed NotStarted) false in
+      record {
+        parts = it.parts ++ stop.last;
+        answered = so-far-append tells fresh from now to it.parts stop.last it.answered stop.answered;
+        begins = lead-on from now first plan stop.last it stop.begins;
+        asked = stop.asked;
+        needs = λ is. let why = stop.needs is in record {
+          part = part;
+          begins = subst (CanComplete first) (sym (no-last it.parts stop.last part why.0)) (lead-on from now first plan (part ∷ []) it (can-follow plan (Failed NotStarted) false need));
+          lacks = why.2;
+        };
+        untold = λ is. so-far-last tells fresh from now to it.parts stop.last it.answered stop.answered ∙ (stop.needs is).1;
+        spent = stop.spent;
+      }
 
--- ---- a run over children and a book that isn't changed
+  pub plan-stopped_if : {T U : Type 0} (from now to : Moment) (first plan : Plan) (inner : Result T RunRefusal) (result : Result U RunRefusal)
+      → IfErr result (λ refusal. IsErrAnd inner (λ before. refusal ≡ before)) → PlanSoFar tells fresh from now first plan → need_of plan ≡ Child
+      → IfErr inner (IsPartStopped tells fresh now to plan) → IfErr result (IsPlanStopped tells fresh from to first)
+  plan-stopped_if from now to first plan inner (Ok out) same it need stop = tt
+  plan-stopped_if from now to first plan (Ok came) (Err refusal) same it need stop = absurd same
+  plan-stopped_if from now to first plan (Err before) (Err refusal) same it need stop =
+      subst (IsPlanStopped tells fresh from to first) (sym same) (plan-stopped from now to first plan before it need stop)
 
-run-over : (tells : List (List ℕ) → List File → Outcome → Type 0) (calls calls_after faults faults_after : ℕ) (before after : Contents) (config : Config) (ask : RunAsk) (tree : List File) (plan : Plan) (out : RunOut)
-    → IsPlanOf config ask tree plan → after ≡ before → IsPlanRun tells calls calls_after faults faults_after plan out
-    → IsRunOver tells calls calls_after faults faults_after before after config ask tree out
-run-over tells calls calls_after faults faults_after before after config ask tree plan out of kept on =
-    let run = of on.parts out on.completes in
-    record {
-      trace = run.0;
-      run = run.2;
-      told = subst (AllTold tells) (sym run.1) on.told;
-      starts = subst (Starts ask.fresh before after) (sym run.1) (record { kept = kept; steady = on.steady });
-      counted = subst (IsCounted calls calls_after faults faults_after) (sym run.1) on.counted;
-    }
+  -- there is no memory for what came of a part
+  pub plan-lost : (from now to : Moment) (first plan : Plan) (outcome : Outcome) (unsteady : Bool) (refusal : RunRefusal) → PlanSoFar tells fresh from now first plan
+      → AreAnswered tells fresh now to (part_with plan outcome unsteady ∷ []) → need_of plan ≡ Child → refusal ≡ OutOfMemory → IsPlanStopped tells fresh from to first refusal
+  plan-lost from now to first plan outcome unsteady refusal it answered need is =
+      let part = part_with plan outcome unsteady in
+      record {
+        parts = it.parts ++ part ∷ [];
+        answered = so-far tells fresh from to (it.parts ++ part ∷ []) (answered-append tells fresh from now to it.parts (part ∷ []) it.answered answered);
+        begins = lead-on from now first plan (part ∷ []) it (can-follow plan outcome unsteady need);
+        asked = λ no_hook. absurd (cc);
+        needs = λ spent. absurd (cc);
+        untold = λ spent. absurd (cc);
+        spent = λ spent. absurd (cc);
+      }
 
-pub run-over_if : {E : Type 0} (tells : List (List ℕ) → List File → Outcome → Type 0) (calls calls_after faults faults_after : ℕ) (before after : Contents) (config : Config) (ask : RunAsk) (tree : List File) (plan : Plan)
-    (result : Result RunOut E) → IsPlanOf config ask tree plan → after ≡ before → IfOk result (IsPlanRun tells calls calls_after faults faults_after plan)
-    → IfOk result (IsRunOver tells calls calls_after faults faults_after before after config ask tree)
-run-over_if tells calls calls_after faults faults_after before after config ask tree plan (Ok out) of kept on =
-    run-over tells calls calls_after faults faults_after before after config ask tree plan out of kept on
-run-over_if tells calls calls_after faults faults_after before after config ask tree plan (Err refusal) of kept on = tt
+  pub plan-lost_if : {T : Type 0} (from now to : Moment) (first plan : Plan) (outcome : Outcome) (unsteady : Bool) (result : Result T RunRefusal) → PlanSoFar tells fresh from now first plan
+      → AreAnswered tells fresh now to (part_with plan outcome unsteady ∷ []) → need_of plan ≡ Child → IsErrAnd result (λ refusal. refusal ≡ OutOfMemory) → IfErr result (IsPlanStopped tells fresh from to first)
+  plan-lost_if from now to first plan outcome unsteady (Ok out) it answered need is = absurd is
+  plan-lost_if from now to first plan outcome unsteady (Err refusal) it answered need is = plan-lost from now to first plan outcome unsteady refusal it answered need is
 
--- a run begins as what completes its plan
-begun-run : (config : Config) (ask : RunAsk) (tree : List File) (plan : Plan) (front : List Part) → IsPlanOf config ask tree plan → CanComplete plan front → IsBegun config ask tree front
-begun-run config ask tree plan front of can =
-    let run = of (front ++ can.rest) can.out can.completes in
-    record { trace = run.0; rest = can.rest; out = can.out; joined = run.1; run = run.2 }
+-- ---- a run of which there is a plan
 
-pub stopped_if : {T : Type 0} (tells : List (List ℕ) → List File → Outcome → Type 0) (calls calls_after faults faults_after : ℕ) (before after : Contents) (config : Config) (ask : RunAsk) (tree : List File) (plan : Plan)
-    (result : Result T RunRefusal) → IsPlanOf config ask tree plan → after ≡ before → IfErr result (λ refusal. refusal ≢ NoSuchHook) → IfErr result (IsPlanStopped tells calls calls_after faults faults_after plan)
-    → IfErr result (IsStoppedRun tells calls calls_after faults faults_after before after config ask tree)
-stopped_if tells calls calls_after faults faults_after before after config ask tree plan (Ok out) of kept asked on = tt
-stopped_if tells calls calls_after faults faults_after before after config ask tree plan (Err refusal) of kept asked on =
-    record {
-      parts = on.parts;
-      told = on.told;
-      starts = record { kept = kept; steady = on.steady };
-      counted = on.counted;
-      no_hook = λ is. absurd (asked is);
-      begins = λ is. begun-run config ask tree plan on.parts of on.begins;
-      needs = λ is. let next = on.needs is in record { part = next.0; begun = begun-run config ask tree plan (on.parts ++ next.0 ∷ []) of next.1 };
-      spent = on.spent;
-    }
+module _ (tells : List (List ℕ) → List File → Outcome → Type 0) (from to : Moment) (config : Config) (ask : RunAsk) (tree : List File) (plan : Plan) (of : IsPlanOf config ask tree plan) where
+  run-over : (out : RunOut) → IsPlanRun tells ask.fresh from to plan out → IsRunOver tells from to config ask tree out
+  run-over out on =
+      let run = of on.parts out on.completes in
+      record {
+        trace = run.0;
+        run = run.2;
+        answered = subst (AreAnswered tells ask.fresh from to) (sym run.1) on.answered;
+        told = λ book. subst (AllTold tells) (sym run.1) (answered-told tells ask.fresh from to on.parts on.answered book);
+      }
+
+  pub run-over_if : {E : Type 0} (result : Result RunOut E) → IfOk result (IsPlanRun tells ask.fresh from to plan) → IfOk result (IsRunOver tells from to config ask tree)
+  run-over_if (Ok out) on = run-over out on
+  run-over_if (Err refusal) on = tt
+
+  -- a run begins as what completes its plan
+  begun-run : (front : List Part) → CanComplete plan front → IsBegun config ask tree front
+  begun-run front can =
+      let run = of (front ++ can.rest) can.out can.completes in
+      record { trace = run.0; rest = can.rest; out = can.out; joined = run.1; run = run.2 }
+
+  pub stopped_if : {T : Type 0} (result : Result T RunRefusal) → IfErr result (IsPlanStopped tells ask.fresh from to plan) → IfErr result (IsStoppedRun tells from to config ask tree)
+  stopped_if (Ok out) on = tt
+  stopped_if (Err refusal) on = record {
+    parts = on.parts;
+    answered = on.answered;
+    told = λ book. so-far-told tells ask.fresh from to on.parts on.answered book;
+    no_hook = λ is. absurd (on.asked is);
+    begins = λ _. begun-run on.parts on.begins;
+    needs = λ is. let next = on.needs is in record { part = next.part; begun = begun-run (on.parts ++ next.part ∷ []) next.begins; lacks = next.lacks };
+    untold = on.untold;
+    spent = on.spent;
+  }
+
+  pub adds_if : (result : Result RunOut RunRefusal) → IfOk result (IsPlanRun tells ask.fresh from to plan) → IfErr result (IsPlanStopped tells ask.fresh from to plan) → AddsTold tells from.remembered to.remembered
+  adds_if (Ok out) run stopped = answered-adds tells ask.fresh from to run.parts run.answered
+  adds_if (Err refusal) run stopped = so-far-adds tells ask.fresh from to stopped.parts stopped.answered
 
 -- a run of which there is no plan
-stopped-at-once : (tells : List (List ℕ) → List File → Outcome → Type 0) (calls faults : ℕ) (contents : Contents) (config : Config) (ask : RunAsk) (tree : List File) (refusal : RunRefusal)
-    → refusal ≢ Spent → IsStoppedRun tells calls calls faults faults contents contents config ask tree refusal
-stopped-at-once tells calls faults contents config ask tree refusal countable =
-    record {
-      parts = [];
-      told = tt;
-      starts = record { kept = refl; steady = All-nil (λ part. part.unsteady ≡ false) };
-      counted = record { called = omega arith; faulted = omega arith };
-      no_hook = λ is. refl;
-      begins = λ is. begins-at-once config ask tree;
-      needs = λ is. absurd (countable is);
-      spent = λ is. absurd (countable is);
-    }
+stopped-at-once : (tells : List (List ℕ) → List File → Outcome → Type 0) (at : Moment) (config : Config) (ask : RunAsk) (tree : List File) (refusal : RunRefusal) → refusal ≢ Spent → IsStoppedRun tells at at config ask tree refusal
+stopped-at-once tells at config ask tree refusal countable = record {
+  parts = [];
+  answered = so-far tells ask.fresh at at [] (answered-none tells ask.fresh at);
+  told = λ _. tt;
+  no_hook = λ is. (refl, refl);
+  begins = λ is. begins-at-once config ask tree;
+  needs = λ is. absurd (countable is);
+  untold = λ is. absurd (countable is);
+  spent = λ is. absurd (countable is);
+}
 
-pub stopped-at-once_if : {T : Type 0} (tells : List (List ℕ) → List File → Outcome → Type 0) (calls faults : ℕ) (contents : Contents) (config : Config) (ask : RunAsk) (tree : List File)
-    (result : Result T RunRefusal) → IfErr result (λ refusal. refusal ≢ Spent) → IfErr result (IsStoppedRun tells calls calls faults faults contents contents config ask tree)
-stopped-at-once_if tells calls faults contents config ask tree (Ok out) countable = tt
-stopped-at-once_if tells calls faults contents config ask tree (Err refusal) countable = stopped-at-once tells calls faults contents config ask tree refusal countable
+pub stopped-at-once_if : {T : Type 0} (tells : List (List ℕ) → List File → Outcome → Type 0) (at : Moment) (config : Config) (ask : RunAsk) (tree : List File)
+    (result : Result T RunRefusal) → IfErr result (λ refusal. refusal ≢ Spent) → IfErr result (IsStoppedRun tells at at config ask tree)
+stopped-at-once_if tells at config ask tree (Ok out) countable = tt
+stopped-at-once_if tells at config ask tree (Err refusal) countable = stopped-at-once tells at config ask tree refusal countable
+
+-- ---- refusals of the book
+
+pub not-book : (refuses : BookFault → Type 0) (refusal : RunRefusal) → is_of_book refusal ≡ false → IsOfBook refuses refusal
+not-book refuses (Book fault) isnt = absurd (cc)
+not-book refuses OutOfMemory isnt = tt
+not-book refuses NoSuchHook isnt = tt
+not-book refuses Spent isnt = tt
+
+pub not-book_if : {T : Type 0} (refuses : BookFault → Type 0) (result : Result T RunRefusal) → IfErr result (λ refusal. is_of_book refusal ≡ false) → IfErr result (IsOfBook refuses)
+not-book_if refuses (Ok out) isnt = tt
+not-book_if refuses (Err refusal) isnt = not-book refuses refusal isnt
+
+pub not-asked : (fault : BookFault) → of_book fault ≢ NoSuchHook
+not-asked book.OutOfMemory = λ is. cc
+not-asked (book.Store fault) = λ is. cc
+
+pub not-spent : (fault : BookFault) → of_book fault ≢ Spent
+not-spent book.OutOfMemory = λ is. cc
+not-spent (book.Store fault) = λ is. cc
+
+pub of-book : (refuses : BookFault → Type 0) (fault : BookFault) → refuses fault → IsOfBook refuses (of_book fault)
+of-book refuses book.OutOfMemory refused = tt
+of-book refuses (book.Store fault) refused = (refused, refl)
 
 -- ---- what the child of a plan sees is a part of the tree that it runs on
 

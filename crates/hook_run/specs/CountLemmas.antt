@@ -4,8 +4,9 @@ use Rattle.std.proofs.Common.{arith}
 use Rattle.child_port.specs.Outcomes.{faults_in}
 use Rattle.child_port.specs.declared.answer.Outcome.{Outcome}
 use Rattle.child_port.specs.declared.answer.Outcome.TheVariants.{Done, Failed}
+use Rattle.hook_run.specs.Answers.{IsCounted}
+use Rattle.hook_run.specs.Moments.{Moment}
 use Rattle.hook_run.specs.Parts.{Part, faults_of}
-use Rattle.hook_run.specs.RunOuts.{IsCounted}
 
 one-fault-at-most : (outcome : Outcome) → faults_in outcome ≤ 1
 one-fault-at-most (Done answer) = omega arith
@@ -18,18 +19,25 @@ faults-among-parts (part ∷ parts) =
     let rest = faults-among-parts parts in
     omega arith
 
--- the calls never fall
-pub calls-rise : (calls calls_after faults faults_after : ℕ) (parts : List Part) → IsCounted calls calls_after faults faults_after parts → calls ≤ calls_after
-calls-rise calls calls_after faults faults_after parts counted = let called = counted.called in omega arith
+-- neither count falls, and no more faults are added than calls
+pub record Rises (from to : Moment) : Type 0 where
+  pub calls : from.calls ≤ to.calls
+  pub faults : from.faults ≤ to.faults
+  pub faults_are_calls : to.faults + from.calls ≤ from.faults + to.calls
 
--- the faults never fall
-pub faults-rise : (calls calls_after faults faults_after : ℕ) (parts : List Part) → IsCounted calls calls_after faults faults_after parts → faults ≤ faults_after
-faults-rise calls calls_after faults faults_after parts counted = let faulted = counted.faulted in omega arith
-
--- no more faults are added than calls
-pub faults-within-calls : (calls calls_after faults faults_after : ℕ) (parts : List Part) → IsCounted calls calls_after faults faults_after parts → faults_after + calls ≤ faults + calls_after
-faults-within-calls calls calls_after faults faults_after parts counted =
+pub rises : (from to : Moment) (started : List Part) → IsCounted from to started → Rises from to
+rises from to started counted =
     let called = counted.called in
     let faulted = counted.faulted in
-    let among = faults-among-parts parts in
-    omega arith
+    let among = faults-among-parts started in
+    record { calls = omega arith; faults = omega arith; faults_are_calls = omega arith }
+
+pub rises-then : (first second third : Moment) → Rises first second → Rises second third → Rises first third
+rises-then first second third one two =
+    let calls = one.calls in
+    let faults = one.faults in
+    let among = one.faults_are_calls in
+    let more_calls = two.calls in
+    let more_faults = two.faults in
+    let more_among = two.faults_are_calls in
+    record { calls = omega arith; faults = omega arith; faults_are_calls = omega arith }

@@ -1,11 +1,15 @@
+pub mod AnswerLemmas
+pub mod Answers
 pub mod Asks
 pub mod ChildFaults
 pub mod Commands
 pub mod CountLemmas
 pub mod HookRun
 pub mod Limits
+pub mod Moments
 pub mod Parts
 pub mod PartsEnding
+pub mod PlanBounds
 pub mod PlanLaws
 pub mod PlanRuns
 pub mod Plans

@@ -1,28 +1,75 @@
--- A plan that children complete. Serves private functions alone.
-use Rattle.std.specs.Prelude.{◌≡◌, ◌-◌, ◌^◌, ℕ, false, List, [], ◌∷◌, ◌++◌, All}
+-- A plan that children and remembered answers complete. Serves private functions alone.
+use Rattle.std.specs.Prelude.{◌≡◌, ◌≢◌, ◌⊎◌, ◌-◌, ◌^◌, ℕ, Bool, false, List, [], ◌∷◌, ◌++◌, Option}
 use Rattle.hook_base.specs.declared.file.File.{File}
+use Rattle.child_port.specs.declared.answer.Answer.{Answer}
 use Rattle.child_port.specs.declared.answer.Outcome.{Outcome}
+use Rattle.result_book.specs.Contents.{Lacks}
+use Rattle.hook_run.specs.declared.part_outcome.PartOutcome.{PartOutcome}
 use Rattle.hook_run.specs.declared.run_out.RunOut.{RunOut}
 use Rattle.hook_run.specs.declared.run_refusal.RunRefusal.{RunRefusal}
-use Rattle.hook_run.specs.declared.run_refusal.RunRefusal.TheVariants.{Spent}
+use Rattle.hook_run.specs.declared.run_refusal.RunRefusal.TheVariants.{NoSuchHook, Spent}
+use Rattle.hook_run.specs.Answers.{AreAnswered, AreAnsweredSoFar, IsCounted}
+use Rattle.hook_run.specs.Moments.{Moment}
 use Rattle.hook_run.specs.Parts.{AllTold, Part}
-use Rattle.hook_run.specs.Plans.{CanComplete, Completes, Plan}
-use Rattle.hook_run.specs.RunOuts.{IsCounted}
+use Rattle.hook_run.specs.Plans.{CanComplete, Completes, Plan, part_with, seen_of_plan, words_of}
+use Rattle.hook_run.specs.Starts.{IsStarted}
 
--- parts that children told, none of them unsteady, complete the plan
-pub record IsPlanRun (tells : List (List ℕ) → List File → Outcome → Type 0) (calls calls_after faults faults_after : ℕ) (plan : Plan) (out : RunOut) : Type 0 where
+-- the part that the plan needs, with what came of it
+abbrev pub part_of : Plan → PartOutcome → Part
+part_of plan came = part_with plan came.outcome came.unsteady
+
+-- ---- a part for which a child is started
+
+-- a child told the part, which is counted, and its answer is put
+pub record IsPartStarted (tells : List (List ℕ) → List File → Outcome → Type 0) (found : Option Answer) (from to : Moment) (part : Part) : Type 0 where
+  pub told : tells part.words part.seen part.outcome
+  pub counted : IsCounted from to (part ∷ [])
+  pub started : IsStarted found from.remembered to.remembered part
+
+-- no child told the part, or one did and its answer isn't put
+pub record IsPartUnput (tells : List (List ℕ) → List File → Outcome → Type 0) (from to : Moment) (plan : Plan) (refusal : RunRefusal) : Type 0 where
+  pub last : List Part
+  pub outcome : Outcome
+  pub unsteady : Bool
+  pub this : (last ≡ []) ⊎ (last ≡ part_with plan outcome unsteady ∷ [])
+  pub begins : CanComplete plan last
+  pub told : AllTold tells last
+  pub counted : IsCounted from to last
+  pub kept : to.remembered ≡ from.remembered
+  pub asked : refusal ≢ NoSuchHook
+  pub spent : refusal ≡ Spent → (last ≡ []) × (to.calls ≡ 2 ^ 64 - 1)
+
+-- ---- any part
+
+-- the plan was stopped at the part that it needs
+pub record IsPartStopped (tells : List (List ℕ) → List File → Outcome → Type 0) (fresh : Bool) (from to : Moment) (plan : Plan) (refusal : RunRefusal) : Type 0 where
+  pub last : List Part
+  pub answered : AreAnsweredSoFar tells fresh from to last
+  pub begins : CanComplete plan last
+  pub asked : refusal ≢ NoSuchHook
+  pub needs : refusal ≡ Spent → (last ≡ []) × (answered.last ≡ []) × (fresh ≡ false → Lacks (words_of plan) (seen_of_plan plan) to.remembered)
+  pub spent : refusal ≡ Spent → to.calls ≡ 2 ^ 64 - 1
+
+-- ---- all parts
+
+-- parts complete the plan
+pub record IsPlanRun (tells : List (List ℕ) → List File → Outcome → Type 0) (fresh : Bool) (from to : Moment) (plan : Plan) (out : RunOut) : Type 0 where
   pub parts : List Part
-  pub told : AllTold tells parts
-  pub steady : All (λ part. part.unsteady ≡ false) parts
-  pub counted : IsCounted calls calls_after faults faults_after parts
+  pub answered : AreAnswered tells fresh from to parts
   pub completes : Completes plan parts out
 
--- parts that children told, none of them unsteady, before the plan was refused: those that complete it begin with them
-pub record IsPlanStopped (tells : List (List ℕ) → List File → Outcome → Type 0) (calls calls_after faults faults_after : ℕ) (plan : Plan) (refusal : RunRefusal) : Type 0 where
+-- a further part may complete the plan behind these, and it needs a child
+pub record NeedsFurther (fresh : Bool) (at : Moment) (plan : Plan) (front : List Part) : Type 0 where
+  pub part : Part
+  pub begins : CanComplete plan (front ++ part ∷ [])
+  pub lacks : fresh ≡ false → Lacks part.words part.seen at.remembered
+
+-- the plan was stopped behind parts: those that complete it begin with them
+pub record IsPlanStopped (tells : List (List ℕ) → List File → Outcome → Type 0) (fresh : Bool) (from to : Moment) (plan : Plan) (refusal : RunRefusal) : Type 0 where
   pub parts : List Part
-  pub told : AllTold tells parts
-  pub steady : All (λ part. part.unsteady ≡ false) parts
-  pub counted : IsCounted calls calls_after faults faults_after parts
+  pub answered : AreAnsweredSoFar tells fresh from to parts
   pub begins : CanComplete plan parts
-  pub needs : refusal ≡ Spent → (part : Part) × CanComplete plan (parts ++ part ∷ [])
-  pub spent : refusal ≡ Spent → calls_after ≡ 2 ^ 64 - 1
+  pub asked : refusal ≢ NoSuchHook
+  pub needs : refusal ≡ Spent → NeedsFurther fresh to plan parts
+  pub untold : refusal ≡ Spent → answered.last ≡ []
+  pub spent : refusal ≡ Spent → to.calls ≡ 2 ^ 64 - 1

@@ -1,5 +1,5 @@
 -- The refusals of a run, with their numbers and names, and which one a fault of the remembered answers is.
-use Rattle.std.specs.Prelude.{ℕ, Bool, true, false, List, codes}
+use Rattle.std.specs.Prelude.{◌≡◌, ℕ, Bool, true, false, List, codes}
 use Rattle.result_book.specs.declared.book_fault.BookFault.{BookFault}
 use Rattle.result_book.specs.declared.book_fault.BookFault.TheVariants as book
 use Rattle.hook_run.specs.declared.run_refusal.RunRefusal.{RunRefusal}
@@ -21,6 +21,11 @@ name_of Spent = codes "Spent"
 abbrev pub of_book : BookFault → RunRefusal
 of_book book.OutOfMemory = OutOfMemory
 of_book fault = Book fault
+
+-- where the remembered answers refuse a run, it is by one of these faults, of which want of memory is none
+abbrev pub IsOfBook : (BookFault → Type 0) → RunRefusal → Type 0
+IsOfBook refuses (Book fault) = refuses fault × (of_book fault ≡ Book fault)
+IsOfBook refuses refusal = Unit {0}
 
 -- the remembered answers refuse, for another reason than want of memory
 abbrev pub is_of_book : RunRefusal → Bool

@@ -1,21 +1,23 @@
 -- What a run gives, and a run over children and remembered answers.
-use Rattle.std.specs.Prelude.{◌≡◌, ◌≢◌, ◌+◌, ◌-◌, ◌^◌, ℕ, if◌then◌else◌, List, [], ◌∷◌, ◌++◌, length}
+use Rattle.std.specs.Prelude.{◌≡◌, ◌≢◌, ◌-◌, ◌^◌, ℕ, false, if◌then◌else◌, List, [], ◌∷◌, ◌++◌}
 use Rattle.hook_base.specs.declared.file.File.{File}
 use Rattle.child_port.specs.declared.answer.Outcome.{Outcome}
 use Rattle.hook_config.specs.declared.configuration.Config.{Config}
 use Rattle.hook_config.specs.declared.configuration.Hook.{Hook}
 use Rattle.report_text.specs.Report.{report_text}
 use Rattle.report_text.specs.declared.hook_result.HookResult.{HookResult}
-use Rattle.result_book.specs.Contents.{Contents}
+use Rattle.result_book.specs.Contents.{Contents, Lacks}
+use Rattle.result_book.specs.Told.{IsTold}
 use Rattle.hook_run.specs.declared.run_ask.RunAsk.{RunAsk}
 use Rattle.hook_run.specs.declared.run_out.RunOut.{RunOut}
 use Rattle.hook_run.specs.declared.run_refusal.RunRefusal.{RunRefusal}
 use Rattle.hook_run.specs.declared.run_refusal.RunRefusal.TheVariants.{NoSuchHook, Spent}
 use Rattle.hook_run.specs.Asks.{hooks_of_run, names_of_run}
-use Rattle.hook_run.specs.Parts.{AllTold, Part, all_parts, faults_of, tree_after}
+use Rattle.hook_run.specs.Answers.{AreAnswered, AreAnsweredSoFar}
+use Rattle.hook_run.specs.Moments.{Moment}
+use Rattle.hook_run.specs.Parts.{AllTold, Part, all_parts, tree_after}
 use Rattle.hook_run.specs.PartsEnding.{is_unsteady}
 use Rattle.hook_run.specs.StageRun.{IsStageRun, has_passed}
-use Rattle.hook_run.specs.Starts.{Starts}
 
 -- the id of a hook with these parts, where it is unsteady
 abbrev pub unsteady_id : Hook → List Part → List (List ℕ)
@@ -43,11 +45,6 @@ pub record IsRunOut (config : Config) (ask : RunAsk) (tree : List File) (trace :
   pub run : IsStageRun config ask tree trace results
   pub is : out ≡ out_of config ask results (tree_after tree trace) (unsteady_ids (hooks_of_run config ask) trace)
 
--- the counts of the children before a run and after it, which told these parts
-pub record IsCounted (calls calls_after faults faults_after : ℕ) (parts : List Part) : Type 0 where
-  pub called : calls_after ≡ calls + length parts
-  pub faulted : faults_after ≡ faults + faults_of parts
-
 -- a run of the hooks that are asked for begins with these parts
 pub record IsBegun (config : Config) (ask : RunAsk) (tree : List File) (front : List Part) : Type 0 where
   pub trace : List (List Part)
@@ -56,29 +53,29 @@ pub record IsBegun (config : Config) (ask : RunAsk) (tree : List File) (front : 
   pub joined : all_parts trace ≡ front ++ rest
   pub run : IsRunOut config ask tree trace out
 
--- it has a further part behind these
-pub record NeedsPart (config : Config) (ask : RunAsk) (tree : List File) (front : List Part) : Type 0 where
+-- it has a further part behind these, for which a child is needed: the run is fresh, or nothing is remembered for it
+pub record NeedsChild (remembered : Contents) (config : Config) (ask : RunAsk) (tree : List File) (front : List Part) : Type 0 where
   pub part : Part
   pub begun : IsBegun config ask tree (front ++ part ∷ [])
+  pub lacks : ask.fresh ≡ false → Lacks part.words part.seen remembered
 
--- a run with parts that the children told, where `before` and `after` are remembered before it and after it
-pub record IsRunOver (tells : List (List ℕ) → List File → Outcome → Type 0) (calls calls_after faults faults_after : ℕ) (before after : Contents)
-    (config : Config) (ask : RunAsk) (tree : List File) (out : RunOut) : Type 0 where
+-- A run of the hooks that are asked for, between two moments. Where each answer that was remembered before is one that the
+-- children may tell, so is each outcome.
+pub record IsRunOver (tells : List (List ℕ) → List File → Outcome → Type 0) (from to : Moment) (config : Config) (ask : RunAsk) (tree : List File) (out : RunOut) : Type 0 where
   pub trace : List (List Part)
   pub run : IsRunOut config ask tree trace out
-  pub told : AllTold tells (all_parts trace)
-  pub starts : Starts ask.fresh before after (all_parts trace)
-  pub counted : IsCounted calls calls_after faults faults_after (all_parts trace)
+  pub answered : AreAnswered tells ask.fresh from to (all_parts trace)
+  pub told : IsTold tells from.remembered → AllTold tells (all_parts trace)
 
--- a run that is refused, with the parts that the children told before that: none where no hook has the name, else those that
--- a run begins with. Where it is spent, a run has a further part, and the children have told as many as can be counted
-pub record IsStoppedRun (tells : List (List ℕ) → List File → Outcome → Type 0) (calls calls_after faults faults_after : ℕ) (before after : Contents)
-    (config : Config) (ask : RunAsk) (tree : List File) (refusal : RunRefusal) : Type 0 where
+-- A run that is refused between two moments, with the parts up to there: none where no hook has the name, else those that a
+-- run begins with. Where it is spent, it has a further part that needs a child, and the children have told as many outcomes as
+-- can be counted.
+pub record IsStoppedRun (tells : List (List ℕ) → List File → Outcome → Type 0) (from to : Moment) (config : Config) (ask : RunAsk) (tree : List File) (refusal : RunRefusal) : Type 0 where
   pub parts : List Part
-  pub told : AllTold tells parts
-  pub starts : Starts ask.fresh before after parts
-  pub counted : IsCounted calls calls_after faults faults_after parts
-  pub no_hook : refusal ≡ NoSuchHook → parts ≡ []
+  pub answered : AreAnsweredSoFar tells ask.fresh from to parts
+  pub told : IsTold tells from.remembered → AllTold tells parts
+  pub no_hook : refusal ≡ NoSuchHook → (parts ≡ []) × (to ≡ from)
   pub begins : refusal ≢ NoSuchHook → IsBegun config ask tree parts
-  pub needs : refusal ≡ Spent → NeedsPart config ask tree parts
-  pub spent : refusal ≡ Spent → calls_after ≡ 2 ^ 64 - 1
+  pub needs : refusal ≡ Spent → NeedsChild to.remembered config ask tree parts
+  pub untold : refusal ≡ Spent → answered.last ≡ []
+  pub spent : refusal ≡ Spent → to.calls ≡ 2 ^ 64 - 1

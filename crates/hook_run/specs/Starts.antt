@@ -1,10 +1,61 @@
--- Which parts of a run are started, and what is remembered of them. No answer is remembered yet, whether the run is fresh or
--- not: each part starts a child, what is remembered stays, and no answer is another than the remembered one.
-use Rattle.std.specs.Prelude.{◌≡◌, Bool, false, List, All}
-use Rattle.result_book.specs.Contents.{Contents}
+-- Which parts of a run are started, and what is remembered of their answers. For each part, in a fresh run too, its words and
+-- seen files are looked up in what is remembered at that moment.
+use Rattle.std.specs.Prelude.{◌≡◌, ◌≢◌, ◌↔◌, ℕ, Bool, false, IsTrue, MatchBool, List, [], ◌∷◌, ◌++◌, Option, None, Some}
+use Rattle.hook_base.specs.declared.file.File.{File}
+use Rattle.child_port.specs.declared.answer.Answer.{Answer}
+use Rattle.child_port.specs.declared.answer.Outcome.{Outcome}
+use Rattle.child_port.specs.declared.answer.Outcome.TheVariants.{Done, Failed}
+use Rattle.child_port.specs.Seen.{is_stray}
+use Rattle.result_book.specs.Calls.{AfterFind, AfterPut}
+use Rattle.result_book.specs.Contents.{Contents, Finds}
 use Rattle.hook_run.specs.Parts.{Part}
 
--- the parts of a run, with what is remembered before it and after it
-pub record Starts (fresh : Bool) (before after : Contents) (parts : List Part) : Type 0 where
+-- what is remembered behind a child with this outcome: a completed answer that changes the seen files alone is put, in place
+-- of the one that was; no other outcome is
+abbrev pub AfterOutcome : List (List ℕ) → List File → Outcome → Contents → Contents → Type 0
+AfterOutcome words seen (Done answer) before after = MatchBool (is_stray answer seen) (after ≡ before) (AfterPut words seen answer before after)
+AfterOutcome words seen (Failed fault) before after = after ≡ before
+
+-- the mark says whether a completed answer is another than the one that was found
+abbrev pub IsMarked : Option Answer → Outcome → Bool → Type 0
+IsMarked (Some found) (Done answer) mark = IsTrue mark ↔ (answer ≢ found)
+IsMarked found outcome mark = mark ≡ false
+
+-- a child is started for the part
+pub record IsStarted (found : Option Answer) (before after : Contents) (part : Part) : Type 0 where
+  pub marked : IsMarked found part.outcome part.unsteady
+  pub put : AfterOutcome part.words part.seen part.outcome before after
+
+-- the part has the answer that was found, and nothing is put
+pub record IsReplayed (found : Answer) (before after : Contents) (part : Part) : Type 0 where
+  pub outcome : part.outcome ≡ Done found
+  pub steady : part.unsteady ≡ false
   pub kept : after ≡ before
-  pub steady : All (λ part. part.unsteady ≡ false) parts
+
+-- a child is started where nothing was found, or the run is fresh. `started` has the part then
+abbrev pub StartsFor : Bool → Option Answer → Contents → Contents → Part → List Part → Type 0
+StartsFor false (Some found) before after part started = IsReplayed found before after part × (started ≡ [])
+StartsFor fresh found before after part started = IsStarted found before after part × (started ≡ part ∷ [])
+
+-- one part: it is looked up, and then started or not
+pub record StartsOne (fresh : Bool) (before after : Contents) (part : Part) (started : List Part) : Type 0 where
+  pub found : Option Answer
+  pub looked_up : Contents
+  pub finds : Finds part.words part.seen before found
+  pub look_up : AfterFind part.words part.seen before looked_up
+  pub starts : StartsFor fresh found looked_up after part started
+
+-- a part, and then more of which `rest` says what is remembered before them and which of them are started
+pub record StartsThen (fresh : Bool) (before : Contents) (part : Part) (started : List Part) (rest : Contents → List Part → Type 0) : Type 0 where
+  pub between : Contents
+  pub first : List Part
+  pub others : List Part
+  pub one : StartsOne fresh before between part first
+  pub more : rest between others
+  pub joined : started ≡ first ++ others
+
+-- the parts in order, each with what is remembered at its moment; those in `started` had a child started for them
+abbrev pub Starts : Bool → Contents → Contents → List Part → List Part → Type 0
+Starts fresh before after [] started = (after ≡ before) × (started ≡ [])
+Starts fresh before after (part ∷ parts) started =
+    StartsThen fresh before part started (λ between others. Starts fresh between after parts others)

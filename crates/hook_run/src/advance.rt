@@ -1,6 +1,7 @@
 //! The hooks of a run one after another, up to one that waits.
 
 ghost use Rattle.std.specs.Prelude.{◌≡◌, ◌<◌, ◌≤◌, ◌+◌, ◌-◌, ◌∷◌, IfOk, length};
+ghost use Rattle.hook_run.specs.PlanBounds.{most_left, most_of_hooks};
 ghost use Rattle.hook_run.specs.Plans.{hooks_after};
 ghost use Rattle.hook_run.specs.StageRun.{is_last};
 ghost use Rattle.hook_run.specs.Standing.{FitsName, FitsResults, IsCourse, IsPlanFrom, hooks_from};
@@ -26,7 +27,8 @@ pub(crate) fn advance<'a>(
 ) -> Result<RunPlan<'a>, OutOfMemory>
     requires course { IsCourse course }
     requires fits { FitsResults course done.results }
-    ensures { IfOk result (IsPlanFrom course.entry done place) }
+    ensures from { IfOk result (IsPlanFrom course.entry done place) }
+    ensures within { IfOk result (λ plan. most_left plan ≤ most_of_hooks (hooks_from course.entry place) done.tree) }
 {
     let mut done = done;
     let mut place = place;
@@ -89,7 +91,8 @@ fn over<'a>(
     requires course { IsCourse course }
     requires fits { FitsResults course done.results }
     requires none { length course.hooks.items ≤ place }
-    ensures { IfOk result (IsPlanFrom course.entry done place) }
+    ensures from { IfOk result (IsPlanFrom course.entry done place) }
+    ensures within { IfOk result (λ plan. most_left plan ≤ most_of_hooks (hooks_from course.entry place) done.tree) }
 {
     let report = report_of(alloc, course.hooks.as_slice(), done.results.as_slice())?;
     Ok(RunPlan {

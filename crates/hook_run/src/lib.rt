@@ -3,14 +3,15 @@
 //! A [`RunAsk`] says what is asked of a run. [`RunPlan::begin`] makes the plan of it, or says by a [`RunRefusal`] why there
 //! is none; [`RunPlan::next`] says whether the plan needs a child, [`RunPlan::words`], [`RunPlan::seen`] and
 //! [`RunPlan::tree`] which one, [`RunPlan::tell`] takes its outcome, and [`RunPlan::finish`] gives the [`RunOut`].
-//! [`run_hooks`] does all that with children, beside a book that is to remember their answers.
+//! [`run_hooks`] does all that with children and a book that remembers their answers.
 //!
-//! The contracts cite `Completes` and what stands on it in `specs/Plans.antt`, and `IsRunOver` and `IsStoppedRun` of
-//! `specs/RunOuts.antt`, with `Starts` of `specs/Starts.antt`. They stand on `specs/StageRun.antt` (the hooks of a run one
+//! The contracts cite `Completes` and what stands on it in `specs/Plans.antt`, `most_left` of `specs/PlanBounds.antt`, and
+//! `IsRunOver` and `IsStoppedRun` of `specs/RunOuts.antt`, with `Moment` of `specs/Moments.antt`, `AreAnswered` of
+//! `specs/Answers.antt` and `Starts` of `specs/Starts.antt`. They stand on `specs/StageRun.antt` (the hooks of a run one
 //! after another), `specs/HookRun.antt` (one of them), `specs/Commands.antt` (its command), `specs/Parts.antt` and
 //! `specs/PartsEnding.antt` (its children, and what they come to), `specs/Asks.antt` (which hooks a run goes through, and
-//! `names_no_hook`) and `specs/Limits.antt`; `specs/Refusals.antt` has the numbers, and `specs/CountLemmas.antt` what follows
-//! for the children's counts. `specs/Standing.antt` and `specs/PlanRuns.antt` serve private functions alone. [`laws`] says
+//! `names_no_hook`) and `specs/Limits.antt`; `specs/Refusals.antt` has the numbers, `specs/CountLemmas.antt` and
+//! `specs/AnswerLemmas.antt` what follows for the counts, for parts behind one another and for what is remembered. `specs/Standing.antt` and `specs/PlanRuns.antt` serve private functions alone. [`laws`] says
 //! that the outcomes decide all else of a run, and [`plan_laws`] that each plan can be completed and hands out what comes next in
 //! a run, in the words of `specs/PlanLaws.antt`.
 #![tactic(auto)]
@@ -26,6 +27,8 @@ pub mod laws;
 mod limits;
 mod modified;
 mod need;
+mod part_answer;
+mod part_outcome;
 mod plan;
 pub mod plan_laws;
 mod progress;

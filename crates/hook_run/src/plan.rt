@@ -1,10 +1,11 @@
 //! The plan of a run.
 
-ghost use Rattle.std.specs.Prelude.{◌≡◌, ◌≢◌, ◌↔◌, IfOk, IfErr, true, false};
+ghost use Rattle.std.specs.Prelude.{◌≡◌, ◌≢◌, ◌↔◌, ◌+◌, ◌<◌, ◌≤◌, IfOk, IfErr, Some, length, true, false};
 ghost use Rattle.hook_run.specs.Asks.{names_no_hook};
+ghost use Rattle.hook_run.specs.PlanBounds.{most_left, most_of_hooks, parts_at};
 ghost use Rattle.hook_run.specs.Plans.{IsPlanAfter, IsPlanOf, need_of, out_of_plan, seen_of_plan, tree_of_plan, words_of};
 ghost use Rattle.hook_run.specs.Refusals.{is_of_book};
-ghost use Rattle.hook_run.specs.Standing.{FitsName, FitsResults, IsCourse, IsPlanAt, IsPlanBehindHook, IsToldFrom, at_work};
+ghost use Rattle.hook_run.specs.Standing.{FitsName, FitsResults, IsCourse, IsPlanAt, IsPlanBehindHook, IsToldFrom, at_part, at_work, hooks_from};
 
 use crate::advance::{advance, place_behind};
 use crate::asked::{hooks_of_run, names_no_hook};
@@ -113,12 +114,37 @@ impl<'a> RunPlan<'a> {
     }
 
     /// The plan behind the child that it needs, of which this is the outcome. `OutOfMemory` where memory is refused, and the
-    /// plan is gone then.
+    /// plan is gone then. Each outcome that is told leaves fewer parts, so that the plan is over at some time.
     pub fn tell(self, outcome: Outcome) -> Result<RunPlan<'a>, OutOfMemory>
         requires { need_of self ≡ Need.Child }
-        ensures { IfOk result (IsPlanAfter self.entry outcome false) }
+        ensures after { IfOk result (IsPlanAfter self.entry outcome false) }
+        ensures fewer { IfOk result (λ after. most_left after < most_left self.entry) }
     {
-        plan_after(self, outcome, false)
+        self.tell_marked(outcome, false)
+    }
+
+    /// The plan behind the part that it needs, of which this is the outcome. `unsteady` says whether that is another answer
+    /// than the remembered one. `OutOfMemory` where memory is refused, and the plan is gone then.
+    pub(crate) fn tell_marked(
+        self,
+        outcome: Outcome,
+        unsteady: bool,
+    ) -> Result<RunPlan<'a>, OutOfMemory>
+        requires { need_of self ≡ Need.Child }
+        ensures after { IfOk result (IsPlanAfter self.entry outcome unsteady) }
+        ensures fewer { IfOk result (λ after. most_left after < most_left self.entry) }
+    {
+        let RunPlan {
+            course,
+            done,
+            place,
+            standing,
+        } = self;
+        let waiting = match standing {
+            Standing::Waits(waiting) => waiting,
+            Standing::Over(_) => unreachable!(),
+        };
+        told(course, done, place, waiting, outcome, unsteady)
     }
 
     /// What the run gives. It takes no memory.
@@ -174,29 +200,6 @@ fn plan_of<'a>(
     advance(alloc, course, done, 0)
 }
 
-// The plan behind the child that it needs, of which this is the outcome. `unsteady` says whether that is another answer than
-// the remembered one.
-fn plan_after<'a>(
-    plan: RunPlan<'a>,
-    outcome: Outcome,
-    unsteady: bool,
-) -> Result<RunPlan<'a>, OutOfMemory>
-    requires { need_of plan ≡ Need.Child }
-    ensures { IfOk result (IsPlanAfter plan.entry outcome unsteady) }
-{
-    let RunPlan {
-        course,
-        done,
-        place,
-        standing,
-    } = plan;
-    let waiting = match standing {
-        Standing::Waits(waiting) => waiting,
-        Standing::Over(_) => unreachable!(),
-    };
-    told(course, done, place, waiting, outcome, unsteady)
-}
-
 // The plan behind an outcome for the hook that waits.
 fn told<'a>(
     course: Course<'a>,
@@ -209,7 +212,8 @@ fn told<'a>(
     requires course { IsCourse course }
     requires fits { FitsResults course done.results }
     requires fits_at { FitsName course waiting.work.hook.now.name }
-    ensures { IfOk result (IsToldFrom course.entry done place waiting.entry outcome unsteady) }
+    ensures from { IfOk result (IsToldFrom course.entry done place waiting.entry outcome unsteady) }
+    ensures fewer { IfOk result (λ plan. most_left plan < parts_at (Some (at_part waiting.entry)) + most_of_hooks (hooks_from course.entry place) done.tree) }
 {
     let alloc = *course.hooks.allocator();
     let Waiting { work, .. } = waiting;
@@ -229,7 +233,8 @@ fn plan_at<'a>(
     requires course { IsCourse course }
     requires fits { FitsResults course done.results }
     requires fits_at { FitsName course work.hook.now.name }
-    ensures { IfOk result (IsPlanAt course.entry done place (at_work work.entry)) }
+    ensures from { IfOk result (IsPlanAt course.entry done place (at_work work.entry)) }
+    ensures within { IfOk result (λ plan. most_left plan ≤ length (at_work work.entry).commands + most_of_hooks (hooks_from course.entry place) done.tree) }
 {
     let hook = work.hook;
     match go_on(alloc, work, &done.tree)? {
@@ -258,7 +263,8 @@ fn plan_behind_hook<'a>(
     requires course { IsCourse course }
     requires fits { FitsResults course done.results }
     requires fits_at { FitsName course hook.now.name }
-    ensures { IfOk result (IsPlanBehindHook course.entry done place hook.now ending unsteady) }
+    ensures from { IfOk result (IsPlanBehindHook course.entry done place hook.now ending unsteady) }
+    ensures within { IfOk result (λ plan. most_left plan ≤ most_of_hooks (hooks_from course.entry place) done.tree) }
 {
     let place = place_behind(&course, hook, &ending, place);
     let done = progress_with(alloc, done, hook, ending, unsteady)?;

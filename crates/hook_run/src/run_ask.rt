@@ -14,6 +14,6 @@ pub struct RunAsk {
     pub only: Option<Text>,
     /// The ids and aliases of hooks that are skipped. The empty text is no alias.
     pub skip: Items<Text>,
-    /// Whether every child is to be started, also where its answer is remembered. No answer is remembered yet.
+    /// Whether every child is to be started, also where its answer is remembered.
     pub fresh: bool,
 }

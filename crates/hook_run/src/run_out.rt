@@ -14,6 +14,7 @@ pub struct RunOut {
     pub results: Items<HookResult>,
     /// The files as the run left them.
     pub tree: Tree,
-    /// The ids of the hooks whose answer was another than the remembered one. There are none, since none is remembered.
+    /// The ids of the hooks of a fresh run of which an answer was another than the one that was remembered at that moment, in
+    /// the order of the configuration.
     pub unsteady: Items<Text>,
 }

@@ -1,29 +1,34 @@
-//! A run over children.
+//! A run over children and what is remembered of their answers.
 
-ghost use Rattle.std.specs.Prelude.{◌≡◌, ◌≢◌, ◌↔◌, ◌+◌, ◌-◌, ◌^◌, ◌<◌, IfOk, IfErr, OnOk, OnErr, true, false};
-ghost use Rattle.child_port.specs.Outcomes.{faults_in};
+ghost use Rattle.std.specs.Prelude.{◌≡◌, ◌↔◌, ◌⊎◌, ◌+◌, IfOk, IfErr, true};
 ghost use Rattle.child_port.specs.Telling.{SameTells};
+ghost use Rattle.result_book.specs.Contents.{Contents};
+ghost use Rattle.result_book.specs.Told.{AddsTold};
 ghost use Rattle.hook_run.specs.Asks.{names_no_hook};
 ghost use Rattle.hook_run.specs.ChildFaults.{child_faults};
+ghost use Rattle.hook_run.specs.Moments.{moment};
 ghost use Rattle.hook_run.specs.PlanRuns.{IsPlanRun, IsPlanStopped};
-ghost use Rattle.hook_run.specs.Plans.{need_of, seen_of_plan, words_of};
-ghost use Rattle.hook_run.specs.Refusals.{is_of_book};
+ghost use Rattle.hook_run.specs.Refusals.{IsOfBook};
 ghost use Rattle.hook_run.specs.RunOuts.{IsRunOver, IsStoppedRun};
 
+use crate::part_answer::answer_part;
 use crate::{Need, RunAsk, RunOut, RunPlan, RunRefusal};
-use child_port::{Children, Outcome};
+use child_port::Children;
 use hook_base::Tree;
 use hook_config::Config;
 use result_book::Book;
 use std::alloc::Global;
 
-/// Runs the configuration's hooks on the files of the tree, as [`RunPlan::begin`] says, with the children's outcomes. Each
-/// part starts a child: no answer is remembered yet, so the book is neither read nor changed, `fresh` changes nothing, and no
-/// hook is unsteady.
+/// Runs the configuration's hooks on the files of the tree, as [`RunPlan::begin`] says. The words and the seen files of each
+/// part are looked up in the book. Where they are remembered, the part has that answer, changes included, and no child is
+/// started; `fresh` starts one for each part. A completed answer that changes the seen files alone is put in the book, in place
+/// of an earlier one; a fault never is. In a fresh run a hook is unsteady where an answer is another than the one that was
+/// remembered at that moment.
 ///
-/// `NoSuchHook` exactly where `only` has a name that no hook of the stage has; then `OutOfMemory` where memory is refused, and
-/// `Spent` where a child is needed and the children have told as many outcomes as can be counted. `Book` is never answered
-/// yet. A refusal leaves the children with the outcomes that they have told, with which a run begins.
+/// `NoSuchHook` exactly where `only` has a name that no hook of the stage has; then `OutOfMemory` where memory is refused, `Book`
+/// where the book refuses, and `Spent` where a child is needed and the children have told as many outcomes as can be counted. A
+/// refusal leaves the children with the outcomes that they have told, with which a run begins, and the book with the answers that
+/// were put by then.
 pub fn run_hooks<C: Children, B: Book>(
     alloc: Global,
     children: &mut C,
@@ -32,51 +37,40 @@ pub fn run_hooks<C: Children, B: Book>(
     ask: &RunAsk,
     tree: &Tree,
 ) -> Result<RunOut, RunRefusal>
-    ensures run { IfOk result (IsRunOver (C.tells children.old) (C.call_count children.old) (C.call_count children.new) (C.fault_count children.old) (C.fault_count children.new) (B.contents book.old) (B.contents book.new) config.now ask.now tree.now) }
-    ensures stopped { IfErr result (IsStoppedRun (C.tells children.old) (C.call_count children.old) (C.call_count children.new) (C.fault_count children.old) (C.fault_count children.new) (B.contents book.old) (B.contents book.new) config.now ask.now tree.now) }
+    ensures run { IfOk result (IsRunOver (C.tells children.old) (moment (C.call_count children.old) (C.fault_count children.old) (B.contents book.old)) (moment (C.call_count children.new) (C.fault_count children.new) (B.contents book.new)) config.now ask.now tree.now) }
+    ensures stopped { IfErr result (IsStoppedRun (C.tells children.old) (moment (C.call_count children.old) (C.fault_count children.old) (B.contents book.old)) (moment (C.call_count children.new) (C.fault_count children.new) (B.contents book.new)) config.now ask.now tree.now) }
     ensures reported { IfOk result (λ out. C.fault_count children.new ≡ C.fault_count children.old + child_faults out.results) }
     ensures no_hook { (result ≡ Err RunRefusal.NoSuchHook) ↔ (names_no_hook config.now ask.now ≡ true) }
-    ensures not_book { IfErr result (λ refusal. is_of_book refusal ≡ false) }
+    ensures refused { IfErr result (IsOfBook B.refuses) }
+
+    // What the book remembers afterwards was remembered before, or was told, after a refusal too; and so is what a crash leaves.
+    ensures told { AddsTold (C.tells children.old) (B.contents book.old) (B.contents book.new) }
+    ensures left { (left : Contents) → B.leaves book.new left → B.leaves book.old left ⊎ AddsTold (C.tells children.old) (B.contents book.old) left }
+    ensures rest { B.rests book.old book.new }
     ensures same { SameTells (C.tells children.old) (C.tells children.new) }
-    ensures book { book.new ≡ book.old }
 {
     let plan = RunPlan::begin(alloc, config, ask, tree)?;
-    run_plan(children, plan)
+    run_plan(children, book, ask.fresh, plan)
 }
 
-// Completes the plan with the children's outcomes.
-fn run_plan<C: Children>(children: &mut C, plan: RunPlan) -> Result<RunOut, RunRefusal>
-    ensures run { IfOk result (IsPlanRun (C.tells children.old) (C.call_count children.old) (C.call_count children.new) (C.fault_count children.old) (C.fault_count children.new) plan.entry) }
-    ensures stopped { IfErr result (IsPlanStopped (C.tells children.old) (C.call_count children.old) (C.call_count children.new) (C.fault_count children.old) (C.fault_count children.new) plan.entry) }
-    ensures not_asked { IfErr result (λ refusal. refusal ≢ RunRefusal.NoSuchHook) }
-    ensures not_book { IfErr result (λ refusal. is_of_book refusal ≡ false) }
+// Completes the plan with what comes of its parts.
+fn run_plan<C: Children, B: Book>(
+    children: &mut C,
+    book: &mut B,
+    fresh: bool,
+    plan: RunPlan,
+) -> Result<RunOut, RunRefusal>
+    ensures run { IfOk result (IsPlanRun (C.tells children.old) fresh (moment (C.call_count children.old) (C.fault_count children.old) (B.contents book.old)) (moment (C.call_count children.new) (C.fault_count children.new) (B.contents book.new)) plan.entry) }
+    ensures stopped { IfErr result (IsPlanStopped (C.tells children.old) fresh (moment (C.call_count children.old) (C.fault_count children.old) (B.contents book.old)) (moment (C.call_count children.new) (C.fault_count children.new) (B.contents book.new)) plan.entry) }
+    ensures refused { IfErr result (IsOfBook B.refuses) }
+    ensures left { (left : Contents) → B.leaves book.new left → B.leaves book.old left ⊎ AddsTold (C.tells children.old) (B.contents book.old) left }
+    ensures rest { B.rests book.old book.new }
     ensures same { SameTells (C.tells children.old) (C.tells children.new) }
 {
     let mut plan = plan;
     'parts: while plan.next() == Need::Child {
-        let outcome = outcome_of(children, &plan)?;
-        plan = plan.tell(outcome)?;
+        let came = answer_part(children, book, fresh, &plan)?;
+        plan = plan.tell_marked(came.outcome, came.unsteady)?;
     }
     Ok(plan.finish())
-}
-
-// The outcome of the child that the plan needs.
-fn outcome_of<C: Children>(children: &mut C, plan: &RunPlan) -> Result<Outcome, RunRefusal>
-    requires { need_of plan.now ≡ Need.Child }
-    ensures told { IfOk result (λ outcome. C.tells children.old (words_of plan.now) (seen_of_plan plan.now) outcome) }
-    ensures countable { OnOk result (C.call_count children.old < 2 ^ 64 - 1) }
-    ensures calls { OnOk result (C.call_count children.new ≡ C.call_count children.old + 1) }
-    ensures faults { IfOk result (λ outcome. C.fault_count children.new ≡ C.fault_count children.old + faults_in outcome) }
-    ensures refused_calls { OnErr result (C.call_count children.new ≡ C.call_count children.old) }
-    ensures refused_faults { OnErr result (C.fault_count children.new ≡ C.fault_count children.old) }
-    ensures not_asked { IfErr result (λ refusal. refusal ≢ RunRefusal.NoSuchHook) }
-    ensures not_book { IfErr result (λ refusal. is_of_book refusal ≡ false) }
-    ensures spent { IfErr result (λ refusal. refusal ≡ RunRefusal.Spent → C.call_count children.new ≡ 2 ^ 64 - 1) }
-    ensures same { SameTells (C.tells children.old) (C.tells children.new) }
-{
-    if children.calls() == u64::MAX {
-        return Err(RunRefusal::Spent);
-    }
-    let outcome = children.run(plan.words(), plan.tree(), plan.seen())?;
-    Ok(outcome)
 }

@@ -4,7 +4,7 @@ use Rattle.std.proofs.Common.{sym, ◌∙◌, inl, inr, subst, set, get_or, arit
 use Rattle.child_port.specs.declared.answer.Answer.{Answer}
 use Rattle.hook_base.specs.declared.file.File.{File}
 use Rattle.result_book.specs.declared.book_row.BookRow.{BookRow}
-use Rattle.result_book.specs.Contents.{HasKey, HaveRow, LackRow, HaveDistinctKeys, unlimited}
+use Rattle.result_book.specs.Contents.{HasKey, HaveRow, LackRow, HaveDistinctKeys, with_rows}
 use Rattle.result_book.specs.Calls.{IsSameKey, AfterPut}
 use Rattle.result_book.specs.KeyLemmas.{same_lack}
 use Rattle.result_book.specs.Places.{IsAt}
@@ -94,16 +94,16 @@ module _ (words : List (List ℕ)) (seen : List File) (answer : Answer) (new : B
   set_distinct (row ∷ rows) zero distinct at = (same_lack row.words new.words row.seen new.seen rows (at.0 ∙ sym key.0) (at.1 ∙ sym key.1) distinct.0, distinct.1)
   set_distinct (row ∷ rows) (suc index) distinct at = (set_lack row rows index distinct.0 at, set_distinct rows index distinct.1 at)
 
-  pub put_in_place : (rows : List BookRow) (index : ℕ) → HaveDistinctKeys rows → IsAt words seen rows index → AfterPut words seen answer (unlimited rows) (unlimited (set rows index new))
+  pub put_in_place : (rows : List BookRow) (index : ℕ) → HaveDistinctKeys rows → IsAt words seen rows index → AfterPut words seen answer (with_rows rows) (with_rows (set rows index new))
   put_in_place rows index distinct at = record {
     put = set_put rows index at;
     replaced = λ other have. set_replaced rows index other distinct at have;
     kept = λ others theirs other have. elim (set_kept rows index others theirs other at have) [
       | inl same ↦ inl same
-      | inr kept ↦ inr (inl kept)
+      | inr kept ↦ inr kept
     ];
     only = λ others theirs other have. set_only rows index others theirs other have;
-    limit = refl;
+    distinct = set_distinct rows index distinct at;
   }
 
   -- ---- at the end, where the key has no row
@@ -142,18 +142,18 @@ module _ (words : List (List ℕ)) (seen : List File) (answer : Answer) (new : B
   pub distinct_at_end : (rows after : List BookRow) → after ≡ rows ++ new ∷ [] → HaveDistinctKeys rows → LackRow words seen rows → HaveDistinctKeys after
   distinct_at_end rows after longer distinct lack = subst HaveDistinctKeys (sym longer) (end_distinct rows distinct lack)
 
-  after_end : (rows : List BookRow) → LackRow words seen rows → AfterPut words seen answer (unlimited rows) (unlimited (rows ++ new ∷ []))
-  after_end rows lack = record {
+  after_end : (rows : List BookRow) → HaveDistinctKeys rows → LackRow words seen rows → AfterPut words seen answer (with_rows rows) (with_rows (rows ++ new ∷ []))
+  after_end rows distinct lack = record {
     put = end_put rows;
     replaced = λ other have. elim (end_only rows words seen other have) [
       | inl same ↦ same.1
       | inr old ↦ absurd (lack other old)
     ];
-    kept = λ others theirs other have. inr (inl (end_kept rows others theirs other have));
+    kept = λ others theirs other have. inr (end_kept rows others theirs other have);
     only = λ others theirs other have. end_only rows others theirs other have;
-    limit = refl;
+    distinct = end_distinct rows distinct lack;
   }
 
-  pub put_at_end : (rows after : List BookRow) → after ≡ rows ++ new ∷ [] → LackRow words seen rows → AfterPut words seen answer (unlimited rows) (unlimited after)
-  put_at_end rows after longer lack =
-      subst (λ (all : List BookRow). AfterPut words seen answer (unlimited rows) (unlimited all)) (sym longer) (after_end rows lack)
+  pub put_at_end : (rows after : List BookRow) → after ≡ rows ++ new ∷ [] → HaveDistinctKeys rows → LackRow words seen rows → AfterPut words seen answer (with_rows rows) (with_rows after)
+  put_at_end rows after longer distinct lack =
+      subst (λ (all : List BookRow). AfterPut words seen answer (with_rows rows) (with_rows all)) (sym longer) (after_end rows distinct lack)

@@ -4,7 +4,7 @@ use Rattle.std.proofs.Common.{ap, sym, ◌∙◌, inl, inr, subst, arith}
 use Rattle.child_port.specs.declared.answer.Answer.{Answer}
 use Rattle.hook_base.specs.declared.file.File.{File}
 use Rattle.result_book.specs.declared.book_row.BookRow.{BookRow}
-use Rattle.result_book.specs.Contents.{Contents, HasKey, HaveRow, LackRow, HaveDistinctKeys, Holds, Lacks, Finds, IsFull, count_of}
+use Rattle.result_book.specs.Contents.{Contents, HasKey, HaveRow, LackRow, HaveDistinctKeys, Holds, Lacks, Finds, count_of}
 use Rattle.result_book.specs.Calls.{AfterFind, AfterPut, AfterForget, IsSameKey}
 use Rattle.result_book.specs.KeyLemmas.{same_have, same_lack}
 
@@ -18,23 +18,19 @@ pub found_after_put : (words : List (List ℕ)) (seen : List File) (answer : Ans
 found_after_put words seen answer before after None step lacks = absurd (lacks answer step.put)
 found_after_put words seen answer before after (Some other) step holds = ap Some (step.replaced other holds)
 
-pub unlimited_not_full : (before after : Contents) → after.limit ≡ before.limit → before.limit ≡ None → IsFull after → ⊥
-unlimited_not_full before after same none full = let limit = sym none ∙ sym same ∙ full in cc
-
-pub others_after_put : (words : List (List ℕ)) (seen : List File) (answer : Answer) (before after : Contents) (others : List (List ℕ)) (theirs : List File) (found : Option Answer) → AfterPut words seen answer before after → before.limit ≡ None → ¬ IsSameKey others theirs words seen → Finds others theirs before found → Finds others theirs after found
-others_after_put words seen answer before after others theirs None step none differs lacks = λ other holds.
+pub others_after_put : (words : List (List ℕ)) (seen : List File) (answer : Answer) (before after : Contents) (others : List (List ℕ)) (theirs : List File) (found : Option Answer) → AfterPut words seen answer before after → ¬ IsSameKey others theirs words seen → Finds others theirs before found → Finds others theirs after found
+others_after_put words seen answer before after others theirs None step differs lacks = λ other holds.
     elim (step.only others theirs other holds) [
       | inl new ↦ differs new.0
       | inr old ↦ lacks other old
     ]
-others_after_put words seen answer before after others theirs (Some other) step none differs holds =
+others_after_put words seen answer before after others theirs (Some other) step differs holds =
     elim (step.kept others theirs other holds) [
       | inl same ↦ absurd (differs same)
-      | inr (inl kept) ↦ kept
-      | inr (inr full) ↦ absurd (unlimited_not_full before after step.limit none full)
+      | inr kept ↦ kept
     ]
 
-have_none : (words : List (List ℕ)) (seen : List File) (answer : Answer) (rows : List BookRow) → rows ≡ [] → HaveRow words seen answer rows → ⊥
+pub have_none : (words : List (List ℕ)) (seen : List File) (answer : Answer) (rows : List BookRow) → rows ≡ [] → HaveRow words seen answer rows → ⊥
 have_none words seen answer rows none have = subst (λ (all : List BookRow). HaveRow words seen answer all) none have
 
 pub found_after_forget : (before after : Contents) (words : List (List ℕ)) (seen : List File) (found : Option Answer) → AfterForget before after → Finds words seen after found → found ≡ None
@@ -112,12 +108,12 @@ same_count a b first second there back =
 
 -- ---- how many answers are held after a put
 
-module _ (words : List (List ℕ)) (seen : List File) (answer : Answer) (before after : Contents) (distinct : HaveDistinctKeys before.rows) (apart : HaveDistinctKeys after.rows) (step : AfterPut words seen answer before after) (none : before.limit ≡ None) where
+module _ (words : List (List ℕ)) (seen : List File) (answer : Answer) (before after : Contents) (distinct : HaveDistinctKeys before.rows) (step : AfterPut words seen answer before after) where
   abbrev new_row : BookRow
   new_row = record { words = words; seen = seen; answer = answer }
 
   stays : (others : List (List ℕ)) (theirs : List File) (other : Answer) → ¬ IsSameKey others theirs words seen → Holds others theirs other before → Holds others theirs other after
-  stays others theirs other differs held = others_after_put words seen answer before after others theirs (Some other) step none differs held
+  stays others theirs other differs held = others_after_put words seen answer before after others theirs (Some other) step differs held
 
   -- what is held afterwards is the new row or held before
   new_or_old : (others : List (List ℕ)) (theirs : List File) (other : Answer) → Holds others theirs other after → HaveRow others theirs other (new_row ∷ before.rows)
@@ -137,7 +133,7 @@ module _ (words : List (List ℕ)) (seen : List File) (answer : Answer) (before 
 
   pub count_more : Lacks words seen before → count_of after ≡ count_of before + 1
   count_more lacks =
-      let least = at_most_as_long after.rows (new_row ∷ before.rows) apart new_or_old in
+      let least = at_most_as_long after.rows (new_row ∷ before.rows) step.distinct new_or_old in
       let most = at_most_as_long (new_row ∷ before.rows) after.rows (lacks, distinct) (λ others theirs other held.
       elim held [
         | inl new ↦ new_after others theirs other new
@@ -160,7 +156,7 @@ module _ (words : List (List ℕ)) (seen : List File) (answer : Answer) (before 
   count_same old have =
       let rest = but words seen old before.rows have in
       let lack = lack_but words seen old before.rows have distinct in
-      let least = at_most_as_long after.rows (new_row ∷ rest) apart (new_or_other old have) in
+      let least = at_most_as_long after.rows (new_row ∷ rest) step.distinct (new_or_other old have) in
       let most = at_most_as_long (new_row ∷ rest) after.rows (lack, distinct_but words seen old before.rows have distinct) (λ others theirs other held.
       elim held [
         | inl new ↦ new_after others theirs other new

@@ -7,12 +7,14 @@ use Rattle.result_book.specs.declared.book_row.BookRow.{BookRow}
 
 pub record Contents : Type 0 where
   pub rows : List BookRow
-  -- the most rows that the book keeps; none where it keeps each
-  pub limit : Option ℕ
 
--- a book that keeps each row
-abbrev pub unlimited : List BookRow → Contents
-unlimited rows = record { rows = rows; limit = None }
+-- what a book of these rows remembers
+abbrev pub with_rows : List BookRow → Contents
+with_rows rows = record { rows = rows }
+
+-- what a book remembers that nothing was put in
+abbrev pub nothing : Contents
+nothing = with_rows []
 
 -- the key of a row: its words, and its seen files with their modes and bytes
 abbrev pub HasKey : List (List ℕ) → List File → BookRow → Type 0
@@ -48,7 +50,3 @@ Finds words seen contents (Some answer) = Holds words seen answer contents
 -- how many answers are remembered
 abbrev pub count_of : Contents → ℕ
 count_of contents = length contents.rows
-
--- the book holds as many rows as it keeps
-abbrev pub IsFull : Contents → Type 0
-IsFull contents = contents.limit ≡ Some (count_of contents)

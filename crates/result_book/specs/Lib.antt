@@ -4,3 +4,5 @@ pub mod Contents
 pub mod Faults
 pub mod KeyLemmas
 pub mod Places
+pub mod Told
+pub mod ToldLemmas

@@ -5,7 +5,7 @@ use child_port::Answer;
 use hook_base::{Text, Tree};
 
 /// Whatever remembers the answers of children: a finite map from the words of a command and the files that its child has
-/// seen, with their modes and bytes, to an answer. One with a limit may drop answers for a new one.
+/// seen, with their modes and bytes, to an answer.
 ///
 /// A refused call leaves what is remembered as it was.
 pub trait Book {
@@ -61,10 +61,8 @@ pub trait Book {
 
     /// How many answers are remembered.
     fn len(&self) -> u64
-        ensures { result ≡ count_of (contents self.now) };
-
-    /// No two rows are for the same words and seen files.
-    ghost keys_differ: { (book : Self) → HaveDistinctKeys (contents book).rows };
+        ensures count { result ≡ count_of (contents self.now) }
+        ensures distinct { HaveDistinctKeys (contents self.now).rows };
 
     /// Where nothing happens, all rests.
     ghost rests_itself: { (book : Self) → rests book book };

@@ -1,29 +1,37 @@
 //! A book in memory.
 
-ghost use Rattle.std.specs.Prelude.{◌≡◌, []};
-ghost use Rattle.result_book.specs.Contents.{HaveDistinctKeys};
-ghost use Rattle.result_book.specs.KeyLemmas.{HaveDistinctKeys-prop};
+ghost use Rattle.std.specs.Prelude.{◌≡◌};
 
-use crate::rows::{place_of, put_row};
+use crate::rows::{found_in, put_row};
 use crate::{Book, BookFault, BookRow};
 use child_port::Answer;
 use hook_base::{Text, Tree};
 use std::alloc::Global;
+use std::marker::Model;
 
 /// A book that keeps each answer, in memory, and loses all of them when it is dropped. A look-up changes nothing. Its calls
-/// are refused only where memory is, and a crash leaves nothing of it.
+/// are refused only where memory is, and a crash leaves nothing of it. Contracts see what it remembers.
 #[derive(Debug, Drop)]
 pub struct ListBook {
     rows: Vec<BookRow>,
-    ghost distinct: { HaveDistinctKeys rows.items } by { HaveDistinctKeys-prop rows.items },
+}
+
+impl Model for ListBook {
+    ghost use Rattle.result_book.specs.Contents.{Contents, HaveDistinctKeys, with_rows};
+
+    ghost Value = { Contents };
+
+    ghost view = { λ book. with_rows book.rows.items };
+
+    ghost invariant = { λ book. HaveDistinctKeys book.rows.items };
 }
 
 impl ListBook {
-    ghost use Rattle.result_book.specs.Contents.{unlimited};
+    ghost use Rattle.result_book.specs.Contents.{nothing};
 
     /// A book that remembers nothing.
     pub fn new(alloc: Global) -> ListBook
-        ensures { ⟦<ListBook as Book>⟧.contents result ≡ unlimited [] }
+        ensures { result ≡ nothing }
     {
         ListBook {
             rows: Vec::new(alloc),
@@ -33,10 +41,9 @@ impl ListBook {
 
 impl Book for ListBook {
     ghost use Rattle.std.specs.Prelude.{◌≡◌};
-    ghost use Rattle.result_book.specs.Contents.{unlimited};
     ghost use Rattle.result_book.specs.declared.book_fault.BookFault.TheVariants.{OutOfMemory};
 
-    ghost contents = { λ book. unlimited book.rows.items };
+    ghost contents = { λ book. book };
 
     ghost leaves = { λ book left. ⊥ };
 
@@ -44,17 +51,12 @@ impl Book for ListBook {
 
     ghost refuses = { λ fault. fault ≡ OutOfMemory };
 
-    ghost keys_differ = { λ book. book.distinct };
-
     ghost rests_itself = { λ book. tt };
 
     ghost rests_on = { λ first second third before after. tt };
 
     fn find(&mut self, words: &[Text], seen: &Tree) -> Result<Option<Answer>, BookFault> {
-        match place_of(self.rows.as_slice(), words, seen) {
-            Some(index) => Ok(Some(self.rows[index].answer.clone()?)),
-            None => Ok(None),
-        }
+        Ok(found_in(self.rows.as_slice(), words, seen)?)
     }
 
     fn put(&mut self, words: &[Text], seen: &Tree, answer: &Answer) -> Result<(), BookFault> {

@@ -2,7 +2,7 @@
 
 ghost use Rattle.std.specs.Prelude.{◌≡◌, IfOk, OnOk, OnErr};
 ghost use Rattle.result_book.specs.Calls.{AfterPut};
-ghost use Rattle.result_book.specs.Contents.{HaveDistinctKeys, unlimited};
+ghost use Rattle.result_book.specs.Contents.{Finds, HaveDistinctKeys, with_rows};
 ghost use Rattle.result_book.specs.Places.{IsPlace};
 
 use crate::BookRow;
@@ -10,8 +10,8 @@ use child_port::Answer;
 use hook_base::{OutOfMemory, Text, Tree, copy_texts};
 use std::alloc::Global;
 
-/// The index of the first row of the words and the seen files, or `None` where there is none.
-pub(crate) fn place_of(rows: &[BookRow], words: &[Text], seen: &Tree) -> Option<usize>
+// The index of the first row of the words and the seen files, or `None` where there is none.
+fn place_of(rows: &[BookRow], words: &[Text], seen: &Tree) -> Option<usize>
     ensures { IsPlace words.now seen.now rows.now result }
 {
     'rows: for (index, row) in rows.iter().enumerate() {
@@ -22,7 +22,23 @@ pub(crate) fn place_of(rows: &[BookRow], words: &[Text], seen: &Tree) -> Option<
     None
 }
 
-/// A row of its own memory.
+/// What is remembered in the rows for the words and the seen files, as a copy.
+#[tactic(auto, using(crate::proofs::PlaceLemmas::at_within))]
+pub(crate) fn found_in(
+    rows: &[BookRow],
+    words: &[Text],
+    seen: &Tree,
+) -> Result<Option<Answer>, OutOfMemory>
+    ensures { IfOk result (λ found. Finds words.now seen.now (with_rows rows.now) found) }
+{
+    let Some(index) = place_of(rows, words, seen) else {
+        return Ok(None);
+    };
+    let answer = rows[index].answer.clone()?;
+    Ok(Some(answer))
+}
+
+// A row of its own memory.
 fn copy_row(
     alloc: Global,
     words: &[Text],
@@ -46,7 +62,7 @@ pub(crate) fn put_row(
     answer: &Answer,
 ) -> Result<(), OutOfMemory>
     requires { HaveDistinctKeys rows.old.items }
-    ensures put { OnOk result (AfterPut words.now seen.now answer.now (unlimited rows.old.items) (unlimited rows.new.items)) }
+    ensures put { OnOk result (AfterPut words.now seen.now answer.now (with_rows rows.old.items) (with_rows rows.new.items)) }
     ensures kept { OnErr result (rows.new.items ≡ rows.old.items) }
     ensures distinct { HaveDistinctKeys rows.new.items }
 {

@@ -1,5 +1,6 @@
-use Rattle.std.specs.Prelude.{◌≡◌, drop}
+use Rattle.std.specs.Prelude.{drop}
 use Rattle.child_port.specs.Telling.{SameTells}
+use Rattle.hook_run.specs.Moments.{moment}
 use Rattle.commit_flow.proofs.StagesLemmas.{AreSoFar}
 use Rattle.commit_flow.proofs.commit_stages.run_stages.Given as goal
 
@@ -7,8 +8,7 @@ abbrev pub invariant-stages : goal.invariant-stages
 invariant-stages g l =
     let children = g.C.Children in
     record {
-      so_far : AreSoFar (children.tells l.fn.children) (children.call_count l.fn.children) (children.call_count l.children)
-          (children.fault_count l.fn.children) (children.fault_count l.children) l.config l.changed l.skip l.stages l.fn.course (drop l.stage-index l.stages) l.course l.reports.items;
+      so_far : AreSoFar (children.tells l.fn.children) (moment (children.call_count l.fn.children) (children.fault_count l.fn.children) l.fn.book)
+          (moment (children.call_count l.children) (children.fault_count l.children) l.book) l.config l.changed l.skip l.stages l.fn.course (drop l.stage-index l.stages) l.course l.reports.items;
       same : SameTells (children.tells l.fn.children) (children.tells l.children);
-      book : l.book ≡ l.fn.book;
     }

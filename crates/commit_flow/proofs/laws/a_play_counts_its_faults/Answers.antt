@@ -3,6 +3,6 @@ use Rattle.commit_flow.proofs.laws.a_play_counts_its_faults.Goals as goal
 
 pub returns : goal.returns
 returns g c = record {
-  at_least = λ calls calls_after faults faults_after before after. faults_at_least (g.C.Children.tells c.args.children.now) calls_after faults_after after calls faults before;
-  exactly = λ calls calls_after faults faults_after before after. faults_exactly (g.C.Children.tells c.args.children.now) calls_after faults_after after calls faults before;
+  at_least = λ from to before after. faults_at_least (g.C.Children.tells c.args.children.now) to after from before;
+  exactly = λ from to before after. faults_exactly (g.C.Children.tells c.args.children.now) to after from before;
 }

@@ -2,4 +2,4 @@ use Rattle.commit_flow.proofs.PlayLawLemmas.{all_history_kept}
 use Rattle.commit_flow.proofs.laws.a_play_without_commits_leaves_history.Goals as goal
 
 pub returns : goal.returns
-returns g c = λ calls calls_after faults faults_after before after. all_history_kept (g.C.Children.tells c.args.children.now) calls_after faults_after after calls faults before
+returns g c = λ from to before after. all_history_kept (g.C.Children.tells c.args.children.now) to after from before

@@ -2,7 +2,7 @@ use Rattle.std.proofs.Common.{sym, subst, arith}
 use Rattle.hook_run.specs.HookRun.{IsEnding}
 use Rattle.hook_run.specs.Standing.{FitsName}
 use Rattle.hook_config.specs.declared.configuration.Hook.{Hook}
-use Rattle.hook_run.proofs.AdvanceLemmas.{begun-ended, begun-waits, leads_on-ended, leads_on-waits}
+use Rattle.hook_run.proofs.AdvanceLemmas.{begun-ended, begun-waits, leads_on-ended, leads_on-waits, within-waits}
 use Rattle.hook_run.proofs.advance.advance.Goals as goal
 
 pub invariant_of-result : goal.invariant_of-result
@@ -17,13 +17,20 @@ invariant_of-result c =
       stored = is.1;
     }
 
-pub returns-in-Waits : goal.returns-in-Waits
-returns-in-Waits c =
+pub returns-in-Waits-clause-from : goal.returns-in-Waits-clause-from
+returns-in-Waits-clause-from c =
     let hook = c.hook_at-hook.result.now in
     let is = begun-waits (IsEnding c.args.course.config.now c.args.course.ask.now c.hooks.done.tree hook) hook c.hooks.done.tree c.in_ok-waiting.field-0
     c.in-Waits.waiting c.in-Waits.is c.in_ok-waiting.ensures in
     λ parts out on. leads_on-waits c.args.course c.args.done c.args.place c.hooks.done c.hooks.place hook _ parts out c.hooks.invariant
     c.hook_at-hook.ensures.left is.0 on
+
+pub returns-in-Waits-clause-within : goal.returns-in-Waits-clause-within
+returns-in-Waits-clause-within c =
+    let hook = c.hook_at-hook.result.now in
+    let is = begun-waits (IsEnding c.args.course.config.now c.args.course.ask.now c.hooks.done.tree hook) hook c.hooks.done.tree c.in_ok-waiting.field-0
+    c.in-Waits.waiting c.in-Waits.is c.in_ok-waiting.ensures in
+    within-waits c.args.course c.args.done c.args.place c.hooks.done c.hooks.place hook c.in-Waits.waiting c.hooks.invariant c.hook_at-hook.ensures.left is.0
 
 pub hooks-smaller : goal.hooks-smaller
 hooks-smaller c = let later = c.place_behind-place.ensures.later in omega arith

@@ -14,5 +14,5 @@ invariant_of-result c = record {
       ∙ ap (report_text (names_in c.args.course)) c.as_slice-2.ensures);
 }
 
-pub returns : goal.returns
-returns c = λ parts out is. over-from c.args.course c.args.done c.args.place parts out c.requires.none is.0 is.1
+pub returns-clause-from : goal.returns-clause-from
+returns-clause-from c = λ parts out is. over-from c.args.course c.args.done c.args.place parts out c.requires.none is.0 is.1

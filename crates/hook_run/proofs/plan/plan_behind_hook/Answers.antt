@@ -1,5 +1,5 @@
 use Rattle.hook_run.specs.Standing.{id_if}
-use Rattle.hook_run.proofs.AdvanceLemmas.{behind-hook_if, progress-fits}
+use Rattle.hook_run.proofs.AdvanceLemmas.{behind-hook_if, behind-within_if, progress-fits}
 use Rattle.hook_run.proofs.plan.plan_behind_hook.Goals as goal
 
 pub advance-requires-clause-fits : goal.advance-requires-clause-fits
@@ -7,7 +7,12 @@ advance-requires-clause-fits c =
     progress-fits c.args.course c.args.done c.in_ok-done.done c.args.hook.now c.args.ending (id_if c.args.unsteady c.args.hook.now) c.args.done.tree
     c.in_ok-done.ensures c.requires.fits c.requires.fits_at
 
-pub returns : goal.returns
-returns c =
+pub returns-clause-from : goal.returns-clause-from
+returns-clause-from c =
     behind-hook_if c.args.course c.args.done c.in_ok-done.done c.args.place c.place_behind-place.result c.args.hook.now c.args.ending c.args.unsteady c.advance.result
-    c.place_behind-place.ensures.left c.in_ok-done.ensures c.advance.ensures
+    c.place_behind-place.ensures.left c.in_ok-done.ensures c.advance.ensures.from
+
+pub returns-clause-within : goal.returns-clause-within
+returns-clause-within c =
+    behind-within_if c.args.course c.args.done c.in_ok-done.done c.args.place c.place_behind-place.result c.args.hook.now c.args.ending c.args.unsteady c.advance.result
+    c.place_behind-place.ensures.left c.in_ok-done.ensures c.advance.ensures.within

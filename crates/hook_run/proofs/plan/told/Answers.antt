@@ -2,7 +2,7 @@ use Rattle.std.proofs.Common.{sym, subst}
 use Rattle.hook_run.specs.declared.progress.Progress.{Progress}
 use Rattle.hook_run.specs.Plans.{AtHook}
 use Rattle.hook_run.specs.Standing.{FitsName, FitsResults}
-use Rattle.hook_run.proofs.AdvanceLemmas.{told-part_if}
+use Rattle.hook_run.proofs.AdvanceLemmas.{told-part_if, told-within_if}
 use Rattle.hook_run.proofs.plan.told.Goals as goal
 
 pub plan_at-requires-clause-fits : goal.plan_at-requires-clause-fits
@@ -11,7 +11,12 @@ plan_at-requires-clause-fits c = subst (λ (p : Progress). FitsResults c.args.co
 pub plan_at-requires-clause-fits_at : goal.plan_at-requires-clause-fits_at
 plan_at-requires-clause-fits_at c = subst (λ (at : AtHook). FitsName c.args.course at.hook.name) (sym c.in_ok-work.ensures) c.requires.fits_at
 
-pub returns : goal.returns
-returns c =
+pub returns-clause-from : goal.returns-clause-from
+returns-clause-from c =
     told-part_if c.args.course c.args.done c.in_ok-done.done c.args.place c.args.waiting c.in_ok-work.work c.args.outcome c.args.unsteady c.plan_at.result
-    c.in_ok-done.ensures c.in_ok-work.ensures c.plan_at.ensures
+    c.in_ok-done.ensures c.in_ok-work.ensures c.plan_at.ensures.from
+
+pub returns-clause-fewer : goal.returns-clause-fewer
+returns-clause-fewer c =
+    told-within_if c.args.course c.args.done c.in_ok-done.done c.args.place c.args.waiting c.in_ok-work.work c.args.outcome c.args.unsteady c.plan_at.result
+    c.in_ok-done.ensures c.in_ok-work.ensures c.plan_at.ensures.within

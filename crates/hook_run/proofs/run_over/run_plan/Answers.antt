@@ -1,49 +1,110 @@
-use Rattle.std.proofs.Common.{◌≡◌, ◌-◌, ◌^◌, IfErr, rules}
-use Rattle.child_port.specs.TellingLemmas.{SameTells-trans}
+use Rattle.std.proofs.Common.{◌≡◌, ◌∷◌, [], inl, inr, rules}
+use Rattle.std.proofs.lemmas.Result.{err_from_is_err_and}
+use Rattle.child_port.specs.TellingLemmas.{SameTells-refl, SameTells-trans}
 use Rattle.hook_run.specs.declared.need.Need.TheVariants.{Child, Over}
-use Rattle.hook_run.specs.declared.run_refusal.RunRefusal.TheVariants.{Spent}
-use Rattle.hook_run.specs.Plans.{need_of, seen_of_plan, words_of}
-use Rattle.hook_run.proofs.RunLemmas.{told-all, told-lost_if, told-more, told-stopped_if}
+use Rattle.hook_run.specs.AnswerLemmas.{adds-back_to, answered-adds, answered-back_to}
+use Rattle.hook_run.specs.Moments.{moment}
+use Rattle.hook_run.specs.Plans.{need_of, part_with}
+use Rattle.hook_run.proofs.PartLemmas.{left-then, stopped-back_to}
+use Rattle.hook_run.proofs.RunLemmas.{plan-lost, plan-more, plan-none, plan-run, plan-stopped}
 use Rattle.hook_run.proofs.run_over.run_plan.Goals as goal
+
+pub parts-init : goal.parts-init
+parts-init g c =
+    let children = g.C.Children in
+    let book = g.B.Book in
+    record {
+      so_far = plan-none (children.tells c.args.children.now) c.args.fresh (moment (children.call_count c.args.children.now) (children.fault_count c.args.children.now) (book.contents c.args.book.now)) c.args.plan;
+      left = λ left leaves. inl leaves;
+      rest = g.met.B.Book.rests_itself c.args.book.now;
+      same = SameTells-refl (children.tells c.args.children.now);
+    }
 
 pub parts-preserved : goal.parts-preserved
 parts-preserved g c =
     let children = g.C.Children in
+    let book = g.B.Book in
+    let tells = children.tells c.args.children.now in
+    let it = c.parts.invariant in
+    let outcome = c.in_ok-came.came.outcome in
+    let unsteady = c.in_ok-came.came.unsteady in
+    let answered = answered-back_to tells (children.tells c.parts.children) it.same c.args.fresh (moment (children.call_count c.parts.children) (children.fault_count c.parts.children) (book.contents c.parts.book)) (moment (children.call_count c.answer_part.new.children) (children.fault_count c.answer_part.new.children) (book.contents c.answer_part.new.book)) (part_with c.parts.plan outcome unsteady ∷ [])
+    c.in_ok-came.ensures.answered in
     record {
-      so_far = told-more (children.tells c.args.children.now) (children.call_count c.args.children.now) (children.call_count c.parts.children)
-          (children.call_count c.outcome_of.new.children) (children.fault_count c.args.children.now) (children.fault_count c.parts.children)
-          (children.fault_count c.outcome_of.new.children) c.args.plan c.parts.plan c.in_ok-plan.plan c.in_ok-outcome.outcome c.parts.invariant.so_far
-          (c.parts.invariant.same.added (words_of c.parts.plan) (seen_of_plan c.parts.plan) c.in_ok-outcome.outcome c.in_ok-outcome.ensures.told)
-          c.in_ok-outcome.ensures.calls c.in_ok-outcome.ensures.faults c.in_ok-plan.ensures;
-      same = SameTells-trans (children.tells c.args.children.now) (children.tells c.parts.children) (children.tells c.outcome_of.new.children)
-          c.parts.invariant.same c.outcome_of.ensures.same;
+      so_far = plan-more tells c.args.fresh (moment (children.call_count c.args.children.now) (children.fault_count c.args.children.now) (book.contents c.args.book.now)) (moment (children.call_count c.parts.children) (children.fault_count c.parts.children) (book.contents c.parts.book)) (moment (children.call_count c.answer_part.new.children) (children.fault_count c.answer_part.new.children) (book.contents c.answer_part.new.book)) c.args.plan c.parts.plan c.in_ok-plan.plan outcome unsteady it.so_far answered c.in_ok-plan.ensures.after;
+      left = λ left leaves. left-then tells (book.contents c.args.book.now) (book.contents c.parts.book) left (book.leaves c.args.book.now left) (book.leaves c.parts.book left)
+          (answered-adds tells c.args.fresh (moment (children.call_count c.args.children.now) (children.fault_count c.args.children.now) (book.contents c.args.book.now)) (moment (children.call_count c.parts.children) (children.fault_count c.parts.children) (book.contents c.parts.book)) it.so_far.parts it.so_far.answered) (it.left left)
+          (elim (c.answer_part.ensures.left left leaves) [
+            | inl held ↦ inl held
+            | inr adds ↦ inr (adds-back_to tells (children.tells c.parts.children) it.same (book.contents c.parts.book) left adds)
+          ]);
+      rest = g.met.B.Book.rests_on c.args.book.now c.parts.book c.answer_part.new.book it.rest c.answer_part.ensures.rest;
+      same = SameTells-trans tells (children.tells c.parts.children) (children.tells c.answer_part.new.children) it.same c.answer_part.ensures.same;
     }
 
 pub returns-clause-run : goal.returns-clause-run
 returns-clause-run g c =
     let children = g.C.Children in
+    let book = g.B.Book in
+    let tells = children.tells c.args.children.now in
+    let it = c.parts.invariant in
     let over : need_of c.parts.plan ≡ Over = search rules in
-    told-all (children.tells c.args.children.now) (children.call_count c.args.children.now) (children.call_count c.parts.children)
-    (children.fault_count c.args.children.now) (children.fault_count c.parts.children) c.args.plan c.parts.plan c.finish.result
-    c.parts.invariant.so_far over c.finish.ensures
+    plan-run tells c.args.fresh (moment (children.call_count c.args.children.now) (children.fault_count c.args.children.now) (book.contents c.args.book.now)) (moment (children.call_count c.parts.children) (children.fault_count c.parts.children) (book.contents c.parts.book)) c.args.plan c.parts.plan c.finish.result it.so_far over c.finish.ensures
+
+pub returns-in_err-came-clause-stopped : goal.returns-in_err-came-clause-stopped
+returns-in_err-came-clause-stopped g c =
+    let children = g.C.Children in
+    let book = g.B.Book in
+    let tells = children.tells c.args.children.now in
+    let it = c.parts.invariant in
+    let needs : need_of c.parts.plan ≡ Child = search rules in
+    let p = err_from_is_err_and c.from_residual.result c.from_residual.ensures.1 in
+    rw (p.1, p.2)
+    (plan-stopped tells c.args.fresh (moment (children.call_count c.args.children.now) (children.fault_count c.args.children.now) (book.contents c.args.book.now)) (moment (children.call_count c.parts.children) (children.fault_count c.parts.children) (book.contents c.parts.book)) (moment (children.call_count c.answer_part.new.children) (children.fault_count c.answer_part.new.children) (book.contents c.answer_part.new.book)) c.args.plan c.parts.plan c.in_err-came.field-0.0 it.so_far needs
+    (stopped-back_to tells (children.tells c.parts.children) it.same c.args.fresh (moment (children.call_count c.parts.children) (children.fault_count c.parts.children) (book.contents c.parts.book)) (moment (children.call_count c.answer_part.new.children) (children.fault_count c.answer_part.new.children) (book.contents c.answer_part.new.book)) c.parts.plan c.in_err-came.field-0.0 c.in_err-came.ensures.stopped))
+
+pub returns-in_err-came-clause-left : goal.returns-in_err-came-clause-left
+returns-in_err-came-clause-left g c = λ left leaves.
+    let children = g.C.Children in
+    let book = g.B.Book in
+    let tells = children.tells c.args.children.now in
+    let it = c.parts.invariant in
+    left-then tells (book.contents c.args.book.now) (book.contents c.parts.book) left (book.leaves c.args.book.now left) (book.leaves c.parts.book left)
+    (answered-adds tells c.args.fresh (moment (children.call_count c.args.children.now) (children.fault_count c.args.children.now) (book.contents c.args.book.now)) (moment (children.call_count c.parts.children) (children.fault_count c.parts.children) (book.contents c.parts.book)) it.so_far.parts it.so_far.answered) (it.left left)
+    (elim (c.answer_part.ensures.left left leaves) [
+      | inl held ↦ inl held
+      | inr adds ↦ inr (adds-back_to tells (children.tells c.parts.children) it.same (book.contents c.parts.book) left adds)
+    ])
+
+pub returns-in_err-came-clause-rest : goal.returns-in_err-came-clause-rest
+returns-in_err-came-clause-rest g c = g.met.B.Book.rests_on c.args.book.now c.parts.book c.answer_part.new.book c.parts.invariant.rest c.answer_part.ensures.rest
 
 pub returns-in_err-plan-clause-stopped : goal.returns-in_err-plan-clause-stopped
 returns-in_err-plan-clause-stopped g c =
     let children = g.C.Children in
+    let book = g.B.Book in
+    let tells = children.tells c.args.children.now in
+    let it = c.parts.invariant in
+    let outcome = c.in_ok-came.came.outcome in
+    let unsteady = c.in_ok-came.came.unsteady in
     let needs : need_of c.parts.plan ≡ Child = search rules in
-    told-lost_if (children.tells c.args.children.now) (children.call_count c.args.children.now) (children.call_count c.parts.children)
-    (children.call_count c.outcome_of.new.children) (children.fault_count c.args.children.now) (children.fault_count c.parts.children)
-    (children.fault_count c.outcome_of.new.children) c.args.plan c.parts.plan c.in_ok-outcome.outcome c.from_residual-in_err-plan.result c.parts.invariant.so_far
-    (c.parts.invariant.same.added (words_of c.parts.plan) (seen_of_plan c.parts.plan) c.in_ok-outcome.outcome c.in_ok-outcome.ensures.told)
-    needs c.in_ok-outcome.ensures.calls c.in_ok-outcome.ensures.faults c.from_residual-in_err-plan.ensures.1
+    let answered = answered-back_to tells (children.tells c.parts.children) it.same c.args.fresh (moment (children.call_count c.parts.children) (children.fault_count c.parts.children) (book.contents c.parts.book)) (moment (children.call_count c.answer_part.new.children) (children.fault_count c.answer_part.new.children) (book.contents c.answer_part.new.book)) (part_with c.parts.plan outcome unsteady ∷ [])
+    c.in_ok-came.ensures.answered in
+    let p = err_from_is_err_and c.from_residual-in_err-plan.result c.from_residual-in_err-plan.ensures.1 in
+    rw p.1 (plan-lost tells c.args.fresh (moment (children.call_count c.args.children.now) (children.fault_count c.args.children.now) (book.contents c.args.book.now)) (moment (children.call_count c.parts.children) (children.fault_count c.parts.children) (book.contents c.parts.book)) (moment (children.call_count c.answer_part.new.children) (children.fault_count c.answer_part.new.children) (book.contents c.answer_part.new.book)) c.args.plan c.parts.plan outcome unsteady _ it.so_far answered needs p.2)
 
-pub returns-in_err-outcome-clause-stopped : goal.returns-in_err-outcome-clause-stopped
-returns-in_err-outcome-clause-stopped g c =
+pub returns-in_err-plan-clause-left : goal.returns-in_err-plan-clause-left
+returns-in_err-plan-clause-left g c = λ left leaves.
     let children = g.C.Children in
-    let needs : need_of c.parts.plan ≡ Child = search rules in
-    let calls : children.call_count c.outcome_of.new.children ≡ children.call_count c.parts.children = search rules in
-    let faults : children.fault_count c.outcome_of.new.children ≡ children.fault_count c.parts.children = search rules in
-    let spent : IfErr c.from_residual.result (λ refusal. refusal ≡ Spent → children.call_count c.outcome_of.new.children ≡ 2 ^ 64 - 1) = search rules in
-    told-stopped_if (children.tells c.args.children.now) (children.call_count c.args.children.now) (children.call_count c.parts.children)
-    (children.call_count c.outcome_of.new.children) (children.fault_count c.args.children.now) (children.fault_count c.parts.children)
-    (children.fault_count c.outcome_of.new.children) c.args.plan c.parts.plan c.from_residual.result c.parts.invariant.so_far needs calls faults spent
+    let book = g.B.Book in
+    let tells = children.tells c.args.children.now in
+    let it = c.parts.invariant in
+    left-then tells (book.contents c.args.book.now) (book.contents c.parts.book) left (book.leaves c.args.book.now left) (book.leaves c.parts.book left)
+    (answered-adds tells c.args.fresh (moment (children.call_count c.args.children.now) (children.fault_count c.args.children.now) (book.contents c.args.book.now)) (moment (children.call_count c.parts.children) (children.fault_count c.parts.children) (book.contents c.parts.book)) it.so_far.parts it.so_far.answered) (it.left left)
+    (elim (c.answer_part.ensures.left left leaves) [
+      | inl held ↦ inl held
+      | inr adds ↦ inr (adds-back_to tells (children.tells c.parts.children) it.same (book.contents c.parts.book) left adds)
+    ])
+
+pub returns-in_err-plan-clause-rest : goal.returns-in_err-plan-clause-rest
+returns-in_err-plan-clause-rest g c = g.met.B.Book.rests_on c.args.book.now c.parts.book c.answer_part.new.book c.parts.invariant.rest c.answer_part.ensures.rest

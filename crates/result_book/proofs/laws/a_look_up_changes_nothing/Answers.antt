@@ -5,4 +5,4 @@ pub returns-clause-found : goal.returns-clause-found
 returns-clause-found c = found_after_find
 
 pub returns-clause-count : goal.returns-clause-count
-returns-clause-count c = λ words seen before after first second step. same_count after before second first step.only step.kept
+returns-clause-count c = λ words seen before after distinct step. same_count after before step.distinct distinct step.only step.kept

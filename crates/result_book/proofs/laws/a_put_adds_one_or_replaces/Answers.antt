@@ -2,7 +2,7 @@ use Rattle.result_book.specs.CallLemmas.{count_more, count_same}
 use Rattle.result_book.proofs.laws.a_put_adds_one_or_replaces.Goals as goal
 
 pub returns-clause-more : goal.returns-clause-more
-returns-clause-more c = λ words seen answer before after distinct apart step none lacks. count_more words seen answer before after distinct apart step none lacks
+returns-clause-more c = λ words seen answer before after distinct step lacks. count_more words seen answer before after distinct step lacks
 
 pub returns-clause-same : goal.returns-clause-same
-returns-clause-same c = λ words seen answer old before after distinct apart step none held. count_same words seen answer before after distinct apart step none old held
+returns-clause-same c = λ words seen answer old before after distinct step held. count_same words seen answer before after distinct step old held

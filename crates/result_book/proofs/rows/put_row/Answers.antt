@@ -26,7 +26,7 @@ pub returns-in_ok-push-in-None-clause-put : goal.returns-in_ok-push-in-None-clau
 returns-in_ok-push-in-None-clause-put c =
     let lack = subst (λ (rows : List BookRow). LackRow c.args.words.now c.args.seen.now rows) c.as_slice.ensures.value c.in-None.ensures in
     let row = c.in_ok-copy_row-in-None.ensures in
-    put_at_end c.args.words.now c.args.seen.now c.args.answer.now c.in_ok-copy_row-in-None.field-0 (ap (λ (row : BookRow). row.words) row, ap (λ (row : BookRow). row.seen) row) (ap (λ (row : BookRow). row.answer) row) c.args.rows.now.items _ c.in_ok-push-in-None.ensures.items lack
+    put_at_end c.args.words.now c.args.seen.now c.args.answer.now c.in_ok-copy_row-in-None.field-0 (ap (λ (row : BookRow). row.words) row, ap (λ (row : BookRow). row.seen) row) (ap (λ (row : BookRow). row.answer) row) c.args.rows.now.items _ c.in_ok-push-in-None.ensures.items c.requires lack
 
 pub returns-in_ok-push-in-None-clause-distinct : goal.returns-in_ok-push-in-None-clause-distinct
 returns-in_ok-push-in-None-clause-distinct c =

@@ -1,4 +1,5 @@
 use Rattle.std.proofs.Common.{subst}
+use Rattle.hook_run.specs.Moments.{moment}
 use Rattle.commit_flow.specs.declared.command.Command.TheVariants.{Commit}
 use Rattle.commit_flow.specs.Commands.{reply_of, reply_of_ending}
 use Rattle.commit_flow.specs.CommitKept.{KeepsFor}
@@ -10,9 +11,9 @@ use Rattle.commit_flow.proofs.host.Host.commit.Goals as goal
 pub returns-clause-step : goal.returns-clause-step
 returns-clause-step g c =
     let children = g.C.Children in
-    subst (λ (host : Hosted g.row.S.Denot). IsCommitStep (children.tells c.args.children.now) (children.call_count c.args.children.now) (children.call_count c.commit_in.new.children)
-    (children.fault_count c.args.children.now) (children.fault_count c.commit_in.new.children) host.store.kept c.args.message.now c.args.no_verify c.args.skip.now
-    (reply_of reply_of_ending c.commit_in.result) c.commit_in.new.store.kept.repo) c.self.view_is c.commit_in.ensures.step
+    let to = moment (children.call_count c.commit_in.new.children) (children.fault_count c.commit_in.new.children) c.commit_in.new.book in
+    subst (λ (host : Hosted g.row.S.Denot). IsCommitStep (children.tells c.args.children.now) (moment (children.call_count c.args.children.now) (children.fault_count c.args.children.now) host.book) to
+    host.store.kept c.args.message.now c.args.no_verify c.args.skip.now (reply_of reply_of_ending c.commit_in.result) c.commit_in.new.store.kept.repo) c.self.view_is c.commit_in.ensures.step
 
 pub returns-clause-kept : goal.returns-clause-kept
 returns-clause-kept g c =

@@ -1,9 +1,22 @@
-use Rattle.std.proofs.Common.{◌≡◌, ◌∙◌, ◌+◌, ◌<◌, ◌∷◌, ◌++◌, [], refl, sym, ap, arith, length, take}
+use Rattle.std.proofs.Common.{◌≡◌, ◌∙◌, ◌+◌, ◌<◌, ◌∷◌, ◌++◌, [], refl, sym, ap, arith, length, rules, take}
 use Rattle.std.proofs.lemmas.List.{take_more}
 use Rattle.child_port.specs.TellingLemmas.{SameTells-trans}
+use Rattle.hook_run.specs.Moments.{moment}
 use Rattle.commit_flow.specs.declared.command.Command.{Command}
-use Rattle.commit_flow.proofs.PlayLemmas.{more_played}
+use Rattle.commit_flow.proofs.PlayLemmas.{more_played, none_played}
 use Rattle.commit_flow.proofs.host.Host.play.Goals as goal
+
+pub commands-init : goal.commands-init
+commands-init g c =
+    let children = g.C.Children in
+    let at = moment (children.call_count c.args.children.now) (children.fault_count c.args.children.now) c.args.self.now.book in
+    record {
+      played = rw c.in_ok-replies.ensures.items (none_played (children.tells c.args.children.now) at c.args.self.now.store.kept.repo);
+      stands = λ stands. stands;
+      same = search rules;
+      count = search rules;
+      room = search rules;
+    }
 
 pub commands-preserved : goal.commands-preserved
 commands-preserved g c =
@@ -11,15 +24,17 @@ commands-preserved g c =
     let so_far = c.commands.invariant in
     let commands = c.args.commands.now in
     let index = c.commands.command-index in
+    let from = moment (children.call_count c.args.children.now) (children.fault_count c.args.children.now) c.args.self.now.book in
+    let at = moment (children.call_count c.commands.children) (children.fault_count c.commands.children) c.commands.self.book in
+    let to = moment (children.call_count c.played-reply.new.children) (children.fault_count c.played-reply.new.children) c.played-reply.new.self.book in
     let within : index < length commands = omega (arith, c.commands-test.true) in
     let taken : take (index + 1) commands ≡ take index commands ++ c.command-item.result ∷ [] =
     take_more commands index c.command-item.result within ∙ ap (λ (command : Command). take index commands ++ command ∷ []) (sym c.command-item.is) in
     record {
-      played = rw (taken, c.push_reserved.ensures.items) (more_played (children.tells c.args.children.now) (children.tells c.commands.children)
-          (children.call_count c.args.children.now) (children.call_count c.commands.children) (children.call_count c.played-reply.new.children)
-          (children.fault_count c.args.children.now) (children.fault_count c.commands.children) (children.fault_count c.played-reply.new.children)
+      played = rw (taken, c.push_reserved.ensures.items) (more_played (children.tells c.args.children.now) (children.tells c.commands.children) from at to
           c.args.self.now.store.kept.repo c.commands.self.store.kept.repo c.played-reply.new.self.store.kept.repo
           (take index commands) c.commands.replies.items c.command-item.result c.played-reply.result so_far.same so_far.played c.played-reply.ensures.played);
+      stands = λ stands. c.played-reply.ensures.stands (so_far.stands stands);
       same = SameTells-trans (children.tells c.args.children.now) (children.tells c.commands.children) (children.tells c.played-reply.new.children) so_far.same c.played-reply.ensures.same;
       count = rw (c.push_reserved.ensures.len, so_far.count) refl;
       room = rw c.push_reserved.ensures.capacity so_far.room;

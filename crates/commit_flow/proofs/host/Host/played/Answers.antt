@@ -1,26 +1,51 @@
-use Rattle.commit_flow.proofs.PlayLemmas.{runless_played}
+use Rattle.std.proofs.Common.{false, refl, subst, sym}
+use Rattle.hook_run.specs.Moments.{moment}
+use Rattle.repo_store.specs.Shown.{Shown, Stands}
+use Rattle.commit_flow.proofs.PlayLemmas.{runless_played, unmade_of}
 use Rattle.commit_flow.proofs.host.Host.played.Goals as goal
 
 pub returns-in-Add-clause-played : goal.returns-in-Add-clause-played
 returns-in-Add-clause-played g c =
     let children = g.C.Children in
-    rw c.in-Add.is (runless_played (children.tells c.args.children.now) (children.call_count c.args.children.now) (children.fault_count c.args.children.now)
-    c.args.self.now.store.kept.repo c.play_add.new.self.store.kept.repo _ c.play_add.result (λ runs. runs) c.play_add.ensures)
+    let tells = children.tells c.args.children.now in
+    let calls = children.call_count c.args.children.now in
+    let faults = children.fault_count c.args.children.now in
+    let book = c.args.self.now.book in
+    let book_after = c.play_add.new.self.book in
+    rw c.in-Add.is (runless_played tells (moment calls faults book) (moment calls faults book_after) c.args.self.now.store.kept.repo c.play_add.new.self.store.kept.repo
+    _ c.play_add.result (λ runs. runs) c.play_add.ensures.step (unmade_of tells false calls faults book book_after c.play_add.ensures.book))
 
 pub returns-in-Remove-clause-played : goal.returns-in-Remove-clause-played
 returns-in-Remove-clause-played g c =
     let children = g.C.Children in
-    rw c.in-Remove.is (runless_played (children.tells c.args.children.now) (children.call_count c.args.children.now) (children.fault_count c.args.children.now)
-    c.args.self.now.store.kept.repo c.play_remove.new.self.store.kept.repo _ c.play_remove.result (λ runs. runs) c.play_remove.ensures)
+    let tells = children.tells c.args.children.now in
+    let calls = children.call_count c.args.children.now in
+    let faults = children.fault_count c.args.children.now in
+    let book = c.args.self.now.book in
+    let book_after = c.play_remove.new.self.book in
+    rw c.in-Remove.is (runless_played tells (moment calls faults book) (moment calls faults book_after) c.args.self.now.store.kept.repo c.play_remove.new.self.store.kept.repo
+    _ c.play_remove.result (λ runs. runs) c.play_remove.ensures.step (unmade_of tells false calls faults book book_after c.play_remove.ensures.book))
 
 pub returns-in-Accept-clause-played : goal.returns-in-Accept-clause-played
 returns-in-Accept-clause-played g c =
     let children = g.C.Children in
-    rw c.in-Accept.is (runless_played (children.tells c.args.children.now) (children.call_count c.args.children.now) (children.fault_count c.args.children.now)
-    c.args.self.now.store.kept.repo c.play_accept.new.self.store.kept.repo _ c.play_accept.result (λ runs. runs) c.play_accept.ensures)
+    let tells = children.tells c.args.children.now in
+    let calls = children.call_count c.args.children.now in
+    let faults = children.fault_count c.args.children.now in
+    let book = c.args.self.now.book in
+    let book_after = c.play_accept.new.self.book in
+    rw c.in-Accept.is (runless_played tells (moment calls faults book) (moment calls faults book_after) c.args.self.now.store.kept.repo c.play_accept.new.self.store.kept.repo
+    _ c.play_accept.result (λ runs. runs) c.play_accept.ensures.step (unmade_of tells false calls faults book book_after c.play_accept.ensures.book))
 
 pub returns-in-Forget-clause-played : goal.returns-in-Forget-clause-played
 returns-in-Forget-clause-played g c =
     let children = g.C.Children in
-    rw c.in-Forget.is (runless_played (children.tells c.args.children.now) (children.call_count c.args.children.now) (children.fault_count c.args.children.now)
-    c.args.self.now.store.kept.repo c.play_forget.new.self.store.kept.repo _ c.play_forget.result (λ runs. runs) c.play_forget.ensures)
+    let calls = children.call_count c.args.children.now in
+    let faults = children.fault_count c.args.children.now in
+    rw c.in-Forget.is (runless_played (children.tells c.args.children.now) (moment calls faults c.args.self.now.book) (moment calls faults c.play_forget.new.self.book)
+    c.args.self.now.store.kept.repo c.play_forget.new.self.store.kept.repo _ c.play_forget.result (λ runs. runs) c.play_forget.ensures.step
+    (refl, record { forgotten = c.play_forget.ensures.forgotten; called = refl; faulted = refl }))
+
+pub returns-in-Forget-clause-stands : goal.returns-in-Forget-clause-stands
+returns-in-Forget-clause-stands g c = λ stands.
+    subst (λ (store : Shown g.row.S.Denot). Stands g.S.Store store.conn store.kept) (sym c.play_forget.ensures.store) stands

@@ -1,0 +1,12 @@
+use Rattle.std.proofs.lemmas.Result.{err_from_is_err_and}
+use Rattle.hook_run.specs.Moments.{moment}
+use Rattle.commit_flow.specs.CommitStages.{ask_in}
+use Rattle.commit_flow.proofs.StagesLemmas.{stopped_for_memory}
+use Rattle.commit_flow.proofs.commit_stages.run_hooks_of.Goals as goal
+
+pub returns-in_err-ask-clause-stopped : goal.returns-in_err-ask-clause-stopped
+returns-in_err-ask-clause-stopped g c =
+    let children = g.C.Children in
+    let p = err_from_is_err_and c.from_residual.result c.from_residual.ensures.1 in
+    rw (p.1, p.2) (stopped_for_memory (children.tells c.args.children.now) (moment (children.call_count c.args.children.now) (children.fault_count c.args.children.now) c.args.book.now)
+    c.args.config.now (ask_in c.args.changed.now c.args.skip.now c.args.stage) c.args.tree.now)

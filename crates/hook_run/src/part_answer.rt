@@ -1,0 +1,125 @@
+//! How a part of a run comes to its outcome: from a child, or from what is remembered.
+
+ghost use Rattle.std.specs.Prelude.{◌≡◌, ◌≢◌, ◌⊎◌, ◌+◌, ◌-◌, ◌^◌, ◌<◌, ◌∷◌, [], IfOk, IfErr, OnOk, OnErr, false};
+ghost use Rattle.child_port.specs.Outcomes.{faults_in};
+ghost use Rattle.child_port.specs.Telling.{SameTells};
+ghost use Rattle.result_book.specs.Contents.{Contents};
+ghost use Rattle.result_book.specs.Told.{AddsTold};
+ghost use Rattle.hook_run.specs.Answers.{AreAnswered};
+ghost use Rattle.hook_run.specs.Moments.{moment};
+ghost use Rattle.hook_run.specs.PlanRuns.{IsPartStarted, IsPartStopped, IsPartUnput, part_of};
+ghost use Rattle.hook_run.specs.Plans.{need_of, seen_of_plan, words_of};
+ghost use Rattle.hook_run.specs.Refusals.{IsOfBook, is_of_book};
+ghost use Rattle.hook_run.specs.Starts.{AfterOutcome, IsMarked};
+
+use crate::part_outcome::PartOutcome;
+use crate::{Need, RunPlan, RunRefusal};
+use child_port::{Answer, Children, Outcome, is_stray};
+use hook_base::{Text, Tree};
+use result_book::{Book, BookFault};
+
+/// What comes of the part that the plan needs. It is looked up first. What is remembered for it is its outcome, unless the run
+/// is fresh; else a child is started for it.
+pub(crate) fn answer_part<C: Children, B: Book>(
+    children: &mut C,
+    book: &mut B,
+    fresh: bool,
+    plan: &RunPlan,
+) -> Result<PartOutcome, RunRefusal>
+    requires { need_of plan.now ≡ Need.Child }
+    ensures answered { IfOk result (λ came. AreAnswered (C.tells children.old) fresh (moment (C.call_count children.old) (C.fault_count children.old) (B.contents book.old)) (moment (C.call_count children.new) (C.fault_count children.new) (B.contents book.new)) (part_of plan.now came ∷ [])) }
+    ensures stopped { IfErr result (IsPartStopped (C.tells children.old) fresh (moment (C.call_count children.old) (C.fault_count children.old) (B.contents book.old)) (moment (C.call_count children.new) (C.fault_count children.new) (B.contents book.new)) plan.now) }
+    ensures refused { IfErr result (IsOfBook B.refuses) }
+    ensures left { (left : Contents) → B.leaves book.new left → B.leaves book.old left ⊎ AddsTold (C.tells children.old) (B.contents book.old) left }
+    ensures rest { B.rests book.old book.new }
+    ensures same { SameTells (C.tells children.old) (C.tells children.new) }
+{
+    let found = book.find(plan.words(), plan.seen())?;
+    if fresh {
+        return start_part(children, book, plan, &found);
+    }
+    let Some(answer) = found else {
+        return start_part(children, book, plan, &None);
+    };
+    Ok(PartOutcome {
+        outcome: Outcome::Done(answer),
+        unsteady: false,
+    })
+}
+
+// Starts a child for the part that the plan needs, for which this was found, and puts what it answers.
+fn start_part<C: Children, B: Book>(
+    children: &mut C,
+    book: &mut B,
+    plan: &RunPlan,
+    found: &Option<Answer>,
+) -> Result<PartOutcome, RunRefusal>
+    requires { need_of plan.now ≡ Need.Child }
+    ensures started { IfOk result (λ came. IsPartStarted (C.tells children.old) found.now (moment (C.call_count children.old) (C.fault_count children.old) (B.contents book.old)) (moment (C.call_count children.new) (C.fault_count children.new) (B.contents book.new)) (part_of plan.now came)) }
+    ensures unput { IfErr result (IsPartUnput (C.tells children.old) (moment (C.call_count children.old) (C.fault_count children.old) (B.contents book.old)) (moment (C.call_count children.new) (C.fault_count children.new) (B.contents book.new)) plan.now) }
+    ensures refused { IfErr result (IsOfBook B.refuses) }
+    ensures left { (left : Contents) → B.leaves book.new left → B.leaves book.old left ⊎ AddsTold (C.tells children.old) (B.contents book.old) left }
+    ensures rest { B.rests book.old book.new }
+    ensures same { SameTells (C.tells children.old) (C.tells children.new) }
+{
+    let outcome = outcome_of(children, plan)?;
+    put_outcome(book, plan.words(), plan.seen(), &outcome)?;
+    Ok(PartOutcome {
+        unsteady: is_other(found, &outcome),
+        outcome,
+    })
+}
+
+// The outcome of the child that the plan needs.
+fn outcome_of<C: Children>(children: &mut C, plan: &RunPlan) -> Result<Outcome, RunRefusal>
+    requires { need_of plan.now ≡ Need.Child }
+    ensures told { IfOk result (λ outcome. C.tells children.old (words_of plan.now) (seen_of_plan plan.now) outcome) }
+    ensures calls { OnOk result (C.call_count children.new ≡ C.call_count children.old + 1) }
+    ensures faults { IfOk result (λ outcome. C.fault_count children.new ≡ C.fault_count children.old + faults_in outcome) }
+    ensures refused_calls { OnErr result (C.call_count children.new ≡ C.call_count children.old) }
+    ensures refused_faults { OnErr result (C.fault_count children.new ≡ C.fault_count children.old) }
+    ensures asked { IfErr result (λ refusal. refusal ≢ RunRefusal.NoSuchHook) }
+    ensures not_book { IfErr result (λ refusal. is_of_book refusal ≡ false) }
+    ensures spent { IfErr result (λ refusal. refusal ≡ RunRefusal.Spent → C.call_count children.new ≡ 2 ^ 64 - 1) }
+    ensures same { SameTells (C.tells children.old) (C.tells children.new) }
+{
+    if children.calls() == u64::MAX {
+        return Err(RunRefusal::Spent);
+    }
+    let outcome = children.run(plan.words(), plan.tree(), plan.seen())?;
+    Ok(outcome)
+}
+
+// Puts a completed answer that changes the seen files alone. Nothing else is remembered.
+fn put_outcome<B: Book>(
+    book: &mut B,
+    words: &[Text],
+    seen: &Tree,
+    outcome: &Outcome,
+) -> Result<(), BookFault>
+    ensures after { OnOk result (AfterOutcome words.now seen.now outcome.now (B.contents book.old) (B.contents book.new)) }
+    ensures kept { OnErr result (B.contents book.new ≡ B.contents book.old) }
+    ensures refused { IfErr result (λ fault. B.refuses fault) }
+    ensures left { (left : Contents) → B.leaves book.new left → B.leaves book.old left ⊎ AfterOutcome words.now seen.now outcome.now (B.contents book.old) left }
+    ensures rest { B.rests book.old book.new }
+{
+    match outcome {
+        Outcome::Done(answer) => {
+            if is_stray(answer, seen) {
+                return Ok(());
+            }
+            book.put(words, seen, answer)
+        }
+        Outcome::Failed(_) => Ok(()),
+    }
+}
+
+// Whether a completed answer is another than the one that was found.
+fn is_other(found: &Option<Answer>, outcome: &Outcome) -> bool
+    ensures { IsMarked found.now outcome.now result }
+{
+    match (found, outcome) {
+        (Some(found), Outcome::Done(answer)) => answer != found,
+        _ => false,
+    }
+}

@@ -1,0 +1,12 @@
+//! What came of a part.
+
+use child_port::Outcome;
+
+/// What came of a part of a run.
+#[derive(Drop)]
+pub(crate) struct PartOutcome {
+    /// What its child told, or what was remembered of an earlier one.
+    pub(crate) outcome: Outcome,
+    /// Whether that is another answer than the one that was remembered.
+    pub(crate) unsteady: bool,
+}
