@@ -123,7 +123,8 @@ def time_children():
     try:
         subprocess.run(["git", "init", "--quiet", "."], check=True)
         one = [command(0, '"true"', require_serial="true")]
-        ten = [command(number, '"true"', require_serial="true") for number in range(10)]
+        # Each has a word of its own, since a second child of one command on the same files isn't started.
+        ten = [command(number, '"true"', require_serial="true", args=f"[hook{number}]") for number in range(10)]
         alone = [command(0, '"true"', pass_filenames="false")]
         twice = {}
         for count in (1, 1000, 5000, 10000):

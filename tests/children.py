@@ -330,6 +330,55 @@ def no_file_is_written_in_place():
     equal(trial.sh("echo x >> a.txt"), (0, b"", {"a.txt": b"same\nx\n"}), "two files that the child before had linked")
 
 
+# ---- runs of hooks, whose answers are remembered
+
+def configuration(entry, more=""):
+    return f"repos:\n- repo: local\n  hooks:\n  - {{id: t, name: T, language: system, entry: {entry}, files: '\\.txt$'{more}}}\n"
+
+
+def runs_are(trial, text, *runs):
+    """That runs of the hooks say this, one after another, with this in all: outcomes, faults among them, and remembered answers."""
+    for number, (how, said, counts) in enumerate(runs):
+        equal(trial.ask("hooks", digits(text), digits(how)), said, f"what run {number} of {text!r} says")
+        equal(trial.ask("counts"), counts, f"the counts behind run {number} of {text!r}")
+
+
+def of_hook(verdict, *lines):
+    return f"{verdict.lower()}\nT{'.' * 72}{verdict}\n" + "".join(f"- {each}\n" for each in lines)
+
+
+def a_command_that_failed_is_started_anew_by_a_fresh_run_alone():
+    trial = Trial({"a.txt": b"x\n"})
+    said = of_hook("Failed", "hook id: t", "exit code: 3")
+    runs_are(trial, configuration("sh -c 'echo >> ../../starts; exit 3'"), ("plain", said, "1 0 1"), ("plain", said, "1 0 1"), ("fresh", said, "2 0 1"))
+    equal(Path(trial.top, "starts").read_text(), "\n\n", "how often it was started")
+
+
+def a_command_that_a_signal_ended_is_started_again():
+    trial = Trial({"a.txt": b"x\n"})
+    said = of_hook("Failed", "hook id: t", "fault: ended by a signal")
+    runs_are(trial, configuration("sh -c 'kill -9 $$'"), ("plain", said, "1 1 0"), ("plain", said, "2 2 0"), ("fresh", said, "3 3 0"))
+
+
+def what_a_command_changed_is_changed_without_it():
+    trial = Trial({"a.txt": b"x \n"})
+    text = configuration("sed -i 's/ *$//'") + "  - {id: u, name: U, language: system, entry: grep -c ' ', verbose: true, files: a}\n"
+    u = f"U{'.' * 72}Failed\n- hook id: u\n- exit code: 1\n\n0\n\n"
+    said = of_hook("Failed", "hook id: t", "files were modified by this hook") + u
+    runs_are(trial, text, ("plain", said, "2 0 2"), ("plain", said, "2 0 2"))
+    trial.file("a.txt", b"x\n")
+    said = of_hook("Passed").replace("passed", "failed", 1) + u
+    runs_are(trial, text, ("plain", said, "3 0 3"), ("plain", said, "3 0 3"))
+
+
+def a_command_that_answers_otherwise_is_told_by_a_fresh_run():
+    trial = Trial({"a.txt": b"x\n"})
+    text = configuration("sh -c 'echo >> ../../starts; wc -l < ../../starts'", ", verbose: true")
+    said = [of_hook("Passed", "hook id: t") + f"\n{number}\n\n" for number in (1, 2)]
+    fresh = said[1].replace("passed\n", "passed\nunsteady: t\n")
+    runs_are(trial, text, ("plain", said[0], "1 0 1"), ("plain", said[0], "1 0 1"), ("fresh", fresh, "2 0 1"), ("plain", said[1], "2 0 1"))
+
+
 # ---- stops and refusals
 
 def a_killed_program_leaves_no_harm():

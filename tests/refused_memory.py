@@ -1,7 +1,7 @@
 #!/usr/bin/env python3
 """Runs the built program with each of its allocations refused in turn, until a run ends with none refused.
 
-Usage: tests/refused_memory.py [--each] [PROGRAM [STORE_TRIAL]]   (default: the built programs)
+Usage: tests/refused_memory.py [--each] [PROGRAM [STORE_TRIAL [HOOK_TRIAL]]]   (default: the built programs)
 
 Each refused run has to say `hookhost: refused: NUMBER OutOfMemory`, write nothing to standard output and end with
 status 3, or else to answer just as with ample memory (a growth that was refused may be tried again with less). Each play
@@ -18,12 +18,17 @@ and else what it shows after the command with ample memory.
 
 Neither may leave an empty folder in which what doesn't belong to the children's folder was to be gathered.
 
-Of the allocations of these two the first and the last are refused, and of those between one in so many; with --each, which
+Of runs over one book, half of whose answers are remembered when the second begins, each allocation is refused too, by the program
+hook_trial. Whatever was put by then stays and is told, no child is started for it again, and the same run, which the next is,
+reports what it does from scratch.
+
+Of the allocations of the runs with children and of the commands on a repository the first and the last are refused, and of those between one in so many; with --each, which
 takes long, each is refused in turn. The folder of the children is new for each run then: a run that gives up while it removes
 what it gathered leaves that for the next one, so that each would need more allocations than the number that is refused.
 """
 import itertools
 import os
+import re
 import shutil
 import subprocess
 import sys
@@ -39,6 +44,7 @@ EACH = "--each" in sys.argv
 WORDS = [word for word in sys.argv[1:] if word != "--each"]
 PROGRAM = os.path.abspath(WORDS[0] if WORDS else os.path.join(CRATES, "hookhost/out/hookhost"))
 STORE_TRIAL = os.path.abspath(WORDS[1] if len(WORDS) > 1 else os.path.join(CRATES, "store_trial/out/store_trial"))
+HOOK_TRIAL = os.path.abspath(WORDS[2] if len(WORDS) > 2 else os.path.join(CRATES, "hook_trial/out/hook_trial"))
 CONFIGURATION = b"""# Three hooks in all forms of YAML that are read, and a key that nothing knows.
 shade: blue
 default_stages: [pre-commit, "push"]
@@ -346,6 +352,83 @@ def make_repository(folder):
         sys.exit(f"refused_memory: no repository is made: {made!r}")
 
 
+# ---- a book of which half is remembered
+
+# Hooks of one child each. In the first run children answer for the first two alone.
+BOOK_HOOKS = "repos:\n- repo: local\n  hooks:\n" + "".join(f"  - {{id: h{at}, name: H{at}, language: system, entry: c{at}}}\n" for at in range(4))
+BOOK_ROWS = [f"answer {at}\nc{at}\ta.txt\na.txt=x\n{'a.txt=x' if at == 1 else ''}\nsaid {at}\n" for at in range(4)]
+HALF = len(BOOK_ROWS) // 2
+BOOK_RUN = ["run", "plain", "0", "0", "signal", "0", "memory"]
+BOOK_WORDS = [
+    BOOK_HOOKS, "file", "plain", "a.txt", "x\n", *(word for row in BOOK_ROWS[:HALF] for word in ("child", row)), *BOOK_RUN,
+    *(word for row in BOOK_ROWS[HALF:] for word in ("child", row)), *BOOK_RUN * 3,
+]
+# What a run is answered by: its verdict or its refusal, how many children were started, how many of them failed, what is reported,
+# and which rows of the table are remembered.
+BOOK_ANSWER = re.compile(r"(passed|failed|1 OutOfMemory: out of memory), (\d) calls, (\d) faults\n((?:.*\n)*?)(\d) remembered:((?: held| lacking)*)\n")
+
+
+@dataclass
+class BookRun:
+    """What a run over the book is answered by. The rows that are held are numbers."""
+    refused: bool
+    calls: int
+    faults: int
+    report: str
+    held: set
+
+
+def book_runs(refused, shared, folder):
+    """How the program ended, whether the allocation of this number (0: none) was refused, and the runs, if they were told."""
+    mark = os.path.join(folder, "refused")
+    if os.path.exists(mark):
+        os.remove(mark)
+    env = dict(os.environ, LD_PRELOAD=os.path.join(shared, "refuse.so"), REFUSE_ALLOCATION=str(refused), REFUSED_FILE=mark)
+    status, out, err = end_of([HOOK_TRIAL], folder, " ".join(["play_book", *(word.encode().hex() for word in BOOK_WORDS)]).encode() + b"\n", env)
+    found = BOOK_ANSWER.findall(bytes.fromhex(out.decode().strip()).decode())
+    runs = [
+        BookRun(verdict[0] == "1", int(calls), int(faults), report, {at for at, word in enumerate(rows.split()) if word == "held"})
+        for verdict, calls, faults, report, _, rows in found
+    ]
+    return (status, err), os.path.exists(mark), runs
+
+
+def wrong_run(run, plain, before, answered):
+    """What is wrong with a run, if anything, before which these rows were held, where children answer by so many."""
+    missing = [at for at in range(len(BOOK_ROWS)) if at not in before]
+    started = missing[:run.calls]
+    put = {at for at in started if at < answered}
+    if run.faults != len(started) - len(put):
+        return "counts other faults"
+    if run.refused:
+        # Of the last child that was started the answer may not be put.
+        return None if run.held | set(started[-1:]) == before | put | set(started[-1:]) and run.held >= before and not run.report else "tells something else"
+    return None if started == missing and run.held == before | put and run.report == plain.report else "isn't the run from scratch"
+
+
+def refuse_among_remembered(shared):
+    """How many allocations were refused in turn, how many runs were, and what was wrong, if anything."""
+    with tempfile.TemporaryDirectory() as folder:
+        ended, _, plain = book_runs(0, shared, folder)
+        if ended != (0, b"") or [run.calls for run in plain] != [4, 2, 0, 0] or any(run.refused for run in plain):
+            return 0, 0, f"ended with {ended} and {plain} with nothing refused"
+        refused = [0] * len(plain)
+        for allocation in itertools.count(1):
+            ended, was_refused, runs = book_runs(allocation, shared, folder)
+            if not was_refused:
+                enough = all(refused[:3]) and ended == (0, b"") and runs == plain
+                return allocation - 1, sum(refused), None if enough else f"ended with {ended}, {runs} and {refused} refused runs"
+            if ended == (3, b"out of memory\n") and not runs:
+                continue
+            before, wrong = set(), None if ended == (0, b"") and len(runs) == len(plain) and sum(run.refused for run in runs) <= 1 else f"ended with {ended}"
+            for at, run in enumerate(runs):
+                refused[at] += run.refused
+                wrong = wrong or wrong_run(run, plain[at], before, HALF if at == 0 else len(BOOK_ROWS))
+                before = run.held
+            if wrong:
+                return allocation, sum(refused), f"{wrong} where allocation {allocation} was refused: {runs}"
+
+
 def play_all(plays, shared):
     """Each play's answer, some of them side by side."""
     with ThreadPoolExecutor(os.cpu_count()) as pool:
@@ -359,15 +442,18 @@ def main():
         subprocess.run(["cc", "-shared", "-fPIC", "-O1", "-o", os.path.join(folder, "refuse.so"), os.path.join(HERE, "refuse_allocation.c"), "-ldl"], check=True)
         make_repository(folder)
         answers = play_all(PLAYS + checks, folder)
+        of_book = refuse_among_remembered(folder)
     failures = [(play.name, wrong) for play, (_, _, wrong) in zip(PLAYS + checks, answers) if wrong]
+    failures += [("runs over one book", of_book[2])] if of_book[2] else []
     for play, (count, gave_up, wrong) in zip(PLAYS, answers):
         print(f"{play.name}: {count} allocations refused in turn, {gave_up} times the program gave up")
     of_texts = answers[len(PLAYS):]
     print(f"the check of {len(checks)} texts: {sum(each[0] for each in of_texts)} allocations refused in turn, "
           f"{sum(each[1] for each in of_texts)} times the program gave up")
+    print(f"runs over one book: {of_book[0]} allocations refused in turn, {of_book[1]} times a run was refused")
     for name, wrong in failures:
         print(f"FAILED {name}: {wrong}")
-    print(f"memory: {len(answers) - len(failures)} passed, {len(failures)} failed")
+    print(f"memory: {len(answers) + 1 - len(failures)} passed, {len(failures)} failed")
     sys.exit(1 if failures or not checks else 0)
 
 

@@ -3,9 +3,9 @@ call is
 
 command_over STEP..
 
-with the steps that `crates/hook_trial/src/host_commands.rt` names. No contract says that memory is enough for these rows, and
-none speaks of writers that are interrupted; the other rows are those of users, beside the definitions that the contracts
-cite."""
+with the steps that `crates/hook_trial/src/host_commands.rt` names, behind the rows of `child_tables.rt`. No contract says that
+memory is enough for these rows, and none speaks of writers that are interrupted; the other rows are those of users, beside the
+definitions that the contracts cite."""
 
 PROGRAM = "hook_trial"
 
@@ -478,8 +478,8 @@ SKIPPED = "Check names" + "." * 61 + "Skipped\n"
 NOT_STARTED = "Start" + "." * 68 + "Failed\n- hook id: start\n- fault: could not be started\n"
 
 
-def run(files="changed", only="", skip="", stage="pre-commit", out="all", err="all"):
-    return line("run", stage, files, only, skip, out=out, err=err)
+def run(files="changed", only="", skip="", stage="pre-commit", how="remembering", out="all", err="all"):
+    return line("run", stage, files, only, how, skip, out=out, err=err)
 
 
 RUNS = [
@@ -534,4 +534,215 @@ COMMITS = [
     *((*BEFORE, *commit("verified", out=str(count)), *line("log"), cut_off((BAD + NO_START)[:count]) + done()) for count in [0, 1, 80]),
 ]
 
-ROWS = [("command_over", *row) for row in [*RUNS, *COMMITS, *EMPTY, *ADDED, *REMOVED, *BAD_PATHS, *GOOD_PATHS, *CLASHES, *TOO_LARGE, *FIXES, *STATUS, *CAT, *LOG, *SHOW, *WRITERS]]
+
+
+def child(words, seen="", changes="", status=0, output="", fault=""):
+    """A row of the table by which a child answers, or fails."""
+    row = f"answer {status}\n{words}\n{seen}\n{changes}\n{output}"
+    return ("failing", fault, row) if fault else ("child", row)
+
+
+def hook(name, entry="c", files=r"\.txt$", more=""):
+    """A hook's table. Its id is its name in small letters."""
+    return f"  - {{id: {name.lower()}, name: {name}, language: system, entry: {entry}, files: '{files}'{more}}}\n"
+
+
+def text_of(*tables):
+    return "repos:\n- repo: local\n  hooks:\n" + "".join(tables)
+
+
+def with_hooks(*tables):
+    """Stages a configuration with these hooks, by a command: a store that is set up gets a new host."""
+    return add(".pre-commit-config.yaml", text_of(*tables))
+
+
+COUNTS = ("counts",)
+FRESH = run(how="fresh")
+
+
+def counted(calls, faults, remembered, *rows):
+    """What is told of children: all that were started and those of them that failed, how many answers are remembered, and the rows of
+    those that were started since it was told last."""
+    return f"{calls} calls, {faults} faults, {remembered} remembered\nrows{''.join(f' {row}' for row in rows)}\n".encode()
+
+
+def passed(name):
+    return f"{name}{'.' * (73 - len(name))}Passed\n"
+
+
+def failed(name, *details, output=""):
+    lines = [f"hook id: {name.lower()}", *details]
+    return f"{name}{'.' * (73 - len(name))}Failed\n" + "".join(f"- {each}\n" for each in lines) + (f"\n{output}\n" if output else "")
+
+
+MODIFIED = "files were modified by this hook"
+SIGNAL, NO_START_LINE = "fault: ended by a signal", "fault: could not be started"
+T, U = hook("T"), hook("U")
+# A hook that gets `a.txt`, which is staged beside a file that it doesn't get, and what adding the three says.
+ONE_HOOK = (*with_hooks(T), *add("a.txt", "x\n"), *add("b.md", "y\n"))
+ADDED_THREE = done() * 3
+# Its child, and answers that it may give.
+C = ("c\ta.txt", "a.txt=x")
+GOOD, BAD_ONE, OTHER = child(*C), child(*C, status=1, output="x\n"), child(*C, output="y\n")
+STRAY = child(*C, changes="b.md=z")
+GOOD_T, BAD_T, STRAY_T = passed("T"), failed("T", "exit code: 1", output="x\n"), failed("T", MODIFIED)
+UNSTEADY = "unsteady: t\n"
+# A hook that gets no names, and its configuration as a file that is seen.
+WHOLE = hook("T", files="", more=", pass_filenames: false")
+WHOLE_FILE = ".pre-commit-config.yaml=" + text_of(WHOLE)[:-1].replace("\n", "\1")
+# Names of 4,095 bytes, of which 31 fit one command of `c`, and not the next.
+MANY = [f"{'/'.join(['d' * 255] * 15)}/{number:02}{'f' * 249}.txt" for number in range(32)]
+
+REMEMBERED = [
+    # A run again tells the same and starts no child, of all files or of one that is named too; and so does a failed one.
+    (
+        *GOOD, *ONE_HOOK, *run(), *COUNTS, *run(), *run("all"), *run("a.txt"), *COUNTS,
+        ADDED_THREE + done(GOOD_T) + counted(1, 0, 1, 0) + done(GOOD_T) * 3 + counted(1, 0, 1),
+    ),
+    (*BAD_ONE, *ONE_HOOK, *run(), *run(), *COUNTS, ADDED_THREE + ended(1, out=BAD_T) * 2 + counted(1, 0, 1, 0)),
+    # Two hooks with equal words and seen files start one child in one run, and two in a fresh one.
+    (*GOOD, *with_hooks(T, U), *add("a.txt", "x\n"), *run(), *COUNTS, done() * 2 + done(GOOD_T + passed("U")) + counted(1, 0, 1, 0)),
+    (*GOOD, *with_hooks(T, U), *add("a.txt", "x\n"), *FRESH, *COUNTS, done() * 2 + done(GOOD_T + passed("U")) + counted(2, 0, 1, 0, 0)),
+    # A child is started again where it sees other bytes of a file or another mode, and not where they are the old ones again.
+    (
+        *GOOD, *child("c\ta.txt", "a.txt=y"), *child("c\ta.txt", "\x02a.txt=y"), *ONE_HOOK, *run(),
+        *add("a.txt", "y\n"), *run(), *COUNTS, *add("a.txt", "y\n", mode="executable"), *run(), *COUNTS, *add("a.txt", "x\n", mode="plain"), *run(), *COUNTS,
+        ADDED_THREE + done(GOOD_T) + done() + done(GOOD_T) + counted(2, 0, 2, 0, 1) + done() + done(GOOD_T) + counted(3, 0, 3, 2) + done() + done(GOOD_T) + counted(3, 0, 3),
+    ),
+    # A file that it hasn't seen may change, come and go.
+    (
+        *GOOD, *ONE_HOOK, *run(), *add("b.md", "z\n"), *run(), *add("c.md", "z\n"), *run(), *line("rm", "b.md"), *run(), *COUNTS,
+        ADDED_THREE + done(GOOD_T) + (done() + done(GOOD_T)) * 3 + counted(1, 0, 1, 0),
+    ),
+    # One that gets no names sees all files.
+    (
+        *child("c", f"{WHOLE_FILE}\ta.txt=x"), *child("c", f"{WHOLE_FILE}\ta.txt=x\tb.md=y"), *with_hooks(WHOLE), *add("a.txt", "x\n"), *run(), *run(),
+        *COUNTS, *add("b.md", "y\n"), *run(), *COUNTS, *line("rm", "b.md"), *run(), *COUNTS,
+        done() * 2 + done(GOOD_T) * 2 + counted(1, 0, 1, 0) + done() + done(GOOD_T) + counted(2, 0, 2, 1) + done() + done(GOOD_T) + counted(2, 0, 2),
+    ),
+    # A script that a word names is a file that the child sees, by the language `system` and by `script`.
+    *(
+        (
+            *child("sh\ttools/lint.sh\ta.txt", "a.txt=x\ttools/lint.sh=x"), *child("sh\ttools/lint.sh\ta.txt", "a.txt=x\ttools/lint.sh=y"),
+            *with_hooks(hook("T", entry=entry).replace("system", language)), *add("a.txt", "x\n"), *add("tools/lint.sh", "x\n"), *run(), *run(), *COUNTS,
+            *add("tools/lint.sh", "y\n"), *run(), *COUNTS, *add("tools/lint.sh", "x\n"), *run(), *COUNTS,
+            ADDED_THREE + done(GOOD_T) * 2 + counted(1, 0, 1, 0) + done() + done(GOOD_T) + counted(2, 0, 2, 1) + done() + done(GOOD_T) + counted(2, 0, 2),
+        )
+        for language, entry in [("system", "sh tools/lint.sh"), ("script", "tools/lint.sh")]
+    ),
+    # A remembered answer changes files as the child did. What is accepted then is another file, for which the child is started.
+    (
+        *child("trim\ta.txt", "a.txt=x ", "a.txt=x"), *child("look\ta.txt", "a.txt=x"), *child("trim\ta.txt", "a.txt=x"),
+        *with_hooks(hook("Trim", "trim"), hook("Look", "look")), *add("a.txt", "x \n"), *run(), *run(), *COUNTS, *line("fixes"), *line("cat", "a.txt"),
+        *line("accept"), *run(), *COUNTS, *run(), *COUNTS, *line("fixes"), "forget", *COUNTS,
+        done() * 2 + ended(1, out=failed("Trim", MODIFIED) + passed("Look")) * 2 + counted(2, 0, 2, 0, 1) + done("M a.txt\n") + done("x \n")
+        + done("accepted: 1\n") + done(passed("Trim") + passed("Look")) + counted(3, 0, 3, 2) + done(passed("Trim") + passed("Look")) + counted(3, 0, 3)
+        + done() + b"3 forgotten\n" + counted(3, 0, 0),
+    ),
+    # Once forgotten, it is started again.
+    (*GOOD, *ONE_HOOK, *run(), "forget", "forget", *run(), *COUNTS, ADDED_THREE + done(GOOD_T) + b"1 forgotten\n0 forgotten\n" + done(GOOD_T) + counted(2, 0, 1, 0, 0)),
+    # A host that goes on with the store of another remembers nothing.
+    (*GOOD, *ONE_HOOK, *run(), *stage("c.md"), *run(), *COUNTS, ADDED_THREE + done(GOOD_T) * 2 + counted(2, 0, 1, 0, 0)),
+    # No child that failed is remembered, and each run starts it again, until it answers.
+    *(
+        (
+            *child(*C, fault=fault), *child(*C, fault=fault), *GOOD, *ONE_HOOK, *run(), *run(), *COUNTS, *run(), *run(), *COUNTS,
+            ADDED_THREE + ended(1, out=failed("T", text)) * 2 + counted(2, 2, 0, 0, 1) + done(GOOD_T) * 2 + counted(3, 2, 1, 2),
+        )
+        for fault, text in [("signal", SIGNAL), ("not started", NO_START_LINE)]
+    ),
+    (*ONE_HOOK, *run(), *run(), *COUNTS, ADDED_THREE + ended(1, out=failed("T", NO_START_LINE)) * 2 + counted(2, 2, 0, "-", "-")),
+    # Of two parts one is ended by a signal: the other is remembered alone, and a run again starts that one.
+    (
+        *child("c\t" + "\t".join(MANY[:31]), "\t".join(f"{path}=x" for path in MANY[:31]), fault="signal"), *child(f"c\t{MANY[31]}", f"{MANY[31]}=x", status=3, output="two\n"),
+        *with_hooks(T), *(word for path in MANY for word in add(path, "x\n")), *run(), *COUNTS, *run(), *COUNTS,
+        done() * 33 + (ended(1, out=failed("T", "exit code: 3", SIGNAL, output="two\n")) + counted(2, 1, 1, 0, 1)) + ended(1, out=failed("T", "exit code: 3", SIGNAL, output="two\n")) + counted(3, 2, 1, 0),
+    ),
+    # An answer that changes a file which the child hasn't seen counts, and isn't remembered. What it fixed is kept.
+    (
+        *STRAY, *ONE_HOOK, *run(), *COUNTS, *line("fixes"), *run(), *COUNTS, *line("accept"), *line("cat", "b.md"),
+        ADDED_THREE + ended(1, out=STRAY_T) + counted(1, 0, 0, 0) + done("M b.md\n") + ended(1, out=STRAY_T) + counted(2, 0, 0, 0) + done("accepted: 1\n") + done("z\n"),
+    ),
+    # It does so too where it leaves the bytes as they are, or names a file that isn't there. One that it has seen it may name.
+    *(
+        (*child(*C, changes=f"{path}={text}"), *ONE_HOOK, *run(), *run(), *COUNTS, ADDED_THREE + done(GOOD_T) * 2 + counted(calls, 0, 2 - calls, *[0] * calls))
+        for path, text, calls in [("b.md", "y", 2), ("new.md", "y", 2), ("a.txt", "x", 1)]
+    ),
+    # Where no more children can be counted, what is remembered needs none.
+    (
+        *GOOD, *ONE_HOOK, *run(), "spent", *run(), *FRESH, *run(), "forget", *run(),
+        ADDED_THREE + done(GOOD_T) * 2 + refused("14 Spent") + done(GOOD_T) + b"1 forgotten\n" + refused("14 Spent"),
+    ),
+]
+
+# Runs that start each child, over children that answer otherwise when they are started again.
+STEADY = [
+    # A fresh run with nothing remembered remembers, and one again starts the child again. The same answer is no other.
+    (*GOOD, *ONE_HOOK, *FRESH, *run(), *FRESH, *COUNTS, ADDED_THREE + done(GOOD_T) * 3 + counted(2, 0, 1, 0, 0)),
+    (*GOOD, *BAD_ONE, *ONE_HOOK, *FRESH, *COUNTS, ADDED_THREE + done(GOOD_T) + counted(1, 0, 1, 0)),
+    # Another answer takes the place of the remembered one, by its status, its output or what it changes.
+    (
+        *GOOD, *BAD_ONE, *ONE_HOOK, *run(), *run(), *COUNTS, *FRESH, *COUNTS, *run(), *COUNTS,
+        ADDED_THREE + done(GOOD_T) * 2 + counted(1, 0, 1, 0) + ended(1, out=BAD_T + UNSTEADY) + counted(2, 0, 1, 1) + ended(1, out=BAD_T) + counted(2, 0, 1),
+    ),
+    (*GOOD, *OTHER, *ONE_HOOK, *run(), *FRESH, *run(), *COUNTS, ADDED_THREE + done(GOOD_T) + done(GOOD_T + UNSTEADY) + done(GOOD_T) + counted(2, 0, 1, 0, 1)),
+    (
+        *GOOD, *child(*C, changes="a.txt=z"), *ONE_HOOK, *run(), *run("a.txt", how="fresh"), *run(), *line("fixes"), *COUNTS,
+        ADDED_THREE + done(GOOD_T) + ended(1, out=STRAY_T + UNSTEADY) + ended(1, out=STRAY_T) + done("M a.txt\n") + counted(2, 0, 1, 0, 1),
+    ),
+    # One that strays is another too, and isn't remembered in its place.
+    (
+        *GOOD, *STRAY, *ONE_HOOK, *run(), *FRESH, *line("fixes"), *run(), *COUNTS,
+        ADDED_THREE + done(GOOD_T) + ended(1, out=STRAY_T + UNSTEADY) + done("M b.md\n") + done(GOOD_T) + counted(2, 0, 1, 0, 1),
+    ),
+    # A child that fails answers nothing.
+    (
+        *GOOD, *child(*C, fault="signal"), *ONE_HOOK, *run(), *FRESH, *run(), *COUNTS,
+        ADDED_THREE + done(GOOD_T) + ended(1, out=failed("T", SIGNAL)) + done(GOOD_T) + counted(2, 1, 1, 0, 1),
+    ),
+    # The hooks stand in their order, with one id twice where two hooks have it. What counts is what is remembered at that moment:
+    # the second of two hooks with one child is compared with what the first one was answered.
+    (
+        *GOOD, *BAD_ONE, *OTHER, *with_hooks(U.replace("id: u", "id: t"), T), *add("a.txt", "x\n"), *run(), *FRESH, *COUNTS,
+        done() * 2 + done(passed("U") + GOOD_T) + ended(1, out=failed("U", "exit code: 1", output="x\n").replace("id: u", "id: t") + GOOD_T + UNSTEADY * 2) + counted(3, 0, 1, 0, 1, 2),
+    ),
+    (
+        *GOOD, *BAD_ONE, *with_hooks(U, T), *add("a.txt", "x\n"), *run(), *FRESH, *FRESH,
+        done() * 2 + done(passed("U") + GOOD_T) + ended(1, out=failed("U", "exit code: 1", output="x\n") + GOOD_T + "unsteady: u\nunsteady: t\n") * 2,
+    ),
+    (
+        *GOOD, *BAD_ONE, *BAD_ONE, *with_hooks(U, T), *add("a.txt", "x\n"), *run(), *FRESH, *COUNTS,
+        done() * 2 + done(passed("U") + GOOD_T) + ended(1, out=failed("U", "exit code: 1", output="x\n") + BAD_T + "unsteady: u\n") + counted(3, 0, 1, 0, 1, 2),
+    ),
+    # A writer that takes the report alone.
+    (
+        *GOOD, *OTHER, *ONE_HOOK, *run(), *run(how="fresh", out=str(len(GOOD_T))), *run(how="fresh", out="one"),
+        ADDED_THREE + done(GOOD_T) + cut_off(GOOD_T) + done(GOOD_T + UNSTEADY),
+    ),
+]
+
+# Commits remember as runs do, whatever becomes of them, and whatever stage it is.
+NOTE, TELL = hook("Note", "note", "", ", stages: [commit-msg]"), hook("Tell", "tell", "", ", stages: [post-commit], always_run: true")
+BEFORE_T = T.replace("$'", "$', stages: [pre-commit]")
+WITH_STAGES = (*with_hooks(BEFORE_T, NOTE, TELL), *add("a.txt", "x\n"))
+NOTED = child("note\t.git/COMMIT_EDITMSG", ".git/COMMIT_EDITMSG=m")
+COMMITTED = [
+    (
+        *GOOD, *NOTED, *child("tell"), *child("c\ta.txt", "a.txt=y"), *WITH_STAGES, *run(), *COUNTS, *commit("verified"), *COUNTS,
+        *add("a.txt", "y\n"), *commit("verified"), *COUNTS,
+        done() * 2 + done(GOOD_T) + counted(1, 0, 1, 0) + done(GOOD_T + passed("Note") + passed("Tell") + "commit 1\n") + counted(3, 0, 3, 1, 2)
+        + done() + done(GOOD_T + passed("Note") + passed("Tell") + "commit 2\n") + counted(4, 0, 4, 3),
+    ),
+    # One that a hook refuses.
+    (
+        *GOOD, *child("note\t.git/COMMIT_EDITMSG", ".git/COMMIT_EDITMSG=m", status=1), *WITH_STAGES, *commit("verified"), *commit("verified"), *COUNTS,
+        done() * 2 + ended(1, out=GOOD_T + failed("Note", "exit code: 1")) * 2 + counted(2, 0, 2, 0, 1),
+    ),
+    # One of which hooks leave no message.
+    (
+        *GOOD, *child("note\t.git/COMMIT_EDITMSG", ".git/COMMIT_EDITMSG=m", ".git/COMMIT_EDITMSG="), *WITH_STAGES, *commit("verified"), *commit("verified"), *COUNTS,
+        done() * 2 + refused("12 EmptyMessage") * 2 + counted(2, 0, 2, 0, 1),
+    ),
+]
+
+ROWS = [("command_over", *row) for row in [*RUNS, *COMMITS, *REMEMBERED, *STEADY, *COMMITTED, *EMPTY, *ADDED, *REMOVED, *BAD_PATHS, *GOOD_PATHS, *CLASHES, *TOO_LARGE, *FIXES, *STATUS, *CAT, *LOG, *SHOW, *WRITERS]]

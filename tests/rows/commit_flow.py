@@ -54,8 +54,8 @@ def told(name, text):
     return f"{name} {len(text)}\n{text}"
 
 
-def ended(calls=0, faults=0):
-    return f"{calls} calls, {faults} faults, 0 remembered\n0 forgotten\n"
+def ended(calls=0, faults=0, remembered=0):
+    return f"{calls} calls, {faults} faults, {remembered} remembered\n{remembered} forgotten\n"
 
 
 def files(name, *files):
@@ -65,6 +65,7 @@ def files(name, *files):
 # Children that take the blank off a.txt, ask that a message names a ticket, and are told of a commit.
 TRIM = child(1, "trim\ta.txt", "a.txt=x ", "a.txt=x", "trimmed\n")
 TRIMMED = child(0, "trim\ta.txt", "a.txt=x")
+TRIM_NO_MORE = child(3, "trim\ta.txt", "a.txt=x", output="no more\n")
 NO_TICKET = child(3, f"ticket\t{MESSAGE}", f"{MESSAGE}=first", output="no ticket\n")
 TICKET = child(0, f"ticket\t{MESSAGE}", f"{MESSAGE}=T1 first")
 TELL = child(0, "tell", f"a.txt=x\t.pre-commit-config.yaml={CONFIGURATION[:-1]}".replace("\n", "\1"))
@@ -72,8 +73,10 @@ TELL = child(0, "tell", f"a.txt=x\t.pre-commit-config.yaml={CONFIGURATION[:-1]}"
 TRIM_FAILED = line("Trim", "Failed") + "- hook id: trim\n- exit code: 1\n- files were modified by this hook\n\ntrimmed\n\n"
 TRIM_PASSED, TICKET_PASSED = line("Trim", "Passed"), line("Ticket", "Passed")
 TICKET_FAILED = line("Ticket", "Failed") + "- hook id: ticket\n- exit code: 3\n\nno ticket\n\n"
+NO_MORE = line("Trim", "Failed") + "- hook id: trim\n- exit code: 3\n\nno more\n\n"
 NOT_STARTED = line("Tell", "Failed") + "- hook id: tell\n- fault: could not be started\n"
 
+RUN = ("run", "pre-commit", "changed", "", "remembering", "")
 CONFIGURATION_FILE = ("plain", ".pre-commit-config.yaml", CONFIGURATION)
 A = ("plain", "a.txt", "x\n")
 
@@ -81,7 +84,7 @@ PLAYS = [
     # No command, and each kind of command on a repository with nothing in it.
     (ended(),),
     (
-        "rm", "a", "accept", "run", "manual", "all", "", "", "commit", "m", "verified", "", "forget", "add", "none", "a/../b", "x",
+        "rm", "a", "accept", "run", "manual", "all", "", "remembering", "", "commit", "m", "verified", "", "forget", "add", "none", "a/../b", "x",
         "refused 4 NotStaged\nrefused 11 NoFixes\nrefused 7 NoConfig\nrefused 10 NothingStaged\nforgot 0\nrefused 3 BadPath 3\n" + ended(),
     ),
     # What is staged is told, and a command that is refused stops none of those behind it.
@@ -91,26 +94,33 @@ PLAYS = [
     ),
     # A run that keeps a fix, which is told and then accepted.
     (
-        *TRIM, *CONFIGURED, "add", "none", "a.txt", "x \n", "run", "pre-commit", "changed", "", "",
-        "added\nadded\nran, failed, 0 unsteady\n" + told("change a.txt", "x\n") + told("report", TRIM_FAILED) + ended(1)
+        *TRIM, *CONFIGURED, "add", "none", "a.txt", "x \n", "run", "pre-commit", "changed", "", "remembering", "",
+        "added\nadded\nran, failed, 0 unsteady\n" + told("change a.txt", "x\n") + told("report", TRIM_FAILED) + ended(1, remembered=1)
         + files("staged", CONFIGURATION_FILE, ("plain", "a.txt", "x \n")) + told("fix a.txt", "x\n"),
     ),
     # A day: the same, a message without a ticket, a commit that leaves hooks out, one with a ticket, and nothing behind it to tell.
     (
-        *TRIM, *TRIMMED, *NO_TICKET, *TICKET, *TELL, *CONFIGURED, "add", "none", "a.txt", "x \n", "run", "pre-commit", "changed", "", "", "accept",
+        *TRIM, *TRIMMED, *NO_TICKET, *TICKET, *TELL, *CONFIGURED, "add", "none", "a.txt", "x \n", "run", "pre-commit", "changed", "", "remembering", "", "accept",
         "commit", "first", "verified", "", "commit", "T1 first \n\n", "unverified", "",
         "rm", "a.txt", "commit", "T1 first", "verified", "", "commit", "T1 first", "verified", "", "forget",
         "added\nadded\nran, failed, 0 unsteady\n" + told("change a.txt", "x\n") + told("report", TRIM_FAILED) + "accepted 1\n"
         + "failed at CommitMsg\n" + told("report", TRIM_PASSED) + told("report", "") + told("report", TICKET_FAILED)
         + "committed 1\n" + told("report", "") + told("post", line("Tell", "Passed"))
         + "removed\ncommitted 2\n" + told("report", line("Trim", "(no files to check)Skipped")) + told("report", "") + told("report", TICKET_PASSED)
-        + told("post", NOT_STARTED) + "refused 10 NothingStaged\nforgot 0\n" + ended(6, 1)
+        + told("post", NOT_STARTED) + "refused 10 NothingStaged\nforgot 5\n" + ended(6, 1)
         + files("staged", CONFIGURATION_FILE) + files("head", CONFIGURATION_FILE)
         + told("commit 1", "T1 first\n") + files("committed", CONFIGURATION_FILE, A) + told("commit 2", "T1 first\n") + files("committed", CONFIGURATION_FILE),
     ),
+    # A run again starts no child, and tells the same. A fresh one starts it, and tells that a hook is unsteady.
+    (
+        *TRIMMED, *TRIM_NO_MORE, *CONFIGURED, "add", "none", "a.txt", "x\n", *RUN, *RUN, "run", "pre-commit", "a.txt", "", "fresh", "", *RUN, "forget", *RUN,
+        "added\nadded\n" + ("ran, passed, 0 unsteady\n" + told("report", TRIM_PASSED)) * 2 + "ran, failed, 1 unsteady\n" + told("report", NO_MORE)
+        + "ran, failed, 0 unsteady\n" + told("report", NO_MORE) + "forgot 1\nran, passed, 0 unsteady\n" + told("report", TRIM_PASSED) + ended(3, remembered=1)
+        + files("staged", CONFIGURATION_FILE, A),
+    ),
     # Hooks that are skipped aren't asked, by a commit and by a run.
     (
-        *CONFIGURED, "add", "none", "a.txt", "x \n", "run", "pre-commit", "all", "trim", "trim", "commit", "first", "verified", "ticket,trim, tell",
+        *CONFIGURED, "add", "none", "a.txt", "x \n", "run", "pre-commit", "all", "trim", "remembering", "trim", "commit", "first", "verified", "ticket,trim, tell",
         "added\nadded\nran, passed, 0 unsteady\n" + told("report", line("Trim", "Skipped"))
         + "committed 1\n" + told("report", line("Trim", "Skipped")) + told("report", "") + told("report", line("Ticket", "Skipped"))
         + told("post", line("Tell", "Skipped")) + ended() + files("staged", CONFIGURATION_FILE, ("plain", "a.txt", "x \n"))
@@ -118,7 +128,7 @@ PLAYS = [
     ),
     # Where no more children can be counted, what needs one is refused, and a commit that stands tells that its last hooks were stopped.
     (
-        "spent", *CONFIGURED, "add", "none", "a.txt", "x\n", "run", "pre-commit", "named.txt", "", "", "run", "pre-commit", "a.txt", "", "",
+        "spent", *CONFIGURED, "add", "none", "a.txt", "x\n", "run", "pre-commit", "named.txt", "", "remembering", "", "run", "pre-commit", "a.txt", "", "remembering", "",
         "commit", "first", "verified", "", "commit", "first", "unverified", "",
         "added\nadded\nrefused 4 NotStaged\nrefused 14 Spent\nrefused 14 Spent\ncommitted 1\n" + told("report", "") + "post stopped 4 Spent\n"
         + ended(2**64 - 1) + files("staged", CONFIGURATION_FILE, A) + files("head", CONFIGURATION_FILE, A)

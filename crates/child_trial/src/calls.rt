@@ -1,18 +1,23 @@
 //! The calls of the program.
 
 use crate::outcomes::{measured_text, outcome_text};
+use crate::runs::{ask_of, run_text};
 use child_port::{Children, Outcome};
 use hook_base::{Bytes, FileEntry, Mode, OutOfMemory, RepoPath, Text, Tree};
+use hook_config::{Config, read_config};
+use hook_run::run_hooks;
 use process_children::ProcessChildren;
+use result_book::{Book, ListBook};
 use std::alloc::Global;
 use trial_rows::{Row, Stop, number_of, only, text_of};
 
-/// A tree, and the children that run on it.
+/// A tree, the children that run on it, and what runs of hooks remember of these.
 #[derive(Drop)]
 pub(crate) struct Play {
     alloc: Global,
     tree: Tree,
     children: ProcessChildren<HostRuntime>,
+    book: ListBook,
 }
 
 impl Play {
@@ -22,6 +27,7 @@ impl Play {
             alloc,
             tree: Tree::new(alloc),
             children,
+            book: ListBook::new(alloc),
         }
     }
 
@@ -34,6 +40,8 @@ impl Play {
             "remove" => self.remove(arguments),
             "run" => self.run(arguments),
             "measure" => self.measure(arguments),
+            "hooks" => self.hooks(arguments),
+            "counts" => self.counts(),
             _ => Err(Stop::NoCall),
         }
     }
@@ -80,6 +88,32 @@ impl Play {
     // A child of these words, of whose answer the numbers alone are told, for a script that measures.
     fn measure(&mut self, arguments: &[Vec<u8>]) -> Result<Vec<u8>, Stop> {
         measured_text(self.alloc, self.outcome_of(arguments)?)
+    }
+
+    // A run of a configuration's hooks on all files.
+    fn hooks(&mut self, arguments: &[Vec<u8>]) -> Result<Vec<u8>, Stop> {
+        let [configuration, how] = arguments else {
+            return Err(Stop::BadLine);
+        };
+        match read_config(self.alloc, configuration.as_slice()) {
+            Ok(config) => self.run_of(&config, how.as_slice()),
+            Err(_) => Err(Stop::BadLine),
+        }
+    }
+
+    fn run_of(&mut self, config: &Config, how: &[u8]) -> Result<Vec<u8>, Stop> {
+        let ask = ask_of(self.alloc, &self.tree, how)?;
+        let (children, book) = (&mut self.children, &mut self.book);
+        let ran = run_hooks(self.alloc, children, book, config, &ask, &self.tree);
+        run_text(self.alloc, &ran)
+    }
+
+    // How many outcomes the children have told, how many of them are faults, and how many answers are remembered.
+    fn counts(&mut self) -> Result<Vec<u8>, Stop> {
+        let (calls, faults) = (self.children.calls(), self.children.faults());
+        let remembered = self.book.len();
+        let text = format!(in self.alloc; "{calls} {faults} {remembered}")?;
+        Ok(text.as_str().as_bytes().to_vec(self.alloc)?)
     }
 
     fn outcome_of(&mut self, arguments: &[Vec<u8>]) -> Result<Result<Outcome, OutOfMemory>, Stop> {

@@ -6,6 +6,7 @@
 
 mod calls;
 mod outcomes;
+mod runs;
 
 use calls::Play;
 use process_children::ProcessChildren;

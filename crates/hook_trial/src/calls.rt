@@ -1,8 +1,9 @@
 //! The calls by their names.
 
 use crate::{
-    checks, child_runs, command_lines, config_kinds, config_texts, configurations, fault_texts,
-    host_commands, messages, plans, plays, report_texts, runs, stages, try_faults,
+    book_plays, checks, child_runs, command_lines, config_kinds, config_texts, configurations,
+    fault_texts, host_commands, messages, plans, plays, report_texts, run_times, runs, stages,
+    try_faults,
 };
 use std::alloc::Global;
 use trial_rows::{Answer, Answers, Row, Stop};
@@ -86,6 +87,17 @@ fn of_commit_flow(alloc: Global, call: &str, arguments: &[Vec<u8>]) -> Result<An
         "cleaned_message" => messages::cleaned(alloc, arguments),
         "play" => plays::played(alloc, arguments),
         "fault_texts" => fault_texts::told(alloc),
+        _ => of_books(alloc, call, arguments),
+    }
+}
+
+fn of_books(alloc: Global, call: &str, arguments: &[Vec<u8>]) -> Result<Answer, Stop> {
+    match call {
+        "play_book" => book_plays::played(alloc, arguments),
+        "first_runs" => run_times::first_runs(alloc, arguments),
+        "further_runs" => run_times::further_runs(alloc, arguments),
+        "runs_among" => run_times::runs_among(alloc, arguments),
+        "runs_of_each" => run_times::runs_of_each(alloc, arguments),
         _ => Err(Stop::NoCall),
     }
 }

@@ -2,7 +2,8 @@
 //!
 //! A row is a text of lines: `answer STATUS`; the words of the command; the files that the child has seen; what it changes;
 //! and its output. Words are parted by tabs, and so are files, each `PATH=LINE`: its bytes are the line and a line feed, where
-//! the byte 1 stands for a line feed too. `PATH` alone, of what is changed, is a file that is gone.
+//! the byte 1 stands for a line feed too. `PATH` alone, of what is changed, is a file that is gone; behind the byte 2, of what
+//! is seen, stands one that is executable.
 
 use child_port::{Answer, Fault, TableRow};
 use hook_base::{Bytes, Change, Changes, FileEntry, Items, Mode, RepoPath, Text, Tree};
@@ -14,6 +15,9 @@ const MESSAGE: &str = ".git/COMMIT_EDITMSG";
 
 // What stands for a line feed in the bytes of a file.
 const FURTHER_LINE: u8 = 1;
+
+// What stands before the path of an executable file.
+const EXECUTABLE: &str = "\u{2}";
 
 /// The row that a text is.
 pub(crate) fn row_of(alloc: Global, text: &str) -> Result<TableRow, Stop> {
@@ -71,10 +75,18 @@ fn seen_of(alloc: Global, line: &str) -> Result<Tree, Stop> {
     }
     for file in line.split('\t') {
         let (path, contents) = file.split_once('=').ok_or(Stop::BadLine)?;
-        let (mode, bytes) = (Mode::Plain, line_bytes(alloc, contents)?);
+        let (mode, path) = mode_and_path(path);
+        let bytes = line_bytes(alloc, contents)?;
         tree.put(path_of(alloc, path)?, FileEntry { mode, bytes })?;
     }
     Ok(tree)
+}
+
+fn mode_and_path(text: &str) -> (Mode, &str) {
+    match text.strip_prefix(EXECUTABLE) {
+        Some(path) => (Mode::Executable, path),
+        None => (Mode::Plain, text),
+    }
 }
 
 fn changes_of(alloc: Global, line: &str) -> Result<Changes, Stop> {

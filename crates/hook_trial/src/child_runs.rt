@@ -40,7 +40,11 @@ pub(crate) fn played(alloc: Global, arguments: &[Vec<u8>]) -> Result<Answer, Sto
     }
 }
 
-fn table_of(alloc: Global, calls: &[u8], texts: &[Vec<u8>]) -> Result<TableChildren, Stop> {
+pub(crate) fn table_of(
+    alloc: Global,
+    calls: &[u8],
+    texts: &[Vec<u8>],
+) -> Result<TableChildren, Stop> {
     let calls = match text_of(calls)? {
         "all" => u64::MAX,
         _ => u64::from(number_of(calls)?),
@@ -80,7 +84,7 @@ fn told(alloc: Global, out: &RunOut, calls: u64, faults: u64, tree: &Tree) -> Re
     Ok(with_results(with_changes(answer, changes.as_slice()), out))
 }
 
-fn with_changes(answer: Answer, changes: &[Change]) -> Answer {
+pub(crate) fn with_changes(answer: Answer, changes: &[Change]) -> Answer {
     let mut answer = answer;
     for change in changes {
         let what = if change.now.is_some() {

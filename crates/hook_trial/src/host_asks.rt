@@ -1,5 +1,6 @@
 //! The words by which a row asks for runs and commits: STAGE is `pre-commit` or `manual`; FILES is `changed`, `all` or the path of
-//! the one that is named; ONLY names the hooks to run, or is empty; HOW is `verified` or `unverified`.
+//! the one that is named; ONLY names the hooks to run, or is empty; HOW is `remembering` or `fresh` of a run, `verified` or
+//! `unverified` of a commit.
 
 use crate::host_words::Words;
 use commit_flow::{AskStage, Which};
@@ -12,6 +13,14 @@ pub(crate) fn stage_of(words: &mut Words<'_>) -> Result<AskStage, Stop> {
     match words.text()? {
         "pre-commit" => Ok(AskStage::PreCommit),
         "manual" => Ok(AskStage::Manual),
+        _ => Err(Stop::BadLine),
+    }
+}
+
+pub(crate) fn is_fresh(words: &mut Words<'_>) -> Result<bool, Stop> {
+    match words.text()? {
+        "remembering" => Ok(false),
+        "fresh" => Ok(true),
         _ => Err(Stop::BadLine),
     }
 }

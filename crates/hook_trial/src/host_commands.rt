@@ -1,59 +1,53 @@
-//! Commands over a repository that is kept in memory.
+//! Commands over a repository that is kept in memory, by a host that remembers answers as long as it lives.
 //!
 //! A row's arguments are steps, each a word and what it needs. `stage MODE PATH CONTENTS`, `unstage PATH`,
 //! `commit MESSAGE` and `fixes FIX..` (one text, a fix a line: a path alone is a file that is gone, and behind a path and a tab
-//! stand its other bytes) set the store up, which is empty at first. `line OUT ERR COMMAND ..` plays a command (`host_lines.rt`)
-//! over writers of two habits (`host_writers.rt`), and is answered by the exit status and how many bytes stand on each writer,
-//! and after a line end by these bytes. `store` is answered by the staged files, those of HEAD, and how many fixes and commits
-//! there are. Before all of them may stand `child ROW`, once for each row of the table by which children answer
-//! (`child_rows.rt`); another child isn't started. Where `spent` is the first word, no child can be counted any more.
+//! stand its other bytes) set the store up, which is empty at first, for a new host. `line OUT ERR COMMAND ..` plays a command
+//! (`host_lines.rt`) over writers of two habits (`host_writers.rt`), and is answered by the exit status and how many bytes stand
+//! on each writer, and after a line end by these bytes. `store` is answered by the staged files, those of HEAD, and how many
+//! fixes and commits there are; `forget` by how many answers are forgotten; and `counts` by how many children were started, how
+//! many of them failed and how many answers are remembered, and a line with the numbers of the rows by which children answered
+//! since the last such step, with `-` for one that has no row. From `spent` on no child can be counted any more. Before all of
+//! them may stand the table by which children answer (`child_tables.rt`).
 
 ghost use Rattle.std.specs.Prelude.{◌≢◌, IfOk};
 ghost use Rattle.hook_base.specs.Paths.{message_path};
 
-use crate::child_rows::row_of;
+use crate::child_tables::children_of;
+use crate::host_counts::{with_counts, with_forgotten, with_rows};
 use crate::host_lines::line_played;
 use crate::host_words::{Words, mode_of, with_file};
-use child_port::TableChildren;
-use hook_base::{Bytes, Change, Changes, Items, RepoPath};
+use crate::turn_children::TurnChildren;
+use commit_flow::Host;
+use hook_base::{Bytes, Change, Changes, RepoPath};
 use repo_store::{FileRef, Store, StoreFault};
 use sqlite::{Connection, MemStore};
 use std::alloc::Global;
 use std::mem;
 use trial_rows::{Answer, Stop, text_of};
 
-/// The store of a row.
-pub(crate) type Kept = Store<MemStore>;
+/// The host of a row.
+pub(crate) type Played = Host<MemStore>;
+
+// Its store.
+type Kept = Store<MemStore>;
 
 /// `command_over STEP..`: what the lines and the store answer, one after the other.
 pub(crate) fn played(alloc: Global, arguments: &[Vec<u8>]) -> Result<Answer, Stop> {
     let mut words = Words { left: arguments };
     let mut children = children_of(alloc, &mut words)?;
-    let mut store = empty_store(alloc)?;
+    let mut host = Host::over(alloc, empty_store(alloc)?);
     let mut told = Answer::new(alloc);
     for _ in 0..arguments.len() {
         match words.next() {
             Some(step) => {
                 let step = text_of(step)?;
-                store = stepped(alloc, step, &mut words, &mut children, store, &mut told)?;
+                host = stepped(alloc, step, &mut words, &mut children, host, &mut told)?;
             }
             None => return Ok(told),
         }
     }
     Ok(told)
-}
-
-/// The children by the rows that the first words give.
-pub(crate) fn children_of(alloc: Global, words: &mut Words<'_>) -> Result<TableChildren, Stop> {
-    let calls = if words.take("spent")? { u64::MAX } else { 0 };
-    let mut rows = Vec::new(alloc);
-    for _ in 0..words.left.len() {
-        if !words.take("child")? {
-            break;
-        }
-        rows.push(row_of(alloc, words.text()?)?)?;
-    }
-    Ok(TableChildren::with_calls(Items::from(rows), calls))
 }
 
 pub(crate) fn empty_store(alloc: Global) -> Result<Kept, Stop> {
@@ -75,21 +69,33 @@ fn stepped(
     alloc: Global,
     step: &str,
     words: &mut Words<'_>,
-    children: &mut TableChildren,
-    store: Kept,
+    children: &mut TurnChildren,
+    host: Played,
     told: &mut Answer,
-) -> Result<Kept, Stop> {
+) -> Result<Played, Stop> {
+    let mut host = host;
+    match step {
+        "line" => line_played(alloc, words, children, &mut host, told)?,
+        "store" => tell_store(host.store(), told),
+        "counts" => tell_counts(children, &host, told),
+        "forget" => tell_forgotten(&mut host, told),
+        "spent" => children.spend(),
+        _ => return set_up(alloc, step, words, host.into_store()),
+    }
+    Ok(host)
+}
+
+// A new host of the store that a step sets up.
+fn set_up(alloc: Global, step: &str, words: &mut Words<'_>, store: Kept) -> Result<Played, Stop> {
     let mut store = store;
     match step {
-        "line" => return line_played(alloc, words, children, store, told),
         "stage" => stage(alloc, words, &mut store)?,
         "unstage" => unstage(alloc, words, &mut store)?,
         "commit" => commit(words, &mut store)?,
         "fixes" => set_fixes(alloc, words, &mut store)?,
-        "store" => tell_store(&store, told),
         _ => return Err(Stop::BadLine),
     }
-    Ok(store)
+    Ok(Host::over(alloc, store))
 }
 
 fn stage(alloc: Global, words: &mut Words<'_>, store: &mut Kept) -> Result<(), Stop> {
@@ -145,12 +151,25 @@ fn fix_of(alloc: Global, line: &str) -> Result<Change, Stop> {
 }
 
 fn tell_store(store: &Kept, told: &mut Answer) {
-    let fresh = Answer::new(told.alloc());
-    let answer = mem::replace(told, fresh);
-    let answer = with_head(with_staged(answer, store), store);
+    let answer = with_head(with_staged(taken(told), store), store);
     let answer = answer.text("fixes ").shown(store.count_fixes());
     let answer = answer.text(", commits ").shown(store.count_commits());
     *told = answer.text("\n");
+}
+
+fn tell_counts(children: &mut TurnChildren, host: &Played, told: &mut Answer) {
+    let answer = with_counts(taken(told), children, host);
+    *told = with_rows(answer, children);
+}
+
+fn tell_forgotten(host: &mut Played, told: &mut Answer) {
+    *told = with_forgotten(taken(told), host);
+}
+
+// What is told so far, so that more is put behind it by value.
+fn taken(told: &mut Answer) -> Answer {
+    let fresh = Answer::new(told.alloc());
+    mem::replace(told, fresh)
 }
 
 fn with_staged(answer: Answer, store: &Kept) -> Answer {

@@ -1,50 +1,50 @@
 //! Commands over a repository, from the words of a row: `add MODE PATH CONTENTS`, `add_zeros MODE PATH COUNT`, `rm PATH`,
-//! `status`, `fixes`, `accept`, `cat PATH`, `log`, `show NUMBER`, `run STAGE FILES ONLY SKIP` or `commit MESSAGE HOW SKIP`. MODE is
-//! `plain`, `executable` or `none`; SKIP is a list of the hooks that are skipped, with commas between them; the others are those
-//! of `host_asks.rt`.
+//! `status`, `fixes`, `accept`, `cat PATH`, `log`, `show NUMBER`, `run STAGE FILES ONLY HOW SKIP` or `commit MESSAGE HOW SKIP`.
+//! MODE is `plain`, `executable` or `none`; SKIP is a list of the hooks that are skipped, with commas between them; the others are
+//! those of `host_asks.rt`.
 
 ghost use Rattle.std.specs.Prelude.{IfOk};
 ghost use Rattle.hook_cli.specs.CommandOver.{IsOverHost};
 
-use crate::host_asks::{asked_name, chosen_files, chosen_stage, files_of, is_unverified, stage_of};
-use crate::host_commands::Kept;
+use crate::host_asks::{
+    asked_name, chosen_files, chosen_stage, files_of, is_fresh, is_unverified, stage_of,
+};
+use crate::host_commands::Played;
 use crate::host_words::{Words, mode_of};
 use crate::host_writers::HabitWriter;
-use child_port::TableChildren;
-use commit_flow::Host;
+use crate::turn_children::TurnChildren;
 use hook_base::{Items, Text};
 use hook_cli::{Line, command_over, skip_list_of};
 use std::alloc::Global;
 use std::mem;
 use trial_rows::{Answer, Stop};
 
-/// Hands the store to a host for one command.
+/// Plays one command.
 pub(crate) fn line_played(
     alloc: Global,
     words: &mut Words<'_>,
-    children: &mut TableChildren,
-    store: Kept,
+    children: &mut TurnChildren,
+    host: &mut Played,
     told: &mut Answer,
-) -> Result<Kept, Stop> {
+) -> Result<(), Stop> {
     let mut out = HabitWriter::of(alloc, words.bytes()?)?;
     let mut err = HabitWriter::of(alloc, words.bytes()?)?;
     let command = words.text()?;
     let line = line_of(alloc, command, words)?;
     let bytes = bytes_of(alloc, command, words)?;
     let skip = skip_of(alloc, command, words)?;
-    let mut host = Host::over(alloc, store);
     let status = command_over(
         alloc,
         &line,
         bytes.as_slice(),
         skip.as_slice(),
-        &mut host,
+        host,
         children,
         &mut out,
         &mut err,
     );
     tell_end(status, out, err, told);
-    Ok(host.into_store())
+    Ok(())
 }
 
 // The line of a command, but for the bytes of `add` and what runs skip.
@@ -65,7 +65,7 @@ fn line_of(alloc: Global, command: &str, words: &mut Words<'_>) -> Result<Line, 
             stage: chosen_stage(stage_of(words)?),
             files: chosen_files(files_of(alloc, words)?),
             only: asked_name(alloc, words)?,
-            fresh: false,
+            fresh: is_fresh(words)?,
         }),
         "commit" => Ok(Line::Commit {
             message: Text::copy_of(alloc, words.text()?)?,

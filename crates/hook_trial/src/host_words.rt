@@ -3,6 +3,11 @@
 use hook_base::Mode;
 use trial_rows::{Answer, Stop, number_of, text_of};
 
+// The most bytes of a file that are all told, and how many are told of each end of one that has more.
+const MOST_TOLD_BYTES: usize = 4096;
+
+const END_BYTES: usize = 100;
+
 /// The words of a row that are still to be read.
 #[derive(Drop)]
 pub(crate) struct Words<'a> {
@@ -53,7 +58,7 @@ pub(crate) fn mode_of(words: &mut Words<'_>) -> Result<Option<Mode>, Stop> {
     }
 }
 
-/// Adds a line with the mode, the path and the length of a file, and then its bytes.
+/// Adds a line with the mode, the path and the length of a file, and then its bytes, of a long one only the first and the last.
 pub(crate) fn with_file(
     answer: Answer,
     list: &str,
@@ -66,5 +71,13 @@ pub(crate) fn with_file(
         Mode::Executable => " executable ",
     };
     let answer = answer.texts(&[list, mode, path, " "]);
-    answer.shown(bytes.len()).text("\n").bytes(bytes)
+    with_ends(answer.shown(bytes.len()).text("\n"), bytes)
+}
+
+fn with_ends(answer: Answer, bytes: &[u8]) -> Answer {
+    if bytes.len() <= MOST_TOLD_BYTES {
+        return answer.bytes(bytes);
+    }
+    let answer = answer.bytes(&bytes[..END_BYTES]);
+    answer.bytes(&bytes[bytes.len() - END_BYTES..])
 }

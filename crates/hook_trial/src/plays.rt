@@ -1,24 +1,21 @@
 //! Lists of commands that a host makes at one call, and what the host answers of itself then.
 //!
-//! A row's arguments may begin with the table of its children (`host_commands.rt`). Then come the commands, `add MODE PATH CONTENTS`,
-//! `rm PATH`, `accept`, `run STAGE FILES ONLY SKIP`, `commit MESSAGE HOW SKIP` (`host_lines.rt`) and `forget`, on a repository
+//! A row's arguments may begin with the table of its children (`child_tables.rt`). Then come the commands, `add MODE PATH CONTENTS`,
+//! `rm PATH`, `accept`, `run STAGE FILES ONLY HOW SKIP`, `commit MESSAGE HOW SKIP` (`host_lines.rt`) and `forget`, on a repository
 //! that is empty at first. They are answered by what `replies.rt` tells of each, by a line on the children and on what is
 //! remembered, and by the repository.
 
-use crate::host_asks::{asked_name, files_of, is_unverified, stage_of};
-use crate::host_commands::{children_of, empty_store};
+use crate::child_tables::children_of;
+use crate::host_asks::{asked_name, files_of, is_fresh, is_unverified, stage_of};
+use crate::host_commands::{Played, empty_store};
+use crate::host_counts::{with_counts, with_forgotten};
 use crate::host_words::{Words, mode_of, with_file};
-use crate::replies::{with_changes, with_length, with_refusal, with_reply};
-use child_port::{Children, TableChildren};
+use crate::replies::{with_changes, with_length, with_reply};
 use commit_flow::{Command, Host, HostAsk, Reply};
 use hook_base::{Bytes, Text, Tree};
 use hook_cli::skip_list_of;
-use sqlite::MemStore;
 use std::alloc::Global;
 use trial_rows::{Answer, Stop};
-
-// The host of a row.
-type Played = Host<MemStore>;
 
 /// `play COMMAND..`: the replies, the counts, and the repository.
 pub(crate) fn played(alloc: Global, arguments: &[Vec<u8>]) -> Result<Answer, Stop> {
@@ -80,24 +77,9 @@ fn ask_of(alloc: Global, words: &mut Words<'_>) -> Result<HostAsk, Stop> {
         stage: stage_of(words)?,
         which: files_of(alloc, words)?,
         only: asked_name(alloc, words)?,
+        fresh: is_fresh(words)?,
         skip: skip_list_of(alloc, words.text()?)?,
-        fresh: false,
     })
-}
-
-// How many children were asked and how many of them failed, and how many answers are remembered.
-fn with_counts(answer: Answer, children: &TableChildren, host: &Played) -> Answer {
-    let answer = answer.shown(children.calls()).text(" calls, ");
-    let answer = answer.shown(children.faults()).text(" faults, ");
-    answer.shown(host.remembered()).text(" remembered\n")
-}
-
-// How many answers `forget` then forgets.
-fn with_forgotten(answer: Answer, host: &mut Played) -> Answer {
-    match host.forget() {
-        Ok(number) => answer.shown(number).text(" forgotten\n"),
-        Err(refusal) => with_refusal(answer, &refusal),
-    }
 }
 
 // The staged files, those of HEAD, the fixes, and each commit with its files.

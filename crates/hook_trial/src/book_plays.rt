@@ -1,0 +1,162 @@
+//! Runs over one book, one after another, of which a call may be refused.
+//!
+//! A row's arguments are a configuration and steps, each a word and what it needs: `file MODE PATH CONTENTS` and `gone PATH`
+//! change the files, `child ROW` adds a row to the table by which children answer (`child_rows.rt`), and `others` begins
+//! another table. `run HOW CALLS KTH FAULT BOOK REFUSAL` runs the hooks of `pre-commit` on all files, HOW being `plain` or
+//! `fresh`, over children that have told CALLS outcomes (`child_runs.rt`) and fail their call of the number KTH by FAULT; the
+//! look-up or put of the number BOOK is refused by REFUSAL. `forget` forgets what is remembered.
+//!
+//! A run is answered by its verdict or its refusal and by how many outcomes it added, how many of these are faults; then by a line
+//! for each unsteady hook, for each file that is changed, by the report, and by how many answers are remembered and whether
+//! that of each row of the table is: `held`, `lacking`, or `other` where another is in its place.
+
+use crate::book_told::{with_ran, with_remembered};
+use crate::child_rows::fault_of;
+use crate::child_runs::table_of;
+use crate::configurations::refusal;
+use crate::fused_book::FusedBook;
+use crate::host_words::{Words, mode_of};
+use child_port::{Children, Fault, FuseChildren};
+use hook_base::{Bytes, FileEntry, Items, RepoPath, Tree};
+use hook_config::{Config, Stage, read_config};
+use hook_run::{RunAsk, run_hooks};
+use repo_store::StoreFault;
+use result_book::{Book, BookFault};
+use std::alloc::Global;
+use trial_rows::{Answer, Stop, text_of};
+
+/// The files, the rows by which children answer, as their texts say them, and what is remembered.
+#[derive(Drop)]
+pub(crate) struct BookPlay {
+    pub(crate) tree: Tree,
+    pub(crate) rows: Vec<Vec<u8>>,
+    pub(crate) book: FusedBook,
+}
+
+/// `play_book CONFIGURATION STEP..`: what the runs answer, one after another.
+pub(crate) fn played(alloc: Global, arguments: &[Vec<u8>]) -> Result<Answer, Stop> {
+    let mut words = Words { left: arguments };
+    match read_config(alloc, words.bytes()?) {
+        Ok(config) => over_config(alloc, &config, &mut words),
+        Err(fault) => Ok(refusal(alloc, fault)),
+    }
+}
+
+fn over_config(alloc: Global, config: &Config, words: &mut Words<'_>) -> Result<Answer, Stop> {
+    let mut play = BookPlay {
+        tree: Tree::new(alloc),
+        rows: Vec::new(alloc),
+        book: FusedBook::new(alloc),
+    };
+    let mut answer = Answer::new(alloc);
+    for _ in 0..words.left.len() {
+        match words.next() {
+            Some(step) => answer = stepped(text_of(step)?, words, config, &mut play, answer)?,
+            None => break,
+        }
+    }
+    Ok(answer)
+}
+
+fn stepped(
+    step: &str,
+    words: &mut Words<'_>,
+    config: &Config,
+    play: &mut BookPlay,
+    answer: Answer,
+) -> Result<Answer, Stop> {
+    let alloc = answer.alloc();
+    match step {
+        "file" => put_file(alloc, words, &mut play.tree)?,
+        "gone" => remove_file(alloc, words, &mut play.tree)?,
+        "child" => play.rows.push(words.bytes()?.to_vec(alloc)?)?,
+        "others" => play.rows.clear(),
+        "run" => return run(words, config, play, answer),
+        "forget" => return Ok(with_forgotten(play, answer)),
+        _ => return Err(Stop::BadLine),
+    }
+    Ok(answer)
+}
+
+fn put_file(alloc: Global, words: &mut Words<'_>, tree: &mut Tree) -> Result<(), Stop> {
+    let mode = mode_of(words)?.ok_or(Stop::BadLine)?;
+    let path = RepoPath::read(alloc, words.text()?)?;
+    let bytes = Bytes::copy_of(alloc, words.bytes()?)?;
+    tree.put(path, FileEntry { mode, bytes })?;
+    Ok(())
+}
+
+fn remove_file(alloc: Global, words: &mut Words<'_>, tree: &mut Tree) -> Result<(), Stop> {
+    let path = RepoPath::read(alloc, words.text()?)?;
+    let _found = tree.remove(&path);
+    Ok(())
+}
+
+fn with_forgotten(play: &mut BookPlay, answer: Answer) -> Answer {
+    match play.book.forget() {
+        Ok(count) => answer.shown(count).text(" forgotten\n"),
+        Err(fault) => answer.shown(fault).text("\n"),
+    }
+}
+
+fn run(
+    words: &mut Words<'_>,
+    config: &Config,
+    play: &mut BookPlay,
+    answer: Answer,
+) -> Result<Answer, Stop> {
+    let alloc = answer.alloc();
+    let ask = ask_of(alloc, &play.tree, words.text()?)?;
+    let table = table_of(alloc, words.bytes()?, play.rows.as_slice())?;
+    let kth = u64::from(words.number()?);
+    let mut children = FuseChildren::new(table, kth, fault_of(words.bytes()?)?);
+    fuse_book(words, &mut play.book)?;
+    let (calls, faults) = (children.calls(), children.faults());
+    let ran = run_hooks(
+        alloc,
+        &mut children,
+        &mut play.book,
+        config,
+        &ask,
+        &play.tree,
+    );
+    let calls = children.calls().saturating_sub(calls);
+    let faults = children.faults().saturating_sub(faults);
+    let answer = with_ran(answer, &ran, calls, faults, &play.tree)?;
+    with_remembered(answer, play)
+}
+
+// All files of the tree are candidates.
+fn ask_of(alloc: Global, tree: &Tree, how: &str) -> Result<RunAsk, Stop> {
+    let mut candidates = Vec::new(alloc);
+    for index in 0..tree.len() {
+        candidates.push(tree.entry(index).path.clone()?)?;
+    }
+    Ok(RunAsk {
+        stage: Stage::PreCommit,
+        candidates: Items::from(candidates),
+        only: None,
+        skip: Items::new(alloc),
+        fresh: is_fresh(how)?,
+    })
+}
+
+fn is_fresh(how: &str) -> Result<bool, Stop> {
+    match how {
+        "plain" => Ok(false),
+        "fresh" => Ok(true),
+        _ => Err(Stop::BadLine),
+    }
+}
+
+fn fuse_book(words: &mut Words<'_>, book: &mut FusedBook) -> Result<(), Stop> {
+    let kth = words.number()?;
+    let fault = match words.text()? {
+        "memory" => BookFault::OutOfMemory,
+        "damaged" => BookFault::Store(StoreFault::Damaged),
+        "collision" => BookFault::Store(StoreFault::Collision),
+        _ => return Err(Stop::BadLine),
+    };
+    book.fuse(kth, fault);
+    Ok(())
+}

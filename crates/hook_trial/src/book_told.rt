@@ -1,0 +1,67 @@
+//! What the rows tell of a run over a book: what it gave, what the children told, and what is remembered behind it.
+
+use crate::book_plays::BookPlay;
+use crate::child_rows::row_of;
+use crate::child_runs::with_changes;
+use crate::plans::verdict_of;
+use child_port::TableRow;
+use hook_base::Tree;
+use hook_run::{RunOut, RunRefusal};
+use result_book::{Book, BookFault};
+use trial_rows::{Answer, Stop, text_of};
+
+pub(crate) fn with_ran(
+    answer: Answer,
+    ran: &Result<RunOut, RunRefusal>,
+    calls: u64,
+    faults: u64,
+    tree: &Tree,
+) -> Result<Answer, Stop> {
+    match ran {
+        Ok(out) => {
+            let answer = with_counts(answer.text(verdict_of(out.passed)), calls, faults);
+            with_out(answer, out, tree)
+        }
+        Err(refused) => Ok(with_counts(with_refusal(answer, refused), calls, faults)),
+    }
+}
+
+fn with_refusal(answer: Answer, refused: &RunRefusal) -> Answer {
+    let answer = answer.shown(refused.number());
+    answer.texts(&[" ", refused.name(), ": "]).shown(refused)
+}
+
+fn with_counts(answer: Answer, calls: u64, faults: u64) -> Answer {
+    let answer = answer.text(", ").shown(calls).text(" calls, ");
+    answer.shown(faults).text(" faults\n")
+}
+
+fn with_out(answer: Answer, out: &RunOut, tree: &Tree) -> Result<Answer, Stop> {
+    let mut answer = answer;
+    for id in out.unsteady.as_slice() {
+        answer = answer.texts(&["unsteady: ", id.as_str(), "\n"]);
+    }
+    let changes = tree.changes_to(&out.tree)?;
+    Ok(with_changes(answer, changes.as_slice()).bytes(out.report.as_slice()))
+}
+
+/// Adds how many answers are remembered, and whether that of each row of the table is.
+pub(crate) fn with_remembered(answer: Answer, play: &mut BookPlay) -> Result<Answer, Stop> {
+    play.book.fuse(0, BookFault::OutOfMemory);
+    let mut answer = answer.shown(play.book.len()).text(" remembered:");
+    for text in play.rows.as_slice() {
+        let row = row_of(answer.alloc(), text_of(text.as_slice())?)?;
+        let word = word_of(&mut play.book, &row)?;
+        answer = answer.text(word);
+    }
+    Ok(answer.text("\n"))
+}
+
+fn word_of(book: &mut impl Book, row: &TableRow) -> Result<&'static str, Stop> {
+    match book.find(row.words.as_slice(), &row.seen) {
+        Ok(None) => Ok(" lacking"),
+        Ok(Some(answer)) if answer == row.answer => Ok(" held"),
+        Ok(Some(_)) => Ok(" other"),
+        Err(_) => Err(Stop::OutOfMemory),
+    }
+}

@@ -1,0 +1,38 @@
+//! What the rows tell of children and of what a host remembers of them.
+
+use crate::host_commands::Played;
+use crate::replies::with_refusal;
+use crate::turn_children::TurnChildren;
+use child_port::Children;
+use trial_rows::Answer;
+
+/// Adds how many children were asked and how many of them failed, and how many answers are remembered.
+pub(crate) fn with_counts(answer: Answer, children: &TurnChildren, host: &Played) -> Answer {
+    let answer = answer.shown(children.calls()).text(" calls, ");
+    let answer = answer.shown(children.faults()).text(" faults, ");
+    answer.shown(host.remembered()).text(" remembered\n")
+}
+
+/// Adds a line with the numbers of the rows by which children answered since this was asked last.
+pub(crate) fn with_rows(answer: Answer, children: &mut TurnChildren) -> Answer {
+    let mut answer = answer.text("rows");
+    for row in children.take_rows().as_slice() {
+        answer = with_row(answer, *row);
+    }
+    answer.text("\n")
+}
+
+fn with_row(answer: Answer, row: Option<usize>) -> Answer {
+    match row {
+        Some(row) => answer.text(" ").shown(row),
+        None => answer.text(" -"),
+    }
+}
+
+/// Adds how many answers the host then forgets.
+pub(crate) fn with_forgotten(answer: Answer, host: &mut Played) -> Answer {
+    match host.forget() {
+        Ok(number) => answer.shown(number).text(" forgotten\n"),
+        Err(refusal) => with_refusal(answer, &refusal),
+    }
+}

@@ -1,0 +1,384 @@
+"""Runs over a book of remembered answers: what is started and what isn't, what is put, what a refusal of the book leaves, and
+which hooks are unsteady. The calls are
+
+play_book CONFIGURATION STEP..
+play COMMAND..
+
+with the steps that `crates/hook_trial/src/book_plays.rt` names and the commands of `plays.rt`. A run is answered by a line on it,
+by what it gave, and by how many answers are remembered and whether that of each row of the table is. The definitions say the
+same; these rows are those of users, and show that memory is enough for them."""
+
+PROGRAM = "hook_trial"
+
+
+# ---- configurations and children
+
+def hook(name, entry, more=r"files: '\.txt$'", language="system"):
+    """A hook's table. Its id is its name in small letters."""
+    return f"  - {{id: {name.lower()}, name: {name}, language: {language}, entry: {entry}{', ' + more if more else ''}}}\n"
+
+
+def hooks(*tables):
+    return f"repos:\n- repo: local\n  hooks:\n{''.join(tables)}"
+
+
+def answered(*words, seen=("a.txt=x",), status=0, changes="", output=""):
+    """A row of the table: once a child of these words has seen these files, it answers so."""
+    return "\n".join([f"answer {status}", "\t".join(words), "\t".join(seen), changes, output])
+
+
+def child(*words, **how):
+    return ("child", answered(*words, **how))
+
+
+def file(path, contents="x\n", mode="plain"):
+    return ("file", mode, path, contents)
+
+
+def run(how="plain", calls=0, kth=0, fault="signal", book=0, refusal="damaged"):
+    """A run over children of which the call of the number `kth` fails, and over a book of which the call `book` is refused."""
+    return ("run", how, str(calls), str(kth), fault, str(book), refusal)
+
+
+# ---- what is answered
+
+def line(name, word):
+    return f"{name}{'.' * (79 - len(name) - len(word))}{word}\n"
+
+
+def details(name, *lines, output=""):
+    """What a report says of a hook that failed so."""
+    block = f"\n{output}\n" if output else ""
+    return line(name, "Failed") + "".join(f"- {each}\n" for each in [f"hook id: {name.lower()}", *lines]) + block
+
+
+MODIFIED = "files were modified by this hook"
+NOT_STARTED = "fault: could not be started"
+
+
+def told(verdict, calls, faults, *lines, held=()):
+    """What a run is answered by: `held` says of each row of the table whether its answer is remembered, or that another is in
+    its place."""
+    kept = sum(word in ("held", "other") for word in held)
+    return f"{verdict}, {calls} calls, {faults} faults\n{''.join(lines)}{kept} remembered:{''.join(' ' + word for word in held)}\n"
+
+
+T = hook("T", "c")
+A = file("a.txt")
+PASSED = line("T", "Passed")
+PASS = child("c", "a.txt")
+
+# Names of 4,095 bytes, of which 31 fit one command of `c`, and not the next.
+LONG = [f"{'/'.join(['d' * 255] * 15)}/{number:02}{'f' * 249}.txt" for number in range(32)]
+TWO_PARTS = (
+    *(word for path in LONG for word in file(path)),
+    *child("c", *LONG[:31], seen=[f"{path}=x" for path in LONG[:31]], output="one\n"),
+    *child("c", LONG[31], seen=[f"{LONG[31]}=x"], status=3, output="two\n"),
+)
+BOTH = details("T", "exit code: 3", output="one\ntwo\n")
+LAST = details("T", "exit code: 3", "fault: ended by a signal", output="two\n")
+THIRD_PARTS = (*TWO_PARTS[-4:-2], *child("c", LONG[31], seen=[f"{LONG[31]}=x"], status=3, output="three\n"))
+X_FAILED = details("T", "exit code: 1", output="x\n")
+STRAYS = child("c", "a.txt", changes="b.txt=z")
+
+# The lines of a child that failed.
+FAULTS = {
+    "not started": "could not be started",
+    "wait failed": "could not be waited for",
+    "signal": "ended by a signal",
+    "output too long": "output is longer than 1048576 bytes",
+    "scratch failed": "files could not be written or read back",
+}
+
+# A child that takes the blank off a.txt, the same where there is none, and one that looks at it; and what their hooks report.
+TRIM = child("trim", "a.txt", seen=["a.txt=x "], changes="a.txt=x")
+TRIMMED, LOOK = child("trim", "a.txt"), child("look", "a.txt")
+TRIMS = ("changed a.txt\n", details("Trim", MODIFIED), line("Look", "Passed"))
+LOOKS = (line("Trim", "Passed"), line("Look", "Passed"))
+
+
+def lint(number):
+    """A child of a script with this number in it."""
+    return child("sh", "tools/lint.sh", "a.txt", seen=["a.txt=x", f"tools/lint.sh={number}"])
+
+
+RUNS = [
+    # Each part is remembered by itself. One that a signal ended isn't, and it alone is started again.
+    (hooks(T), *TWO_PARTS, *run(), *run(), told("failed", 2, 0, BOTH, held=["held", "held"]) + told("failed", 0, 0, BOTH, held=["held", "held"])),
+    (
+        hooks(T), *TWO_PARTS, *run(kth=1), *run(), *run(),
+        told("failed", 2, 1, LAST, held=["lacking", "held"]) + told("failed", 1, 0, BOTH, held=["held", "held"]) + told("failed", 0, 0, BOTH, held=["held", "held"]),
+    ),
+    # A name doesn't fit: no child, and nothing to remember.
+    (hooks(hook("T", "c" * 131_072)), *A, *run(), told("failed", 0, 0, details("T", "fault: a name does not fit the command"))),
+    # Where no more children can be counted, what is remembered is used, and only what needs a child is refused.
+    (hooks(T), *A, *run(calls="all"), told("4 Spent: no more children can be counted", 0, 0)),
+    (
+        hooks(T), *A, *PASS, *run(), *run(calls="all"), *run("fresh", calls="all"), *run(),
+        told("passed", 1, 0, PASSED, held=["held"]) + told("passed", 0, 0, PASSED, held=["held"])
+        + told("4 Spent: no more children can be counted", 0, 0, held=["held"]) + told("passed", 0, 0, PASSED, held=["held"]),
+    ),
+    # A failure is remembered as any other answer; a fresh run starts it anew, and finds it steady.
+    (
+        hooks(T), *A, *child("c", "a.txt", status=3), *run(), *run(), *run("fresh"),
+        "".join(told("failed", calls, 0, details("T", "exit code: 3"), held=["held"]) for calls in [1, 0, 1]),
+    ),
+    # One command on the same files is one child, also of two hooks.
+    (
+        hooks(T, hook("U", "c")), *A, *PASS, *run(), *run("fresh"),
+        told("passed", 1, 0, PASSED + line("U", "Passed"), held=["held"]) + told("passed", 2, 0, PASSED + line("U", "Passed"), held=["held"]),
+    ),
+    # Other children answer otherwise. What is remembered stands until a fresh run, which puts the new answer in its place.
+    (
+        hooks(T), *A, *PASS, *run(), "others", *child("c", "a.txt", status=1, output="x\n"), *run(), *run("fresh"), *run(), *run("fresh"),
+        told("passed", 1, 0, PASSED, held=["held"]) + told("passed", 0, 0, PASSED, held=["other"]) + told("failed", 1, 0, "unsteady: t\n", X_FAILED, held=["held"])
+        + told("failed", 0, 0, X_FAILED, held=["held"]) + told("failed", 1, 0, X_FAILED, held=["held"]),
+    ),
+    # The second of two hooks with one command is compared with what the first has just put.
+    (
+        hooks(T, hook("U", "c")), *A, *PASS, *run(), "others", *child("c", "a.txt", status=1, output="x\n"), *run("fresh"),
+        told("passed", 1, 0, PASSED + line("U", "Passed"), held=["held"])
+        + told("failed", 2, 0, "unsteady: t\n", X_FAILED + details("U", "exit code: 1", output="x\n"), held=["held"]),
+    ),
+    # A hook is unsteady by one of its parts, a hook of one id each time that one is, and none of a run that isn't fresh.
+    (
+        hooks(T), *TWO_PARTS, *run(), "others", *THIRD_PARTS, *run("fresh"), *run(),
+        told("failed", 2, 0, BOTH, held=["held", "held"]) + told("failed", 2, 0, "unsteady: t\n", details("T", "exit code: 3", output="one\nthree\n"), held=["held", "held"])
+        + told("failed", 0, 0, details("T", "exit code: 3", output="one\nthree\n"), held=["held", "held"]),
+    ),
+    (
+        hooks(hook("T", "c"), hook("T", "d")), *A, *PASS, *child("d", "a.txt"), *run(), "others", *child("c", "a.txt", output="1"), *child("d", "a.txt", output="2"), *run("fresh"),
+        told("passed", 2, 0, PASSED * 2, held=["held", "held"]) + told("passed", 2, 0, "unsteady: t\n" * 2, PASSED * 2, held=["held", "held"]),
+    ),
+    # A fault in a fresh run makes nothing unsteady, and what was remembered stays.
+    (
+        hooks(T), *A, *PASS, *run(), *run("fresh", kth=1), *run(),
+        told("passed", 1, 0, PASSED, held=["held"]) + told("failed", 1, 1, details("T", "fault: ended by a signal"), held=["held"]) + told("passed", 0, 0, PASSED, held=["held"]),
+    ),
+    # No fault is remembered, whichever it is, and the next run starts the child again.
+    *(
+        (
+            hooks(T), *A, *PASS, *run(kth=1, fault=fault), *run(), *run(),
+            told("failed", 1, 1, details("T", f"fault: {text}"), held=["lacking"]) + told("passed", 1, 0, PASSED, held=["held"]) + told("passed", 0, 0, PASSED, held=["held"]),
+        )
+        for fault, text in FAULTS.items()
+    ),
+    # A child that can't be started is none to remember, and each run tries it again.
+    (hooks(T), *A, *run(), *run(), told("failed", 1, 1, details("T", NOT_STARTED)) * 2),
+    # What a child changed is changed again without it, and later hooks see it so.
+    (
+        hooks(hook("Trim", "trim"), hook("Look", "look")), *file("a.txt", "x \n"), *TRIM, *LOOK, *run(), *run(), *file("a.txt"), *TRIMMED, *run(), *run(), "forget", *run(),
+        told("failed", 2, 0, *TRIMS, held=["held"] * 2) + told("failed", 0, 0, *TRIMS, held=["held"] * 2)
+        + told("passed", 1, 0, *LOOKS, held=["held"] * 3) + told("passed", 0, 0, *LOOKS, held=["held"] * 3)
+        + "3 forgotten\n" + told("passed", 2, 0, *LOOKS, held=["lacking", "held", "held"]),
+    ),
+    # A file that a child took away is gone again without it.
+    (
+        hooks(T, hook("U", "d")), *A, *child("c", "a.txt", changes="a.txt"), *run(), *run(),
+        "".join(told("failed", calls, 0, "gone a.txt\n", details("T", MODIFIED), line("U", "(no files to check)Skipped"), held=["held"]) for calls in [1, 0]),
+    ),
+    # A child that changes a file which it hasn't seen isn't remembered, be it by the bytes that stand there.
+    *(
+        (
+            hooks(hook("T", "c", "files: ^a")), *A, *file("b.txt", "y\n"), *child("c", "a.txt", changes=f"b.txt={text}"), *run(), *run(), *run("fresh"),
+            told(verdict, 1, 0, *lines, held=["lacking"]) * 3,
+        )
+        for text, verdict, lines in [("z", "failed", ["changed b.txt\n", details("T", MODIFIED)]), ("y", "passed", [PASSED])]
+    ),
+    # In a fresh run such an answer makes the hook unsteady, and leaves what was remembered.
+    (
+        hooks(hook("T", "c", "files: ^a")), *A, *file("b.txt", "y\n"), *PASS, *run(), "others", *STRAYS, *run("fresh"), *run(),
+        told("passed", 1, 0, PASSED, held=["held"]) + told("failed", 1, 0, "unsteady: t\n", "changed b.txt\n", details("T", MODIFIED), held=["other"])
+        + told("passed", 0, 0, PASSED, held=["other"]),
+    ),
+    # What a child has seen is the file of each of its words: with other bytes or another mode it is started again, and whatever
+    # becomes of a file that it hasn't seen, it isn't.
+    (
+        hooks(hook("T", "sh tools/lint.sh", "files: ^a")), *A, *file("tools/lint.sh", "1\n"), *file("b.txt"), *(word for number in "12" for word in lint(number)), *run(),
+        *file("tools/lint.sh", "2\n"), *run(), *file("b.txt", "y\n"), *run(), "gone", "b.txt", *run(), *file("tools/lint.sh", "1\n"), *run(),
+        *file("tools/lint.sh", "1\n", "executable"), *run(), *file("a.txt", "y\n"), *run(),
+        told("passed", 1, 0, PASSED, held=["held", "lacking"]) + told("passed", 1, 0, PASSED, held=["held"] * 2) + told("passed", 0, 0, PASSED, held=["held"] * 2) * 3
+        + told("failed", 1, 1, details("T", NOT_STARTED), held=["held"] * 2) * 2,
+    ),
+    # A script whose first line changes has another command.
+    (
+        hooks(hook("T", "tools/lint.sh", "files: ^a", "script")), *A, *file("tools/lint.sh", "#!/bin/sh -e\n"),
+        *child("/bin/sh", "-e", "tools/lint.sh", "a.txt", seen=["a.txt=x", "tools/lint.sh=#!/bin/sh -e"]), *child("sh", "tools/lint.sh", "a.txt", seen=["a.txt=x", "tools/lint.sh=x"]),
+        *child("./tools/lint.sh", "a.txt"), *run(), *file("tools/lint.sh"), *run(), "gone", "tools/lint.sh", *run(), *file("tools/lint.sh"), *run(),
+        told("passed", 1, 0, PASSED, held=["held", "lacking", "lacking"]) + told("passed", 1, 0, PASSED, held=["held", "held", "lacking"])
+        + told("passed", 1, 0, PASSED, held=["held"] * 3) + told("passed", 0, 0, PASSED, held=["held"] * 3),
+    ),
+    # A child whose hook takes no names has seen all files, also those that aren't selected.
+    (
+        hooks(hook("T", "c", "pass_filenames: false, files: ^a")), *A, *file("b.txt"), *(word for text in "xy" for word in child("c", seen=["a.txt=x", f"b.txt={text}"])), *run(),
+        *file("b.txt", "y\n"), *run(), *run(),
+        told("passed", 1, 0, PASSED, held=["held", "lacking"]) + told("passed", 1, 0, PASSED, held=["held"] * 2) + told("passed", 0, 0, PASSED, held=["held"] * 2),
+    ),
+]
+
+
+# ---- a book of which one call is refused
+
+# Hooks with a child that changes its file, with two parts, with a child that strays, with one that can't be started, and with one
+# that passes; the rows of the table by which they are answered; and for each part its row, if any, and whether that is put.
+FILLER = "x" * 131_064
+REFUSING = hooks(
+    hook("Trim", "trim", "files: ^a"), hook("Parts", "p", f"args: [{FILLER}]"), hook("Stray", "stray", "files: ^b"), hook("None", "none", "files: ^a"), hook("Look", "look", "files: ^a"),
+)
+TABLE = [
+    *child("trim", "a.txt", seen=["a.txt=x "], changes="a.txt=x"),
+    *child("p", FILLER, "a.txt", output="first\n"),
+    *child("p", FILLER, "b.txt", seen=["b.txt=y"], status=2, output="second\n"),
+    *child("stray", "b.txt", seen=["b.txt=y"], changes="a.txt=x"),
+    *child("look", "a.txt"),
+]
+PARTS = [(0, True), (1, True), (2, True), (3, False), (None, False), (4, True)]
+# The look-ups and puts of a run that starts all of them.
+BOOK_CALLS = 10
+OVER_REFUSING = (REFUSING, *file("a.txt", "x \n"), *file("b.txt", "y\n"), *TABLE)
+GIVEN = (
+    "changed a.txt\n", details("Trim", MODIFIED), details("Parts", "exit code: 2", output="first\nsecond\n"), line("Stray", "Passed"),
+    details("None", NOT_STARTED), line("Look", "Passed"),
+)
+REFUSALS = {
+    "damaged": "2 Book: the remembered answers: the store refuses: the store is damaged",
+    "collision": "2 Book: the remembered answers: the store refuses: other contents have the same digest",
+    "memory": "1 OutOfMemory: out of memory",
+}
+
+
+def counted(held, is_fresh, refused):
+    """Whether a run is refused whose look-up or put of this number is (0: none), and how many children it starts and faults it has.
+    The rows that are put join those that are held."""
+    asked = calls = faults = 0
+    for row, is_put in PARTS:
+        asked += 1
+        if asked == refused:
+            return True, calls, faults
+        if row in held and not is_fresh:
+            continue
+        calls += 1
+        faults += row is None
+        if is_put:
+            asked += 1
+            if asked == refused:
+                return True, calls, faults
+            held.add(row)
+    return False, calls, faults
+
+
+def refusing(*runs):
+    """Runs over one book, each by whether it is fresh, the call of the book that is refused, and by what; or None, where what is
+    remembered is forgotten. A row."""
+    held, steps, answer = set(), [], ""
+    for each in runs:
+        if each is None:
+            steps.append("forget")
+            answer += f"{len(held)} forgotten\n"
+            held = set()
+            continue
+        how, refused, refusal = each
+        steps += run(how, book=refused, refusal=refusal)
+        is_refused, calls, faults = counted(held, how == "fresh", refused)
+        words = ["held" if row in held else "lacking" for row in range(5)]
+        answer += told(REFUSALS[refusal], calls, faults, held=words) if is_refused else told("failed", calls, faults, *GIVEN, held=words)
+    return (*OVER_REFUSING, *steps, answer)
+
+
+ALL, ALL_FRESH = ("plain", 0, "damaged"), ("fresh", 0, "damaged")
+BOOKS = [
+    # Nothing is refused: the stray and the one that can't be started are started each time, and in a fresh run all.
+    refusing(ALL, ALL, ALL_FRESH),
+    # Each look-up and each put is refused in turn: what was put before stays, and the next run starts the others alone.
+    *(refusing(*(each for call in range(1, BOOK_CALLS + 1) for each in [("plain", call, refusal), ALL, None])) for refusal in REFUSALS),
+    # The same where half of them are remembered, and in a fresh run where all are.
+    refusing(*(each for call in range(1, BOOK_CALLS + 1) for each in [("plain", 5, "collision"), ("plain", call, "damaged"), ALL, None])),
+    refusing(ALL, *(each for call in range(1, BOOK_CALLS + 1) for each in [("fresh", call, "damaged"), ALL])),
+    refusing(*(("plain", call, "damaged") for call in range(1, BOOK_CALLS + 1)), ALL),
+]
+
+
+# ---- a host, whose book lives as long as it does
+
+# The word by which a run of a play uses what is remembered.
+HOW = ()
+
+
+def of_host(name, text):
+    """A text behind the line that tells what it is and how long."""
+    return f"{name} {len(text)}\n{text}"
+
+
+def add(path, contents):
+    return ("add", "none", path, contents)
+
+
+def host_run(files="all"):
+    return ("run", "pre-commit", files, "", *HOW, "")
+
+
+def ran(verdict, report, *changes):
+    return f"ran, {verdict}, 0 unsteady\n{''.join(of_host('change ' + path, text) for path, text in changes)}{of_host('report', report)}"
+
+
+def ended(calls, faults, remembered):
+    return f"{calls} calls, {faults} faults, {remembered} remembered\n{remembered} forgotten\n"
+
+
+def staged(*files):
+    return "".join(of_host(f"staged plain {path}", text) for path, text in files)
+
+
+TRIM_LOOK = hooks(hook("Trim", "trim"), hook("Look", "look"))
+CONFIGURATION = (".pre-commit-config.yaml", TRIM_LOOK)
+CONFIGURED = add(*CONFIGURATION)
+UNTRIMMED = add("a.txt", "x \n")
+# A file is trimmed, the fix is accepted, and two runs find it trimmed.
+TRIMMING = (*CONFIGURED, *UNTRIMMED, *host_run(), "accept", *host_run(), *host_run())
+TRIM_FAILS = ran("failed", "".join(TRIMS[1:]), ("a.txt", "x\n"))
+TRIM_PASSES = ran("passed", "".join(LOOKS))
+TRIMMING_TOLD = "added\nadded\n" + TRIM_FAILS + "accepted 1\n" + TRIM_PASSES + TRIM_PASSES
+TRIMMING_LEAVES = staged(CONFIGURATION, ("a.txt", "x\n"))
+OF_TRIMMING = (*TRIM, *LOOK, *TRIMMED)
+STRAYING = hooks(hook("T", "c", "files: ^a"))
+LINTED = hooks(hook("T", "sh tools/lint.sh", "files: ^a"))
+
+HOSTS = [
+    # After the first run two answers are remembered; the second starts one child more, and the third none.
+    (*OF_TRIMMING, *CONFIGURED, *UNTRIMMED, *host_run(), "added\nadded\n" + TRIM_FAILS + ended(2, 0, 2) + staged(CONFIGURATION, ("a.txt", "x \n")) + of_host("fix a.txt", "x\n")),
+    (
+        *OF_TRIMMING, *CONFIGURED, *UNTRIMMED, *host_run(), "accept", *host_run(),
+        "added\nadded\n" + TRIM_FAILS + "accepted 1\n" + TRIM_PASSES + ended(3, 0, 3) + TRIMMING_LEAVES,
+    ),
+    (*OF_TRIMMING, *TRIMMING, TRIMMING_TOLD + ended(3, 0, 3) + TRIMMING_LEAVES),
+    (*OF_TRIMMING, *TRIMMING, "forget", *host_run(), TRIMMING_TOLD + "forgot 3\n" + TRIM_PASSES + ended(5, 0, 2) + TRIMMING_LEAVES),
+    # A host that has run the hooks before, and taken all away again, replies as a new one does, and starts the third child alone.
+    (
+        *OF_TRIMMING, *CONFIGURED, *UNTRIMMED, *host_run(), "rm", "a.txt", "rm", ".pre-commit-config.yaml", *TRIMMING,
+        "added\nadded\n" + TRIM_FAILS + "removed\nremoved\n" + TRIMMING_TOLD + ended(3, 0, 3) + TRIMMING_LEAVES,
+    ),
+    # A file that no child has seen is staged, and staged anew: nothing is started.
+    (
+        *OF_TRIMMING, *TRIMMING, *add("b.md", "1\n"), *host_run("a.txt"), *add("b.md", "2\n"), *host_run("a.txt"),
+        TRIMMING_TOLD + ("added\n" + TRIM_PASSES) * 2 + ended(3, 0, 3) + staged(CONFIGURATION, ("a.txt", "x\n"), ("b.md", "2\n")),
+    ),
+    # What a child changes that it hasn't seen is a fix, and isn't remembered.
+    (
+        *child("c", "a.txt", changes="b.txt=z"), *add(".pre-commit-config.yaml", STRAYING), *add("a.txt", "x\n"), *add("b.txt", "y\n"), *host_run(), *host_run(),
+        "added\n" * 3 + ran("failed", details("T", MODIFIED), ("b.txt", "z\n")) * 2 + ended(2, 0, 0)
+        + staged((".pre-commit-config.yaml", STRAYING), ("a.txt", "x\n"), ("b.txt", "y\n")) + of_host("fix b.txt", "z\n"),
+    ),
+    # A script that is staged anew with other bytes is started again, and with the bytes that it had it isn't.
+    (
+        *lint(1), *lint(2), *add(".pre-commit-config.yaml", LINTED), *add("a.txt", "x\n"), *add("tools/lint.sh", "1\n"), *host_run(), *add("tools/lint.sh", "2\n"), *host_run(),
+        *add("tools/lint.sh", "1\n"), *host_run(),
+        "added\n" * 3 + ran("passed", PASSED) + ("added\n" + ran("passed", PASSED)) * 2 + ended(2, 0, 2)
+        + staged((".pre-commit-config.yaml", LINTED), ("a.txt", "x\n"), ("tools/lint.sh", "1\n")),
+    ),
+    # A run that is refused leaves what was remembered by then: the second hook's child can't be counted.
+    (
+        "spent", *CONFIGURED, *UNTRIMMED, *host_run(), "added\nadded\nrefused 14 Spent\n" + ended(2**64 - 1, 0, 0) + staged(CONFIGURATION, ("a.txt", "x \n")),
+    ),
+]
+
+ROWS = [*(("play_book", *row) for row in [*RUNS, *BOOKS]), *(("play", *row) for row in HOSTS)]
