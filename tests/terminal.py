@@ -199,9 +199,14 @@ def shows(hooks, files, shown, status=0, **how):
 # ---- the cases
 
 def shows_each_child_and_how_many_came_before():
-    played = shows([hook("true", "A"), hook("no-such-program", "B"), hook("false", "C", always_run="true", pass_filenames="false"), hook("true", "D")], ["a.txt", "b.txt"], [
-        "[0] true a.txt b.txt", "[1] no-such-program a.txt b.txt", "[2] false", "[3] true a.txt b.txt"], status=1)
+    played = shows([hook("true", "A"), hook("no-such-program", "B"), hook("false", "C", always_run="true", pass_filenames="false"), hook("true again", "D")], ["a.txt", "b.txt"], [
+        "[0] true a.txt b.txt", "[1] no-such-program a.txt b.txt", "[2] false", "[3] true again a.txt b.txt"], status=1)
     equal([it.split(".")[0] for it in played.printed().splitlines() if it.startswith(tuple("ABCD"))], ["A", "B", "C", "D"], "the report")
+
+
+def shows_none_where_an_answer_is_remembered():
+    played = shows([hook("true", "A"), hook("true", "B"), hook("true again", "C")], ["a.txt"], ["[0] true a.txt", "[1] true again a.txt"])
+    equal(played.printed(), "".join(line(name, "Passed") + "\n" for name in "ABC"), "the report")
 
 
 def stands_while_the_child_runs():
@@ -266,7 +271,7 @@ def what_a_child_prints_stays_off_the_terminal():
 
 
 def a_report_on_the_same_terminal_stands_alone():
-    hooks = [hook("true", "A"), hook("sh -c 'echo said; exit 3'", "B"), hook("true", "C")]
+    hooks = [hook("true", "A"), hook("sh -c 'echo said; exit 3'", "B"), hook("true again", "C")]
     folder, words = folder_of(hooks, ["a.txt"])
     wanted = subprocess.run([PROGRAM, *words], cwd=folder, stdin=subprocess.DEVNULL, capture_output=True, timeout=LIMIT)
     equal((wanted.returncode, wanted.stderr), (1, b""), "without a terminal")
@@ -352,7 +357,7 @@ def want_of_memory_for_the_line_loses_no_child():
 
 
 CASES = [
-    shows_each_child_and_how_many_came_before, stands_while_the_child_runs, is_cut_to_the_columns_that_are_said, is_one_line_on_a_terminal_that_says_nothing,
+    shows_each_child_and_how_many_came_before, shows_none_where_an_answer_is_remembered, stands_while_the_child_runs, is_cut_to_the_columns_that_are_said, is_one_line_on_a_terminal_that_says_nothing,
     what_columns_says_amiss_is_80, wide_characters_take_two_columns, control_characters_are_shown_as_question_marks, long_commands_are_one_line,
     parts_are_shown_one_by_one, what_a_child_prints_stays_off_the_terminal, a_report_on_the_same_terminal_stands_alone, nothing_is_shown_without_a_terminal,
     nothing_is_shown_on_a_dumb_terminal, nothing_is_shown_of_hooks_without_children, a_terminal_that_goes_away_changes_nothing,
