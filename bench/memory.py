@@ -5,8 +5,9 @@ Usage: bench/memory.py [HOOK_TRIAL]   (default: crates/hook_trial/out/hook_trial
 
 Children answer at once, so that a run's own share is what is timed. A run of ten hooks, each of which gets all files, is timed
 where nothing is remembered and where all is, beside the same run by hooks of the language `fail`, which start no child. Then
-runs on one file are timed as more answers are remembered: ten look-ups in each run, and a look-up of each answer. Each time is
-that of one run in milliseconds: what so many more runs take in a call, divided by their number, the least of several calls.
+runs on one file are timed as more answers are remembered: ten look-ups in each run; a run for each answer, which puts it; and
+another, which looks it up. Each time is in milliseconds: what so many more runs take in a call, divided by their number, the
+least of several calls.
 """
 import os
 import subprocess
@@ -59,9 +60,9 @@ def played(rows):
     return answers, times
 
 
-def per_run(call, *arguments, more, wanted):
-    """The rows of a call with one run and with so many more, which have to be answered so, and how many more runs these are."""
-    return [(row(call, *arguments, 1 + count), count, wanted(1 + count)) for count in (0, more)]
+def per_run(call, *arguments, more, wanted, before=1):
+    """The rows of a call with so many runs before and with so many more, which have to be answered so, and how many more these are."""
+    return [(row(call, *arguments, before + count), count, wanted(before + count)) for count in (0, more)]
 
 
 def timed(measures):
@@ -101,10 +102,11 @@ def time_many_files():
 
 def time_rows():
     among = timed([per_run("runs_among", configuration(HOOKS, command), rows, more=RUNS_AMONG, wanted=lambda runs: told(1, rows + 1)) for rows in ROWS])
-    each = timed([per_run("runs_of_each", configuration(1, command), rows, more=1, wanted=lambda runs: told(rows, rows)) for rows in ROWS])
-    for what, times in (("ten look-ups, {} remembered", among), ("a look-up of each, {} remembered", each)):
+    put = timed([per_run("runs_of_each", configuration(1, command), rows, more=1, before=0, wanted=lambda runs: told(rows * runs, rows * runs)) for rows in ROWS])
+    each = timed([per_run("runs_of_each", configuration(1, command), rows, more=3, wanted=lambda runs: told(rows, rows)) for rows in ROWS])
+    for what, times in (("ten look-ups, {} remembered", among), ("each of {} put", put), ("each of {} looked up", each)):
         for half, whole in ((0, 1), (2, 3)):
-            show(what.format(ROWS[whole]), times[whole], times[half], f"{ROWS[half]} remembered", AIM_TWICE)
+            show(what.format(ROWS[whole]), times[whole], times[half], f"of {ROWS[half]}", AIM_TWICE)
 
 
 if __name__ == "__main__":

@@ -379,18 +379,19 @@ class BookRun:
 
 
 def book_runs(refused, shared, folder):
-    """How the program ended, whether the allocation of this number (0: none) was refused, and the runs, if they were told."""
+    """How the program ended, what it answered, whether the allocation of this number (0: none) was refused, and the runs, if they
+    were told."""
     mark = os.path.join(folder, "refused")
     if os.path.exists(mark):
         os.remove(mark)
     env = dict(os.environ, LD_PRELOAD=os.path.join(shared, "refuse.so"), REFUSE_ALLOCATION=str(refused), REFUSED_FILE=mark)
     status, out, err = end_of([HOOK_TRIAL], folder, " ".join(["play_book", *(word.encode().hex() for word in BOOK_WORDS)]).encode() + b"\n", env)
-    found = BOOK_ANSWER.findall(bytes.fromhex(out.decode().strip()).decode())
+    text = bytes.fromhex(out.decode().strip()).decode()
     runs = [
         BookRun(verdict[0] == "1", int(calls), int(faults), report, {at for at, word in enumerate(rows.split()) if word == "held"})
-        for verdict, calls, faults, report, _, rows in found
+        for verdict, calls, faults, report, _, rows in BOOK_ANSWER.findall(text)
     ]
-    return (status, err), os.path.exists(mark), runs
+    return (status, text, err), os.path.exists(mark), runs
 
 
 def wrong_run(run, plain, before, answered):
@@ -406,27 +407,41 @@ def wrong_run(run, plain, before, answered):
     return None if started == missing and run.held == before | put and run.report == plain.report else "isn't the run from scratch"
 
 
+def gave_up(ended):
+    """Whether the program itself was refused memory, or read no configuration for want of it."""
+    return ended == (3, "", b"out of memory\n") or ended[0] == 0 and ended[1].startswith("12 OutOfMemory at ")
+
+
 def refuse_among_remembered(shared):
     """How many allocations were refused in turn, how many runs were, and what was wrong, if anything."""
     with tempfile.TemporaryDirectory() as folder:
-        ended, _, plain = book_runs(0, shared, folder)
-        if ended != (0, b"") or [run.calls for run in plain] != [4, 2, 0, 0] or any(run.refused for run in plain):
-            return 0, 0, f"ended with {ended} and {plain} with nothing refused"
+        well, _, plain = book_runs(0, shared, folder)
+        if (well[0], well[2]) != (0, b"") or [run.calls for run in plain] != [4, 2, 0, 0] or any(run.refused for run in plain):
+            return 0, 0, f"ended with {well} with nothing refused"
         refused = [0] * len(plain)
         for allocation in itertools.count(1):
             ended, was_refused, runs = book_runs(allocation, shared, folder)
             if not was_refused:
-                enough = all(refused[:3]) and ended == (0, b"") and runs == plain
-                return allocation - 1, sum(refused), None if enough else f"ended with {ended}, {runs} and {refused} refused runs"
-            if ended == (3, b"out of memory\n") and not runs:
-                continue
-            before, wrong = set(), None if ended == (0, b"") and len(runs) == len(plain) and sum(run.refused for run in runs) <= 1 else f"ended with {ended}"
-            for at, run in enumerate(runs):
-                refused[at] += run.refused
-                wrong = wrong or wrong_run(run, plain[at], before, HALF if at == 0 else len(BOOK_ROWS))
-                before = run.held
+                return allocation - 1, sum(refused), None if all(refused[:3]) and ended == well else f"ended with {ended}, and {refused} runs were refused"
+            wrong = wrong_runs(ended, runs, plain)
             if wrong:
-                return allocation, sum(refused), f"{wrong} where allocation {allocation} was refused: {runs}"
+                return allocation, sum(refused), f"{wrong} where allocation {allocation} was refused: {ended}"
+            refused = [count + run.refused for count, run in zip(refused, runs)] if runs else refused
+
+
+def wrong_runs(ended, runs, plain):
+    """What is wrong with the runs of a program in which an allocation was refused, if anything."""
+    if gave_up(ended):
+        return None
+    if (ended[0], ended[2]) != (0, b"") or len(runs) != len(plain) or sum(run.refused for run in runs) > 1:
+        return "ended otherwise"
+    before = set()
+    for at, run in enumerate(runs):
+        wrong = wrong_run(run, plain[at], before, HALF if at == 0 else len(BOOK_ROWS))
+        if wrong:
+            return f"run {at} {wrong}"
+        before = run.held
+    return None
 
 
 def play_all(plays, shared):
