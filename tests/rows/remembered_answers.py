@@ -300,10 +300,6 @@ BOOKS = [
 
 # ---- a host, whose book lives as long as it does
 
-# The word by which a run of a play uses what is remembered.
-HOW = ()
-
-
 def of_host(name, text):
     """A text behind the line that tells what it is and how long."""
     return f"{name} {len(text)}\n{text}"
@@ -314,7 +310,7 @@ def add(path, contents):
 
 
 def host_run(files="all"):
-    return ("run", "pre-commit", files, "", *HOW, "")
+    return ("run", "pre-commit", files, "", "remembering", "")
 
 
 def ran(verdict, report, *changes):
