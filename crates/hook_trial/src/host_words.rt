@@ -78,6 +78,7 @@ fn with_ends(answer: Answer, bytes: &[u8]) -> Answer {
     if bytes.len() <= MOST_TOLD_BYTES {
         return answer.bytes(bytes);
     }
-    let answer = answer.bytes(&bytes[..END_BYTES]);
-    answer.bytes(&bytes[bytes.len() - END_BYTES..])
+    let (first, rest) = bytes.split_at(END_BYTES);
+    let (_, last) = rest.split_at(rest.len() - END_BYTES);
+    answer.bytes(first).bytes(last)
 }
