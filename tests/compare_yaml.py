@@ -11,7 +11,6 @@ takes a text, the values must agree. Each text that only one of the two takes is
 test of the text: a text for which no test holds is a failure.
 """
 import ast
-import os
 import re
 import sys
 
