@@ -1,2 +1,2 @@
-pub mod AddLemmas
+pub mod MarkLemmas
 pub mod SearchLemmas

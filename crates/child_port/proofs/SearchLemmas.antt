@@ -1,5 +1,5 @@
 -- What a search by halves knows of a tree's rows, and what it finds.
-use Rattle.std.proofs.Common.{◌≡◌, ◌∙◌, inl, inr, ℕ, zero, suc, ◌+◌, ◌<◌, ◌≤◌, List, [], ◌∷◌, None, Some, slice_get, refl, arith, sym, subst}
+use Rattle.std.proofs.Common.{◌≡◌, ◌∙◌, inl, inr, ℕ, zero, suc, ◌+◌, ◌<◌, ◌≤◌, List, [], ◌∷◌, None, Some, slice_get, map, refl, ap, arith, sym, subst}
 use Rattle.std.proofs.lemmas.Bool.{cases_lt}
 use Rattle.hook_base.specs.declared.file.File.{File}
 use Rattle.hook_base.specs.Rising.{IsBelow, IsBelowAll}
@@ -58,14 +58,20 @@ pub more_later : (path : List ℕ) (rows : List File) (middle : ℕ) (row : File
 more_later path rows middle row at rising below =
     record { above = λ k other beyond there. later_above path rows middle k row other beyond at there rising below }
 
-pub found : (path : List ℕ) (rows : List File) (k : ℕ) (row : File) → slice_get rows k ≡ Some row → IsRising rows → path ≡ row.path → entry_of path rows ≡ Some row.entry
-found path [] k row at rising same = cc
-found path (first ∷ rows) zero row at rising same =
-    let here : first ≡ row = same_item first row at in
-    subst (λ (r : File). entry_of path (first ∷ rows) ≡ Some r.entry) here (entry_of-first path first rows (same ∙ sym (subst (λ (r : File). first.path ≡ r.path) here refl)))
-found path (first ∷ rows) (suc k) row at rising same =
-    let below = subst (λ (p : List ℕ). IsBelow first.path p) (sym same) (below_at first.path rows k row at rising.0) in
-    entry_of-rest path first rows below ∙ found path rows k row at rising.1 same
+-- what stands at the path of a row, by its place
+pub entry_at : (rows : List File) (k : ℕ) (row : File) → slice_get rows k ≡ Some row → IsRising rows → entry_of row.path rows ≡ Some row.entry
+entry_at [] k row at rising = cc
+entry_at (first ∷ rows) zero row at rising =
+    let here = same_item first row at in
+    entry_of-first row.path first rows (ap path_of (sym here)) ∙ ap (λ (r : File). Some r.entry) here
+entry_at (first ∷ rows) (suc k) row at rising =
+    entry_of-rest row.path first rows (below_at first.path rows k row at rising.0) ∙ entry_at rows k row at rising.1
+
+-- the path of a row, by its place
+pub path_at : (rows : List File) (k : ℕ) (row : File) → slice_get rows k ≡ Some row → slice_get (map path_of rows) k ≡ Some row.path
+path_at [] k row at = cc
+path_at (first ∷ rows) zero row at = ap (λ (r : File). Some r.path) (same_item first row at)
+path_at (first ∷ rows) (suc k) row at = path_at rows k row at
 
 absent : (path : List ℕ) (rows : List File) → ((k : ℕ) (row : File) → slice_get rows k ≡ Some row → path ≡ row.path → ⊥) → entry_of path rows ≡ None
 absent path [] differs = refl

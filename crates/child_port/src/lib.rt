@@ -10,10 +10,10 @@
 mod answer;
 mod children;
 mod fault;
-mod file_at;
 mod fuse;
 pub mod laws;
 mod limits;
+mod path_index;
 mod seen;
 mod table;
 mod table_outcome;

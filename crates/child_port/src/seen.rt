@@ -1,11 +1,12 @@
 //! Which files of the tree a child has seen, and which answers change others.
 
-ghost use Rattle.std.specs.Prelude.{◌≡◌, ◌||◌, [], List, ℕ, Bool, IfOk, OnOk};
+ghost use Rattle.std.specs.Prelude.{◌≡◌, ◌||◌, [], List, ℕ, Bool, IfOk, length, map};
+ghost use Rattle.std.specs.List.{list_all};
 ghost use Rattle.std.specs.Str.{bytes_eq};
-ghost use Rattle.child_port.specs.Seen.{is_stray, seen_of};
+ghost use Rattle.child_port.specs.Seen.{is_seen_path, is_stray, seen_of};
 ghost use Rattle.child_port.specs.SeenLemmas.{files_where};
 
-use crate::file_at::file_at;
+use crate::path_index::path_index;
 use crate::{Answer, plain_word};
 use hook_base::{OutOfMemory, Text, Tree};
 use std::alloc::{AllocError, Global};
@@ -19,24 +20,67 @@ pub fn seen_of(alloc: Global, words: &[Text], whole: bool, tree: &Tree) -> Resul
     if whole {
         return tree.copy();
     }
-    let mut seen = Tree::new(alloc);
-    'words: for word in words {
-        add_file(&mut seen, tree, plain_word(word.as_str()))?;
-    }
-    Ok(seen)
+    let marks = marks_of(alloc, words, tree)?;
+    marked_files(alloc, tree, marks.as_slice())
 }
 
-// Adds the tree's file at a path to some of its files, where there is one and they lack it.
-fn add_file(seen: &mut Tree, tree: &Tree, path: &str) -> Result<(), OutOfMemory>
-    ensures { OnOk result ((keeps : List ℕ → Bool) → seen.old ≡ files_where keeps tree.now → seen.new ≡ files_where (λ other. keeps other || bytes_eq path.now other) tree.now) }
+// For each file of the tree, whether its path is one of the words, one leading `./` of the word apart.
+#[tactic(auto, using(crate::proofs::MarkLemmas::length_marks, crate::proofs::MarkLemmas::no_marks))]
+fn marks_of(alloc: Global, words: &[Text], tree: &Tree) -> Result<Vec<bool>, OutOfMemory>
+    ensures { IfOk result (λ marks. marks.items ≡ map (λ row. is_seen_path words.now [] row.path) tree.now) }
 {
-    let Some(row) = file_at(tree, path) else {
-        return Ok(());
-    };
-    if seen.get(&row.path).is_some() {
-        return Ok(());
+    let mut marks = vec![in alloc; false; tree.len()]?;
+    let mut near = 0;
+    'words: for word in words {
+        near = mark_path(&mut marks, tree, plain_word(word.as_str()), near);
     }
-    seen.put_from(tree, &row.path)
+    Ok(marks)
+}
+
+// Marks the file at a path, where there is one, and answers the index at which the next name is looked for first: the names of
+// a command come in the order of the paths, so that each is mostly that of the file behind the last.
+fn mark_path(marks: &mut Vec<bool>, tree: &Tree, path: &str, near: usize) -> usize
+    requires { length marks.old.items ≡ length tree.now }
+    ensures { (keeps : List ℕ → Bool) → marks.old.items ≡ map (λ row. keeps row.path) tree.now → marks.new.items ≡ map (λ row. keeps row.path || bytes_eq path.now row.path) tree.now }
+{
+    let Some(index) = path_index(tree, path, near) else {
+        return near;
+    };
+    marks[index] = true;
+    index + 1
+}
+
+// The files of the tree that are marked.
+fn marked_files(alloc: Global, tree: &Tree, marks: &[bool]) -> Result<Tree, OutOfMemory>
+    requires { length marks.now ≡ length tree.now }
+    ensures { IfOk result (λ files. (keeps : List ℕ → Bool) → marks.now ≡ map (λ row. keeps row.path) tree.now → files ≡ files_where keeps tree.now) }
+{
+    if all_marked(marks) {
+        tree.copy()
+    } else {
+        put_marked(alloc, tree, marks)
+    }
+}
+
+fn all_marked(marks: &[bool]) -> bool
+    ensures { result ≡ list_all (λ mark. mark) marks.now }
+{
+    marks.iter().all(|mark| *mark)
+}
+
+// The same, file by file.
+fn put_marked(alloc: Global, tree: &Tree, marks: &[bool]) -> Result<Tree, OutOfMemory>
+    requires { length marks.now ≡ length tree.now }
+    ensures { IfOk result (λ files. (keeps : List ℕ → Bool) → marks.now ≡ map (λ row. keeps row.path) tree.now → files ≡ files_where keeps tree.now) }
+{
+    let mut files = Tree::new(alloc);
+    'marks: for (index, mark) in marks.iter().enumerate() {
+        if !*mark {
+            continue;
+        }
+        files.put_from(tree, &tree.entry(index).path)?;
+    }
+    Ok(files)
 }
 
 /// Whether an answer strays: it names a file in its changes that its child hasn't seen, be it with the bytes that stand

@@ -1,17 +1,11 @@
-use Rattle.std.proofs.Common.{◌∙◌, ap, sym, List, ℕ, take, []}
-use Rattle.std.proofs.lemmas.List.{take_all}
-use Rattle.child_port.specs.Seen.{is_seen_path, plain_word}
+use Rattle.std.proofs.Common.{◌≡◌, rules, List, ℕ, Bool, map, []}
+use Rattle.child_port.specs.Seen.{is_seen_path, seen_of}
 use Rattle.child_port.specs.SeenLemmas.{files_where}
-use Rattle.child_port.proofs.AddLemmas.{no_files, more_files}
+use Rattle.hook_base.specs.declared.file.File.{File}
+use Rattle.child_port.proofs.MarkLemmas.{where_ok}
 use Rattle.child_port.proofs.seen.seen_of.Goals as goal
 
-pub words-init : goal.words-init
-words-init c = c.new-seen.ensures ∙ sym (no_files c.args.tree.now)
-
-pub words-preserved : goal.words-preserved
-words-preserved c =
-    let plain = c.plain_word.ensures ∙ ap plain_word (c.as_str.ensures ∙ c.word-item.is) in
-    c.in_ok-add_file.ensures (is_seen_path (take c.words.word-index c.args.words.now) []) c.words.invariant ∙ more_files c.args.words.now c.words.word-index c.word-item.result c.plain_word.result.now c.args.tree.now c.words-test.true plain
-
 pub returns : goal.returns
-returns c = rw c.if-whole.false (c.words.invariant ∙ ap (λ (words : List (List ℕ)). files_where (is_seen_path words []) c.args.tree.now) (take_all c.words.word-index c.args.words.now c.words-test.false))
+returns c =
+    let same : c.as_slice.result.now ≡ map (λ (row : File). is_seen_path c.args.words.now [] row.path) c.args.tree.now = search rules in
+    where_ok (λ (files : List File). (keeps : List ℕ → Bool) → c.as_slice.result.now ≡ map (λ row. keeps row.path) c.args.tree.now → files ≡ files_where keeps c.args.tree.now) (λ (seen : List File). seen ≡ seen_of c.args.words.now [] c.args.whole c.args.tree.now) c.marked_files.result c.marked_files.ensures (λ files made. rw c.if-whole.false (made (is_seen_path c.args.words.now []) same))

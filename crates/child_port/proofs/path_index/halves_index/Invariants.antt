@@ -1,6 +1,6 @@
 use Rattle.std.proofs.Common.{◌-◌, ◌≤◌, length}
 use Rattle.child_port.proofs.SearchLemmas.{EarlierBelow, LaterAbove}
-use Rattle.child_port.proofs.file_at.file_at.Given as goal
+use Rattle.child_port.proofs.path_index.halves_index.Given as goal
 
 abbrev pub invariant-halves : goal.invariant-halves
 invariant-halves l =
