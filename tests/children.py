@@ -330,6 +330,88 @@ def no_file_is_written_in_place():
     equal(trial.sh("echo x >> a.txt"), (0, b"", {"a.txt": b"same\nx\n"}), "two files that the child before had linked")
 
 
+# ---- programs side by side, and children that outlive theirs
+
+def beside(trial):
+    """What lies where the folder does."""
+    return sorted(os.listdir(f"{trial.top}/h"))
+
+
+def each_program_has_a_folder_of_its_own():
+    first = Trial(TREE)
+    equal(first.sh(":"), (0, b"", {}), "a first child")
+    equal(beside(first), ["scratch", "scratch.run"], "beside the folder that is used")
+    second, third = Trial({"a.txt": b"1"}, keep=first.top), Trial(keep=first.top)
+    for trial, name in ((second, "scratch.1"), (third, "scratch.2"), (first, "scratch")):
+        equal(trial.sh("pwd -P"), (0, os.path.realpath(f"{first.top}/h/{name}").encode() + b"\n", {}), "the folder")
+        trial.sees_the_tree("a child of each")
+    second.sh("mkdir -p d/e; touch d/e/f; chmod 0 d/e d")
+    second.end()
+    equal(beside(first), ["scratch", "scratch.2", "scratch.2.run", "scratch.run"], "once the second has ended")
+    first.end()
+    equal(beside(first), ["scratch", "scratch.2", "scratch.2.run"], "once the first has ended")
+    fourth = Trial(TREE, keep=first.top)
+    fourth.sees_the_tree("programs that have ended")
+    third.end()
+    fourth.end()
+    equal(beside(first), ["scratch"], "once all have ended")
+
+
+def killed_beside(trial, text):
+    """The number of a child that goes on when its program is killed, beside that of others."""
+    path = Path(trial.top, "number")
+    path.unlink(missing_ok=True)
+    trial.process.stdin.write(f"run {digits('sh')} {digits('-c')} {digits(f'echo $$ > {trial.top}/number; {text}')}\n".encode())
+    trial.process.stdin.flush()
+    until = time.monotonic() + 60
+    while not (path.exists() and path.read_text().endswith("\n")):
+        check(time.monotonic() < until, "no child is started")
+        time.sleep(0.005)
+    trial.process.send_signal(signal.SIGKILL)
+    trial.process.wait()
+    return int(path.read_text())
+
+
+def end_outlived(child):
+    """Ends a child whose program has ended, and waits for its end."""
+    os.kill(child, signal.SIGKILL)
+    while os.path.exists(f"/proc/{child}") and Path(f"/proc/{child}/stat").read_text().rsplit(") ", 1)[1][0] not in "ZX":
+        time.sleep(0.001)
+
+
+# What a child does before its program is killed, and what behind it. The second is known by its standard input, so it has its
+# folder's name to itself: a shell takes `cd` by that.
+OUTLIVING = [
+    ("exec < /dev/null", "echo late > a.txt; echo late > new; rm -r d", "scratch"),
+    ("cd d", "cd e; echo late > f.txt; mkdir late; cd ..; echo late > c.txt; rm -r e", "scratch.1"),
+    ("exec > a.txt < /dev/null", "echo late; chmod 0 d .", "scratch"),
+]
+
+
+def a_child_that_outlives_its_program_is_seen_by_none():
+    for user in users():
+        for before, late, name in OUTLIVING:
+            killed = Trial(TREE, user=user)
+            top, text = killed.top, f"a child that outlived its program and does {before!r} and {late!r} as {user}"
+            child = killed_beside(killed, f"exec 2> /dev/null; {before}; until [ -e {top}/go ]; do sleep 0.01; done; {late}; touch {top}/done; exec sleep 60")
+            try:
+                equal(beside(killed), ["scratch", "scratch.run"], "beside the folder of a killed program")
+                trial, wanted = Trial(TREE, user=user, keep=top), Trial(TREE, user=user)
+                equal(trial.sh("pwd -P")[1], os.path.realpath(f"{top}/h/{name}").encode() + b"\n", f"the folder beside {text}")
+                meets = f"touch {top}/go; until [ -e {top}/done ]; do sleep 0.01; done; "
+                equal(trial.sh(meets + SEEN), wanted.sh(SEEN), f"what a child sees beside {text}")
+                trial.sees_the_tree(text)
+                wanted.end()
+                check(os.readlink(f"/proc/{child}/cwd").endswith(" (deleted)"), f"the folder isn't gone of {text}")
+            finally:
+                end_outlived(child)
+            trial.end()
+            last = Trial(TREE, user=user, keep=top)
+            last.sees_the_tree(text)
+            last.end()
+            equal(beside(killed), ["scratch"], "once it has ended")
+
+
 # ---- runs of hooks, whose answers are remembered
 
 def configuration(entry, more=""):

@@ -44,8 +44,14 @@ fn write_anew<R: Files>(
     tree: &Tree,
     piece: &mut [u8],
 ) -> io::Result<()> {
-    settle(files, alloc, folder, &Tree::new(alloc), piece)?;
+    empty(files, alloc, folder)?;
     settle(files, alloc, folder, tree, piece)
+}
+
+/// Makes the folder hold nothing. An error where that can't be done, or where the folder or the one that it stands in is a
+/// link.
+pub(crate) fn empty<R: Files>(files: &R, alloc: Global, folder: &str) -> io::Result<()> {
+    settle(files, alloc, folder, &Tree::new(alloc), &mut [])
 }
 
 fn settle<R: Files>(

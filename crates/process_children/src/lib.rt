@@ -5,6 +5,9 @@
 //! started in it (`start`). Both outputs are read side by side to their ends, and the child is waited for (`outputs`,
 //! `ending`). The files are read back (`read_back`). The first fault decides.
 //!
+//! Before the first call a folder is taken that no other run uses (`scratch_folder`; `mark` for the file that says so,
+//! `removal` for what a run left that a signal ended, `input` for a child of it that lives on).
+//!
 //! What a process does can't be told beforehand, so the contracts speak of the counts alone, by the words of
 //! `child_port`: any outcome may be told (`specs/Anything.antt`).
 #![tactic(auto)]
@@ -13,11 +16,15 @@ mod contents;
 mod ending;
 mod folders;
 mod fresh;
+mod input;
 mod keep;
+mod mark;
 mod outputs;
 mod place;
 mod process_children;
 mod read_back;
+mod removal;
+mod scratch_folder;
 mod search;
 mod start;
 mod stop;

@@ -6,27 +6,34 @@ use crate::contents::PIECE_BYTES;
 use crate::ending::ending_of;
 use crate::keep::keep_as;
 use crate::read_back::read_back;
+use crate::scratch_folder::ScratchFolder;
 use crate::start::start;
 use crate::stop::Stop;
-use child_port::{Answer, Children, Outcome};
+use child_port::{Answer, Children, Fault, Outcome};
 use hook_base::{OutOfMemory, Text, Tree};
-use std::fs::Files;
+use std::fs::{File, Files};
 use std::os::fd::AsRawFd;
 use std::process::{OpenProcess, Processes, SystemProcess};
 
 /// Children that are real processes, each started in a scratch folder that holds the files of its tree and nothing else.
-#[derive(Drop)]
-pub struct ProcessChildren<R> {
+///
+/// Their folder is taken for the first of them, and left when this value is dropped. Meanwhile a locked file stands beside
+/// it, which other processes go by.
+pub struct ProcessChildren<R: Files<File = File> + AllocGlobal + Drop> {
     runtime: R,
     folder: String,
+    scratch: Option<ScratchFolder>,
     completed: u64,
     failed: u64,
     ghost countable: { completed + failed < 2 ^ 64 },
 }
 
-impl<R: Files + Processes<Started = SystemProcess> + AllocGlobal> ProcessChildren<R> {
+impl<
+    R: Files<File = File> + Processes<Started = SystemProcess> + AllocGlobal + Drop,
+> ProcessChildren<R> {
     /// Children that will run in this folder, which is made for the first of them, with its missing parents. Whatever
-    /// else lies in it is removed. None has run yet.
+    /// else lies in it is removed. Where other children use it by then they run in one of their own beside it, which is
+    /// removed at their end. None has run yet.
     pub fn new(runtime: R, folder: String) -> ProcessChildren<R>
         ensures no_calls { ⟦<ProcessChildren<R> as Children>⟧.call_count result ≡ 0 }
         ensures no_faults { ⟦<ProcessChildren<R> as Children>⟧.fault_count result ≡ 0 }
@@ -34,30 +41,79 @@ impl<R: Files + Processes<Started = SystemProcess> + AllocGlobal> ProcessChildre
         ProcessChildren {
             runtime,
             folder,
+            scratch: None,
             completed: 0,
             failed: 0,
         }
     }
+}
 
-    // One child, from the files that it finds to those that it leaves.
-    fn answer_of(&self, words: &[Text], tree: &Tree) -> Result<Answer, Stop> {
-        let alloc = self.runtime.alloc();
-        let folder = self.folder.as_str().trim_end_matches('/');
-        let mut piece = vec![in alloc; 0u8; PIECE_BYTES]?;
-        let piece = piece.as_mut_slice();
-        keep_as(&self.runtime, alloc, folder, tree, piece)?;
-        let child = start(&self.runtime, alloc, folder, words)?;
-        let ending = ending_of(alloc, child, piece)?;
-        let changes = read_back(&self.runtime, alloc, folder, tree, piece)?;
-        Ok(Answer {
-            status: ending.status,
-            output: ending.output,
-            changes,
-        })
+impl<R: Files<File = File> + AllocGlobal + Drop> Drop for ProcessChildren<R> {
+    fn drop(self) {
+        let ProcessChildren {
+            runtime,
+            folder: _,
+            scratch,
+            completed: _,
+            failed: _,
+        } = self;
+        if let Some(scratch) = scratch {
+            let alloc = runtime.alloc();
+            scratch.leave(&runtime, alloc);
+        }
     }
 }
 
-impl<R: Files + Processes<Started = SystemProcess> + AllocGlobal> Children for ProcessChildren<R> {
+// One child, in the folder that was taken for the first one.
+fn answer_of<R: Files<File = File> + Processes<Started = SystemProcess> + AllocGlobal>(
+    runtime: &R,
+    folder: &str,
+    scratch: &mut Option<ScratchFolder>,
+    words: &[Text],
+    tree: &Tree,
+) -> Result<Answer, Stop> {
+    let taken = match scratch.take() {
+        Some(taken) => taken,
+        None => take_scratch(runtime, folder)?,
+    };
+    let answer = answer_in(runtime, &taken, words, tree);
+    *scratch = Some(taken);
+    answer
+}
+
+fn take_scratch<R: Files<File = File> + AllocGlobal>(
+    runtime: &R,
+    folder: &str,
+) -> Result<ScratchFolder, Stop> {
+    match ScratchFolder::take(runtime, runtime.alloc(), folder.trim_end_matches('/')) {
+        Ok(taken) => Ok(taken),
+        Err(e) => Err(Stop::of(&e, Fault::ScratchFailed)),
+    }
+}
+
+// One child, from the files that it finds to those that it leaves.
+fn answer_in<R: Files<File = File> + Processes<Started = SystemProcess> + AllocGlobal>(
+    runtime: &R,
+    scratch: &ScratchFolder,
+    words: &[Text],
+    tree: &Tree,
+) -> Result<Answer, Stop> {
+    let (alloc, folder) = (runtime.alloc(), scratch.place());
+    let mut piece = vec![in alloc; 0u8; PIECE_BYTES]?;
+    let piece = piece.as_mut_slice();
+    keep_as(runtime, alloc, folder, tree, piece)?;
+    let child = start(runtime, alloc, scratch, words)?;
+    let ending = ending_of(alloc, child, piece)?;
+    let changes = read_back(runtime, alloc, folder, tree, piece)?;
+    Ok(Answer {
+        status: ending.status,
+        output: ending.output,
+        changes,
+    })
+}
+
+impl<R: Files<File = File> + Processes<Started = SystemProcess> + AllocGlobal + Drop> Children
+    for ProcessChildren<R> {
     ghost use Rattle.process_children.specs.Anything.{TellsAnything};
 
     ghost tells = { λ children. TellsAnything };
@@ -71,7 +127,8 @@ impl<R: Files + Processes<Started = SystemProcess> + AllocGlobal> Children for P
     ghost faults_at_most_calls = { λ children. omega arith };
 
     fn run(&mut self, words: &[Text], tree: &Tree, _seen: &Tree) -> Result<Outcome, OutOfMemory> {
-        match self.answer_of(words, tree) {
+        let (runtime, folder) = (&self.runtime, self.folder.as_str());
+        match answer_of(runtime, folder, &mut self.scratch, words, tree) {
             Ok(answer) => {
                 self.completed += 1;
                 Ok(Outcome::Done(answer))

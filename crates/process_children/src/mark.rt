@@ -1,0 +1,126 @@
+//! The mark of a run: a file beside its scratch folder, which stands there from before its first child until it ends.
+
+use crate::place::standing;
+use std::fs::{File, Files, OpenOptions, TryLockError};
+use std::io::ErrorKind;
+use std::os::fd::AsRawFd;
+use std::os::unix::fs::MetadataExt;
+use std::{fs, io};
+
+// The last descriptor of a standard stream.
+const LAST_STREAM: i32 = 2;
+
+// The bytes that tell runs apart are before this one.
+const BYTES: u64 = 1 << 62;
+
+/// The mark that a run has set. Its file is locked until the run's process ends, however that ends: one that stands there
+/// without a lock is of a run that was stopped, and whose child may have outlived it.
+#[derive(Drop)]
+pub(crate) struct Mark {
+    file: File,
+    place: String,
+}
+
+/// What a run finds that sets its mark.
+#[derive(Drop)]
+pub(crate) enum Marking {
+    /// Nothing stood there.
+    Set(Mark),
+    /// The mark of a run that was stopped, which is this run's now.
+    TakenOver(Mark),
+    /// The mark of a run that goes on.
+    InUse,
+}
+
+// The file of a mark, which isn't locked yet.
+#[derive(Drop)]
+enum MarkFile {
+    New(File),
+    Standing(File),
+    // It was taken away meanwhile.
+    Gone,
+}
+
+impl Mark {
+    /// Sets the mark at a place. An error where anything but a file stands there.
+    pub(crate) fn set<R: Files<File = File>>(files: &R, place: String) -> io::Result<Marking> {
+        for _ in 0..u64::MAX {
+            let (file, is_new) = match open(files, place.as_str())? {
+                MarkFile::New(file) => (file, true),
+                MarkFile::Standing(file) => (file, false),
+                MarkFile::Gone => continue,
+            };
+            match file.try_lock() {
+                Ok(()) => {}
+                Err(TryLockError::WouldBlock) => break,
+                Err(TryLockError::Error(e)) => return Err(e),
+            }
+            // Else the run that had it has ended since, and has taken it away.
+            if is_at(files, &file, place.as_str())? {
+                let mark = Mark { file, place };
+                return Ok(if is_new {
+                    Marking::Set(mark)
+                } else {
+                    Marking::TakenOver(mark)
+                });
+            }
+        }
+        Ok(Marking::InUse)
+    }
+
+    /// The byte on which the standard input of the run's children is locked: the same for all runs that this mark is handed on
+    /// to, and hardly ever another's.
+    pub(crate) fn input_byte(&self) -> io::Result<u64> {
+        let held = self.file.metadata()?;
+        Ok((held.ino() ^ (held.dev() << 32)) % BYTES)
+    }
+
+    /// Takes the mark away: the run has ended by itself.
+    pub(crate) fn remove<R: Files<File = File>>(self, files: &R) {
+        let place = self.place.as_str();
+        if is_at(files, &self.file, place).is_ok_and(|is_there| is_there) {
+            let _gone = fs::remove_file(files, place);
+        }
+    }
+}
+
+fn open<R: Files<File = File>>(files: &R, place: &str) -> io::Result<MarkFile> {
+    match OpenOptions::new()
+        .write(true)
+        .create_new(true)
+        .open(files, place)
+    {
+        Ok(file) => return Ok(MarkFile::New(above_streams(file)?)),
+        Err(e) if e.kind() == ErrorKind::AlreadyExists => {}
+        Err(e) => return Err(e),
+    }
+    match standing(files, place)? {
+        None => return Ok(MarkFile::Gone),
+        Some(found) if found.is_file() => {}
+        // To open a fifo would wait for its reader, and a link may lead out of the folder.
+        Some(_) => return Err(io::Error::from(ErrorKind::Unsupported)),
+    }
+    match OpenOptions::new().write(true).open(files, place) {
+        Ok(file) => Ok(MarkFile::Standing(above_streams(file)?)),
+        Err(e) if e.kind() == ErrorKind::NotFound => Ok(MarkFile::Gone),
+        Err(e) => Err(e),
+    }
+}
+
+// The file, under a number that is no standard stream's: what is meant for one that was closed must not land in it.
+fn above_streams(file: File) -> io::Result<File> {
+    if file.as_raw_fd() <= LAST_STREAM {
+        file.try_clone()
+    } else {
+        Ok(file)
+    }
+}
+
+// Whether the file stands at the place.
+fn is_at<R: Files<File = File>>(files: &R, file: &File, place: &str) -> io::Result<bool> {
+    let held = file.metadata()?;
+    match standing(files, place)? {
+        Some(named) => Ok(held.dev() == named.dev() && held.ino() == named.ino()),
+        None => Ok(false),
+    }
+}

@@ -1,0 +1,134 @@
+//! The scratch folder of a run, which no other run uses meanwhile.
+
+use crate::input;
+use crate::keep::refuse_link;
+use crate::mark::{Mark, Marking};
+use crate::place::standing;
+use crate::removal::{put_away, remove};
+use std::alloc::{AllocError, Global};
+use std::fs::{File, Files};
+use std::io::ErrorKind;
+use std::path::{AsPath, Path};
+use std::{fs, io};
+
+/// The scratch folder of a run. Beside it stands the mark of the run, which says that it is in use.
+#[derive(Drop)]
+pub(crate) struct ScratchFolder {
+    place: String,
+    number: u64,
+    mark: Mark,
+    input_byte: u64,
+}
+
+impl ScratchFolder {
+    /// Takes a folder for a run. Where another run uses it, or a child that outlived its run, it is one of its own beside it:
+    /// the first that none uses, by their numbers. The folder of a run that was stopped is put away. It isn't made here.
+    pub(crate) fn take<R: Files<File = File>>(
+        files: &R,
+        alloc: Global,
+        folder: &str,
+    ) -> io::Result<ScratchFolder> {
+        make_parent(files, folder)?;
+        for number in 0..u64::MAX {
+            let place = numbered(alloc, folder, number)?;
+            if let Some(mark) = mark_of(files, alloc, place.as_str())? {
+                // What other runs left harms none, so it may stay.
+                let _removed = remove_left(files, alloc, folder, number.saturating_add(1));
+                let input_byte = mark.input_byte()?;
+                return Ok(ScratchFolder {
+                    place,
+                    number,
+                    mark,
+                    input_byte,
+                });
+            }
+        }
+        Err(io::Error::from(ErrorKind::ResourceBusy))
+    }
+
+    /// Where it stands.
+    pub(crate) fn place(&self) -> &str {
+        self.place.as_str()
+    }
+
+    /// The byte on which the standard input of the run's children is locked.
+    pub(crate) fn input_byte(&self) -> u64 {
+        self.input_byte
+    }
+
+    /// Leaves the folder: all children of the run have ended. One of the run's own is removed.
+    pub(crate) fn leave<R: Files<File = File>>(self, files: &R, alloc: Global) {
+        let ScratchFolder {
+            place,
+            number,
+            mark,
+            input_byte: _,
+        } = self;
+        if number == 0 || remove(files, alloc, place.as_str()).is_ok() {
+            mark.remove(files);
+        }
+    }
+}
+
+fn make_parent<R: Files>(files: &R, folder: &str) -> io::Result<()> {
+    match Path::new(folder).parent() {
+        None => Ok(()),
+        Some(parent) => {
+            refuse_link(files, parent.path_text())?;
+            fs::create_dir_all(files, parent)
+        }
+    }
+}
+
+fn numbered(alloc: Global, folder: &str, number: u64) -> Result<String, AllocError> {
+    if number == 0 {
+        String::from_str(alloc, folder)
+    } else {
+        format!(in alloc; "{folder}.{number}")
+    }
+}
+
+fn mark_place(alloc: Global, place: &str) -> Result<String, AllocError> {
+    format!(in alloc; "{place}.run")
+}
+
+// Sets the mark of a folder, and puts away what a run that was stopped has left there. `None` where another run uses it, or
+// where a child lives on that knows it by its full path.
+fn mark_of<R: Files<File = File>>(
+    files: &R,
+    alloc: Global,
+    place: &str,
+) -> io::Result<Option<Mark>> {
+    match Mark::set(files, mark_place(alloc, place)?)? {
+        Marking::InUse => Ok(None),
+        Marking::Set(mark) => Ok(Some(mark)),
+        Marking::TakenOver(mark) => {
+            let put_away = put_away(files, alloc, place);
+            if input::is_open(files, mark.input_byte()?) {
+                return Ok(None);
+            }
+            put_away?;
+            Ok(Some(mark))
+        }
+    }
+}
+
+// Removes the folders from this number on that runs which were stopped had taken beside another.
+fn remove_left<R: Files<File = File>>(
+    files: &R,
+    alloc: Global,
+    folder: &str,
+    first: u64,
+) -> io::Result<()> {
+    for number in first..u64::MAX {
+        let place = numbered(alloc, folder, number)?;
+        let mark = mark_place(alloc, place.as_str())?;
+        if standing(files, mark.as_str())?.is_none() {
+            break;
+        }
+        if let Some(mark) = mark_of(files, alloc, place.as_str())? {
+            mark.remove(files);
+        }
+    }
+    Ok(())
+}
