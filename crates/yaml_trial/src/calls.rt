@@ -1,6 +1,9 @@
 //! Which call a name is.
 
-use crate::{children, contents, copies, flows, kinds, lines, path_faults, paths, texts, trees};
+use crate::{
+    children, contents, copies, flows, kinds, lines, path_faults, paths, read_records, records,
+    texts, trees,
+};
 use std::alloc::Global;
 use trial_rows::{Answer, Answers, Row, Stop};
 
@@ -19,6 +22,15 @@ fn of_row(alloc: Global, name: &str, words: &[Vec<u8>]) -> Result<Answer, Stop> 
         "trees" => trees::answer(alloc, words),
         "children" => children::answer(alloc, words),
         "copy_texts" => copies::copy_all(alloc, words),
+        _ => of_records(alloc, name, words),
+    }
+}
+
+fn of_records(alloc: Global, name: &str, words: &[Vec<u8>]) -> Result<Answer, Stop> {
+    match name {
+        "words_record" => records::of_words(alloc, words),
+        "seen_record" => records::of_seen(alloc, words),
+        "changes_record" => records::of_changes(alloc, words),
         _ => by_count(alloc, name, words),
     }
 }
@@ -45,6 +57,7 @@ fn of_two(alloc: Global, name: &str, one: &[u8], other: &[u8]) -> Result<Answer,
         "order_paths" => paths::order(alloc, one, other),
         "copy_bytes" => copies::copy_bytes(alloc, one, other),
         "read_flow" => flows::read(alloc, one, other),
+        "read_long_words" => read_records::long_words(alloc, one, other),
         _ => Err(Stop::BadLine),
     }
 }
@@ -86,6 +99,16 @@ fn of_kinds(alloc: Global, name: &str, text: &[u8]) -> Result<Answer, Stop> {
         "yaml_kind" => kinds::told(alloc, text),
         "yaml_fault_of" => kinds::fault_of(alloc, text),
         "flow_fault" => kinds::flow_told(alloc, text),
+        _ => of_record(alloc, name, text),
+    }
+}
+
+fn of_record(alloc: Global, name: &str, bytes: &[u8]) -> Result<Answer, Stop> {
+    match name {
+        "read_words" => read_records::words(alloc, bytes),
+        "read_seen" => read_records::seen(alloc, bytes),
+        "read_changes" => read_records::changes(alloc, bytes),
+        "long_words_record" => records::of_long_word(alloc, bytes),
         _ => Err(Stop::BadLine),
     }
 }

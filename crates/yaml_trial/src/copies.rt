@@ -43,7 +43,7 @@ fn with_texts(answer: Answer, texts: &[Text]) -> Answer {
 }
 
 /// The arguments as texts.
-fn texts_of(alloc: Global, words: &[Vec<u8>]) -> Result<Items<Text>, Stop> {
+pub(crate) fn texts_of(alloc: Global, words: &[Vec<u8>]) -> Result<Items<Text>, Stop> {
     let mut texts = Vec::new(alloc);
     for word in words {
         let text = Text::copy_of(alloc, text_of(word.as_slice())?)?;

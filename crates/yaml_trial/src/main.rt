@@ -1,5 +1,5 @@
-//! The program `yaml_trial`: plays calls of `hook_base`, `child_port` and the YAML reader, one a line of standard input, and
-//! answers each by a line. `tests/rows.py` plays its tables by it.
+//! The program `yaml_trial`: plays calls of `hook_base`, `child_port`, the YAML reader and the records of answers, one a line of
+//! standard input, and answers each by a line. `tests/rows.py` plays its tables by it.
 #![tactic(auto)]
 
 mod calls;
@@ -12,6 +12,8 @@ mod kinds;
 mod lines;
 mod path_faults;
 mod paths;
+mod read_records;
+mod records;
 mod steps;
 mod texts;
 mod trees;

@@ -1,0 +1,11 @@
+-- How large a record may be, in bytes. Belongs to the module `limits`; its constant is proved to be this by `laws`.
+use Rattle.std.specs.Prelude.{ℕ, ◌≤◌, List, length}
+use Rattle.hook_base.specs.Limits.{most_file_bytes}
+
+-- the most bytes that a record may have: as many as a file
+abbrev pub most_record_bytes : ℕ
+most_record_bytes = most_file_bytes
+
+-- the bytes are no more than those of a record
+abbrev pub IsStorable : List ℕ → Type 0
+IsStorable bytes = length bytes ≤ most_record_bytes

@@ -1,0 +1,6 @@
+//! The limit of a record, proved to be that of `specs/Limits.antt`.
+
+use hook_base::MOST_FILE_BYTES;
+
+/// The most bytes that a record may have: as many as a file, 16 MiB. One of just so many may be.
+pub const MOST_RECORD_BYTES: usize = MOST_FILE_BYTES;
