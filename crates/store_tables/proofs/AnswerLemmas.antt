@@ -20,7 +20,7 @@ use Rattle.store_tables.specs.Tables.{Tables, HoldsIn, Stored, AreKeyed, meta_ce
 use Rattle.store_tables.proofs.Compiles as text
 use Rattle.store_tables.proofs.Compiles.{two_are_given}
 use Rattle.store_tables.proofs.QueryLemmas.{passes_all}
-use Rattle.store_tables.proofs.RowLemmas.{filter_keyed}
+use Rattle.store_tables.proofs.RowLemmas.{filter_keyed, filter_apart}
 use Rattle.store_tables.proofs.TableLemmas.{stored_filtered, truth_is, and_true}
 use Rattle.store_tables.proofs.WriteLemmas.{store_stays, deletes}
 
@@ -43,13 +43,13 @@ module _ (more : MoreTables) where
   abbrev schema : Schema
   schema = store_with more
 
-  pub take_answer : (old new : State) (t : Tables) (words seen : List ℕ) (count : ℕ) → HoldsIn schema old.now t → AreKeyed (old.now.trees 11) → Executes text.take_answer (Blob words ∷ Blob seen ∷ []) old new (Ok count)
+  pub take_answer : (old new : State) (t : Tables) (words seen : List ℕ) (count : ℕ) → HoldsIn schema old.now t → Executes text.take_answer (Blob words ∷ Blob seen ∷ []) old new (Ok count)
       → HoldsIn schema new.now (without_answer words seen t)
-  take_answer old new t words seen count h keyed ran =
+  take_answer old new t words seen count h ran =
       let params = Blob words ∷ Blob seen ∷ [] in
       let rows = old.now.trees 11 in
       let w = runs_as text.take_answer params old new schema h.schema _ (text.take_answer_is more).0 (text.take_answer_is more).1 count ran in
-      let p = deletes schema 6 _ 11 _ _ _ _ _ refl old new h.schema _ params count two_are_given (store_stays more.tables more.rests) keyed.numbered keyed.apart w in
+      let p = deletes schema 6 _ 11 _ _ _ _ _ refl old new h.schema _ params count two_are_given (store_stays more.tables more.rests) h.answers_keyed.numbered h.answers_keyed.apart w in
       let q = p.1 in
       let o = q.others in
       record {
@@ -66,5 +66,5 @@ module _ (more : MoreTables) where
         answers = subst (Stored answer_cells (1 ∷ 2 ∷ 3 ∷ 4 ∷ 5 ∷ []) (without_answer words seen t).answers) (sym q.rows_are)
             (subst (λ xs. Stored answer_cells (1 ∷ 2 ∷ 3 ∷ 4 ∷ 5 ∷ []) xs (filter (λ r. not (passes_all two_are_given params r)) rows)) (others_kept words seen t.answers)
             (stored_filtered answer_cells (1 ∷ 2 ∷ 3 ∷ 4 ∷ 5 ∷ []) (other_key words seen) t.answers rows h.answers));
-        answers_numbered = subst AreNumbered (sym q.rows_are) (filter_keyed _ rows keyed.numbered);
+        answers_keyed = subst AreKeyed (sym q.rows_are) (record { numbered = filter_keyed _ rows h.answers_keyed.numbered; apart = filter_apart _ rows h.answers_keyed.apart });
       }

@@ -104,7 +104,7 @@ made_all more db bare =
       commits = rw e.1.1.1.1.0 (IsPermutation-refl []);
       entries = rw e.1.1.1.1.1.0 (IsPermutation-refl []);
       answers = rw e.1.1.1.1.1.1.0 (IsPermutation-refl []);
-      answers_numbered = rw e.1.1.1.1.1.1.0 refl;
+      answers_keyed = rw e.1.1.1.1.1.1.0 (record { numbered = refl; apart = tt });
     }
 
 -- ---- in a transaction

@@ -127,7 +127,7 @@ module _ (more : MoreTables) where
         commits = subst (Stored commit_cells (0 ∷ 2 ∷ []) t.commits) (sym (o.1.1.1.1.0 (omega arith))) h.commits;
         entries = subst (Stored entry_cells (1 ∷ 2 ∷ 3 ∷ 4 ∷ []) t.entries) (sym (o.1.1.1.1.1.0 (omega arith))) h.entries;
         answers = subst (Stored answer_cells (1 ∷ 2 ∷ 3 ∷ 4 ∷ 5 ∷ []) t.answers) (sym (o.1.1.1.1.1.1.0 (omega arith))) h.answers;
-        answers_numbered = subst AreNumbered (sym (o.1.1.1.1.1.1.0 (omega arith))) h.answers_numbered;
+        answers_keyed = subst AreKeyed (sym (o.1.1.1.1.1.1.0 (omega arith))) h.answers_keyed;
       }
 
   pub put_blob : (old new : State) (t : Tables) (row : BlobRow) (count : ℕ) → HoldsIn schema old.now t → Executes text.put_blob (Blob row.digest ∷ Blob row.bytes ∷ []) old new (Ok count) → HoldsIn schema new.now (with_blob row t)
@@ -151,7 +151,7 @@ module _ (more : MoreTables) where
         commits = subst (Stored commit_cells (0 ∷ 2 ∷ []) t.commits) (sym (o.1.1.1.1.0 (omega arith))) h.commits;
         entries = subst (Stored entry_cells (1 ∷ 2 ∷ 3 ∷ 4 ∷ []) t.entries) (sym (o.1.1.1.1.1.0 (omega arith))) h.entries;
         answers = subst (Stored answer_cells (1 ∷ 2 ∷ 3 ∷ 4 ∷ 5 ∷ []) t.answers) (sym (o.1.1.1.1.1.1.0 (omega arith))) h.answers;
-        answers_numbered = subst AreNumbered (sym (o.1.1.1.1.1.1.0 (omega arith))) h.answers_numbered;
+        answers_keyed = subst AreKeyed (sym (o.1.1.1.1.1.1.0 (omega arith))) h.answers_keyed;
       }
 
   pub put_staged : (old new : State) (t : Tables) (row : StagedRow) (count : ℕ) → HoldsIn schema old.now t → Executes text.put_staged (Text row.path ∷ Int row.mode ∷ Blob row.digest ∷ []) old new (Ok count) → HoldsIn schema new.now (with_staged row t)
@@ -175,7 +175,7 @@ module _ (more : MoreTables) where
         commits = subst (Stored commit_cells (0 ∷ 2 ∷ []) t.commits) (sym (o.1.1.1.1.0 (omega arith))) h.commits;
         entries = subst (Stored entry_cells (1 ∷ 2 ∷ 3 ∷ 4 ∷ []) t.entries) (sym (o.1.1.1.1.1.0 (omega arith))) h.entries;
         answers = subst (Stored answer_cells (1 ∷ 2 ∷ 3 ∷ 4 ∷ 5 ∷ []) t.answers) (sym (o.1.1.1.1.1.1.0 (omega arith))) h.answers;
-        answers_numbered = subst AreNumbered (sym (o.1.1.1.1.1.1.0 (omega arith))) h.answers_numbered;
+        answers_keyed = subst AreKeyed (sym (o.1.1.1.1.1.1.0 (omega arith))) h.answers_keyed;
       }
 
   pub put_fix : (old new : State) (t : Tables) (row : FixRow) (count : ℕ) → HoldsIn schema old.now t → Executes text.put_fix (Text row.path ∷ Int row.gone ∷ or_null Blob row.digest ∷ []) old new (Ok count) → HoldsIn schema new.now (with_fix row t)
@@ -199,7 +199,7 @@ module _ (more : MoreTables) where
         commits = subst (Stored commit_cells (0 ∷ 2 ∷ []) t.commits) (sym (o.1.1.1.1.0 (omega arith))) h.commits;
         entries = subst (Stored entry_cells (1 ∷ 2 ∷ 3 ∷ 4 ∷ []) t.entries) (sym (o.1.1.1.1.1.0 (omega arith))) h.entries;
         answers = subst (Stored answer_cells (1 ∷ 2 ∷ 3 ∷ 4 ∷ 5 ∷ []) t.answers) (sym (o.1.1.1.1.1.1.0 (omega arith))) h.answers;
-        answers_numbered = subst AreNumbered (sym (o.1.1.1.1.1.1.0 (omega arith))) h.answers_numbered;
+        answers_keyed = subst AreKeyed (sym (o.1.1.1.1.1.1.0 (omega arith))) h.answers_keyed;
       }
 
   pub put_commit : (old new : State) (t : Tables) (row : CommitRow) (count : ℕ) → HoldsIn schema old.now t → Executes text.put_commit (Int row.n ∷ Blob row.message ∷ []) old new (Ok count) → HoldsIn schema new.now (with_commit row t)
@@ -223,7 +223,7 @@ module _ (more : MoreTables) where
         commits = subst (Stored commit_cells (0 ∷ 2 ∷ []) (row ∷ t.commits)) (sym q.rows) (stored_more commit_cells (0 ∷ 2 ∷ []) row t.commits new_row rows refl q.free h.commits);
         entries = subst (Stored entry_cells (1 ∷ 2 ∷ 3 ∷ 4 ∷ []) t.entries) (sym (o.1.1.1.1.1.0 (omega arith))) h.entries;
         answers = subst (Stored answer_cells (1 ∷ 2 ∷ 3 ∷ 4 ∷ 5 ∷ []) t.answers) (sym (o.1.1.1.1.1.1.0 (omega arith))) h.answers;
-        answers_numbered = subst AreNumbered (sym (o.1.1.1.1.1.1.0 (omega arith))) h.answers_numbered;
+        answers_keyed = subst AreKeyed (sym (o.1.1.1.1.1.1.0 (omega arith))) h.answers_keyed;
       }
 
   pub put_entry : (old new : State) (t : Tables) (row : EntryRow) (count : ℕ) → HoldsIn schema old.now t → Executes text.put_entry (Int row.n ∷ Text row.path ∷ Int row.mode ∷ Blob row.digest ∷ []) old new (Ok count) → HoldsIn schema new.now (with_entry row t)
@@ -247,7 +247,7 @@ module _ (more : MoreTables) where
         commits = subst (Stored commit_cells (0 ∷ 2 ∷ []) t.commits) (sym (o.1.1.1.1.0 (omega arith))) h.commits;
         entries = subst (Stored entry_cells (1 ∷ 2 ∷ 3 ∷ 4 ∷ []) (row ∷ t.entries)) (sym q.rows) (stored_more entry_cells (1 ∷ 2 ∷ 3 ∷ 4 ∷ []) row t.entries new_row rows refl q.free h.entries);
         answers = subst (Stored answer_cells (1 ∷ 2 ∷ 3 ∷ 4 ∷ 5 ∷ []) t.answers) (sym (o.1.1.1.1.1.1.0 (omega arith))) h.answers;
-        answers_numbered = subst AreNumbered (sym (o.1.1.1.1.1.1.0 (omega arith))) h.answers_numbered;
+        answers_keyed = subst AreKeyed (sym (o.1.1.1.1.1.1.0 (omega arith))) h.answers_keyed;
       }
 
   pub put_answer : (old new : State) (t : Tables) (row : AnswerRow) (count : ℕ) → HoldsIn schema old.now t → Executes text.put_answer (Blob row.words ∷ Blob row.seen ∷ Blob row.output ∷ Blob row.changes ∷ Int row.status ∷ []) old new (Ok count) → HoldsIn schema new.now (with_answer row t)
@@ -271,7 +271,7 @@ module _ (more : MoreTables) where
         commits = subst (Stored commit_cells (0 ∷ 2 ∷ []) t.commits) (sym (o.1.1.1.1.0 (omega arith))) h.commits;
         entries = subst (Stored entry_cells (1 ∷ 2 ∷ 3 ∷ 4 ∷ []) t.entries) (sym (o.1.1.1.1.1.0 (omega arith))) h.entries;
         answers = subst (Stored answer_cells (1 ∷ 2 ∷ 3 ∷ 4 ∷ 5 ∷ []) (row ∷ t.answers)) (sym q.rows) (stored_more answer_cells (1 ∷ 2 ∷ 3 ∷ 4 ∷ 5 ∷ []) row t.answers new_row rows refl q.free h.answers);
-        answers_numbered = subst AreNumbered (sym q.rows) (put_keyed new_row rows q.keyed h.answers_numbered);
+        answers_keyed = subst AreKeyed (sym q.rows) (record { numbered = put_keyed new_row rows q.keyed h.answers_keyed.numbered; apart = put_apart new_row rows q.free h.answers_keyed.apart });
       }
 
   -- ---- DELETE
@@ -298,7 +298,7 @@ module _ (more : MoreTables) where
         commits = subst (Stored commit_cells (0 ∷ 2 ∷ []) t.commits) (sym (o.1.1.1.1.0 (omega arith))) h.commits;
         entries = subst (Stored entry_cells (1 ∷ 2 ∷ 3 ∷ 4 ∷ []) t.entries) (sym (o.1.1.1.1.1.0 (omega arith))) h.entries;
         answers = subst (Stored answer_cells (1 ∷ 2 ∷ 3 ∷ 4 ∷ 5 ∷ []) t.answers) (sym (o.1.1.1.1.1.1.0 (omega arith))) h.answers;
-        answers_numbered = subst AreNumbered (sym (o.1.1.1.1.1.1.0 (omega arith))) h.answers_numbered;
+        answers_keyed = subst AreKeyed (sym (o.1.1.1.1.1.1.0 (omega arith))) h.answers_keyed;
       }
 
   pub clear_fixes : (old new : State) (t : Tables) (count : ℕ) → HoldsIn schema old.now t → Executes text.clear_fixes [] old new (Ok count) → HoldsIn schema new.now (without_fixes t)
@@ -319,13 +319,13 @@ module _ (more : MoreTables) where
         commits = subst (Stored commit_cells (0 ∷ 2 ∷ []) t.commits) (sym (o.1.1.1.1.0 (omega arith))) h.commits;
         entries = subst (Stored entry_cells (1 ∷ 2 ∷ 3 ∷ 4 ∷ []) t.entries) (sym (o.1.1.1.1.1.0 (omega arith))) h.entries;
         answers = subst (Stored answer_cells (1 ∷ 2 ∷ 3 ∷ 4 ∷ 5 ∷ []) t.answers) (sym (o.1.1.1.1.1.1.0 (omega arith))) h.answers;
-        answers_numbered = subst AreNumbered (sym (o.1.1.1.1.1.1.0 (omega arith))) h.answers_numbered;
+        answers_keyed = subst AreKeyed (sym (o.1.1.1.1.1.1.0 (omega arith))) h.answers_keyed;
       }
 
   pub clear_answers : (old new : State) (t : Tables) (count : ℕ) → HoldsIn schema old.now t → Executes text.clear_answers [] old new (Ok count) → HoldsIn schema new.now (without_answers t)
   clear_answers old new t count h ran =
       let w = runs_as text.clear_answers [] old new schema h.schema _ (text.clear_answers_is more).0 (text.clear_answers_is more).1 count ran in
-      let p = empties schema 6 _ 11 _ _ _ _ _ refl old new h.schema _ [] count (store_stays more.tables more.rests) h.answers_numbered w in
+      let p = empties schema 6 _ 11 _ _ _ _ _ refl old new h.schema _ [] count (store_stays more.tables more.rests) h.answers_keyed.numbered w in
       let q = p.1 in
       let o = q.others in
       record {
@@ -340,7 +340,7 @@ module _ (more : MoreTables) where
         commits = subst (Stored commit_cells (0 ∷ 2 ∷ []) t.commits) (sym (o.1.1.1.1.0 (omega arith))) h.commits;
         entries = subst (Stored entry_cells (1 ∷ 2 ∷ 3 ∷ 4 ∷ []) t.entries) (sym (o.1.1.1.1.1.0 (omega arith))) h.entries;
         answers = subst (Stored answer_cells (1 ∷ 2 ∷ 3 ∷ 4 ∷ 5 ∷ []) []) (sym q.rows_are) (IsPermutation-refl []);
-        answers_numbered = subst AreNumbered (sym q.rows_are) refl;
+        answers_keyed = subst AreKeyed (sym q.rows_are) (record { numbered = refl; apart = tt });
       }
 
 -- ---- parameters

@@ -89,7 +89,7 @@ pub record HoldsIn (listed : Schema) (db : Database) (t : Tables) : Type 0 where
   pub commits : Stored commit_cells (0 ∷ 2 ∷ []) t.commits (db.trees 8)
   pub entries : Stored entry_cells (1 ∷ 2 ∷ 3 ∷ 4 ∷ []) t.entries (db.trees 9)
   pub answers : Stored answer_cells (1 ∷ 2 ∷ 3 ∷ 4 ∷ 5 ∷ []) t.answers (db.trees 11)
-  pub answers_numbered : have_rowids (db.trees 11) ≡ true
+  pub answers_keyed : AreKeyed (db.trees 11)
 
 -- the database has the tables of a store and no others, obeys their rules, and has these rows in them
 abbrev pub Holds : Database → Tables → Type 0

@@ -111,8 +111,7 @@ pub fn read_answers<S: Alter>(
     tx: &mut Transaction<'_, S>,
 ) -> Result<Vec<AnswerRow>, Error>
     ensures same_reference { tx.new.conn.ghost_name ≡ tx.old.conn.ghost_name }
-    ensures read { IsRead S.Store tx.old.conn.now tx.new.conn.now result (λ rows trees. Stored answer_cells (1 ∷ 2 ∷ 3 ∷ 4 ∷ 5 ∷ []) rows.items (trees 11) × (have_rowids (trees 11) ≡ true)) }
-    ensures keyed { IsRead S.Store tx.old.conn.now tx.new.conn.now result (λ rows trees. AreKeyed (trees 11)) }
+    ensures read { IsRead S.Store tx.old.conn.now tx.new.conn.now result (λ rows trees. Stored answer_cells (1 ∷ 2 ∷ 3 ∷ 4 ∷ 5 ∷ []) rows.items (trees 11) × AreKeyed (trees 11)) }
 {
     let shown = tx.query_all(
         "SELECT rowid, words, seen, output, changes, status FROM answers ORDER BY words, seen",

@@ -65,7 +65,7 @@ pub struct EntryRow {
     pub digest: Bytes,
 }
 
-/// A remembered answer of a child, of which a store has none so far. `blobs` has the contents of its four digests.
+/// A remembered answer of a child. `blobs` has the contents of its four digests.
 #[derive(Debug, Drop)]
 pub struct AnswerRow {
     /// The digest of the words of its command.

@@ -193,7 +193,7 @@ pub fn take_answer<S: Alter>(
     seen: &[u8],
 ) -> Result<(), Error>
     ensures same_reference { tx.new.conn.ghost_name ≡ tx.old.conn.ghost_name }
-    ensures step { IsChange S.Store tx.old.conn.now tx.new.conn.now result (MakesIfKeyed spec.answers (without_answer words.now seen.now)) }
+    ensures step { IsStep S.Store tx.old.conn.now tx.new.conn.now result (without_answer words.now seen.now) }
     ensures only { IsChange S.Store tx.old.conn.now tx.new.conn.now result (ChangesOnly spec.answers) }
 {
     tx.execute(

@@ -1,8 +1,8 @@
 use Rattle.sqlite.specs.Held.{state}
 use Rattle.store_tables.specs.Schema as spec
-use Rattle.store_tables.specs.Tables.{ChangesOnly, MakesIfKeyed, without_answer}
+use Rattle.store_tables.specs.Tables.{ChangesOnly, without_answer}
 use Rattle.store_tables.proofs.OnlyLemmas as only
-use Rattle.store_tables.proofs.StepLemmas.{changes}
+use Rattle.store_tables.proofs.StepLemmas.{finishes, changes}
 use Rattle.store_tables.proofs.AnswerLemmas.{take_answer}
 use Rattle.store_tables.proofs.writes.take_answer.Goals as goal
 
@@ -10,8 +10,8 @@ pub returns-clause-step : goal.returns-clause-step
 returns-clause-step g c =
     let old = c.args.tx.now.conn.now in
     let new = c.execute.new.self.conn.now in
-    changes g.S.Store old new _ _ c.execute.result c.execute.ensures.ended (rw (c.params-to_sql.ensures, c.params-to_sql-2.ensures) at c.execute.ensures.runs) c.execute.ensures.survives (MakesIfKeyed spec.answers (without_answer c.args.words.now c.args.seen.now))
-    c.in_ok-execute.field-0 c.in_ok-execute.was (λ more has ran t h keyed. take_answer more (state g.S.Store old) (state g.S.Store new) t c.args.words.now c.args.seen.now _ h keyed ran)
+    finishes g.S.Store old new _ _ c.execute.result c.execute.ensures.ended (rw (c.params-to_sql.ensures, c.params-to_sql-2.ensures) at c.execute.ensures.runs) c.execute.ensures.survives (without_answer c.args.words.now c.args.seen.now)
+    c.in_ok-execute.field-0 c.in_ok-execute.was (λ more t h ran. take_answer more (state g.S.Store old) (state g.S.Store new) t c.args.words.now c.args.seen.now _ h ran)
 
 pub returns-clause-only : goal.returns-clause-only
 returns-clause-only g c =
