@@ -18,7 +18,7 @@ use Rattle.command_line.specs.declared.line.FileChoice.TheVariants.{Changed, All
 use Rattle.command_line.specs.declared.line.Line.{Line}
 use Rattle.command_line.specs.declared.line.StageChoice.{StageChoice}
 use Rattle.command_line.specs.declared.line.StageChoice.TheVariants.{PreCommit, Manual}
-use Rattle.command_line.specs.declared.line.Line.TheVariants.{Init, Try, Check, Add, Remove, Status, Run, Fixes, Accept, Commit, Cat, Log, Show}
+use Rattle.command_line.specs.declared.line.Line.TheVariants.{Init, Try, Check, Add, Remove, Status, Run, Fixes, Accept, Commit, Cat, Log, Show, Memory, Forget}
 
 -- ---- the commands and their values, as `clap` takes them
 
@@ -104,6 +104,12 @@ log_app = new_app (codes "log")
 abbrev pub show_app : App
 show_app = with_rule (new_app (codes "show")) (word_rule (codes "N"))
 
+abbrev pub memory_app : App
+memory_app = new_app (codes "memory")
+
+abbrev pub forget_app : App
+forget_app = new_app (codes "forget")
+
 abbrev pub with_commands : App → List App → App
 with_commands = fold (λ app command. with_subcommand app command.top)
 
@@ -118,7 +124,7 @@ hookhost_base = on_top (λ s. record s {
 abbrev pub all_commands : List App
 all_commands =
     init_app ∷ try_app ∷ check_app ∷ add_app ∷ remove_app ∷ status_app ∷ cat_app ∷ run_app ∷ run_files_app ∷ fixes_app ∷ accept_app
-    ∷ commit_app ∷ log_app ∷ show_app ∷ []
+    ∷ commit_app ∷ log_app ∷ show_app ∷ memory_app ∷ forget_app ∷ []
 
 abbrev pub hookhost_app : App
 hookhost_app = with_commands hookhost_base all_commands
@@ -201,7 +207,9 @@ line_by name rows =
     else (if bytes_eq name (codes "commit") then Some (commit_line rows)
     else (if bytes_eq name (codes "cat") then Some (Cat (word_in (codes "PATH") rows))
     else (if bytes_eq name (codes "log") then Some Log
-    else (if bytes_eq name (codes "show") then show_line rows else None)))))))))))))
+    else (if bytes_eq name (codes "show") then show_line rows
+    else (if bytes_eq name (codes "memory") then Some Memory
+    else (if bytes_eq name (codes "forget") then Some Forget else None)))))))))))))))
 
 -- what the words ask for: a command with its values, as `clap` finds them
 abbrev pub line_asked : List Text → Option Line

@@ -69,6 +69,8 @@ fn line_by(alloc: Global, name: &str, values: &ArgMatches<'_>) -> Result<Line, E
         }),
         "log" => Ok(Line::Log),
         "show" => show_line(alloc, values),
+        "memory" => Ok(Line::Memory),
+        "forget" => Ok(Line::Forget),
         _ => unreachable!(),
     }
 }

@@ -5,12 +5,12 @@
 ghost use Rattle.std.specs.Prelude.{◌≡◌, ◌∷◌, IfOk, [], false};
 ghost use Rattle.clap.specs.Words.{app_of, new_rule, rule_of};
 ghost use Rattle.clap.specs.declared.builder.Command.TheViews.{out-Command as fields_of};
-ghost use Rattle.command_line.specs.CommandLine.{accept_app, add_app, cat_app, check_app, chmod_rule, commit_app, fixes_app, flag_rule, hookhost_app, hookhost_base, init_app, log_app, message_rule, remove_app, run_app, run_files_app, run_with_options_app, show_app, stage_rule, status_app, try_app, with_commands, word_rule, words_rule};
+ghost use Rattle.command_line.specs.CommandLine.{accept_app, add_app, cat_app, check_app, chmod_rule, commit_app, fixes_app, flag_rule, forget_app, hookhost_app, hookhost_base, init_app, log_app, memory_app, message_rule, remove_app, run_app, run_files_app, run_with_options_app, show_app, stage_rule, status_app, try_app, with_commands, word_rule, words_rule};
 
 use crate::help::{CHECK_HELP, PROGRAM_HELP, TRY_HELP};
 use crate::repository_help::{
-    ACCEPT_HELP, ADD_HELP, CAT_HELP, COMMIT_HELP, FIXES_HELP, INIT_HELP, LOG_HELP, REMOVE_HELP,
-    RUN_FILES_HELP, RUN_HELP, SHOW_HELP, STATUS_HELP,
+    ACCEPT_HELP, ADD_HELP, CAT_HELP, COMMIT_HELP, FIXES_HELP, FORGET_HELP, INIT_HELP, LOG_HELP,
+    MEMORY_HELP, REMOVE_HELP, RUN_FILES_HELP, RUN_HELP, SHOW_HELP, STATUS_HELP,
 };
 use clap::{Arg, ArgAction, Command};
 use std::alloc::{AllocError, Global};
@@ -24,7 +24,8 @@ pub(crate) fn hookhost<'a>(alloc: Global) -> Result<Command<'a>, AllocError>
     let program = with_staged_files(alloc, program)?;
     let program = with_runs(alloc, program)?;
     let program = with_fixes(alloc, program)?;
-    with_commits(alloc, program)
+    let program = with_commits(alloc, program)?;
+    with_answers(alloc, program)
 }
 
 fn program<'a>(alloc: Global) -> Command<'a>
@@ -86,6 +87,14 @@ fn with_commits<'a>(alloc: Global, program: Command<'a>) -> Result<Command<'a>, 
         .subcommand(commit_command(alloc)?)?
         .subcommand(log_command(alloc))?
         .subcommand(show_command(alloc)?)
+}
+
+fn with_answers<'a>(alloc: Global, program: Command<'a>) -> Result<Command<'a>, AllocError>
+    ensures { IfOk result (λ command. app_of command ≡ with_commands (app_of program.entry) (memory_app ∷ forget_app ∷ [])) }
+{
+    program
+        .subcommand(memory_command(alloc))?
+        .subcommand(forget_command(alloc))
 }
 
 fn init_command<'a>(alloc: Global) -> Command<'a>
@@ -277,6 +286,26 @@ pub(crate) fn show_command<'a>(alloc: Global) -> Result<Command<'a>, AllocError>
         .override_usage("hookhost show <N>")
         .after_help(SHOW_HELP)
         .arg(word(alloc, "N", "The commit's number"))
+}
+
+fn memory_command<'a>(alloc: Global) -> Command<'a>
+    ensures app { app_of result ≡ memory_app }
+    ensures local { (fields_of result).has_globals ≡ false }
+{
+    Command::new(alloc, "memory")
+        .about("Prints how many answers of hooks' commands are remembered")
+        .override_usage("hookhost memory")
+        .after_help(MEMORY_HELP)
+}
+
+fn forget_command<'a>(alloc: Global) -> Command<'a>
+    ensures app { app_of result ≡ forget_app }
+    ensures local { (fields_of result).has_globals ≡ false }
+{
+    Command::new(alloc, "forget")
+        .about("Forgets the remembered answers, and prints how many there were")
+        .override_usage("hookhost forget")
+        .after_help(FORGET_HELP)
 }
 
 // A value of one word.

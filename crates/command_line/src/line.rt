@@ -64,6 +64,10 @@ pub enum Line {
         /// The commit's number.
         number: u32,
     },
+    /// How many answers of hooks' commands are remembered.
+    Memory,
+    /// All remembered answers are forgotten.
+    Forget,
 }
 
 /// The staged files that the hooks of a run may get.

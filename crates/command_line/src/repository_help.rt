@@ -129,9 +129,10 @@ commas between them, are skipped. What the hooks change isn't staged: these are 
 fixes, which hookhost fixes lists and hookhost accept applies.
 
 The commands of hooks run in .hookhost/scratch, over copies of the staged files.
-What a command answered is remembered until the run ends: on the same files it
-isn't started again. With --fresh each is, and unsteady: ID tells of each hook that
-answers otherwise than is remembered. The next run remembers nothing at first.
+What a command answered is remembered in the repository: on the same files no run
+and no commit starts it again. With --fresh each is started, and unsteady: ID tells
+of each hook that answers otherwise than is remembered. hookhost memory --help says
+when that is of use.
 
 Examples:
   hookhost run
@@ -281,4 +282,53 @@ Example:
 
 'hookhost: no commit N' says that no commit has that number: hookhost log lists
 them."
+);
+
+/// Behind the help of `memory`, which refuses nothing once the store is open.
+pub(crate) const MEMORY_HELP: &str = "\
+The line is remembered: N, the number of the answers.
+
+What the command of a hook answered is remembered in the repository, for its words
+and the files that it has seen: where both are the same, a later run or commit takes
+the answer from there. What else the command looked at, of which docs/REFERENCE.md
+has a table, isn't known. Once that has changed, as with another version of a tool,
+hookhost run --fresh starts every command again, prints unsteady: ID of each hook
+whose answers differ, and puts the new answers in place of the old ones.
+
+Example:
+  hookhost memory
+
+Exit status:
+   0  the command did what it says
+   2  the words are wrong, or ask for help
+   3  something was refused: standard error says what
+
+'hookhost: cannot use .hookhost/store.db' says that no store is here, or that it
+can't be opened: hookhost init makes one. 'hookhost: cannot use .hookhost/lock' says
+that another hookhost works here: wait for it. 'hookhost: standard output was not
+taken' says that what is printed didn't go out whole. What opening the store refuses
+is told as 'hookhost: refused: NUMBER NAME':
+   1 NotAStore    the file is no store of this version
+                  move it away, and make a store by hookhost init
+   2 Damaged      the store holds what no store holds
+                  take it from a backup: nothing here mends it
+   3 Sql          the database refused
+                  see that the disk can be read and has room
+   4 OutOfMemory  memory was refused
+                  free some memory, and run it again";
+
+/// Behind the help of `forget`.
+pub(crate) const FORGET_HELP: &str = opening_help!(
+    "\
+All remembered answers are taken out of the repository, and each command is started
+again once a run or a commit needs it. The line is forgotten: N, how many answers
+there were. hookhost memory --help says what is remembered.
+
+The commits, the staged files and the fixes stay as they were. So do the contents
+that the answers name: .hookhost/store.db gets no smaller. To start the commands of
+one run again, and to see whose answers differ, take hookhost run --fresh instead.
+
+Example:
+  hookhost forget",
+    ""
 );

@@ -1,23 +1,35 @@
 -- What a command leaves, from what the store's call leaves.
-use Rattle.std.proofs.Common.{◌≡◌, ℕ, List, [], length, Option, Result, Ok, Err, inl, refl, sym, subst, arith}
+use Rattle.std.proofs.Common.{◌≡◌, ℕ, List, [], length, Option, Ok, Err, inl, refl, sym, subst, arith}
+use Rattle.std.proofs.lemmas.List.{length-map}
 use Rattle.sqlite_trees.specs.declared.store.Store.{Ghosts}
 use Rattle.sqlite_trees.specs.Tree.{Trees}
 use Rattle.sqlite.specs.Held.{state}
 use Rattle.sqlite.specs.State.{State, Survives}
 use Rattle.sqlite.proofs.StateLemmas.{survives_weaker}
 use Rattle.hook_base.specs.declared.file.Mode.{Mode}
-use Rattle.hook_base.specs.Trees.{entry_of}
-use Rattle.repo_store.specs.Kept.{Kept, accepting, staging, unstaging}
+use Rattle.hook_base.specs.Trees.{entry_of, put_file}
+use Rattle.repo_store.specs.declared.fault.StoreFault.{StoreFault}
+use Rattle.repo_store.specs.declared.fault.StoreFault.TheVariants as store
+use Rattle.repo_store.specs.Contents.{Collides}
+use Rattle.repo_store.specs.Faults.{IsRefusal}
+use Rattle.repo_store.specs.Limits.{Fits, IsSmall}
+use Rattle.repo_store.specs.Kept.{Kept, accepting, forgetting, staging, unstaging}
 use Rattle.repo_store.specs.Shown.{IsOneTransaction, Leaves, LeavesOnly, Shown}
+use Rattle.result_book.specs.Calls.{AfterForget}
+use Rattle.result_book.specs.Contents.{count_of}
+use Rattle.result_book.specs.StoreBooks.{remembered_by, row_of}
 use Rattle.commit_flow.specs.declared.command.Command.{Command}
-use Rattle.commit_flow.specs.declared.command.Command.TheVariants.{Add, Remove, Accept}
+use Rattle.commit_flow.specs.declared.command.Command.TheVariants.{Add, Remove, Accept, Forget}
 use Rattle.commit_flow.specs.declared.host_refusal.HostRefusal.{HostRefusal}
-use Rattle.commit_flow.specs.declared.reply.Reply.TheVariants.{Added, Removed, Accepted}
+use Rattle.commit_flow.specs.declared.host_refusal.HostRefusal.TheVariants.{Collision}
+use Rattle.commit_flow.specs.declared.reply.Reply.TheVariants.{Added, Removed, Accepted, Forgot}
 use Rattle.commit_flow.specs.Crashes.{IsOneCommand, LeavesDone}
+use Rattle.commit_flow.specs.Refusals.{of_store}
 use Rattle.commit_flow.specs.StagedPaths.{IsLegal, IsStaged}
 use Rattle.commit_flow.specs.Steps.{HasFixes, IsAddable, entry_to_add, mode_to_add}
 
-survives_itself : (s : State) (P : Trees → Type 0) → Survives s s P
+-- where nothing happens, a crash leaves what it could leave
+pub survives_itself : (s : State) (P : Trees → Type 0) → Survives s s P
 survives_itself s P = record {
   clean = omega arith;
   shield = λ shielded. shielded;
@@ -26,23 +38,6 @@ survives_itself s P = record {
   closes = λ _ is_open. inl is_open;
   crash = λ _ trees left. inl left;
 }
-
--- a command that is refused before the store is asked
-pub unchanged : {S A : Type 0} (g : Ghosts S) (shown : Shown S) (command : Command) (refusal : HostRefusal) → IsOneCommand {A = A} g shown shown command (Err refusal)
-unchanged g shown command refusal = record {
-  stands = λ stands. stands;
-  crash = survives_itself (state g shown.conn) (LeavesDone shown.kept.repo command);
-  durable = tt;
-}
-
--- a command that leaves the store as it was
-pub untouched : {S A : Type 0} (g : Ghosts S) (shown : Shown S) (command : Command) (result : Result A HostRefusal) → LeavesOnly g shown.conn shown.kept → IsOneCommand g shown shown command result
-untouched g shown command (Ok x) leaves = record {
-  stands = λ stands. stands;
-  crash = survives_itself (state g shown.conn) (LeavesDone shown.kept.repo command);
-  durable = leaves;
-}
-untouched g shown command (Err refusal) leaves = unchanged g shown command refusal
 
 -- a command that asks the store for one change
 module _ {S : Type 0} (g : Ghosts S) (old new : Shown S) (command : Command) (asked after : Kept) (is : asked ≡ after) (reached : (trees : Trees) → Leaves after trees → LeavesDone old.kept.repo command trees) where
@@ -55,6 +50,19 @@ module _ {S : Type 0} (g : Ghosts S) (old new : Shown S) (command : Command) (as
 
   pub done_command : {A B E : Type 0} (x : A) (y : B) → new.kept ≡ asked → IsOneTransaction {E = E} g old new (Ok x) asked → IsOneCommand {A = B} g old new command (Ok y)
   done_command x y same one = record { stands = λ _. one.stands; crash = leaves_done one.crash; durable = subst (LeavesOnly g new.conn) (sym same) one.durable }
+
+-- the store refuses a file by contents that collide
+pub add_collides : (path bytes : List ℕ) (mode : Mode) (kept : Kept) (fault : StoreFault)
+    → IsRefusal (¬ IsSmall bytes) (IsSmall bytes × (¬ Fits (put_file path (record { mode = mode; bytes = bytes }) kept.repo.staged)))
+    (IsSmall bytes × Fits (put_file path (record { mode = mode; bytes = bytes }) kept.repo.staged) × Collides bytes kept.contents) fault
+    → of_store fault ≡ Collision → Collides bytes kept.contents
+add_collides path bytes mode kept store.Collision why is = why.2
+add_collides path bytes mode kept store.NotAStore why is = absurd why
+add_collides path bytes mode kept store.Damaged why is = absurd why
+add_collides path bytes mode kept (store.Sql error) why is = absurd (cc)
+add_collides path bytes mode kept store.OutOfMemory why is = absurd (cc)
+add_collides path bytes mode kept store.TooLarge why is = absurd (cc)
+add_collides path bytes mode kept store.TooMany why is = absurd (cc)
 
 -- what the commands ask the store for, and what they reach
 pub same_staging : (kept : Kept) (path bytes : List ℕ) (asked : Option Mode) (taken : List ℕ) (mode : Mode) → taken ≡ path → mode ≡ mode_to_add asked (entry_of taken kept.repo.staged)
@@ -105,3 +113,28 @@ module _ {S : Type 0} (g : Ghosts S) (before old new : Shown S) (is : old ≡ be
   accept_done {B = B} x same one y =
       subst (λ (at : Shown S). IsOneCommand {A = B} g at new Accept (Ok y)) is
       (done_command g old new Accept (accepting old.kept) (accepting old.kept) refl (accept_reached old.kept kept_fixes) x y same one)
+
+forget_reached : (kept : Kept) (trees : Trees) → Leaves (forgetting kept) trees → LeavesDone kept.repo Forget trees
+forget_reached kept trees leaves = record {
+  kept = forgetting kept;
+  reply = Forgot (length kept.answers);
+  done = tt;
+  parts = [];
+  step = (refl, refl);
+  leaves = leaves;
+}
+
+-- the answers are forgotten, whatever number is answered
+module _ {S : Type 0} (g : Ghosts S) (old new : Shown S) where
+  pub forget_refused : {A B E : Type 0} (fault : E) (refusal : HostRefusal) → IsOneTransaction {A = A} g old new (Err fault) (forgetting old.kept) → IsOneCommand {A = B} g old new Forget (Err refusal)
+  forget_refused fault refusal one = refused_command g old new Forget (forgetting old.kept) (forgetting old.kept) refl (forget_reached old.kept) fault refusal one
+
+  pub forget_done : {A B E : Type 0} (x : A) (y : B) → new.kept ≡ forgetting old.kept → IsOneTransaction {E = E} g old new (Ok x) (forgetting old.kept) → IsOneCommand {A = B} g old new Forget (Ok y)
+  forget_done x y same one = done_command g old new Forget (forgetting old.kept) (forgetting old.kept) refl (forget_reached old.kept) x y same one
+
+-- as many are remembered as the store has answers, and none once they are forgotten
+pub count_remembered : (kept : Kept) → length kept.answers ≡ count_of (remembered_by kept)
+count_remembered kept = sym (length-map kept.answers row_of)
+
+pub forgotten_all : (old new : Kept) → new ≡ forgetting old → AfterForget (remembered_by old) (remembered_by new)
+forgotten_all old new same = subst (λ (kept : Kept). AfterForget (remembered_by old) (remembered_by kept)) (sym same) (record { none = refl })

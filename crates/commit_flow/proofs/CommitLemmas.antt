@@ -1,5 +1,5 @@
 -- A commit as a step between two moments: one lemma for each of its ends.
-use Rattle.std.proofs.Common.{◌≡◌, inl, inr, sym, subst, refl, append_assoc, ℕ, ◌+◌, ◌-◌, ◌^◌, Bool, false, List, [], ◌++◌, length}
+use Rattle.std.proofs.Common.{◌≡◌, ◌∙◌, ap, inl, inr, sym, subst, refl, ℕ, ◌+◌, ◌-◌, ◌^◌, Bool, false, List, [], ◌++◌, length}
 use Rattle.std.proofs.lemmas.List.{append-nil}
 use Rattle.hook_base.specs.declared.change.Change.{Change}
 use Rattle.hook_base.specs.declared.file.File.{File}
@@ -8,13 +8,13 @@ use Rattle.child_port.specs.declared.answer.Outcome.{Outcome}
 use Rattle.child_port.specs.Telling.{SameTells}
 use Rattle.hook_config.specs.declared.configuration.Config.{Config}
 use Rattle.hook_config.specs.declared.stage.Stage.{Stage}
+use Rattle.result_book.specs.StoreBooks.{RefusesAnswers}
 use Rattle.hook_run.specs.declared.run_refusal.RunRefusal.{RunRefusal}
 use Rattle.hook_run.specs.declared.run_refusal.RunRefusal.TheVariants as run
 use Rattle.hook_run.specs.Answers.{AreAnswered, AreAnsweredSoFar}
-use Rattle.hook_run.specs.AnswerLemmas.{answered-none, answered-told, so-far, so-far-told}
+use Rattle.hook_run.specs.AnswerLemmas.{answered-adds, answered-none, answered-told, so-far, so-far-adds, so-far-back_to, so-far-back_to-last, so-far-told}
 use Rattle.hook_run.specs.Moments.{Moment}
-use Rattle.hook_run.specs.Parts.{Part, all_parts}
-use Rattle.result_book.specs.Contents.{Contents}
+use Rattle.hook_run.specs.Parts.{AllTold, Part, all_parts}
 use Rattle.repo_store.specs.Kept.{FixCollides, Kept}
 use Rattle.repo_store.specs.Repository.{Repository, with_new_commit}
 use Rattle.commit_flow.specs.declared.command.Command.TheVariants.{Commit}
@@ -26,16 +26,18 @@ use Rattle.commit_flow.specs.declared.reply.PostCommit.TheVariants.{Told, Stoppe
 use Rattle.commit_flow.specs.declared.reply.Reply.{Reply}
 use Rattle.commit_flow.specs.declared.reply.Reply.TheVariants.{Committed, HooksFailed, Refused}
 use Rattle.commit_flow.specs.CommitCalls.{AreStagesOver, IsHalt, IsHalted, IsNotBegun, IsPostOver, IsUnbegun, IsUncommitted, IsUnfixed, IsUnthrough}
-use Rattle.commit_flow.specs.CommitStages.{FailedAt, HaveFurther, HavePassed, course_of, parts_of, stages_before_commit}
+use Rattle.commit_flow.specs.CommitStages.{FailedAt, HaveBegun, HaveFurther, HavePassed, course_of, parts_of, stages_before_commit}
 use Rattle.commit_flow.specs.Commits.{IsCommitRefusal, IsCommittable, IsCommitted, IsPost, IsVerified, MayCommit}
 use Rattle.commit_flow.specs.Configured.{HasReadableConfig, IsConfigured}
 use Rattle.commit_flow.specs.Messages.{cleaned_message}
 use Rattle.commit_flow.specs.Preparations.{IsConfigRefusal}
+use Rattle.commit_flow.specs.Refusals.{of_run}
 use Rattle.commit_flow.specs.Runs.{changed_paths, fixing}
 use Rattle.commit_flow.specs.RunSteps.{IsUnset}
-use Rattle.commit_flow.specs.CommitSteps.{AreLeftOut, HasFailedBut, HasFurtherBefore, HasFurtherBehind, IsCommitStep, SaysSpent, StandsOnAll}
+use Rattle.commit_flow.specs.CommitSteps.{AreLeftOut, HasBegunBefore, HasBegunBehind, HasFailedBut, HasFurtherBefore, HasFurtherBehind, IsCommitStep, SaysSpent}
 use Rattle.commit_flow.specs.Steps.{Step}
-use Rattle.commit_flow.proofs.StagesLemmas.{answered_then, answered_up_to, halted_for_memory}
+use Rattle.commit_flow.proofs.RefusalLemmas.{by_stop}
+use Rattle.commit_flow.proofs.StagesLemmas.{answered_then, answered_up_to, begun_failed, begun_verified, halted_for_memory}
 
 -- ---- refusals
 
@@ -56,7 +58,7 @@ unbegun_config repo message Collision committable why = absurd why
 unbegun_config repo message Spent committable why = absurd why
 unbegun_config repo message Clash committable why = absurd why
 
-says_spent : (refusal : HostRefusal) → SaysSpent (Refused refusal) → refusal ≡ Spent
+pub says_spent : (refusal : HostRefusal) → SaysSpent (Refused refusal) → refusal ≡ Spent
 says_spent Spent says = refl
 says_spent OutOfMemory says = absurd says
 says_spent NoConfig says = absurd says
@@ -79,24 +81,6 @@ says_stopped number reports run.OutOfMemory says = absurd says
 says_stopped number reports (run.Book fault) says = absurd says
 says_stopped number reports run.NoSuchHook says = absurd says
 
--- what stops hooks leaves out some of what they were answered
-halt_stands : (refusal : HostRefusal) → IsHalt refusal → StandsOnAll (Refused refusal) → ⊥
-halt_stands OutOfMemory why stands = stands
-halt_stands Spent why stands = stands
-halt_stands (Store fault) why stands = why
-halt_stands Collision why stands = why
-halt_stands NoConfig why stands = why
-halt_stands (BadConfig fault) why stands = why
-halt_stands (BadPath fault) why stands = why
-halt_stands NotStaged why stands = why
-halt_stands TooLarge why stands = why
-halt_stands TooMany why stands = why
-halt_stands NoSuchHook why stands = why
-halt_stands NothingStaged why stands = why
-halt_stands NoFixes why stands = why
-halt_stands EmptyMessage why stands = why
-halt_stands Clash why stands = why
-
 module _ (repo : Repository) (message : List ℕ) (no_verify : Bool) (skip : List (List ℕ)) where
   unbegun_refusal : (refusal : HostRefusal) → IsUnbegun repo message refusal → IsCommitRefusal repo message no_verify skip [] refusal
   unbegun_refusal TooLarge why = (why, refl)
@@ -115,201 +99,196 @@ module _ (repo : Repository) (message : List ℕ) (no_verify : Bool) (skip : Lis
   unbegun_refusal Spent why = absurd why
   unbegun_refusal Clash why = absurd why
 
-  halt_refusal : IsCommittable repo message → HasReadableConfig repo → (refusal : HostRefusal) → IsHalt refusal → IsCommitRefusal repo message no_verify skip [] refusal
-  halt_refusal committable readable OutOfMemory why = (committable, refl)
-  halt_refusal committable readable (Store fault) why = absurd why
-  halt_refusal committable readable Collision why = absurd why
-  halt_refusal committable readable Spent why = (committable, readable, tt, refl)
-  halt_refusal committable readable NoConfig why = absurd why
-  halt_refusal committable readable (BadConfig fault) why = absurd why
-  halt_refusal committable readable (BadPath fault) why = absurd why
-  halt_refusal committable readable NotStaged why = absurd why
-  halt_refusal committable readable TooLarge why = absurd why
-  halt_refusal committable readable TooMany why = absurd why
-  halt_refusal committable readable NoSuchHook why = absurd why
-  halt_refusal committable readable NothingStaged why = absurd why
-  halt_refusal committable readable NoFixes why = absurd why
-  halt_refusal committable readable EmptyMessage why = absurd why
-  halt_refusal committable readable Clash why = absurd why
+  halt_refusal : IsCommittable repo message → HasReadableConfig repo → (refusal : HostRefusal) → IsHalt RefusesAnswers refusal → IsCommitRefusal repo message no_verify skip [] refusal
+  halt_refusal committable readable refusal why =
+      subst (IsCommitRefusal repo message no_verify skip []) (sym why.is)
+      (by_stop (IsCommitRefusal repo message no_verify skip []) why.inner why.not_named why.of_book
+      (committable, refl) (committable, readable, tt, refl) (λ fault of_fixes. (committable, readable, of_fixes, refl)) (λ _. (committable, readable, tt, refl)))
 
-module _ (kept : Kept) (message : List ℕ) (no_verify : Bool) (skip : List (List ℕ)) (remembered : Contents) where
-  unbegun_untold : (refusal : HostRefusal) → IsUnbegun kept.repo message refusal → AreLeftOut kept message no_verify skip remembered [] (Refused refusal)
-  unbegun_untold OutOfMemory why = tt
-  unbegun_untold (Store fault) why = absurd why
-  unbegun_untold Collision why = absurd why
-  unbegun_untold Spent why = absurd why
-  unbegun_untold NoConfig why = refl
-  unbegun_untold (BadConfig fault) why = refl
-  unbegun_untold (BadPath fault) why = absurd why
-  unbegun_untold NotStaged why = absurd why
-  unbegun_untold TooLarge why = refl
-  unbegun_untold TooMany why = absurd why
-  unbegun_untold NoSuchHook why = absurd why
-  unbegun_untold NothingStaged why = refl
-  unbegun_untold NoFixes why = absurd why
-  unbegun_untold EmptyMessage why = absurd why
-  unbegun_untold Clash why = absurd why
+module _ (tells : List (List ℕ) → List File → Outcome → Type 0) (repo : Repository) (message : List ℕ) (no_verify : Bool) (skip : List (List ℕ)) (contents : List (List ℕ)) where
+  -- nothing is left out of a commit that isn't begun
+  unbegun_out : (at : Moment) (refusal : HostRefusal) → IsUnbegun repo message refusal → AreLeftOut tells at at repo message no_verify skip [] contents (Refused refusal)
+  unbegun_out at OutOfMemory why = inl (refl, refl)
+  unbegun_out at (Store fault) why = absurd why
+  unbegun_out at Collision why = absurd why
+  unbegun_out at Spent why = absurd why
+  unbegun_out at NoConfig why = (refl, refl)
+  unbegun_out at (BadConfig fault) why = (refl, refl)
+  unbegun_out at (BadPath fault) why = absurd why
+  unbegun_out at NotStaged why = absurd why
+  unbegun_out at TooLarge why = (refl, refl)
+  unbegun_out at TooMany why = absurd why
+  unbegun_out at NoSuchHook why = absurd why
+  unbegun_out at NothingStaged why = (refl, refl)
+  unbegun_out at NoFixes why = absurd why
+  unbegun_out at EmptyMessage why = absurd why
+  unbegun_out at Clash why = absurd why
 
-  halt_untold : (untold : List Part) (refusal : HostRefusal) → IsHalt refusal → (refusal ≡ Spent → HasFurtherBefore kept.repo message no_verify skip remembered untold) → AreLeftOut kept message no_verify skip remembered untold (Refused refusal)
-  halt_untold untold OutOfMemory why needs = tt
-  halt_untold untold (Store fault) why needs = absurd why
-  halt_untold untold Collision why needs = absurd why
-  halt_untold untold Spent why needs = needs refl
-  halt_untold untold NoConfig why needs = absurd why
-  halt_untold untold (BadConfig fault) why needs = absurd why
-  halt_untold untold (BadPath fault) why needs = absurd why
-  halt_untold untold NotStaged why needs = absurd why
-  halt_untold untold TooLarge why needs = absurd why
-  halt_untold untold TooMany why needs = absurd why
-  halt_untold untold NoSuchHook why needs = absurd why
-  halt_untold untold NothingStaged why needs = absurd why
-  halt_untold untold NoFixes why needs = absurd why
-  halt_untold untold EmptyMessage why needs = absurd why
-  halt_untold untold Clash why needs = absurd why
+  -- its stages were stopped
+  halt_out : (from to : Moment) (parts : List Part) (refusal : HostRefusal) → IsHalt RefusesAnswers refusal → HasBegunBefore repo message no_verify skip parts
+      → (refusal ≡ Spent → HasFurtherBefore repo message no_verify skip to.remembered parts) → AreLeftOut tells from to repo message no_verify skip parts contents (Refused refusal)
+  halt_out from to parts refusal why begun needs =
+      subst (λ (r : HostRefusal). AreLeftOut tells from to repo message no_verify skip parts contents (Refused r)) (sym why.is)
+      (by_stop (λ (r : HostRefusal). AreLeftOut tells from to repo message no_verify skip parts contents (Refused r)) why.inner why.not_named why.of_book
+      (inr begun) (inr begun) (λ fault of_fixes. inr begun) (λ spent. needs (why.is ∙ ap of_run spent)))
 
-  -- the hooks behind a commit were stopped
-  post_untold : (number : ℕ) (reports : List (List ℕ)) (untold : List Part) (refusal : RunRefusal) → (refusal ≡ run.Spent → HasFurtherBehind kept.repo skip remembered untold)
-      → AreLeftOut kept message no_verify skip remembered untold (Committed number reports (Stopped refusal))
-  post_untold number reports untold run.Spent needs = needs refl
-  post_untold number reports untold run.OutOfMemory needs = tt
-  post_untold number reports untold (run.Book fault) needs = tt
-  post_untold number reports untold run.NoSuchHook needs = tt
+  -- the hooks behind it were stopped
+  post_out : (from to : Moment) (number : ℕ) (reports : List (List ℕ)) (parts : List Part) (refusal : RunRefusal) → HasBegunBehind repo skip parts
+      → (refusal ≡ run.Spent → HasFurtherBehind repo skip to.remembered parts) → AreLeftOut tells from to repo message no_verify skip parts contents (Committed number reports (Stopped refusal))
+  post_out from to number reports parts run.Spent begun needs = needs refl
+  post_out from to number reports parts run.OutOfMemory begun needs = begun
+  post_out from to number reports parts (run.Book fault) begun needs = begun
+  post_out from to number reports parts run.NoSuchHook begun needs = begun
 
 -- ---- the ends
 
-module _ (tells : List (List ℕ) → List File → Outcome → Type 0) (from to : Moment) (kept : Kept) (message : List ℕ) (no_verify : Bool) (skip : List (List ℕ)) where
+module _ (tells : List (List ℕ) → List File → Outcome → Type 0) (from to : Moment) (before : Repository) (message : List ℕ) (no_verify : Bool) (skip : List (List ℕ)) where
   -- the reply stands on all that was answered
-  step_on_all : (reply : Reply) (after : Repository) (parts : List Part) → Step kept.repo (Commit message no_verify skip) reply parts after → AreLeftOut kept message no_verify skip to.remembered [] reply
-      → (SaysSpent reply → ⊥) → AreAnswered tells false from to parts → IsCommitStep tells from to kept message no_verify skip reply after
-  step_on_all reply after parts step left_out not_spent answered =
-      let all = subst (AreAnswered tells false from to) (sym (append-nil parts)) answered in
-      record {
-        parts = parts;
-        untold = [];
-        step = step;
-        left_out = left_out;
-        answered = so-far tells false from to (parts ++ []) all;
-        whole = λ _. answered;
-        told = answered-told tells false from to (parts ++ []) all;
-        spent = λ says. absurd (not_spent says);
-      }
-
-  -- the reply leaves out what was answered behind these parts
-  step_on_some : (reply : Reply) (after : Repository) (parts untold : List Part) → Step kept.repo (Commit message no_verify skip) reply parts after → AreLeftOut kept message no_verify skip to.remembered untold reply
-      → (StandsOnAll reply → ⊥) → (SaysSpent reply → to.calls ≡ 2 ^ 64 - 1) → AreAnsweredSoFar tells false from to (parts ++ untold)
-      → IsCommitStep tells from to kept message no_verify skip reply after
-  step_on_some reply after parts untold step left_out not_all spent answered = record {
+  step_on_all : (reply : Reply) (after : Kept) (parts : List Part) → Step before (Commit message no_verify skip) reply parts after.repo → AreLeftOut tells to to before message no_verify skip [] after.contents reply
+      → (SaysSpent reply → ⊥) → AreAnswered tells false from to parts → IsCommitStep tells from to before message no_verify skip reply after
+  step_on_all reply after parts step why not_spent answered = record {
     parts = parts;
-    untold = untold;
+    left_out = [];
+    between = to;
     step = step;
-    left_out = left_out;
     answered = answered;
-    whole = λ stands. absurd (not_all stands);
-    told = so-far-told tells false from to (parts ++ untold) answered;
+    answered_then = so-far tells false to to [] (answered-none tells false to);
+    why = why;
+    told = λ book. subst (AllTold tells) (sym (append-nil parts)) (answered-told tells false from to parts answered book);
+    adds = answered-adds tells false from to parts answered;
+    put = λ says. absurd (not_spent says);
+    spent = λ says. absurd (not_spent says);
+  }
+
+  -- the reply stands on none of what was answered
+  step_on_none : (reply : Reply) (after : Kept) (parts : List Part) → Step before (Commit message no_verify skip) reply [] after.repo → AreLeftOut tells from to before message no_verify skip parts after.contents reply
+      → (answered : AreAnsweredSoFar tells false from to parts) → (SaysSpent reply → answered.last ≡ []) → (SaysSpent reply → to.calls ≡ 2 ^ 64 - 1) → IsCommitStep tells from to before message no_verify skip reply after
+  step_on_none reply after parts step why answered put spent = record {
+    parts = [];
+    left_out = parts;
+    between = from;
+    step = step;
+    answered = answered-none tells false from;
+    answered_then = answered;
+    why = why;
+    told = so-far-told tells false from to parts answered;
+    adds = so-far-adds tells false from to parts answered;
+    put = put;
     spent = spent;
   }
 
-module _ (tells : List (List ℕ) → List File → Outcome → Type 0) (kept : Kept) (message : List ℕ) (no_verify : Bool) (skip : List (List ℕ)) where
-  step_unbegun : (at : Moment) (refusal : HostRefusal) → IsUnbegun kept.repo message refusal → IsCommitStep tells at at kept message no_verify skip (Refused refusal) kept.repo
-  step_unbegun at refusal why = step_on_all tells at at kept message no_verify skip (Refused refusal) kept.repo [] (unbegun_refusal kept.repo message no_verify skip refusal why, refl)
-      (unbegun_untold kept message no_verify skip at.remembered refusal why) (λ says. subst (IsUnbegun kept.repo message) (says_spent refusal says) why) (answered-none tells false at)
+  -- the store refused what the stages had done
+  step_unstored : (reply : Reply) (after : Kept) (parts : List Part) → Step before (Commit message no_verify skip) reply [] after.repo → AreLeftOut tells from to before message no_verify skip parts after.contents reply
+      → (SaysSpent reply → ⊥) → AreAnswered tells false from to parts → IsCommitStep tells from to before message no_verify skip reply after
+  step_unstored reply after parts step why not_spent answered =
+      step_on_none reply after parts step why (so-far tells false from to parts answered) (λ says. absurd (not_spent says)) (λ says. absurd (not_spent says))
+
+module _ (tells : List (List ℕ) → List File → Outcome → Type 0) (before : Repository) (message : List ℕ) (no_verify : Bool) (skip : List (List ℕ)) where
+  step_unbegun : (at : Moment) (refusal : HostRefusal) (after : Kept) → after.repo ≡ before → IsUnbegun before message refusal → IsCommitStep tells at at before message no_verify skip (Refused refusal) after
+  step_unbegun at refusal after left why = step_on_all tells at at before message no_verify skip (Refused refusal) after [] (unbegun_refusal before message no_verify skip refusal why, left)
+      (unbegun_out tells before message no_verify skip after.contents at refusal why) (λ says. subst (IsUnbegun before message) (says_spent refusal says) why) (answered-none tells false at)
 
   module _ (from to : Moment) where
-    step_not_begun : (refusal : HostRefusal) → IsNotBegun from to kept.repo message refusal → IsCommitStep tells from to kept message no_verify skip (Refused refusal) kept.repo
-    step_not_begun refusal why =
-        subst (λ (at : Moment). IsCommitStep tells from at kept message no_verify skip (Refused refusal) kept.repo) (sym why.unmade) (step_unbegun from refusal why.unbegun)
+    step_not_begun : (refusal : HostRefusal) (after : Kept) → after.repo ≡ before → IsNotBegun from to before message refusal → IsCommitStep tells from to before message no_verify skip (Refused refusal) after
+    step_not_begun refusal after left why =
+        subst (λ (at : Moment). IsCommitStep tells from at before message no_verify skip (Refused refusal) after) (sym why.unmade) (step_unbegun from refusal after left why.unbegun)
 
-    step_halted : (refusal : HostRefusal) → IsCommittable kept.repo message → (config : Config) → IsConfigured kept.repo config
-        → IsHalted tells from to (HaveFurther to.remembered config (changed_paths kept.repo) skip (stages_before_commit no_verify) (course_of kept.repo message)) refusal
-        → IsCommitStep tells from to kept message no_verify skip (Refused refusal) kept.repo
-    step_halted refusal committable config configured halted =
-        step_on_some tells from to kept message no_verify skip (Refused refusal) kept.repo [] halted.untold (halt_refusal kept.repo message no_verify skip committable (config, configured) refusal halted.why, refl)
-        (halt_untold kept message no_verify skip to.remembered halted.untold refusal halted.why (λ is. record { config = config; configured = configured; further = halted.needs is }))
-        (halt_stands refusal halted.why) (λ says. halted.spent (says_spent refusal says)) halted.answered
+    step_halted : (refusal : HostRefusal) (after : Kept) → after.repo ≡ before → IsCommittable before message → (config : Config) → IsConfigured before config
+        → IsHalted RefusesAnswers tells from to (HaveBegun config (changed_paths before) skip (stages_before_commit no_verify) (course_of before message))
+        (HaveFurther to.remembered config (changed_paths before) skip (stages_before_commit no_verify) (course_of before message)) refusal
+        → IsCommitStep tells from to before message no_verify skip (Refused refusal) after
+    step_halted refusal after left committable config configured halted =
+        step_on_none tells from to before message no_verify skip (Refused refusal) after halted.parts (halt_refusal before message no_verify skip committable (config, configured) refusal halted.why, left)
+        (halt_out tells before message no_verify skip after.contents from to halted.parts refusal halted.why (record { config = config; configured = configured; begun = halted.begun })
+        (λ is. record { config = config; configured = configured; further = halted.needs is }))
+        halted.answered (λ says. halted.put (says_spent refusal says)) (λ says. halted.spent (says_spent refusal says))
 
-    pub step_unthrough : (refusal : HostRefusal) → IsUnthrough tells from to kept.repo message no_verify skip refusal → IsCommitStep tells from to kept message no_verify skip (Refused refusal) kept.repo
-    step_unthrough refusal why =
+    pub step_unthrough : (refusal : HostRefusal) (after : Kept) → after.repo ≡ before → IsUnthrough tells from to before message no_verify skip refusal → IsCommitStep tells from to before message no_verify skip (Refused refusal) after
+    step_unthrough refusal after left why =
         elim why [
-          | inl early ↦ step_not_begun refusal early
-          | inr late ↦ step_halted refusal late.committable late.config late.configured late.halted
+          | inl early ↦ step_not_begun refusal after left early
+          | inr late ↦ step_halted refusal after left late.committable late.config late.configured late.halted
         ]
 
-    module _ (committable : IsCommittable kept.repo message) (config : Config) (configured : IsConfigured kept.repo config) where
+    module _ (committable : IsCommittable before message) (config : Config) (configured : IsConfigured before config) where
       -- memory is refused behind the stages
-      step_lost : (parts : List Part) → AreAnswered tells false from to parts → IsCommitStep tells from to kept message no_verify skip (Refused OutOfMemory) kept.repo
-      step_lost parts answered = step_halted OutOfMemory committable config configured
-          (halted_for_memory tells from to (HaveFurther to.remembered config (changed_paths kept.repo) skip (stages_before_commit no_verify) (course_of kept.repo message)) parts answered)
+      step_lost : (after : Kept) → after.repo ≡ before → (parts : List Part) → HaveBegun config (changed_paths before) skip (stages_before_commit no_verify) (course_of before message) parts → AreAnswered tells false from to parts
+          → IsCommitStep tells from to before message no_verify skip (Refused OutOfMemory) after
+      step_lost after left parts begun answered = step_halted OutOfMemory after left committable config configured
+          (halted_for_memory RefusesAnswers tells from to (HaveBegun config (changed_paths before) skip (stages_before_commit no_verify) (course_of before message))
+          (HaveFurther to.remembered config (changed_paths before) skip (stages_before_commit no_verify) (course_of before message)) parts begun answered)
 
       module _ (reports : List (List ℕ)) where
         -- a hook failed, and the fixes aren't set
-        module _ (stage : Stage) (left : Course) (over : AreStagesOver tells from to reports (λ told. FailedAt config (changed_paths kept.repo) skip (stages_before_commit no_verify) (course_of kept.repo message) told stage left)) where
-          failed_but : (reason : List Change → Type 0) → reason (changes_between kept.repo.staged left.tree) → HasFailedBut kept.repo message no_verify skip (parts_of over.told) reason
+        module _ (stage : Stage) (left : Course) (over : AreStagesOver tells from to reports (λ told. FailedAt config (changed_paths before) skip (stages_before_commit no_verify) (course_of before message) told stage left)) where
+          failed_but : (reason : List Change → Type 0) → reason (changes_between before.staged left.tree) → HasFailedBut before message no_verify skip (parts_of over.told) reason
           failed_but reason why = record { config = config; told = over.told; failed = stage; last = left; configured = configured; run = over.ran_so; traced = refl; why = why }
 
-          pub step_unfixed : (refusal : HostRefusal) → IsUnfixed kept (changes_between kept.repo.staged left.tree) refusal
-              → IsCommitStep tells from to kept message no_verify skip (Refused refusal) kept.repo
-          step_unfixed OutOfMemory why = step_lost (parts_of over.told) over.answered
-          step_unfixed (Store fault) why =
-              step_on_some tells from to kept message no_verify skip (Refused (Store fault)) kept.repo [] (parts_of over.told) ((committable, (config, configured), why.0, refl), refl)
-              (inl (failed_but (IsUnset fault) why.1)) (λ stands. stands) (λ says. absurd says) (so-far tells false from to (parts_of over.told) over.answered)
-          step_unfixed Collision why =
-              step_on_some tells from to kept message no_verify skip (Refused Collision) kept.repo [] (parts_of over.told) ((committable, (config, configured), tt, refl), refl)
-              (failed_but (λ fixes. FixCollides fixes kept.contents) why) (λ stands. stands) (λ says. absurd says) (so-far tells false from to (parts_of over.told) over.answered)
-          step_unfixed Spent why = absurd why
-          step_unfixed NoConfig why = absurd why
-          step_unfixed (BadConfig fault) why = absurd why
-          step_unfixed (BadPath fault) why = absurd why
-          step_unfixed NotStaged why = absurd why
-          step_unfixed TooLarge why = absurd why
-          step_unfixed TooMany why = absurd why
-          step_unfixed NoSuchHook why = absurd why
-          step_unfixed NothingStaged why = absurd why
-          step_unfixed NoFixes why = absurd why
-          step_unfixed EmptyMessage why = absurd why
-          step_unfixed Clash why = absurd why
+          pub step_unfixed : (after : Kept) → after.repo ≡ before → (refusal : HostRefusal) → IsUnfixed after.contents (changes_between before.staged left.tree) refusal
+              → IsCommitStep tells from to before message no_verify skip (Refused refusal) after
+          step_unfixed after same OutOfMemory why = step_lost after same (parts_of over.told)
+              (begun_failed config (changed_paths before) skip (stages_before_commit no_verify) (course_of before message) over.told stage left over.ran_so) over.answered
+          step_unfixed after same (Store fault) why =
+              step_unstored tells from to before message no_verify skip (Refused (Store fault)) after (parts_of over.told) ((committable, (config, configured), why.0, refl), same)
+              (inl (inl (failed_but (IsUnset fault) why.1), over.answered)) (λ says. says) over.answered
+          step_unfixed after same Collision why =
+              step_unstored tells from to before message no_verify skip (Refused Collision) after (parts_of over.told) ((committable, (config, configured), tt, refl), same)
+              (inl (failed_but (λ fixes. FixCollides fixes after.contents) why, over.answered)) (λ says. says) over.answered
+          step_unfixed after same Spent why = absurd why
+          step_unfixed after same NoConfig why = absurd why
+          step_unfixed after same (BadConfig fault) why = absurd why
+          step_unfixed after same (BadPath fault) why = absurd why
+          step_unfixed after same NotStaged why = absurd why
+          step_unfixed after same TooLarge why = absurd why
+          step_unfixed after same TooMany why = absurd why
+          step_unfixed after same NoSuchHook why = absurd why
+          step_unfixed after same NothingStaged why = absurd why
+          step_unfixed after same NoFixes why = absurd why
+          step_unfixed after same EmptyMessage why = absurd why
+          step_unfixed after same Clash why = absurd why
 
           -- a hook failed, and the fixes are set
-          pub step_failed : (after : Repository) → after ≡ fixing (changes_between kept.repo.staged left.tree) kept.repo
-              → IsCommitStep tells from to kept message no_verify skip (HooksFailed stage reports) after
+          pub step_failed : (after : Kept) → after.repo ≡ fixing (changes_between before.staged left.tree) before
+              → IsCommitStep tells from to before message no_verify skip (HooksFailed stage reports) after
           step_failed after made =
-              step_on_all tells from to kept message no_verify skip (HooksFailed stage reports) after (parts_of over.told)
+              step_on_all tells from to before message no_verify skip (HooksFailed stage reports) after (parts_of over.told)
               (record { config = config; told = over.told; last = left; committable = committable; configured = configured; run = over.ran_so; reported = over.reported; traced = refl; made = made })
-              refl (λ says. says) over.answered
+              (refl, refl) (λ says. says) over.answered
 
-        module _ (left : Course) (over : AreStagesOver tells from to reports (λ told. HavePassed config (changed_paths kept.repo) skip (stages_before_commit no_verify) (course_of kept.repo message) told left)) where
-          verified : IsVerified kept.repo message no_verify skip config over.told left.message
+        module _ (left : Course) (over : AreStagesOver tells from to reports (λ told. HavePassed config (changed_paths before) skip (stages_before_commit no_verify) (course_of before message) told left)) where
+          verified : IsVerified before message no_verify skip config over.told left.message
           verified = record { committable = committable; configured = configured; left = left; passed = over.ran_so; message_left = refl }
 
           -- the stages passed, and nothing is committed
-          pub step_uncommitted : (refusal : HostRefusal) → IsUncommitted kept.repo (cleaned_message left.message) refusal
-              → IsCommitStep tells from to kept message no_verify skip (Refused refusal) kept.repo
-          step_uncommitted EmptyMessage why =
-              step_on_all tells from to kept message no_verify skip (Refused EmptyMessage) kept.repo (parts_of over.told)
-              (record { config = config; told = over.told; last = left.message; verified = verified; traced = refl; why = why }, refl) refl (λ says. says) over.answered
-          step_uncommitted TooMany why =
-              step_on_all tells from to kept message no_verify skip (Refused TooMany) kept.repo (parts_of over.told)
-              (record { config = config; told = over.told; last = left.message; verified = verified; traced = refl; why = why }, refl) refl (λ says. says) over.answered
-          step_uncommitted (Store fault) why =
-              step_on_some tells from to kept message no_verify skip (Refused (Store fault)) kept.repo [] (parts_of over.told) ((committable, (config, configured), why.0, refl), refl)
-              (inr (record { config = config; told = over.told; last = left.message; verified = verified; traced = refl; why = why.1 })) (λ stands. stands) (λ says. absurd says)
-              (so-far tells false from to (parts_of over.told) over.answered)
-          step_uncommitted OutOfMemory why = step_lost (parts_of over.told) over.answered
-          step_uncommitted NoConfig why = absurd why
-          step_uncommitted (BadConfig fault) why = absurd why
-          step_uncommitted (BadPath fault) why = absurd why
-          step_uncommitted NotStaged why = absurd why
-          step_uncommitted TooLarge why = absurd why
-          step_uncommitted NoSuchHook why = absurd why
-          step_uncommitted NothingStaged why = absurd why
-          step_uncommitted NoFixes why = absurd why
-          step_uncommitted Collision why = absurd why
-          step_uncommitted Spent why = absurd why
-          step_uncommitted Clash why = absurd why
+          pub step_uncommitted : (after : Kept) → after.repo ≡ before → (refusal : HostRefusal) → IsUncommitted before (cleaned_message left.message) refusal
+              → IsCommitStep tells from to before message no_verify skip (Refused refusal) after
+          step_uncommitted after same EmptyMessage why =
+              step_on_all tells from to before message no_verify skip (Refused EmptyMessage) after (parts_of over.told)
+              (record { config = config; told = over.told; last = left.message; verified = verified; traced = refl; why = why }, same) (refl, refl) (λ says. says) over.answered
+          step_uncommitted after same TooMany why =
+              step_on_all tells from to before message no_verify skip (Refused TooMany) after (parts_of over.told)
+              (record { config = config; told = over.told; last = left.message; verified = verified; traced = refl; why = why }, same) (refl, refl) (λ says. says) over.answered
+          step_uncommitted after same (Store fault) why =
+              step_unstored tells from to before message no_verify skip (Refused (Store fault)) after (parts_of over.told) ((committable, (config, configured), why.0, refl), same)
+              (inl (inr (record { config = config; told = over.told; last = left.message; verified = verified; traced = refl; why = why.1 }), over.answered)) (λ says. says) over.answered
+          step_uncommitted after same OutOfMemory why = step_lost after same (parts_of over.told)
+              (begun_verified config (changed_paths before) skip no_verify (course_of before message) over.told left over.ran_so) over.answered
+          step_uncommitted after same NoConfig why = absurd why
+          step_uncommitted after same (BadConfig fault) why = absurd why
+          step_uncommitted after same (BadPath fault) why = absurd why
+          step_uncommitted after same NotStaged why = absurd why
+          step_uncommitted after same TooLarge why = absurd why
+          step_uncommitted after same NoSuchHook why = absurd why
+          step_uncommitted after same NothingStaged why = absurd why
+          step_uncommitted after same NoFixes why = absurd why
+          step_uncommitted after same Collision why = absurd why
+          step_uncommitted after same Spent why = absurd why
+          step_uncommitted after same Clash why = absurd why
 
-          module _ (next : List (List ℕ) → List File → Outcome → Type 0) (end : Moment) (number : ℕ) (after : Repository) (same : SameTells tells next)
-              (may : MayCommit kept.repo (cleaned_message left.message)) (counted : number ≡ length kept.repo.history + 1) (made : after ≡ with_new_commit (cleaned_message left.message) kept.repo) where
-            committed : (post : PostCommit) (post_parts : List Part) → IsPost config kept.repo skip post post_parts
-                → IsCommitted kept.repo message no_verify skip number reports post (parts_of over.told ++ post_parts) after
+          module _ (next : List (List ℕ) → List File → Outcome → Type 0) (end : Moment) (number : ℕ) (after : Kept) (same : SameTells tells next)
+              (may : MayCommit before (cleaned_message left.message)) (counted : number ≡ length before.history + 1) (made : after.repo ≡ with_new_commit (cleaned_message left.message) before) where
+            committed : (post : PostCommit) (post_parts : List Part) → IsPost config before skip post post_parts
+                → IsCommitted before message no_verify skip number reports post (parts_of over.told ++ post_parts) after.repo
             committed post post_parts behind = record {
               config = config;
               told = over.told;
@@ -327,16 +306,24 @@ module _ (tells : List (List ℕ) → List File → Outcome → Type 0) (kept : 
             }
 
             -- the commit was made, and this became of the hooks behind it
-            pub step_committed : (post : PostCommit) → IsPostOver next to end config kept.repo.staged skip post
-                → IsCommitStep tells from end kept message no_verify skip (Committed number reports post) after
+            pub step_committed : (post : PostCommit) → IsPostOver next to end config before.staged skip post
+                → IsCommitStep tells from end before message no_verify skip (Committed number reports post) after
             step_committed (Told report) behind =
-                step_on_all tells from end kept message no_verify skip (Committed number reports (Told report)) after (parts_of over.told ++ all_parts behind.told.trace)
-                (committed (Told report) (all_parts behind.told.trace) (behind.told, behind.run, behind.reported, refl)) refl (λ says. says)
+                step_on_all tells from end before message no_verify skip (Committed number reports (Told report)) after (parts_of over.told ++ all_parts behind.told.trace)
+                (committed (Told report) (all_parts behind.told.trace) (behind.told, behind.run, behind.reported, refl)) (refl, refl) (λ says. says)
                 (answered_then tells next from to end (parts_of over.told) (all_parts behind.told.trace) same over.answered behind.answered)
-            step_committed (Stopped refusal) behind =
-                step_on_some tells from end kept message no_verify skip (Committed number reports (Stopped refusal)) after (parts_of over.told ++ []) behind.untold
-                (committed (Stopped refusal) [] (behind.not_named, behind.not_book, refl))
-                (post_untold kept message no_verify skip end.remembered number reports behind.untold refusal (λ is. record { config = config; configured = configured; needs = behind.needs is }))
-                (λ stands. stands) (λ says. behind.spent (says_stopped number reports refusal says))
-                (subst (AreAnsweredSoFar tells false from end) (sym (append_assoc (parts_of over.told) [] behind.untold))
-                (answered_up_to tells next from to end (parts_of over.told) behind.untold same over.answered behind.answered))
+            step_committed (Stopped refusal) behind = record {
+              parts = parts_of over.told ++ [];
+              left_out = behind.parts;
+              between = to;
+              step = committed (Stopped refusal) [] (behind.not_named, behind.of_book, refl);
+              answered = subst (AreAnswered tells false from to) (sym (append-nil (parts_of over.told))) over.answered;
+              answered_then = so-far-back_to tells next same false to end behind.parts behind.answered;
+              why = post_out tells before message no_verify skip after.contents to end number reports behind.parts refusal (record { config = config; configured = configured; begun = behind.begun })
+                  (λ is. record { config = config; configured = configured; needs = behind.needs is });
+              told = λ book. subst (AllTold tells) (ap (λ (front : List Part). front ++ behind.parts) (sym (append-nil (parts_of over.told))))
+                  (so-far-told tells false from end (parts_of over.told ++ behind.parts) (answered_up_to tells next from to end (parts_of over.told) behind.parts same over.answered behind.answered) book);
+              adds = so-far-adds tells false from end (parts_of over.told ++ behind.parts) (answered_up_to tells next from to end (parts_of over.told) behind.parts same over.answered behind.answered);
+              put = λ says. so-far-back_to-last tells next same false to end behind.parts behind.answered ∙ behind.put (says_stopped number reports refusal says);
+              spent = λ says. behind.spent (says_stopped number reports refusal says);
+            }

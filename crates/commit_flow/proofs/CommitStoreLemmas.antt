@@ -1,13 +1,11 @@
 -- What a commit leaves in the store's tables, from what the store's call leaves.
-use Rattle.std.proofs.Common.{◌≡◌, ◌≢◌, ◌∙◌, ℕ, ◌+◌, ◌≤◌, Bool, true, false, List, [], ◌∷◌, ◌++◌, length, length-append, Ok, Err, inl, refl, sym, subst, ap, arith}
+use Rattle.std.proofs.Common.{◌≡◌, ◌≢◌, ◌∙◌, ℕ, ◌+◌, ◌≤◌, Bool, true, false, List, [], ◌∷◌, ◌++◌, length, length-append, Ok, Err, refl, sym, subst, ap, arith}
 use Rattle.std.specs.List.{AllByRecursion}
 use Rattle.std.specs.Bool.{Decides}
 use Rattle.std.specs.Cmp.Lexicographic.{pointwise, pointwise_decides}
 use Rattle.sqlite_trees.specs.declared.store.Store.{Ghosts}
 use Rattle.sqlite_trees.specs.Tree.{Trees}
 use Rattle.sqlite.specs.Held.{state}
-use Rattle.sqlite.specs.State.{State, Survives}
-use Rattle.sqlite.proofs.StateLemmas.{survives_weaker}
 use Rattle.hook_base.specs.declared.change.Change.{Change}
 use Rattle.hook_base.specs.declared.file.File.{File}
 use Rattle.hook_base.specs.AlikeLemmas.{file_decides}
@@ -22,10 +20,10 @@ use Rattle.repo_store.specs.declared.fault.StoreFault.TheVariants as store
 use Rattle.repo_store.specs.Faults.{IsRefusal}
 use Rattle.repo_store.specs.Kept.{FixCollides, HasLarge, Kept, committing, setting}
 use Rattle.repo_store.specs.Limits.{IsSmall, most_commits}
-use Rattle.repo_store.specs.Repository.{Commit as Entry, Repository, last_tree, staged_changes, with_fixes}
+use Rattle.repo_store.specs.Repository.{Commit as Entry, Repository, last_tree, staged_changes, with_fixes, with_new_commit}
 use Rattle.repo_store.specs.Rows.{commit_rows}
 use Rattle.repo_store.specs.Shown.{IsOneTransaction, Leaves, LeavesOnly, Shown}
-use Rattle.commit_flow.specs.declared.command.Command.{Command}
+use Rattle.result_book.specs.StoreBooks.{LeavesRepository}
 use Rattle.commit_flow.specs.declared.command.Command.TheVariants.{Commit}
 use Rattle.commit_flow.specs.declared.course.Course.{Course}
 use Rattle.commit_flow.specs.declared.host_refusal.HostRefusal.{HostRefusal}
@@ -35,23 +33,14 @@ use Rattle.commit_flow.specs.CommitCalls.{IsOneChange, IsUncommitted, IsUnfixed}
 use Rattle.commit_flow.specs.CommitStages.{FailedAt, StageTold, course_of, parts_of, reports_of, stages_before_commit}
 use Rattle.commit_flow.specs.Commits.{HasNothingNew, IsCommittable, IsVerified, MayCommit}
 use Rattle.commit_flow.specs.Configured.{IsConfigured}
-use Rattle.commit_flow.specs.Crashes.{IsOneCommand, LeavesDone}
+use Rattle.commit_flow.specs.Crashes.{LeavesDone}
 use Rattle.commit_flow.specs.Messages.{cleaned_message}
 use Rattle.commit_flow.specs.Refusals.{of_store}
 use Rattle.commit_flow.specs.Runs.{changed_paths, fixing}
+use Rattle.commit_flow.proofs.CommandLemmas.{survives_itself}
 use Rattle.commit_flow.proofs.FixLemmas.{changes_are_staged}
 
 -- ---- one change of the store
-
-survives_itself : (s : State) (P : Trees → Type 0) → Survives s s P
-survives_itself s P = record {
-  clean = omega arith;
-  shield = λ shielded. shielded;
-  counts = omega arith;
-  limit = refl;
-  closes = λ _ is_open. inl is_open;
-  crash = λ _ trees left. inl left;
-}
 
 module _ {S : Type 0} (g : Ghosts S) (old new : Shown S) (after : Kept) where
   -- the store isn't asked
@@ -64,22 +53,6 @@ module _ {S : Type 0} (g : Ghosts S) (old new : Shown S) (after : Kept) where
 
   pub change_done : {A B E : Type 0} (x : A) (y : B) → new.kept ≡ after → IsOneTransaction {E = E} g old new (Ok x) after → IsOneChange g old new (Ok y) after
   change_done x y same one = record { stands = λ _. one.stands; crash = one.crash; durable = subst (LeavesOnly g new.conn) (sym same) one.durable }
-
-  -- a command that asks the store for this change
-  module _ (command : Command) (reached : (trees : Trees) → Leaves after trees → LeavesDone old.kept.repo command trees) where
-    pub command_refused : {A B : Type 0} (first second : HostRefusal) → IsOneChange {A = A} g old new (Err first) after → IsOneCommand {A = B} g old new command (Err second)
-    command_refused first second one = record {
-      stands = one.stands;
-      crash = survives_weaker (state g old.conn) (state g new.conn) (Leaves after) (LeavesDone old.kept.repo command) (λ _ trees leaves. reached trees leaves) one.crash;
-      durable = tt;
-    }
-
-    pub command_done : {A B : Type 0} (x : A) (y : B) → IsOneChange g old new (Ok x) after → IsOneCommand g old new command (Ok y)
-    command_done x y one = record {
-      stands = one.stands;
-      crash = survives_weaker (state g old.conn) (state g new.conn) (Leaves after) (LeavesDone old.kept.repo command) (λ _ trees leaves. reached trees leaves) one.crash;
-      durable = one.durable;
-    }
 
 -- ---- what is staged
 
@@ -123,12 +96,39 @@ commit_reached kept message no_verify skip config told last verified some trees 
         room = omega arith;
         counted = refl;
         reported = refl;
-        behind = (λ is. cc, refl, refl);
+        behind = (λ is. cc, tt, refl);
         traced = refl;
         made = refl;
       };
       leaves = leaves;
     }
+
+-- and so is what is left of it behind the commit
+pub commit_left : (before : Repository) (message : List ℕ) (no_verify : Bool) (skip : List (List ℕ)) (config : Config) (told : List StageTold) (last : List ℕ)
+    → IsVerified before message no_verify skip config told last → MayCommit before (cleaned_message last)
+    → (trees : Trees) → LeavesRepository (with_new_commit (cleaned_message last) before) trees → LeavesDone before (Commit message no_verify skip) trees
+commit_left before message no_verify skip config told last verified may trees left = record {
+  kept = left.kept;
+  reply = Committed (length before.history + 1) (reports_of told) (Stopped run.OutOfMemory);
+  done = tt;
+  parts = parts_of told ++ [];
+  step = record {
+    config = config;
+    told = told;
+    last = last;
+    post_parts = [];
+    verified = verified;
+    some = may.some;
+    small = may.small;
+    room = may.room;
+    counted = refl;
+    reported = refl;
+    behind = (λ is. cc, tt, refl);
+    traced = refl;
+    made = left.same;
+  };
+  leaves = left.leaves;
+}
 
 pub fix_reached : (kept : Kept) (message : List ℕ) (no_verify : Bool) (skip : List (List ℕ)) (config : Config) (told : List StageTold) (failed : Stage) (last : Course)
     → IsCommittable kept.repo message → IsConfigured kept.repo config → FailedAt config (changed_paths kept.repo) skip (stages_before_commit no_verify) (course_of kept.repo message) told failed last
@@ -164,19 +164,19 @@ uncommitted repo cleaned store.Collision may why = absurd why
 uncommitted repo cleaned store.TooLarge may why = (tt, why)
 uncommitted repo cleaned store.TooMany may why = (may.some, why.0, why.1)
 
-unfixed_so : (kept : Kept) (fixes : List Change) (fault : StoreFault) → IsRefusal (HasLarge fixes) ⊥ (FixCollides fixes kept.contents) fault → IsUnfixed kept fixes (of_store fault)
-unfixed_so kept fixes store.NotAStore why = absurd why
-unfixed_so kept fixes store.Damaged why = absurd why
-unfixed_so kept fixes (store.Sql error) why = (tt, tt)
-unfixed_so kept fixes store.OutOfMemory why = tt
-unfixed_so kept fixes store.Collision why = why
-unfixed_so kept fixes store.TooLarge why = (tt, why)
-unfixed_so kept fixes store.TooMany why = absurd why
+unfixed_so : (contents : List (List ℕ)) (fixes : List Change) (fault : StoreFault) → IsRefusal (HasLarge fixes) ⊥ (FixCollides fixes contents) fault → IsUnfixed contents fixes (of_store fault)
+unfixed_so contents fixes store.NotAStore why = absurd why
+unfixed_so contents fixes store.Damaged why = absurd why
+unfixed_so contents fixes (store.Sql error) why = (tt, tt)
+unfixed_so contents fixes store.OutOfMemory why = tt
+unfixed_so contents fixes store.Collision why = why
+unfixed_so contents fixes store.TooLarge why = (tt, why)
+unfixed_so contents fixes store.TooMany why = absurd why
 
 pub unfixed : (kept : Kept) (after : List File) (asked : List Change) (fault : StoreFault) → asked ≡ changes_between kept.repo.staged after
     → IsRefusal (HasLarge (staged_changes asked kept.repo.staged)) ⊥ (FixCollides (staged_changes asked kept.repo.staged) kept.contents) fault
-    → IsUnfixed kept (changes_between kept.repo.staged after) (of_store fault)
+    → IsUnfixed kept.contents (changes_between kept.repo.staged after) (of_store fault)
 unfixed kept after asked fault is why =
     let all : staged_changes asked kept.repo.staged ≡ changes_between kept.repo.staged after =
     ap (λ (changes : List Change). staged_changes changes kept.repo.staged) is ∙ changes_are_staged kept.repo.staged after in
-    unfixed_so kept (changes_between kept.repo.staged after) fault (subst (λ (fixes : List Change). IsRefusal (HasLarge fixes) ⊥ (FixCollides fixes kept.contents) fault) all why)
+    unfixed_so kept.contents (changes_between kept.repo.staged after) fault (subst (λ (fixes : List Change). IsRefusal (HasLarge fixes) ⊥ (FixCollides fixes kept.contents) fault) all why)

@@ -1,11 +1,11 @@
 -- What follows for a step and for a list of commands.
-use Rattle.std.proofs.Common.{◌≡◌, ◌∙◌, rules, sym, subst, refl, ap, arith, ℕ, zero, suc, Bool, ◌+◌, ◌-◌, ◌^◌, ◌≤◌, List, [], ◌∷◌, ◌++◌, length}
+use Rattle.std.proofs.Common.{◌≡◌, ◌∙◌, inl, inr, rules, sym, subst, refl, ap, arith, ℕ, zero, suc, Bool, ◌+◌, ◌-◌, ◌^◌, ◌≤◌, List, [], ◌∷◌, length}
 use Rattle.std.specs.Prelude.{All, Any}
 use Rattle.std.proofs.lemmas.List.Elements.{All-head, All-tail}
 use Rattle.hook_base.specs.declared.file.File.{File}
 use Rattle.child_port.specs.declared.answer.Outcome.{Outcome}
 use Rattle.hook_run.specs.Answers.{AreAnswered}
-use Rattle.hook_run.specs.AnswerLemmas.{faults-append, so-far-faults, so-far-rises}
+use Rattle.hook_run.specs.AnswerLemmas.{answered-faults, answered-rises, faults-append, so-far-faults, so-far-rises}
 use Rattle.hook_run.specs.Moments.{Moment}
 use Rattle.hook_run.specs.Parts.{Part, faults_of}
 use Rattle.repo_store.specs.Repository.{Repository, with_new_commit}
@@ -17,8 +17,9 @@ use Rattle.commit_flow.specs.declared.reply.Reply.{Reply}
 use Rattle.commit_flow.specs.declared.reply.Reply.TheVariants.{Added, Removed, Accepted, Ran, Committed, HooksFailed, Forgot, Refused}
 use Rattle.commit_flow.specs.CommitSteps.{SaysSpent, StandsOnAll}
 use Rattle.commit_flow.specs.Messages.{cleaned_message}
-use Rattle.commit_flow.specs.Plays.{ArePlayed, Makes, MakesSoFar, RunsHooks, is_fresh}
+use Rattle.commit_flow.specs.Plays.{ArePlayed, HooksBegin, IsPlayed, Makes, RunsHooks, is_fresh}
 use Rattle.commit_flow.specs.PlayLaws.{HasCommitted, SaysCommitted}
+use Rattle.commit_flow.specs.RunSteps.{IsUnrun}
 use Rattle.commit_flow.specs.Steps.{Step}
 
 -- ---- one step
@@ -59,7 +60,7 @@ one_commit_more before after (Commit message no_verify skip) number reports post
     }
 one_commit_more before after command number reports post parts step = absurd step
 
-runless_parts : (before after : Repository) (command : Command) (reply : Reply) (parts : List Part) → Step before command reply parts after → (¬ RunsHooks command) → parts ≡ []
+pub runless_parts : (before after : Repository) (command : Command) (reply : Reply) (parts : List Part) → Step before command reply parts after → (¬ RunsHooks command) → parts ≡ []
 runless_parts before after (Run ask) reply parts step runless = absurd (runless tt)
 runless_parts before after (Commit message no_verify skip) reply parts step runless = absurd (runless tt)
 runless_parts before after (Add path bytes asked) Added parts step runless = step.1
@@ -72,19 +73,24 @@ runless_parts before after Accept (Refused refusal) parts step runless = step.0.
 runless_parts before after Forget (Refused refusal) parts step runless = step.0.1
 runless_parts before after command reply parts step runless = absurd step
 
+no_hooks_begin : (before : Repository) (command : Command) (reply : Reply) (parts : List Part) → (¬ RunsHooks command) → HooksBegin before command reply parts → ⊥
+no_hooks_begin before (Run ask) reply parts runless begin = runless tt
+no_hooks_begin before (Commit message no_verify skip) reply parts runless begin = runless tt
+no_hooks_begin before command reply parts runless begin = begin
+
 -- ---- what a command makes
 
 module _ (tells : List (List ℕ) → List File → Outcome → Type 0) (from to : Moment) where
-  made_faults : (command : Command) (reply : Reply) (parts : List Part) → MakesSoFar tells from to command reply parts → to.faults ≡ from.faults + faults_of parts
+  made_faults : (command : Command) (reply : Reply) (parts : List Part) → Makes tells from to command reply parts → to.faults ≡ from.faults + faults_of parts
   made_faults Forget reply parts makes =
       let faulted = makes.1.faulted in
       let none = ap faults_of makes.0 in
       omega arith
-  made_faults command reply parts makes = so-far-faults tells (is_fresh command) from to parts makes
+  made_faults command reply parts makes = answered-faults tells (is_fresh command) from to parts makes
 
-  made_calls : (command : Command) (reply : Reply) (parts : List Part) → MakesSoFar tells from to command reply parts → from.calls ≤ to.calls
+  made_calls : (command : Command) (reply : Reply) (parts : List Part) → Makes tells from to command reply parts → from.calls ≤ to.calls
   made_calls Forget reply parts makes = let called = makes.1.called in omega arith
-  made_calls command reply parts makes = (so-far-rises tells (is_fresh command) from to parts makes).calls
+  made_calls command reply parts makes = (answered-rises tells (is_fresh command) from to parts makes).calls
 
   none_started : (fresh : Bool) (parts : List Part) → AreAnswered tells fresh from to parts → parts ≡ [] → (to.calls ≡ from.calls) × (to.faults ≡ from.faults)
   none_started fresh parts answered no_parts =
@@ -99,6 +105,28 @@ module _ (tells : List (List ℕ) → List File → Outcome → Type 0) (from to
   made_none : (command : Command) (reply : Reply) (parts : List Part) → Makes tells from to command reply parts → parts ≡ [] → (to.calls ≡ from.calls) × (to.faults ≡ from.faults)
   made_none Forget reply parts makes no_parts = (makes.1.called, makes.1.faulted)
   made_none command reply parts makes no_parts = none_started (is_fresh command) parts makes no_parts
+
+module _ (tells : List (List ℕ) → List File → Outcome → Type 0) (from to : Moment) (before : Repository) (command : Command) (reply : Reply) (after : Repository) (one : IsPlayed tells from to before command reply after) where
+  one_faults : to.faults ≡ from.faults + faults_of one.parts + faults_of one.left_out
+  one_faults =
+      let first = made_faults tells from one.between command reply one.parts one.makes in
+      let behind = so-far-faults tells (is_fresh command) one.between to one.left_out one.answered_then in
+      omega arith
+
+  one_calls : from.calls ≤ to.calls
+  one_calls =
+      let first = made_calls tells from one.between command reply one.parts one.makes in
+      let behind = (so-far-rises tells (is_fresh command) one.between to one.left_out one.answered_then).calls in
+      omega arith
+
+  pub one_unrun : (¬ RunsHooks command) → IsUnrun one.between to one.left_out
+  one_unrun runless = elim one.begun [ inl unrun ↦ unrun | inr begin ↦ absurd (no_hooks_begin before command reply one.left_out runless begin) ]
+
+  one_without_hooks : (¬ RunsHooks command) → (to.calls ≡ from.calls) × (to.faults ≡ from.faults)
+  one_without_hooks runless =
+      let none = made_none tells from one.between command reply one.parts one.makes (runless_parts before after command reply one.parts one.step runless) in
+      let same = (one_unrun runless).1 in
+      (ap (λ (at : Moment). at.calls) same ∙ none.0, ap (λ (at : Moment). at.faults) same ∙ none.1)
 
 -- ---- a list of commands
 
@@ -118,8 +146,7 @@ module _ (tells : List (List ℕ) → List File → Outcome → Type 0) (to : Mo
       omega arith
   faults_at_least from before (command ∷ commands) (reply ∷ replies) parts played =
       let rest = faults_at_least played.between played.repo_between commands replies played.further played.rest in
-      let first = made_faults tells from played.between command reply (played.first.parts ++ played.first.untold) played.first.makes in
-      let first_faults = faults-append played.first.parts played.first.untold in
+      let first = one_faults tells from played.between before command reply played.repo_between played.first in
       let all_faults = ap faults_of played.joined ∙ faults-append played.first.parts played.further in
       omega arith
   faults_at_least from before commands replies parts played = absurd played
@@ -132,9 +159,8 @@ module _ (tells : List (List ℕ) → List File → Outcome → Type 0) (to : Mo
       omega arith
   faults_exactly from before (command ∷ commands) (reply ∷ replies) parts played stand =
       let rest = faults_exactly played.between played.repo_between commands replies played.further played.rest (All-tail StandsOnAll reply replies stand) in
-      let first = made_faults tells from played.between command reply (played.first.parts ++ played.first.untold) played.first.makes in
-      let first_faults = faults-append played.first.parts played.first.untold in
-      let no_more = ap faults_of (played.first.whole (All-head StandsOnAll reply replies stand)).0 in
+      let first = one_faults tells from played.between before command reply played.repo_between played.first in
+      let no_more = ap faults_of (played.first.none (All-head StandsOnAll reply replies stand)).0 in
       let all_faults = ap faults_of played.joined ∙ faults-append played.first.parts played.further in
       omega arith
   faults_exactly from before commands replies parts played stand = absurd played
@@ -144,7 +170,7 @@ module _ (tells : List (List ℕ) → List File → Outcome → Type 0) (to : Mo
   calls_rise from before [] [] parts played = let uncalled = ap (λ (at : Moment). at.calls) played.unmade in omega arith
   calls_rise from before (command ∷ commands) (reply ∷ replies) parts played =
       let rest = calls_rise played.between played.repo_between commands replies played.further played.rest in
-      let first = made_calls tells from played.between command reply (played.first.parts ++ played.first.untold) played.first.makes in
+      let first = one_calls tells from played.between before command reply played.repo_between played.first in
       omega arith
   calls_rise from before commands replies parts played = absurd played
 
@@ -164,11 +190,9 @@ module _ (tells : List (List ℕ) → List File → Outcome → Type 0) (to : Mo
       → (to.calls ≡ from.calls) × (to.faults ≡ from.faults)
   no_child_started from before [] [] parts played runless = (ap (λ (at : Moment). at.calls) played.unmade, ap (λ (at : Moment). at.faults) played.unmade)
   no_child_started from before (command ∷ commands) (reply ∷ replies) parts played runless =
-      let first = played.first in
       let runs_none = All-head (λ command. ¬ RunsHooks command) command commands runless in
       let rest = no_child_started played.between played.repo_between commands replies played.further played.rest (All-tail (λ command. ¬ RunsHooks command) command commands runless) in
-      let no_parts = runless_parts before played.repo_between command reply first.parts first.step runs_none in
-      let none = made_none tells from played.between command reply first.parts (first.runless runs_none).1 no_parts in
+      let none = one_without_hooks tells from played.between before command reply played.repo_between played.first runs_none in
       (rest.0 ∙ none.0, rest.1 ∙ none.1)
   no_child_started from before commands replies parts played runless = absurd played
 

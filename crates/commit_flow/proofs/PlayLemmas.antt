@@ -1,18 +1,24 @@
 -- What a command that is played comes to, and a list of them.
-use Rattle.std.proofs.Common.{◌≡◌, ◌∙◌, inl, inr, sym, subst, refl, ap, append_assoc, ℕ, ◌-◌, ◌^◌, Bool, List, [], ◌∷◌, ◌++◌}
+use Rattle.std.proofs.Common.{◌≡◌, ◌⊎◌, ◌∙◌, inl, inr, sym, subst, refl, ap, append_assoc, ℕ, ◌-◌, ◌^◌, Bool, List, [], ◌∷◌, ◌++◌, map}
 use Rattle.std.proofs.lemmas.List.{append-nil}
+use Rattle.hook_base.specs.declared.change.Change.{Change}
 use Rattle.hook_base.specs.declared.file.File.{File}
 use Rattle.child_port.specs.declared.answer.Outcome.{Outcome}
 use Rattle.child_port.specs.Telling.{SameTells}
-use Rattle.result_book.specs.Contents.{Contents}
-use Rattle.result_book.specs.Told.{IsTold}
-use Rattle.result_book.specs.ToldLemmas.{told-adds, told-forgotten}
+use Rattle.hook_config.specs.declared.configuration.Config.{Config}
+use Rattle.hook_config.specs.declared.stage.Stage.TheVariants as stage
+use Rattle.result_book.specs.CallLemmas.{have_none}
+use Rattle.result_book.specs.Contents.{Contents, with_rows}
+use Rattle.result_book.specs.StoreBooks.{remembered_by, row_of}
+use Rattle.repo_store.specs.Answers.{KeptAnswer}
+use Rattle.result_book.specs.Told.{AddsTold, IsTold}
+use Rattle.result_book.specs.ToldLemmas.{adds-then, told-adds}
 use Rattle.hook_run.specs.declared.run_refusal.RunRefusal.TheVariants as run
-use Rattle.hook_run.specs.Answers.{AreAnswered, AreAnsweredSoFar}
-use Rattle.hook_run.specs.AnswerLemmas.{answered-back_to, answered-none, so-far, so-far-adds, so-far-back_to, so-far-told, told-append, told-front}
+use Rattle.hook_run.specs.Answers.{AreAnswered}
+use Rattle.hook_run.specs.AnswerLemmas.{adds-same, answered-adds, answered-back_to, answered-none, answered-told, so-far, so-far-adds, so-far-back_to, so-far-back_to-last, told-append}
 use Rattle.hook_run.specs.Moments.{Moment, moment}
 use Rattle.hook_run.specs.Parts.{AllTold, Part}
-use Rattle.repo_store.specs.Kept.{Kept}
+use Rattle.repo_store.specs.Kept.{FixCollides, Kept}
 use Rattle.repo_store.specs.Repository.{Repository}
 use Rattle.commit_flow.specs.declared.command.Command.{Command}
 use Rattle.commit_flow.specs.declared.command.Command.TheVariants.{Add, Remove, Accept, Run, Commit, Forget}
@@ -23,43 +29,43 @@ use Rattle.commit_flow.specs.declared.reply.PostCommit.TheVariants.{Stopped}
 use Rattle.commit_flow.specs.declared.reply.Reply.{Reply}
 use Rattle.commit_flow.specs.declared.reply.Reply.TheVariants.{Committed, Forgot, Refused}
 use Rattle.commit_flow.specs.declared.staged_run.StagedRun.{StagedRun}
-use Rattle.commit_flow.specs.CommitSteps.{AreLeftOut, IsCommitStep, SaysSpent, StandsOnAll}
-use Rattle.commit_flow.specs.Plays.{ArePlayed, HasForgotten, IsPlay, IsPlayed, Makes, MakesSoFar, NeedsFurther, RunsHooks, is_fresh}
-use Rattle.commit_flow.specs.RunSteps.{IsRunStep, IsStoppedAt, IsStoppedStep, IsUnrun, reply_of_run}
+use Rattle.commit_flow.specs.CommitSteps.{AreLeftOut, HasBegunBefore, HasBegunBehind, HasFailedBut, HasFurtherBefore, HasFurtherBehind, IsCommitStep, IsUnkept, SaysSpent, StandsOnAll, StoreStopsCommit}
+use Rattle.commit_flow.specs.CommitStages.{HaveBegun, ask_in, course_of, parts_of, stages_before_commit}
+use Rattle.commit_flow.specs.Commits.{IsVerifiedBut}
+use Rattle.commit_flow.specs.Configured.{IsConfigured}
+use Rattle.commit_flow.specs.Plays.{ArePlayed, HasForgotten, HooksBegin, HooksNeedChild, IsPlay, IsPlayed, Makes, RunsHooks, is_fresh}
+use Rattle.commit_flow.specs.RunSteps.{HasBegun, HasFurther, HasRunBut, IsRunStep, IsStoppedAt, IsStoppedStep, IsUnrun, IsUnset, StoreStopsRun, reply_of_run}
+use Rattle.commit_flow.specs.Runs.{changed_paths, run_ask_of}
 use Rattle.commit_flow.specs.Steps.{Step}
+use Rattle.commit_flow.proofs.CommitLemmas.{says_spent}
+use Rattle.commit_flow.proofs.StagesLemmas.{begun_all, begun_before, begun_failed, begun_verified, have_begun_before}
 
 -- ---- what a command makes
 
 module _ (tells : List (List ℕ) → List File → Outcome → Type 0) (from to : Moment) where
-  -- what is made by all parts is made as far as they go
-  made_so_far : (command : Command) (reply : Reply) (parts : List Part) → Makes tells from to command reply parts → MakesSoFar tells from to command reply parts
-  made_so_far Forget reply parts makes = makes
-  made_so_far command reply parts makes = so-far tells (is_fresh command) from to parts makes
-
   -- each part of a command has an outcome that the children may tell, where what is remembered before it is told
-  made_told : (command : Command) (reply : Reply) (parts : List Part) → MakesSoFar tells from to command reply parts → IsTold tells from.remembered → AllTold tells parts
+  made_told : (command : Command) (reply : Reply) (parts : List Part) → Makes tells from to command reply parts → IsTold tells from.remembered → AllTold tells parts
   made_told Forget reply parts makes book = subst (AllTold tells) (sym makes.0) tt
-  made_told command reply parts makes book = so-far-told tells (is_fresh command) from to parts makes book
+  made_told command reply parts makes book = answered-told tells (is_fresh command) from to parts makes book
 
-  still_told : (reply : Reply) → HasForgotten from.remembered to.remembered reply → IsTold tells from.remembered → IsTold tells to.remembered
-  still_told (Forgot number) forgotten book = told-forgotten tells from.remembered to.remembered forgotten.1
-  still_told reply forgotten book = subst (λ (all : Contents). IsTold tells all) (sym forgotten) book
+  still_adds : (reply : Reply) → HasForgotten from.remembered to.remembered reply → AddsTold tells from.remembered to.remembered
+  still_adds (Forgot number) forgotten = λ words seen answer holds. absurd (have_none words seen answer to.remembered.rows forgotten.1.none holds)
+  still_adds reply forgotten = adds-same tells from.remembered to.remembered forgotten
 
-  -- and so is what is remembered behind it
-  made_keeps : (command : Command) (reply : Reply) (parts : List Part) → MakesSoFar tells from to command reply parts → IsTold tells from.remembered → IsTold tells to.remembered
-  made_keeps Forget reply parts makes book = still_told reply makes.1.forgotten book
-  made_keeps command reply parts makes book =
-      told-adds tells from.remembered to.remembered book (so-far-adds tells (is_fresh command) from to parts makes)
+  -- each answer that is remembered behind it was so before, or was told
+  made_adds : (command : Command) (reply : Reply) (parts : List Part) → Makes tells from to command reply parts → AddsTold tells from.remembered to.remembered
+  made_adds Forget reply parts makes = still_adds reply makes.1.forgotten
+  made_adds command reply parts makes = answered-adds tells (is_fresh command) from to parts makes
+
+  none_answered : (fresh : Bool) (parts : List Part) → IsUnrun from to parts → AreAnswered tells fresh from to parts
+  none_answered fresh parts unrun =
+      subst (λ (at : Moment). AreAnswered tells fresh from at parts) (sym unrun.1) (subst (AreAnswered tells fresh from from) (sym unrun.0) (answered-none tells fresh from))
 
 -- by children that tell the same
 module _ (tells next : List (List ℕ) → List File → Outcome → Type 0) (same : SameTells tells next) (from to : Moment) where
   made_back : (command : Command) (reply : Reply) (parts : List Part) → Makes next from to command reply parts → Makes tells from to command reply parts
   made_back Forget reply parts makes = makes
   made_back command reply parts makes = answered-back_to tells next same (is_fresh command) from to parts makes
-
-  so_far_back : (command : Command) (reply : Reply) (parts : List Part) → MakesSoFar next from to command reply parts → MakesSoFar tells from to command reply parts
-  so_far_back Forget reply parts makes = makes
-  so_far_back command reply parts makes = so-far-back_to tells next same (is_fresh command) from to parts makes
 
 -- ---- a command that runs no hooks
 
@@ -80,22 +86,26 @@ pub runless_played : (tells : List (List ℕ) → List File → Outcome → Type
     → (¬ RunsHooks command) → Step before command reply [] after → Makes tells from to command reply [] → IsPlayed tells from to before command reply after
 runless_played tells from to before after command reply runless step makes = record {
   parts = [];
-  untold = [];
+  left_out = [];
+  between = to;
   step = step;
-  makes = made_so_far tells from to command reply [] makes;
-  whole = λ _. (refl, makes);
-  runless = λ _. (refl, makes);
+  makes = makes;
+  answered_then = so-far tells (is_fresh command) to to [] (answered-none tells (is_fresh command) to);
+  none = λ _. (refl, refl);
+  begun = inl (refl, refl);
+  put = λ says. absurd (unspent before after command reply [] step runless says);
   spent = λ says. absurd (unspent before after command reply [] step runless says);
   needed = λ says. absurd (unspent before after command reply [] step runless says);
 }
 
-module _ (tells : List (List ℕ) → List File → Outcome → Type 0) (fresh : Bool) where
-  unmade : (from to : Moment) → to ≡ from → AreAnswered tells fresh from to []
-  unmade from to same = subst (λ (at : Moment). AreAnswered tells fresh from at []) (sym same) (answered-none tells fresh from)
+-- a store remembers its answers
+pub same_remembered : (before after : Kept) → after.answers ≡ before.answers → remembered_by after ≡ remembered_by before
+same_remembered before after same = ap (λ (answers : List KeptAnswer). with_rows (map row_of answers)) same
 
-  -- where nothing is remembered or forgotten either, nothing happens
-  pub unmade_of : (calls faults : ℕ) (book book_after : Contents) → book_after ≡ book → AreAnswered tells fresh (moment calls faults book) (moment calls faults book_after) []
-  unmade_of calls faults book book_after same = unmade (moment calls faults book) (moment calls faults book_after) (ap (moment calls faults) same)
+-- where nothing is remembered or forgotten either, nothing happens
+pub unmade_of : (tells : List (List ℕ) → List File → Outcome → Type 0) (fresh : Bool) (calls faults : ℕ) (book book_after : Contents) → book_after ≡ book
+    → AreAnswered tells fresh (moment calls faults book) (moment calls faults book_after) []
+unmade_of tells fresh calls faults book book_after same = none_answered tells (moment calls faults book) (moment calls faults book_after) fresh [] (refl, ap (moment calls faults) same)
 
 -- ---- a run
 
@@ -103,96 +113,176 @@ pub run_played : (tells : List (List ℕ) → List File → Outcome → Type 0) 
     → IsRunStep tells from to before ask ran after → IsPlayed tells from to before (Run ask) (reply_of_run ran) after
 run_played tells from to before after ask ran over = record {
   parts = over.parts;
-  untold = [];
+  left_out = [];
+  between = to;
   step = over.step;
-  makes = subst (AreAnsweredSoFar tells ask.fresh from to) (sym (append-nil over.parts)) (so-far tells ask.fresh from to over.parts over.answered);
-  whole = λ _. (refl, over.answered);
-  runless = λ runless. absurd (runless tt);
+  makes = over.answered;
+  answered_then = so-far tells ask.fresh to to [] (answered-none tells ask.fresh to);
+  none = λ _. (refl, refl);
+  begun = inl (refl, refl);
+  put = λ says. absurd says;
   spent = λ says. absurd says;
   needed = λ says. absurd says;
 }
 
-none_left : (kept : Kept) (ask : HostAsk) (parts : List Part) (from to : Moment) (refusal : HostRefusal) → IsStoppedAt kept ask parts from to refusal → StandsOnAll (Refused refusal) → IsUnrun from to parts
-none_left kept ask parts from to OutOfMemory stopped stands = absurd stands
-none_left kept ask parts from to (Store fault) stopped stands = absurd stands
-none_left kept ask parts from to Collision stopped stands = absurd stands
-none_left kept ask parts from to Spent stopped stands = absurd stands
-none_left kept ask parts from to refusal stopped stands = stopped
+module _ (tells : List (List ℕ) → List File → Outcome → Type 0) (from to : Moment) (before : Repository) (ask : HostAsk) (parts : List Part) (contents : List (List ℕ)) where
+  none_left : (refusal : HostRefusal) → IsStoppedAt tells from to before ask parts contents refusal → StandsOnAll (Refused refusal) → IsUnrun from to parts
+  none_left OutOfMemory stopped stands = absurd stands
+  none_left (Store fault) stopped stands = absurd stands
+  none_left Collision stopped stands = absurd stands
+  none_left Spent stopped stands = absurd stands
+  none_left refusal stopped stands = stopped
 
-run_spent : (kept : Kept) (ask : HostAsk) (parts : List Part) (from to : Moment) (refusal : HostRefusal) → IsStoppedAt kept ask parts from to refusal → SaysSpent (Refused refusal) → to.calls ≡ 2 ^ 64 - 1
-run_spent kept ask parts from to Spent stopped says = stopped.1
-run_spent kept ask parts from to refusal stopped says = absurd says
+  run_spent : (refusal : HostRefusal) → IsStoppedAt tells from to before ask parts contents refusal → SaysSpent (Refused refusal) → to.calls ≡ 2 ^ 64 - 1
+  run_spent Spent stopped says = stopped.1
+  run_spent refusal stopped says = absurd says
 
-run_needed : (kept : Kept) (ask : HostAsk) (parts : List Part) (from to : Moment) (refusal : HostRefusal) → IsStoppedAt kept ask parts from to refusal → SaysSpent (Refused refusal) → NeedsFurther kept.repo (Run ask) to.remembered parts
-run_needed kept ask parts from to Spent stopped says = stopped.0
-run_needed kept ask parts from to refusal stopped says = absurd says
+  run_needed : (refusal : HostRefusal) → IsStoppedAt tells from to before ask parts contents refusal → SaysSpent (Refused refusal) → HasFurther before ask to.remembered parts
+  run_needed Spent stopped says = stopped.0
+  run_needed refusal stopped says = absurd says
 
-pub stopped_played : (tells : List (List ℕ) → List File → Outcome → Type 0) (from to : Moment) (kept : Kept) (ask : HostAsk) (refusal : HostRefusal)
-    → IsStoppedStep tells from to kept ask refusal → IsPlayed tells from to kept.repo (Run ask) (Refused refusal) kept.repo
-stopped_played tells from to kept ask refusal over = record {
+  -- hooks that were run to their end begin with all of their parts
+  ran_begun : (reason : List Change → Type 0) → HasRunBut before ask parts reason → HasBegun before ask parts
+  ran_begun reason ran = subst (HasBegun before ask) (sym ran.traced)
+      (record { config = ran.config; runnable = ran.runnable; begun = begun_all ran.config (run_ask_of ask before) before.staged ran.trace ran.out ran.run })
+
+  -- and so do those that the store stopped
+  store_begun : (reason : List Change → Type 0) → StoreStopsRun tells from to before ask parts reason → HasBegun before ask parts
+  store_begun reason (inl behind) = ran_begun reason behind.0
+  store_begun reason (inr begun) = begun
+
+  run_begun : (refusal : HostRefusal) → IsStoppedAt tells from to before ask parts contents refusal → IsUnrun from to parts ⊎ HasBegun before ask parts
+  run_begun OutOfMemory stopped = stopped
+  run_begun Spent stopped =
+      let further = stopped.0 in
+      inr (record { config = further.config; runnable = further.runnable; begun = begun_before further.config (run_ask_of ask before) before.staged to.remembered parts further.needs })
+  run_begun Collision stopped = inr (store_begun (λ fixes. FixCollides fixes contents) stopped)
+  run_begun (Store fault) stopped = inr (store_begun (IsUnset fault) stopped)
+  run_begun refusal stopped = inl stopped
+
+pub stopped_played : (tells : List (List ℕ) → List File → Outcome → Type 0) (from to : Moment) (before : Repository) (ask : HostAsk) (after : Kept) (refusal : HostRefusal)
+    → IsStoppedStep tells from to before ask after refusal → IsPlayed tells from to before (Run ask) (Refused refusal) after.repo
+stopped_played tells from to before ask after refusal over = record {
   parts = [];
-  untold = over.parts;
+  left_out = over.parts;
+  between = from;
   step = over.step;
-  makes = over.answered;
-  whole = λ stands. let unrun = none_left kept ask over.parts from to refusal over.stopped stands in (unrun.0, unmade tells ask.fresh from to unrun.1);
-  runless = λ runless. absurd (runless tt);
-  spent = run_spent kept ask over.parts from to refusal over.stopped;
-  needed = run_needed kept ask over.parts from to refusal over.stopped;
+  makes = answered-none tells ask.fresh from;
+  answered_then = over.answered;
+  none = none_left tells from to before ask over.parts after.contents refusal over.stopped;
+  begun = run_begun tells from to before ask over.parts after.contents refusal over.stopped;
+  put = λ says. over.put (says_spent refusal says);
+  spent = run_spent tells from to before ask over.parts after.contents refusal over.stopped;
+  needed = run_needed tells from to before ask over.parts after.contents refusal over.stopped;
 }
 
 -- ---- a commit
 
-none_left_out : (kept : Kept) (message : List ℕ) (no_verify : Bool) (skip : List (List ℕ)) (remembered : Contents) (parts : List Part) (reply : Reply)
-    → AreLeftOut kept message no_verify skip remembered parts reply → StandsOnAll reply → parts ≡ []
-none_left_out kept message no_verify skip remembered parts (Refused OutOfMemory) left_out stands = absurd stands
-none_left_out kept message no_verify skip remembered parts (Refused (Store fault)) left_out stands = absurd stands
-none_left_out kept message no_verify skip remembered parts (Refused Collision) left_out stands = absurd stands
-none_left_out kept message no_verify skip remembered parts (Refused Spent) left_out stands = absurd stands
-none_left_out kept message no_verify skip remembered parts (Committed number reports (Stopped refusal)) left_out stands = absurd stands
-none_left_out kept message no_verify skip remembered parts reply left_out stands = left_out
+module _ (tells : List (List ℕ) → List File → Outcome → Type 0) (from to : Moment) (before : Repository) (message : List ℕ) (no_verify : Bool) (skip : List (List ℕ)) (parts : List Part) (contents : List (List ℕ)) where
+  none_left_out : (reply : Reply) → AreLeftOut tells from to before message no_verify skip parts contents reply → StandsOnAll reply → IsUnrun from to parts
+  none_left_out (Refused OutOfMemory) why stands = absurd stands
+  none_left_out (Refused (Store fault)) why stands = absurd stands
+  none_left_out (Refused Collision) why stands = absurd stands
+  none_left_out (Refused Spent) why stands = absurd stands
+  none_left_out (Committed number reports (Stopped refusal)) why stands = absurd stands
+  none_left_out reply why stands = why
 
-commit_needed : (kept : Kept) (message : List ℕ) (no_verify : Bool) (skip : List (List ℕ)) (remembered : Contents) (parts : List Part) (reply : Reply)
-    → AreLeftOut kept message no_verify skip remembered parts reply → SaysSpent reply → NeedsFurther kept.repo (Commit message no_verify skip) remembered parts
-commit_needed kept message no_verify skip remembered parts (Refused Spent) left_out says = inl left_out
-commit_needed kept message no_verify skip remembered parts (Committed number reports (Stopped run.Spent)) left_out says = inr left_out
-commit_needed kept message no_verify skip remembered parts reply left_out says = absurd says
+  commit_needed : (reply : Reply) → AreLeftOut tells from to before message no_verify skip parts contents reply → SaysSpent reply → HooksNeedChild before (Commit message no_verify skip) reply to.remembered parts
+  commit_needed (Refused Spent) why says = why
+  commit_needed (Committed number reports (Stopped run.Spent)) why says = why
+  commit_needed reply why says = absurd says
 
-pub commit_played : (tells : List (List ℕ) → List File → Outcome → Type 0) (from to : Moment) (kept : Kept) (message : List ℕ) (no_verify : Bool) (skip : List (List ℕ)) (reply : Reply) (after : Repository)
-    → IsCommitStep tells from to kept message no_verify skip reply after → IsPlayed tells from to kept.repo (Commit message no_verify skip) reply after
-commit_played tells from to kept message no_verify skip reply after over = record {
+module _ (before : Repository) (message : List ℕ) (no_verify : Bool) (skip : List (List ℕ)) (parts : List Part) where
+  begins_so : (config : Config) (others : List Part) → IsConfigured before config → parts ≡ others
+      → HaveBegun config (changed_paths before) skip (stages_before_commit no_verify) (course_of before message) others → HasBegunBefore before message no_verify skip parts
+  begins_so config others configured same begun = subst (HasBegunBefore before message no_verify skip) (sym same) (record { config = config; configured = configured; begun = begun })
+
+  failed_begun : (reason : List Change → Type 0) → HasFailedBut before message no_verify skip parts reason → HasBegunBefore before message no_verify skip parts
+  failed_begun reason it = begins_so it.config (parts_of it.told) it.configured it.traced
+      (begun_failed it.config (changed_paths before) skip (stages_before_commit no_verify) (course_of before message) it.told it.failed it.last it.run)
+
+  verified_begun : (reason : List ℕ → Type 0) → IsVerifiedBut before message no_verify skip parts reason → HasBegunBefore before message no_verify skip parts
+  verified_begun reason it = begins_so it.config (parts_of it.told) it.verified.configured it.traced
+      (begun_verified it.config (changed_paths before) skip no_verify (course_of before message) it.told it.verified.left it.verified.passed)
+
+  further_begun : (remembered : Contents) → HasFurtherBefore before message no_verify skip remembered parts → HasBegunBefore before message no_verify skip parts
+  further_begun remembered it = begins_so it.config parts it.configured refl
+      (have_begun_before it.config (changed_paths before) skip remembered (stages_before_commit no_verify) (course_of before message) parts it.further)
+
+behind_begun : (before : Repository) (skip : List (List ℕ)) (remembered : Contents) (parts : List Part) → HasFurtherBehind before skip remembered parts → HasBegunBehind before skip parts
+behind_begun before skip remembered parts it = record {
+  config = it.config;
+  configured = it.configured;
+  begun = begun_before it.config (ask_in (changed_paths before) skip stage.PostCommit) before.staged remembered parts it.needs;
+}
+
+module _ (tells : List (List ℕ) → List File → Outcome → Type 0) (from to : Moment) (before : Repository) (message : List ℕ) (no_verify : Bool) (skip : List (List ℕ)) (parts : List Part) (contents : List (List ℕ)) where
+  store_begun_before : (behind : Type 0) → (behind → HasBegunBefore before message no_verify skip parts) → StoreStopsCommit tells from to before message no_verify skip parts behind
+      → HasBegunBefore before message no_verify skip parts
+  store_begun_before behind begins (inl whole) = begins whole.0
+  store_begun_before behind begins (inr begun) = begun
+
+  commit_begun : (reply : Reply) → AreLeftOut tells from to before message no_verify skip parts contents reply → IsUnrun from to parts ⊎ HooksBegin before (Commit message no_verify skip) reply parts
+  commit_begun (Refused OutOfMemory) why = why
+  commit_begun (Refused Spent) why = inr (further_begun before message no_verify skip parts to.remembered why)
+  commit_begun (Refused (Store fault)) why =
+      inr (store_begun_before (HasFailedBut before message no_verify skip parts (IsUnset fault) ⊎ IsVerifiedBut before message no_verify skip parts (IsUnkept before fault))
+      (λ behind. elim behind [
+        | inl failed ↦ failed_begun before message no_verify skip parts (IsUnset fault) failed
+        | inr verified ↦ verified_begun before message no_verify skip parts (IsUnkept before fault) verified
+      ]) why)
+  commit_begun (Refused Collision) why =
+      inr (store_begun_before (HasFailedBut before message no_verify skip parts (λ fixes. FixCollides fixes contents)) (failed_begun before message no_verify skip parts (λ fixes. FixCollides fixes contents)) why)
+  commit_begun (Committed number reports (Stopped run.Spent)) why = inr (behind_begun before skip to.remembered parts why)
+  commit_begun (Committed number reports (Stopped run.OutOfMemory)) why = inr why
+  commit_begun (Committed number reports (Stopped (run.Book fault))) why = inr why
+  commit_begun (Committed number reports (Stopped run.NoSuchHook)) why = inr why
+  commit_begun reply why = inl why
+
+pub commit_played : (tells : List (List ℕ) → List File → Outcome → Type 0) (from to : Moment) (before : Repository) (message : List ℕ) (no_verify : Bool) (skip : List (List ℕ)) (reply : Reply) (after : Kept)
+    → IsCommitStep tells from to before message no_verify skip reply after → IsPlayed tells from to before (Commit message no_verify skip) reply after.repo
+commit_played tells from to before message no_verify skip reply after over = record {
   parts = over.parts;
-  untold = over.untold;
+  left_out = over.left_out;
+  between = over.between;
   step = over.step;
   makes = over.answered;
-  whole = λ stands. (none_left_out kept message no_verify skip to.remembered over.untold reply over.left_out stands, over.whole stands);
-  runless = λ runless. absurd (runless tt);
+  answered_then = over.answered_then;
+  none = none_left_out tells over.between to before message no_verify skip over.left_out after.contents reply over.why;
+  begun = commit_begun tells over.between to before message no_verify skip over.left_out after.contents reply over.why;
+  put = over.put;
   spent = over.spent;
-  needed = commit_needed kept message no_verify skip to.remembered over.untold reply over.left_out;
+  needed = commit_needed tells over.between to before message no_verify skip over.left_out after.contents reply over.why;
 }
 
 -- ---- a list of commands
+
+module _ (tells : List (List ℕ) → List File → Outcome → Type 0) (from to : Moment) (before : Repository) (command : Command) (reply : Reply) (after : Repository) (one : IsPlayed tells from to before command reply after) where
+  one_told : IsTold tells from.remembered → AllTold tells one.parts
+  one_told book = made_told tells from one.between command reply one.parts one.makes book
+
+  one_adds : AddsTold tells from.remembered to.remembered
+  one_adds = adds-then tells from.remembered one.between.remembered to.remembered (made_adds tells from one.between command reply one.parts one.makes)
+      (so-far-adds tells (is_fresh command) one.between to one.left_out one.answered_then)
 
 module _ (tells : List (List ℕ) → List File → Outcome → Type 0) (to : Moment) (after : Repository) where
   played_told : (from : Moment) (before : Repository) (commands : List Command) (replies : List Reply) (parts : List Part)
       → ArePlayed tells from to before commands replies parts after → IsTold tells from.remembered → AllTold tells parts
   played_told from before [] [] parts played book = subst (AllTold tells) (sym played.no_parts) tt
   played_told from before (command ∷ commands) (reply ∷ replies) parts played book =
-      let first = played.first in
-      let all = made_told tells from played.between command reply (first.parts ++ first.untold) first.makes book in
-      let book_between = made_keeps tells from played.between command reply (first.parts ++ first.untold) first.makes book in
       subst (AllTold tells) (sym played.joined)
-      (told-append tells first.parts played.further (told-front tells first.parts first.untold all)
-      (played_told played.between played.repo_between commands replies played.further played.rest book_between))
+      (told-append tells played.first.parts played.further (one_told tells from played.between before command reply played.repo_between played.first book)
+      (played_told played.between played.repo_between commands replies played.further played.rest
+      (told-adds tells from.remembered played.between.remembered book (one_adds tells from played.between before command reply played.repo_between played.first))))
   played_told from before commands replies parts played book = absurd played
 
-  played_keeps : (from : Moment) (before : Repository) (commands : List Command) (replies : List Reply) (parts : List Part)
-      → ArePlayed tells from to before commands replies parts after → IsTold tells from.remembered → IsTold tells to.remembered
-  played_keeps from before [] [] parts played book = subst (λ (at : Moment). IsTold tells at.remembered) (sym played.unmade) book
-  played_keeps from before (command ∷ commands) (reply ∷ replies) parts played book =
-      let first = played.first in
-      played_keeps played.between played.repo_between commands replies played.further played.rest
-      (made_keeps tells from played.between command reply (first.parts ++ first.untold) first.makes book)
-  played_keeps from before commands replies parts played book = absurd played
+  played_adds : (from : Moment) (before : Repository) (commands : List Command) (replies : List Reply) (parts : List Part)
+      → ArePlayed tells from to before commands replies parts after → AddsTold tells from.remembered to.remembered
+  played_adds from before [] [] parts played = adds-same tells from.remembered to.remembered (ap (λ (at : Moment). at.remembered) played.unmade)
+  played_adds from before (command ∷ commands) (reply ∷ replies) parts played =
+      adds-then tells from.remembered played.between.remembered to.remembered (one_adds tells from played.between before command reply played.repo_between played.first)
+      (played_adds played.between played.repo_between commands replies played.further played.rest)
+  played_adds from before commands replies parts played = absurd played
 
   play_of : (from : Moment) (before : Repository) (commands : List Command) (replies : List Reply) (parts : List Part)
       → ArePlayed tells from to before commands replies parts after → IsPlay tells from to before commands replies after
@@ -200,7 +290,8 @@ module _ (tells : List (List ℕ) → List File → Outcome → Type 0) (to : Mo
     parts = parts;
     played = played;
     told = played_told from before commands replies parts played;
-    told_then = played_keeps from before commands replies parts played;
+    told_then = λ book. told-adds tells from.remembered to.remembered book (played_adds from before commands replies parts played);
+    adds = played_adds from before commands replies parts played;
   }
 
 one_more : (tells : List (List ℕ) → List File → Outcome → Type 0) (from at to : Moment) (before now after : Repository)
@@ -214,13 +305,16 @@ one_more tells from at to before now after [] [] command reply parts so_far last
   further = [];
   first = record {
     parts = last.parts;
-    untold = last.untold;
+    left_out = last.left_out;
+    between = last.between;
     step = subst (λ (repo : Repository). Step repo command reply last.parts after) so_far.same last.step;
-    makes = subst (λ (start : Moment). MakesSoFar tells start to command reply (last.parts ++ last.untold)) so_far.unmade last.makes;
-    whole = λ stands. let all = last.whole stands in (all.0, subst (λ (start : Moment). Makes tells start to command reply last.parts) so_far.unmade all.1);
-    runless = λ runless. let all = last.runless runless in (all.0, subst (λ (start : Moment). Makes tells start to command reply last.parts) so_far.unmade all.1);
+    makes = subst (λ (start : Moment). Makes tells start last.between command reply last.parts) so_far.unmade last.makes;
+    answered_then = last.answered_then;
+    none = last.none;
+    begun = subst (λ (repo : Repository). IsUnrun last.between to last.left_out ⊎ HooksBegin repo command reply last.left_out) so_far.same last.begun;
+    put = last.put;
     spent = last.spent;
-    needed = λ says. subst (λ (repo : Repository). NeedsFurther repo command to.remembered last.untold) so_far.same (last.needed says);
+    needed = λ says. subst (λ (repo : Repository). HooksNeedChild repo command reply to.remembered last.left_out) so_far.same (last.needed says);
   };
   rest = record { unmade = refl; no_parts = refl; same = refl };
   joined = ap (λ (front : List Part). front ++ last.parts) so_far.no_parts ∙ sym (append-nil last.parts);
@@ -247,11 +341,14 @@ pub more_played : (tells next : List (List ℕ) → List File → Outcome → Ty
 more_played tells next from at to before now after commands replies command reply same so_far last =
     let last_as_first : IsPlayed tells at to now command reply after = record {
       parts = last.parts;
-      untold = last.untold;
+      left_out = last.left_out;
+      between = last.between;
       step = last.step;
-      makes = so_far_back tells next same at to command reply (last.parts ++ last.untold) last.makes;
-      whole = λ stands. let all = last.whole stands in (all.0, made_back tells next same at to command reply last.parts all.1);
-      runless = λ runless. let all = last.runless runless in (all.0, made_back tells next same at to command reply last.parts all.1);
+      makes = made_back tells next same at last.between command reply last.parts last.makes;
+      answered_then = so-far-back_to tells next same (is_fresh command) last.between to last.left_out last.answered_then;
+      none = last.none;
+      begun = last.begun;
+      put = λ says. so-far-back_to-last tells next same (is_fresh command) last.between to last.left_out last.answered_then ∙ last.put says;
       spent = last.spent;
       needed = last.needed;
     } in

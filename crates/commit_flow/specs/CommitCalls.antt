@@ -9,14 +9,16 @@ use Rattle.child_port.specs.declared.answer.Outcome.{Outcome}
 use Rattle.hook_config.specs.declared.configuration.Config.{Config}
 use Rattle.hook_config.specs.declared.stage.Stage.{Stage}
 use Rattle.hook_config.specs.declared.stage.Stage.TheVariants as stage
+use Rattle.result_book.specs.declared.book_fault.BookFault.{BookFault}
+use Rattle.result_book.specs.StoreBooks.{RefusesAnswers}
 use Rattle.hook_run.specs.declared.run_ask.RunAsk.{RunAsk}
 use Rattle.hook_run.specs.declared.run_refusal.RunRefusal.{RunRefusal}
 use Rattle.hook_run.specs.declared.run_refusal.RunRefusal.TheVariants as run
 use Rattle.hook_run.specs.Answers.{AreAnswered, AreAnsweredSoFar}
 use Rattle.hook_run.specs.Moments.{Moment}
 use Rattle.hook_run.specs.Parts.{Part, all_parts}
-use Rattle.hook_run.specs.Refusals.{is_of_book}
-use Rattle.hook_run.specs.RunOuts.{NeedsChild}
+use Rattle.hook_run.specs.Refusals.{IsOfBook}
+use Rattle.hook_run.specs.RunOuts.{IsBegun, NeedsChild}
 use Rattle.repo_store.specs.Kept.{FixCollides, Kept}
 use Rattle.repo_store.specs.Limits.{IsSmall, most_commits}
 use Rattle.repo_store.specs.Repository.{Repository}
@@ -31,9 +33,10 @@ use Rattle.commit_flow.specs.declared.host_refusal.HostRefusal.{HostRefusal}
 use Rattle.commit_flow.specs.declared.host_refusal.HostRefusal.TheVariants.{OutOfMemory, Store, Spent, TooLarge, TooMany, NothingStaged, NoConfig, BadConfig, EmptyMessage, Collision}
 use Rattle.commit_flow.specs.declared.reply.PostCommit.{PostCommit}
 use Rattle.commit_flow.specs.declared.reply.PostCommit.TheVariants.{Told, Stopped}
-use Rattle.commit_flow.specs.CommitStages.{FailedAt, HaveFurther, HavePassed, IsStageTold, StageTold, ask_in, course_after, course_of, parts_of, reports_of, stages_before_commit}
+use Rattle.commit_flow.specs.CommitStages.{FailedAt, HaveBegun, HaveFurther, HavePassed, IsStageTold, StageTold, ask_in, course_after, course_of, parts_of, reports_of, stages_before_commit}
 use Rattle.commit_flow.specs.Commits.{HasNothingNew, IsCommittable}
 use Rattle.commit_flow.specs.Configured.{IsConfigured, IsMisconfigured, LacksConfig}
+use Rattle.commit_flow.specs.Refusals.{of_run}
 use Rattle.commit_flow.specs.RunRefusals.{IsOfFixes}
 use Rattle.commit_flow.specs.RunSteps.{IsUnset}
 use Rattle.commit_flow.specs.Runs.{changed_paths}
@@ -41,29 +44,35 @@ use Rattle.commit_flow.specs.CommitSteps.{IsUnkept}
 
 -- ---- one run
 
--- the hooks of a stage were stopped
-pub record IsRunStopped (tells : List (List ℕ) → List File → Outcome → Type 0) (from to : Moment) (config : Config) (ask : RunAsk) (tree : List File) (refusal : RunRefusal) : Type 0 where
-  pub untold : List Part
-  pub answered : AreAnsweredSoFar tells false from to untold
+-- the hooks of a stage were stopped, over remembered answers that refuse so
+pub record IsRunStopped (refuses : BookFault → Type 0) (tells : List (List ℕ) → List File → Outcome → Type 0) (from to : Moment) (config : Config) (ask : RunAsk) (tree : List File) (refusal : RunRefusal) : Type 0 where
+  pub parts : List Part
+  pub answered : AreAnsweredSoFar tells false from to parts
+  pub begun : IsBegun config ask tree parts
   pub not_named : refusal ≢ run.NoSuchHook
-  pub not_book : is_of_book refusal ≡ false
-  pub needs : refusal ≡ run.Spent → NeedsChild to.remembered config ask tree untold
+  pub of_book : IsOfBook refuses refusal
+  pub needs : refusal ≡ run.Spent → NeedsChild to.remembered config ask tree parts
+  pub put : refusal ≡ run.Spent → answered.last ≡ []
   pub spent : refusal ≡ run.Spent → to.calls ≡ 2 ^ 64 - 1
 
 -- ---- the stages
 
--- what stops the hooks of a stage
-abbrev pub IsHalt : HostRefusal → Type 0
-IsHalt OutOfMemory = Unit {0}
-IsHalt Spent = Unit {0}
-IsHalt refusal = ⊥
+-- what stops the hooks of a stage, over remembered answers that refuse so
+pub record IsHalt (refuses : BookFault → Type 0) (refusal : HostRefusal) : Type 0 where
+  pub inner : RunRefusal
+  pub not_named : inner ≢ run.NoSuchHook
+  pub of_book : IsOfBook refuses inner
+  pub is : refusal ≡ of_run inner
 
--- the hooks were stopped, and these parts were answered by then; where the children are spent, there is a further one
-pub record IsHalted (tells : List (List ℕ) → List File → Outcome → Type 0) (from to : Moment) (further : List Part → Type 0) (refusal : HostRefusal) : Type 0 where
-  pub untold : List Part
-  pub answered : AreAnsweredSoFar tells false from to untold
-  pub why : IsHalt refusal
-  pub needs : refusal ≡ Spent → further untold
+-- the hooks were stopped, and begin with the parts that were answered by then; where the children are spent, there is a further
+-- one
+pub record IsHalted (refuses : BookFault → Type 0) (tells : List (List ℕ) → List File → Outcome → Type 0) (from to : Moment) (begins further : List Part → Type 0) (refusal : HostRefusal) : Type 0 where
+  pub parts : List Part
+  pub answered : AreAnsweredSoFar tells false from to parts
+  pub begun : begins parts
+  pub why : IsHalt refuses refusal
+  pub needs : refusal ≡ Spent → further parts
+  pub put : refusal ≡ Spent → answered.last ≡ []
   pub spent : refusal ≡ Spent → to.calls ≡ 2 ^ 64 - 1
 
 -- the hooks of a stage were run, and this is passed on
@@ -94,7 +103,7 @@ AreRunOver tells from to config changed skip stages course (Failed stage reports
 -- ---- the beginning
 
 -- this is what a commit of the message begins with
-pub record IsBegun (repo : Repository) (message : List ℕ) (begun : CommitBegun) : Type 0 where
+pub record IsCommitBegun (repo : Repository) (message : List ℕ) (begun : CommitBegun) : Type 0 where
   pub committable : IsCommittable repo message
   pub configured : IsConfigured repo begun.config
   pub listed : begun.changed ≡ changed_paths repo
@@ -121,7 +130,8 @@ pub record IsStoppedIn (tells : List (List ℕ) → List File → Outcome → Ty
   pub committable : IsCommittable repo message
   pub config : Config
   pub configured : IsConfigured repo config
-  pub halted : IsHalted tells from to (HaveFurther to.remembered config (changed_paths repo) skip (stages_before_commit no_verify) (course_of repo message)) refusal
+  pub halted : IsHalted RefusesAnswers tells from to (HaveBegun config (changed_paths repo) skip (stages_before_commit no_verify) (course_of repo message))
+      (HaveFurther to.remembered config (changed_paths repo) skip (stages_before_commit no_verify) (course_of repo message)) refusal
 
 -- nothing was looked up and no child started, and the commit isn't begun
 pub record IsNotBegun (from to : Moment) (repo : Repository) (message : List ℕ) (refusal : HostRefusal) : Type 0 where
@@ -143,12 +153,12 @@ IsUncommitted repo cleaned (Store fault) = IsOfFixes fault × IsUnkept repo faul
 IsUncommitted repo cleaned OutOfMemory = Unit {0}
 IsUncommitted repo cleaned refusal = ⊥
 
--- why these fixes aren't set
-abbrev pub IsUnfixed : Kept → List Change → HostRefusal → Type 0
-IsUnfixed kept fixes (Store fault) = IsOfFixes fault × IsUnset fault fixes
-IsUnfixed kept fixes Collision = FixCollides fixes kept.contents
-IsUnfixed kept fixes OutOfMemory = Unit {0}
-IsUnfixed kept fixes refusal = ⊥
+-- why these fixes aren't set, beside these contents
+abbrev pub IsUnfixed : List (List ℕ) → List Change → HostRefusal → Type 0
+IsUnfixed contents fixes (Store fault) = IsOfFixes fault × IsUnset fault fixes
+IsUnfixed contents fixes Collision = FixCollides fixes contents
+IsUnfixed contents fixes OutOfMemory = Unit {0}
+IsUnfixed contents fixes refusal = ⊥
 
 -- a call asks the store for this one change at most
 pub record IsOneChange {S A : Type 0} (g : Ghosts S) (old new : Shown S) (result : Result A HostRefusal) (after : Kept) : Type 0 where
@@ -169,4 +179,4 @@ pub record IsPostTold (tells : List (List ℕ) → List File → Outcome → Typ
 abbrev pub IsPostOver : (List (List ℕ) → List File → Outcome → Type 0) → Moment → Moment → Config → List File → List (List ℕ) → PostCommit → Type 0
 IsPostOver tells from to config staged skip (Told report) = IsPostTold tells from to config staged skip report
 IsPostOver tells from to config staged skip (Stopped refusal) =
-    IsRunStopped tells from to config (ask_in [] skip stage.PostCommit) staged refusal
+    IsRunStopped RefusesAnswers tells from to config (ask_in [] skip stage.PostCommit) staged refusal

@@ -13,7 +13,7 @@ use Rattle.result_book.specs.Contents.{Contents}
 use Rattle.hook_run.specs.declared.run_ask.RunAsk.{RunAsk}
 use Rattle.hook_run.specs.declared.run_out.RunOut.{RunOut}
 use Rattle.hook_run.specs.Parts.{Part, all_parts}
-use Rattle.hook_run.specs.RunOuts.{IsRunOut, NeedsChild}
+use Rattle.hook_run.specs.RunOuts.{IsBegun, IsRunOut, NeedsChild}
 use Rattle.repo_store.specs.Repository.{Repository}
 use Rattle.commit_flow.specs.declared.course.Course.{Course}
 use Rattle.commit_flow.specs.Messages.{begun_message}
@@ -85,15 +85,15 @@ FailedAt config changed skip (stage ∷ stages) course (told ∷ more) failed la
     ((more ≡ []) × (failed ≡ stage) × (last ≡ course_after stage course told.out.tree))
 FailedAt config changed skip _ course _ failed last = ⊥
 
--- the stages were run in order up to this one, each before it passed, and it has a further part behind these of its own, which
--- needs a child
-abbrev pub NeedsChildAt : Contents → Config → List (List ℕ) → List (List ℕ) → List Stage → Course → List StageTold → List Part → Type 0
-NeedsChildAt remembered config changed skip (stage ∷ stages) course [] begun = NeedsChild remembered config (ask_in changed skip stage) (tree_in stage course) begun
-NeedsChildAt remembered config changed skip (stage ∷ stages) course (told ∷ more) begun =
+-- the stages were run in order up to this one, and each before it passed; and `IsSo` of what is asked in it, of the tree that
+-- its hooks begin on, and of these parts of its own
+abbrev pub HaveComeTo : (RunAsk → List File → List Part → Type 0) → Config → List (List ℕ) → List (List ℕ) → List Stage → Course → List StageTold → List Part → Type 0
+HaveComeTo IsSo config changed skip (stage ∷ stages) course [] own = IsSo (ask_in changed skip stage) (tree_in stage course) own
+HaveComeTo IsSo config changed skip (stage ∷ stages) course (told ∷ more) own =
     IsStageTold config changed skip stage course told
     × (told.out.passed ≡ true)
-    × NeedsChildAt remembered config changed skip stages (course_after stage course told.out.tree) more begun
-NeedsChildAt remembered config changed skip [] course told begun = ⊥
+    × HaveComeTo IsSo config changed skip stages (course_after stage course told.out.tree) more own
+HaveComeTo IsSo config changed skip [] course told own = ⊥
 
 -- a commit begins with the staged files, and with its message ended by a line feed
 abbrev pub course_of : Repository → List ℕ → Course
@@ -107,9 +107,17 @@ abbrev pub reports_of : List StageTold → List (List ℕ)
 reports_of [] = []
 reports_of (told ∷ more) = told.out.report ∷ reports_of more
 
--- the stages have a further part behind these, of those that passed and of the next one so far, and it needs a child
-pub record HaveFurther (remembered : Contents) (config : Config) (changed skip : List (List ℕ)) (stages : List Stage) (course : Course) (parts : List Part) : Type 0 where
+-- The stages came so far with these parts: those of the stages that passed, and those of the next one, of which `IsSo`.
+pub record HaveComeSoFar (IsSo : RunAsk → List File → List Part → Type 0) (config : Config) (changed skip : List (List ℕ)) (stages : List Stage) (course : Course) (parts : List Part) : Type 0 where
   pub told : List StageTold
-  pub begun : List Part
-  pub needs : NeedsChildAt remembered config changed skip stages course told begun
-  pub traced : parts ≡ parts_of told ++ begun
+  pub own : List Part
+  pub come : HaveComeTo IsSo config changed skip stages course told own
+  pub traced : parts ≡ parts_of told ++ own
+
+-- the stages begin with these parts
+abbrev pub HaveBegun : Config → List (List ℕ) → List (List ℕ) → List Stage → Course → List Part → Type 0
+HaveBegun config changed skip stages course parts = HaveComeSoFar (IsBegun config) config changed skip stages course parts
+
+-- they have a further part behind these, and it needs a child
+abbrev pub HaveFurther : Contents → Config → List (List ℕ) → List (List ℕ) → List Stage → Course → List Part → Type 0
+HaveFurther remembered config changed skip stages course parts = HaveComeSoFar (NeedsChild remembered config) config changed skip stages course parts

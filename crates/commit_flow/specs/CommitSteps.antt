@@ -9,11 +9,11 @@ use Rattle.hook_config.specs.declared.stage.Stage.{Stage}
 use Rattle.hook_config.specs.declared.stage.Stage.TheVariants as stage
 use Rattle.hook_run.specs.declared.run_refusal.RunRefusal.TheVariants as run
 use Rattle.result_book.specs.Contents.{Contents}
-use Rattle.result_book.specs.Told.{IsTold}
+use Rattle.result_book.specs.Told.{AddsTold, IsTold}
 use Rattle.hook_run.specs.Answers.{AreAnswered, AreAnsweredSoFar}
 use Rattle.hook_run.specs.Moments.{Moment}
 use Rattle.hook_run.specs.Parts.{AllTold, Part}
-use Rattle.hook_run.specs.RunOuts.{NeedsChild}
+use Rattle.hook_run.specs.RunOuts.{IsBegun, NeedsChild}
 use Rattle.repo_store.specs.declared.fault.StoreFault.{StoreFault}
 use Rattle.repo_store.specs.declared.fault.StoreFault.TheVariants.{Sql, TooLarge}
 use Rattle.repo_store.specs.Kept.{FixCollides, Kept}
@@ -25,11 +25,11 @@ use Rattle.commit_flow.specs.declared.host_refusal.HostRefusal.TheVariants.{OutO
 use Rattle.commit_flow.specs.declared.reply.PostCommit.TheVariants.{Stopped}
 use Rattle.commit_flow.specs.declared.reply.Reply.{Reply}
 use Rattle.commit_flow.specs.declared.reply.Reply.TheVariants.{Committed, Refused}
-use Rattle.commit_flow.specs.CommitStages.{FailedAt, HaveFurther, StageTold, ask_in, course_of, parts_of, stages_before_commit}
+use Rattle.commit_flow.specs.CommitStages.{FailedAt, HaveBegun, HaveFurther, StageTold, ask_in, course_of, parts_of, stages_before_commit}
 use Rattle.commit_flow.specs.Commits.{IsVerifiedBut, MayCommit}
 use Rattle.commit_flow.specs.Configured.{IsConfigured}
 use Rattle.commit_flow.specs.Runs.{changed_paths}
-use Rattle.commit_flow.specs.RunSteps.{IsUnset}
+use Rattle.commit_flow.specs.RunSteps.{IsUnrun, IsUnset}
 use Rattle.commit_flow.specs.Steps.{Step}
 
 -- A hook failed in a stage before the commit, with these parts of the stages up to it, and what they did to the staged files
@@ -50,30 +50,51 @@ IsUnkept before TooLarge cleaned = ¬ IsSmall cleaned
 IsUnkept before (Sql error) cleaned = MayCommit before cleaned
 IsUnkept before fault cleaned = ⊥
 
--- a run that needs a child for a further part behind these: of the stages before the commit
+-- the stages before the commit begin with these parts
+pub record HasBegunBefore (before : Repository) (message : List ℕ) (no_verify : Bool) (skip : List (List ℕ)) (parts : List Part) : Type 0 where
+  pub config : Config
+  pub configured : IsConfigured before config
+  pub begun : HaveBegun config (changed_paths before) skip (stages_before_commit no_verify) (course_of before message) parts
+
+-- they have a further part behind these, and it needs a child
 pub record HasFurtherBefore (before : Repository) (message : List ℕ) (no_verify : Bool) (skip : List (List ℕ)) (remembered : Contents) (parts : List Part) : Type 0 where
   pub config : Config
   pub configured : IsConfigured before config
   pub further : HaveFurther remembered config (changed_paths before) skip (stages_before_commit no_verify) (course_of before message) parts
 
--- or of the hooks behind it
+-- the hooks behind the commit begin with these parts
+pub record HasBegunBehind (before : Repository) (skip : List (List ℕ)) (parts : List Part) : Type 0 where
+  pub config : Config
+  pub configured : IsConfigured before config
+  pub begun : IsBegun config (ask_in (changed_paths before) skip stage.PostCommit) before.staged parts
+
+-- they have a further part behind these, and it needs a child
 pub record HasFurtherBehind (before : Repository) (skip : List (List ℕ)) (remembered : Contents) (parts : List Part) : Type 0 where
   pub config : Config
   pub configured : IsConfigured before config
   pub needs : NeedsChild remembered config (ask_in (changed_paths before) skip stage.PostCommit) before.staged parts
 
--- The parts that the reply doesn't stand on. Where the store refuses, they are those of all stages that were run, and where
--- children are spent those before the one that is needed. For want of memory they may be any, behind a commit too. Else there
--- are none.
-abbrev pub AreLeftOut : Kept → List ℕ → Bool → List (List ℕ) → Contents → List Part → Reply → Type 0
-AreLeftOut kept message no_verify skip remembered parts (Refused OutOfMemory) = Unit {0}
-AreLeftOut kept message no_verify skip remembered parts (Refused Spent) = HasFurtherBefore kept.repo message no_verify skip remembered parts
-AreLeftOut kept message no_verify skip remembered parts (Refused (Store fault)) =
-    HasFailedBut kept.repo message no_verify skip parts (IsUnset fault) ⊎ IsVerifiedBut kept.repo message no_verify skip parts (IsUnkept kept.repo fault)
-AreLeftOut kept message no_verify skip remembered parts (Refused Collision) = HasFailedBut kept.repo message no_verify skip parts (λ fixes. FixCollides fixes kept.contents)
-AreLeftOut kept message no_verify skip remembered parts (Committed number reports (Stopped run.Spent)) = HasFurtherBehind kept.repo skip remembered parts
-AreLeftOut kept message no_verify skip remembered parts (Committed number reports (Stopped refusal)) = Unit {0}
-AreLeftOut kept message no_verify skip remembered parts reply = parts ≡ []
+-- A commit was stopped by the store between two moments, with these parts of its stages: behind the last of them, each answered,
+-- for what these had done; or in the middle, by what is remembered of their answers.
+abbrev pub StoreStopsCommit : (List (List ℕ) → List File → Outcome → Type 0) → Moment → Moment → Repository → List ℕ → Bool → List (List ℕ) → List Part → Type 0 → Type 0
+StoreStopsCommit tells from to before message no_verify skip parts behind =
+    (behind × AreAnswered tells false from to parts) ⊎ HasBegunBefore before message no_verify skip parts
+
+-- The parts that the reply leaves out, between two moments. Where memory is refused, nothing was run, or the stages begin with
+-- them. Where children are spent, they are those before the one that is needed. Where the store refuses, the stages begin with
+-- them, and they are all of those that were run where it refuses behind these; contents that collide do so with those that are
+-- kept by then. The hooks behind a commit begin with them where they were stopped. Else there are none.
+abbrev pub AreLeftOut : (List (List ℕ) → List File → Outcome → Type 0) → Moment → Moment → Repository → List ℕ → Bool → List (List ℕ) → List Part → List (List ℕ) → Reply → Type 0
+AreLeftOut tells from to before message no_verify skip parts contents (Refused OutOfMemory) = IsUnrun from to parts ⊎ HasBegunBefore before message no_verify skip parts
+AreLeftOut tells from to before message no_verify skip parts contents (Refused Spent) = HasFurtherBefore before message no_verify skip to.remembered parts
+AreLeftOut tells from to before message no_verify skip parts contents (Refused (Store fault)) =
+    StoreStopsCommit tells from to before message no_verify skip parts
+    (HasFailedBut before message no_verify skip parts (IsUnset fault) ⊎ IsVerifiedBut before message no_verify skip parts (IsUnkept before fault))
+AreLeftOut tells from to before message no_verify skip parts contents (Refused Collision) =
+    StoreStopsCommit tells from to before message no_verify skip parts (HasFailedBut before message no_verify skip parts (λ fixes. FixCollides fixes contents))
+AreLeftOut tells from to before message no_verify skip parts contents (Committed number reports (Stopped run.Spent)) = HasFurtherBehind before skip to.remembered parts
+AreLeftOut tells from to before message no_verify skip parts contents (Committed number reports (Stopped refusal)) = HasBegunBehind before skip parts
+AreLeftOut tells from to before message no_verify skip parts contents reply = IsUnrun from to parts
 
 -- the reply says that no more children can be counted
 abbrev pub SaysSpent : Reply → Type 0
@@ -81,8 +102,8 @@ SaysSpent (Refused Spent) = Unit {0}
 SaysSpent (Committed number reports (Stopped run.Spent)) = Unit {0}
 SaysSpent reply = ⊥
 
--- The reply stands on all that its hooks were answered: none was stopped, and what they had done wasn't refused behind them by
--- memory, by the database or by other contents under the same digest.
+-- The reply stands on all that its hooks were answered: none was stopped, and neither memory, nor the store, nor other contents
+-- under the same digest refused what they had done or what was remembered of them.
 abbrev pub StandsOnAll : Reply → Type 0
 StandsOnAll (Refused OutOfMemory) = ⊥
 StandsOnAll (Refused (Store fault)) = ⊥
@@ -91,16 +112,20 @@ StandsOnAll (Refused Spent) = ⊥
 StandsOnAll (Committed number reports (Stopped refusal)) = ⊥
 StandsOnAll reply = Unit {0}
 
--- The commit is a step of the machine between two moments: its parts were answered, and behind these some that the reply
--- doesn't stand on. The reply says that the children are spent only where they have told as many outcomes as can be counted.
--- Where each answer that was remembered before is one that they may tell, so is each outcome.
+-- The commit is a step of the machine between two moments: its parts were answered, and then, from the moment between, some
+-- that the reply leaves out. The reply says that the children are spent only where they have told as many outcomes as can be
+-- counted, and then what they told is put, as `Starts` says. Where each answer that was remembered before is one that they may
+-- tell, so is each outcome; and each that is remembered afterwards was so before, or was told.
 pub record IsCommitStep (tells : List (List ℕ) → List File → Outcome → Type 0) (from to : Moment)
-    (kept : Kept) (message : List ℕ) (no_verify : Bool) (skip : List (List ℕ)) (reply : Reply) (after : Repository) : Type 0 where
+    (before : Repository) (message : List ℕ) (no_verify : Bool) (skip : List (List ℕ)) (reply : Reply) (after : Kept) : Type 0 where
   pub parts : List Part
-  pub untold : List Part
-  pub step : Step kept.repo (Commit message no_verify skip) reply parts after
-  pub left_out : AreLeftOut kept message no_verify skip to.remembered untold reply
-  pub answered : AreAnsweredSoFar tells false from to (parts ++ untold)
-  pub whole : StandsOnAll reply → AreAnswered tells false from to parts
-  pub told : IsTold tells from.remembered → AllTold tells (parts ++ untold)
+  pub left_out : List Part
+  pub between : Moment
+  pub step : Step before (Commit message no_verify skip) reply parts after.repo
+  pub answered : AreAnswered tells false from between parts
+  pub answered_then : AreAnsweredSoFar tells false between to left_out
+  pub why : AreLeftOut tells between to before message no_verify skip left_out after.contents reply
+  pub told : IsTold tells from.remembered → AllTold tells (parts ++ left_out)
+  pub adds : AddsTold tells from.remembered to.remembered
+  pub put : SaysSpent reply → answered_then.last ≡ []
   pub spent : SaysSpent reply → to.calls ≡ 2 ^ 64 - 1

@@ -1,12 +1,13 @@
 -- A commit through its hooks: what it makes of the repository, what it answers, and why it is refused.
-use Rattle.std.specs.Prelude.{◌≡◌, ◌≢◌, ◌+◌, ◌≤◌, ◌<◌, ℕ, Bool, false, List, [], ◌++◌, length}
+use Rattle.std.specs.Prelude.{◌≡◌, ◌≢◌, ◌+◌, ◌≤◌, ◌<◌, ℕ, Bool, List, [], ◌++◌, length}
 use Rattle.hook_base.specs.Trees.{changes_between}
 use Rattle.hook_config.specs.declared.configuration.Config.{Config}
 use Rattle.hook_config.specs.declared.stage.Stage.{Stage}
 use Rattle.hook_config.specs.declared.stage.Stage.TheVariants as stage
+use Rattle.result_book.specs.StoreBooks.{RefusesAnswers}
 use Rattle.hook_run.specs.declared.run_refusal.RunRefusal.TheVariants.{NoSuchHook}
 use Rattle.hook_run.specs.Parts.{Part, all_parts}
-use Rattle.hook_run.specs.Refusals.{is_of_book}
+use Rattle.hook_run.specs.Refusals.{IsOfBook}
 use Rattle.repo_store.specs.Limits.{IsSmall, most_commits}
 use Rattle.repo_store.specs.Repository.{Repository, last_tree, with_new_commit}
 use Rattle.commit_flow.specs.declared.host_refusal.HostRefusal.{HostRefusal}
@@ -44,12 +45,12 @@ pub record IsVerified (before : Repository) (message : List ℕ) (no_verify : Bo
   pub message_left : last ≡ left.message
 
 -- the hooks behind the commit ran on the committed files, without any to get, and this is reported; or their run was stopped
--- for want of memory or of a number for a child, and what they were answered by then isn't among the parts
+-- for want of memory or of a number for a child, or by the store, and what they were answered by then isn't among the parts
 abbrev pub IsPost : Config → Repository → List (List ℕ) → PostCommit → List Part → Type 0
 IsPost config before skip (Told report) parts =
     (told : StageTold) × IsStageTold config (changed_paths before) skip stage.PostCommit (record { tree = before.staged; message = [] }) told
     × (report ≡ told.out.report) × (parts ≡ all_parts told.trace)
-IsPost config before skip (Stopped refusal) parts = (refusal ≢ NoSuchHook) × (is_of_book refusal ≡ false) × (parts ≡ [])
+IsPost config before skip (Stopped refusal) parts = (refusal ≢ NoSuchHook) × IsOfBook RefusesAnswers refusal × (parts ≡ [])
 
 -- A commit was made of the staged files and the cleaned message. What the hooks behind it do to files is dropped.
 pub record IsCommitted (before : Repository) (message : List ℕ) (no_verify : Bool) (skip : List (List ℕ)) (number : ℕ) (reports : List (List ℕ)) (post : PostCommit) (parts : List Part) (after : Repository) : Type 0 where

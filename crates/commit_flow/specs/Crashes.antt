@@ -1,13 +1,14 @@
 -- What a command leaves in the store's tables, and what a crash leaves of it.
-use Rattle.std.specs.Prelude.{List, Result, OnOk}
+use Rattle.std.specs.Prelude.{◌⊎◌, List, Result, OnOk}
 use Rattle.sqlite_trees.specs.declared.store.Store.{Ghosts}
 use Rattle.sqlite_trees.specs.Tree.{Trees}
 use Rattle.sqlite.specs.Held.{state}
-use Rattle.sqlite.specs.State.{Survives}
+use Rattle.sqlite.specs.State.{HasCleanDisk, Survives}
 use Rattle.hook_run.specs.Parts.{Part}
 use Rattle.repo_store.specs.Kept.{Kept}
 use Rattle.repo_store.specs.Repository.{Repository}
 use Rattle.repo_store.specs.Shown.{Leaves, LeavesOnly, Shown, Stands}
+use Rattle.result_book.specs.StoreBooks.{LeavesRepository}
 use Rattle.commit_flow.specs.declared.command.Command.{Command}
 use Rattle.commit_flow.specs.declared.host_refusal.HostRefusal.{HostRefusal}
 use Rattle.commit_flow.specs.declared.reply.Reply.{Reply}
@@ -30,3 +31,12 @@ pub record IsOneCommand {S A : Type 0} (g : Ghosts S) (old new : Shown S) (comma
   pub stands : Stands g old.conn old.kept → Stands g new.conn new.kept
   pub crash : Survives (state g old.conn) (state g new.conn) (LeavesDone old.kept.repo command)
   pub durable : OnOk result (LeavesOnly g new.conn new.kept)
+
+-- A command that runs hooks changes the store before and behind its change of the repository too, by transactions in which answers
+-- are remembered, and each of these keeps the repository. So a crash leaves what it could leave before, or a store of the
+-- repository before, or what the command makes; once the command is done, on a clean disk, only stores of the repository that is
+-- shown.
+pub record IsHookCommand {S A : Type 0} (g : Ghosts S) (old new : Shown S) (command : Command) (result : Result A HostRefusal) : Type 0 where
+  pub stands : Stands g old.conn old.kept → Stands g new.conn new.kept
+  pub crash : Survives (state g old.conn) (state g new.conn) (λ trees. LeavesRepository old.kept.repo trees ⊎ LeavesDone old.kept.repo command trees)
+  pub durable : OnOk result (HasCleanDisk (state g new.conn) → (trees : Trees) → (state g new.conn).may_leave trees → LeavesRepository new.kept.repo trees)

@@ -1,12 +1,12 @@
 pub mod Commands
 pub mod CommitCalls
-pub mod CommitKept
 pub mod CommitStages
 pub mod CommitSteps
 pub mod Commits
 pub mod Configured
 pub mod Crashes
-pub mod Hosts
+pub mod KeptByHooks
+pub mod MachineRuns
 pub mod Messages
 pub mod PlayLaws
 pub mod Plays
@@ -18,3 +18,4 @@ pub mod Runs
 pub mod StagedPaths
 pub mod Steps
 pub mod StepLaws
+pub mod TwoHosts

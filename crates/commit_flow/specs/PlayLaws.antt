@@ -1,16 +1,22 @@
--- What follows for a step and for a list of commands: which replies tell of a commit, and what the commit then is.
-use Rattle.std.specs.Prelude.{◌≡◌, ℕ, Bool, List}
+-- What follows for a step and for a list of commands: which replies tell of a commit, what the commit then is, and for which parts
+-- of the commands children were started.
+use Rattle.std.specs.Prelude.{◌≡◌, ℕ, Bool, List, [], ◌∷◌, ◌++◌}
 use Rattle.hook_config.specs.declared.configuration.Config.{Config}
+use Rattle.result_book.specs.Contents.{Contents}
+use Rattle.hook_run.specs.Parts.{Part}
+use Rattle.hook_run.specs.Starts.{Starts}
 use Rattle.repo_store.specs.Repository.{Repository, with_new_commit}
 use Rattle.commit_flow.specs.declared.command.Command.{Command}
-use Rattle.commit_flow.specs.declared.command.Command.TheVariants.{Commit}
+use Rattle.commit_flow.specs.declared.command.Command.TheVariants.{Commit, Forget}
 use Rattle.commit_flow.specs.declared.course.Course.{Course}
 use Rattle.commit_flow.specs.declared.reply.Reply.{Reply}
 use Rattle.commit_flow.specs.declared.reply.Reply.TheVariants.{Committed}
 use Rattle.commit_flow.specs.CommitStages.{HavePassed, StageTold, course_of, stages_before_commit}
 use Rattle.commit_flow.specs.Configured.{IsConfigured}
 use Rattle.commit_flow.specs.Messages.{cleaned_message}
+use Rattle.commit_flow.specs.Plays.{HasForgotten, is_fresh}
 use Rattle.commit_flow.specs.Runs.{changed_paths}
+use Rattle.commit_flow.specs.Steps.{Step}
 
 -- the reply says that a commit was made
 abbrev pub SaysCommitted : Reply → Type 0
@@ -31,3 +37,34 @@ pub record HasOneMore (before : Repository) (message : List ℕ) (no_verify : Bo
 abbrev pub HasCommitted : Repository → Command → Repository → Type 0
 HasCommitted before (Commit message no_verify skip) after = HasOneMore before message no_verify skip after
 HasCommitted before command after = ⊥
+
+-- ---- for which parts children were started
+
+-- what a command makes of what is remembered: a child was started for those of its parts that are in `started`; or it forgets, and
+-- has no parts
+abbrev pub CommandStarts : Command → Reply → Contents → Contents → List Part → List Part → Type 0
+CommandStarts Forget reply before after parts started = HasForgotten before after reply × (parts ≡ []) × (started ≡ [])
+CommandStarts command reply before after parts started = Starts (is_fresh command) before after parts started
+
+-- A command is a step, with its own parts, which leaves a repository and what is remembered then, and more is played from there.
+pub record PlayStartsFrom (before : Repository) (remembered : Contents) (command : Command) (reply : Reply) (parts started : List Part) (more : Repository → Contents → List Part → List Part → Type 0) : Type 0 where
+  pub repo_between : Repository
+  pub between : Contents
+  pub own : List Part
+  pub own_started : List Part
+  pub further : List Part
+  pub further_started : List Part
+  pub step : Step before command reply own repo_between
+  pub starts : CommandStarts command reply remembered between own own_started
+  pub rest : more repo_between between further further_started
+  pub joined : parts ≡ own ++ further
+  pub joined_started : started ≡ own_started ++ further_started
+
+-- The commands in order, each on what the one before it left of the repository and of what is remembered, and nothing else is made
+-- of either. The parts are those of all steps, and those in `started` had a child started for them.
+abbrev pub PlayStarts : Repository → Contents → List Command → List Reply → List Part → List Part → Contents → Repository → Type 0
+PlayStarts before remembered [] [] parts started remembered_then after = (after ≡ before) × (remembered_then ≡ remembered) × (parts ≡ []) × (started ≡ [])
+PlayStarts before remembered (command ∷ commands) (reply ∷ replies) parts started remembered_then after =
+    PlayStartsFrom before remembered command reply parts started
+    (λ repo_between between further further_started. PlayStarts repo_between between commands replies further further_started remembered_then after)
+PlayStarts before remembered commands replies parts started remembered_then after = ⊥

@@ -5,17 +5,18 @@ use Rattle.hook_base.specs.declared.file.File.{File}
 use Rattle.child_port.specs.declared.answer.Outcome.{Outcome}
 use Rattle.result_book.specs.Calls.{AfterForget}
 use Rattle.result_book.specs.Contents.{Contents, count_of}
-use Rattle.result_book.specs.Told.{IsTold}
+use Rattle.result_book.specs.Told.{AddsTold, IsTold}
 use Rattle.hook_run.specs.Answers.{AreAnswered, AreAnsweredSoFar}
 use Rattle.hook_run.specs.Moments.{Moment}
 use Rattle.hook_run.specs.Parts.{AllTold, Part}
 use Rattle.repo_store.specs.Repository.{Repository}
 use Rattle.commit_flow.specs.declared.command.Command.{Command}
 use Rattle.commit_flow.specs.declared.command.Command.TheVariants.{Run, Commit, Forget}
+use Rattle.commit_flow.specs.declared.reply.PostCommit.TheVariants.{Stopped}
 use Rattle.commit_flow.specs.declared.reply.Reply.{Reply}
-use Rattle.commit_flow.specs.declared.reply.Reply.TheVariants.{Forgot}
-use Rattle.commit_flow.specs.CommitSteps.{HasFurtherBefore, HasFurtherBehind, SaysSpent, StandsOnAll}
-use Rattle.commit_flow.specs.RunSteps.{HasFurther}
+use Rattle.commit_flow.specs.declared.reply.Reply.TheVariants.{Committed, Forgot, Refused}
+use Rattle.commit_flow.specs.CommitSteps.{HasBegunBefore, HasBegunBehind, HasFurtherBefore, HasFurtherBehind, SaysSpent, StandsOnAll}
+use Rattle.commit_flow.specs.RunSteps.{HasBegun, HasFurther, IsUnrun}
 use Rattle.commit_flow.specs.Steps.{Step}
 
 -- the command runs hooks
@@ -29,13 +30,21 @@ abbrev pub is_fresh : Command → Bool
 is_fresh (Run ask) = ask.fresh
 is_fresh command = false
 
--- The hooks that the command runs need a child for a further part behind these. Those of a commit may be the hooks before it or
--- behind it.
-abbrev pub NeedsFurther : Repository → Command → Contents → List Part → Type 0
-NeedsFurther before (Run ask) remembered parts = HasFurther before ask remembered parts
-NeedsFurther before (Commit message no_verify skip) remembered parts =
-    HasFurtherBefore before message no_verify skip remembered parts ⊎ HasFurtherBehind before skip remembered parts
-NeedsFurther before command remembered parts = ⊥
+-- The hooks that the command runs begin with these parts: those of a run and those before a commit where it is refused, and those
+-- behind a commit where it was made and they were stopped. They may be all of its parts, where memory or the store refuses behind
+-- them.
+abbrev pub HooksBegin : Repository → Command → Reply → List Part → Type 0
+HooksBegin before (Run ask) (Refused refusal) parts = HasBegun before ask parts
+HooksBegin before (Commit message no_verify skip) (Refused refusal) parts = HasBegunBefore before message no_verify skip parts
+HooksBegin before (Commit message no_verify skip) (Committed number reports (Stopped refusal)) parts = HasBegunBehind before skip parts
+HooksBegin before command reply parts = ⊥
+
+-- these hooks, told apart by the reply in the same way, need a child for a further part behind these
+abbrev pub HooksNeedChild : Repository → Command → Reply → Contents → List Part → Type 0
+HooksNeedChild before (Run ask) (Refused refusal) remembered parts = HasFurther before ask remembered parts
+HooksNeedChild before (Commit message no_verify skip) (Refused refusal) remembered parts = HasFurtherBefore before message no_verify skip remembered parts
+HooksNeedChild before (Commit message no_verify skip) (Committed number reports (Stopped refusal)) remembered parts = HasFurtherBehind before skip remembered parts
+HooksNeedChild before command reply remembered parts = ⊥
 
 -- ---- what a command makes of the children's counts and of what is remembered
 
@@ -55,23 +64,22 @@ abbrev pub Makes : (List (List ℕ) → List File → Outcome → Type 0) → Mo
 Makes tells from to Forget reply parts = (parts ≡ []) × IsForgotten from to reply
 Makes tells from to command reply parts = AreAnswered tells (is_fresh command) from to parts
 
--- the same of parts behind which the command may be stopped
-abbrev pub MakesSoFar : (List (List ℕ) → List File → Outcome → Type 0) → Moment → Moment → Command → Reply → List Part → Type 0
-MakesSoFar tells from to Forget reply parts = (parts ≡ []) × IsForgotten from to reply
-MakesSoFar tells from to command reply parts = AreAnsweredSoFar tells (is_fresh command) from to parts
-
--- The command is a step of the machine between two moments, with its parts, and behind these some that the reply doesn't stand
--- on: there are none where it stands on all, or where the command runs no hooks. The reply says that the children are spent only
--- where one more is needed and they have told as many outcomes as can be counted.
+-- The command is a step of the machine between two moments: with its parts, which come to what they make, and then, from the
+-- moment between, with some that the reply leaves out. Nothing was run for these, or the hooks that were stopped begin with them.
+-- There are none where the reply stands on all. The reply says that the children are spent only where these hooks need one more and
+-- they have told as many outcomes as can be counted, and then what they told is put, as `Starts` says.
 pub record IsPlayed (tells : List (List ℕ) → List File → Outcome → Type 0) (from to : Moment) (before : Repository) (command : Command) (reply : Reply) (after : Repository) : Type 0 where
   pub parts : List Part
-  pub untold : List Part
+  pub left_out : List Part
+  pub between : Moment
   pub step : Step before command reply parts after
-  pub makes : MakesSoFar tells from to command reply (parts ++ untold)
-  pub whole : StandsOnAll reply → (untold ≡ []) × Makes tells from to command reply parts
-  pub runless : (¬ RunsHooks command) → (untold ≡ []) × Makes tells from to command reply parts
+  pub makes : Makes tells from between command reply parts
+  pub answered_then : AreAnsweredSoFar tells (is_fresh command) between to left_out
+  pub none : StandsOnAll reply → IsUnrun between to left_out
+  pub begun : IsUnrun between to left_out ⊎ HooksBegin before command reply left_out
+  pub put : SaysSpent reply → answered_then.last ≡ []
   pub spent : SaysSpent reply → to.calls ≡ 2 ^ 64 - 1
-  pub needed : SaysSpent reply → NeedsFurther before command to.remembered untold
+  pub needed : SaysSpent reply → HooksNeedChild before command reply to.remembered left_out
 
 -- nothing is played
 pub record IsUnplayed (from to : Moment) (before : Repository) (parts : List Part) (after : Repository) : Type 0 where
@@ -100,9 +108,11 @@ ArePlayed tells from to before (command ∷ commands) (reply ∷ replies) parts 
 ArePlayed tells from to before commands replies parts after = ⊥
 
 -- A run of the machine between two moments, by all of these commands. Where each answer that was remembered before is one that
--- the children may tell, so is each outcome, and so is each answer that is remembered afterwards.
+-- the children may tell, so is each outcome, and so is each answer that is remembered afterwards: it was remembered before, or
+-- was told.
 pub record IsPlay (tells : List (List ℕ) → List File → Outcome → Type 0) (from to : Moment) (before : Repository) (commands : List Command) (replies : List Reply) (after : Repository) : Type 0 where
   pub parts : List Part
   pub played : ArePlayed tells from to before commands replies parts after
   pub told : IsTold tells from.remembered → AllTold tells parts
   pub told_then : IsTold tells from.remembered → IsTold tells to.remembered
+  pub adds : AddsTold tells from.remembered to.remembered

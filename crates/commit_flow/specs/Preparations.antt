@@ -5,13 +5,14 @@ use Rattle.hook_base.specs.declared.file.File.{File}
 use Rattle.hook_base.specs.Trees.{IsRising, changes_between}
 use Rattle.child_port.specs.declared.answer.Outcome.{Outcome}
 use Rattle.hook_config.specs.declared.configuration.Config.{Config}
+use Rattle.result_book.specs.declared.book_fault.BookFault.{BookFault}
 use Rattle.hook_run.specs.Moments.{Moment}
 use Rattle.hook_run.specs.declared.run_ask.RunAsk.{RunAsk}
 use Rattle.hook_run.specs.declared.run_out.RunOut.{RunOut}
 use Rattle.hook_run.specs.declared.run_refusal.RunRefusal.{RunRefusal}
 use Rattle.hook_run.specs.declared.run_refusal.RunRefusal.TheVariants as run
 use Rattle.hook_run.specs.Asks.{names_no_hook}
-use Rattle.hook_run.specs.Refusals.{is_of_book}
+use Rattle.hook_run.specs.Refusals.{IsOfBook}
 use Rattle.hook_run.specs.RunOuts.{IsRunOver, IsStoppedRun}
 use Rattle.repo_store.specs.Repository.{Repository}
 use Rattle.commit_flow.specs.declared.host_ask.HostAsk.{HostAsk}
@@ -68,11 +69,11 @@ pub record HaveRun (tells : List (List ℕ) → List File → Outcome → Type 0
   pub known : names_no_hook config ask ≡ false
   pub over : IsRunOver tells from to config ask tree out
 
--- their run was refused
-pub record HaveStopped (tells : List (List ℕ) → List File → Outcome → Type 0) (from to : Moment) (config : Config) (ask : RunAsk) (tree : List File) (refusal : RunRefusal) : Type 0 where
+-- their run was refused, over remembered answers that refuse so
+pub record HaveStopped (refuses : BookFault → Type 0) (tells : List (List ℕ) → List File → Outcome → Type 0) (from to : Moment) (config : Config) (ask : RunAsk) (tree : List File) (refusal : RunRefusal) : Type 0 where
   pub unknown : refusal ≡ run.NoSuchHook → names_no_hook config ask ≡ true
   pub known : refusal ≢ run.NoSuchHook → names_no_hook config ask ≡ false
-  pub not_book : is_of_book refusal ≡ false
+  pub of_book : IsOfBook refuses refusal
   pub over : IsStoppedRun tells from to config ask tree refusal
 
 -- what is given of a run on the staged files
@@ -92,7 +93,7 @@ pub record HasRunOnStaged (tells : List (List ℕ) → List File → Outcome →
   pub run : HasRunReady tells from to prepared ran
 
 -- their run was refused as this
-pub record HasStoppedReady (tells : List (List ℕ) → List File → Outcome → Type 0) (from to : Moment) (ready : Prepared) (refusal : HostRefusal) : Type 0 where
+pub record HasStoppedReady (refuses : BookFault → Type 0) (tells : List (List ℕ) → List File → Outcome → Type 0) (from to : Moment) (ready : Prepared) (refusal : HostRefusal) : Type 0 where
   pub inner : RunRefusal
-  pub stopped : HaveStopped tells from to ready.config ready.ask ready.tree inner
+  pub stopped : HaveStopped refuses tells from to ready.config ready.ask ready.tree inner
   pub is : refusal ≡ of_run inner

@@ -9,7 +9,7 @@ use Rattle.commit_flow.specs.declared.host_refusal.HostRefusal.TheVariants.{OutO
 use Rattle.commit_flow.specs.Configured.{HasReadableConfig, IsMisconfigured, LacksConfig}
 use Rattle.commit_flow.specs.Runs.{HasNoSuchHook, IsNamesRefusal, IsRunnable, names_in}
 
--- the database refuses, or a file or a message that hooks left is larger than the store takes
+-- the database refuses, or a file or a message that hooks left, or an answer that is remembered, is larger than the store takes
 abbrev pub IsOfFixes : StoreFault → Type 0
 IsOfFixes (Sql error) = Unit {0}
 IsOfFixes TooLarge = Unit {0}

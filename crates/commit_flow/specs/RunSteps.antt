@@ -1,12 +1,12 @@
 -- A run on the staged files over children: the step that it is, and how it stands to what the children told.
-use Rattle.std.specs.Prelude.{◌≡◌, ◌⊎◌, ◌-◌, ◌^◌, ℕ, List, [], Result, Ok, Err}
+use Rattle.std.specs.Prelude.{◌≡◌, ◌⊎◌, ◌-◌, ◌^◌, ℕ, List, []}
 use Rattle.hook_base.specs.declared.change.Change.{Change}
 use Rattle.hook_base.specs.declared.file.File.{File}
 use Rattle.hook_base.specs.Trees.{changes_between}
 use Rattle.child_port.specs.declared.answer.Outcome.{Outcome}
 use Rattle.hook_config.specs.declared.configuration.Config.{Config}
 use Rattle.result_book.specs.Contents.{Contents}
-use Rattle.result_book.specs.Told.{IsTold}
+use Rattle.result_book.specs.Told.{AddsTold, IsTold}
 use Rattle.hook_run.specs.declared.run_out.RunOut.{RunOut}
 use Rattle.hook_run.specs.Answers.{AreAnswered, AreAnsweredSoFar}
 use Rattle.hook_run.specs.Moments.{Moment}
@@ -30,18 +30,15 @@ use Rattle.commit_flow.specs.Steps.{Step}
 abbrev pub reply_of_run : StagedRun → Reply
 reply_of_run ran = Ran ran.passed ran.report ran.changes ran.unsteady
 
--- the changes that become fixes
-abbrev pub changes_in : Result StagedRun HostRefusal → List Change
-changes_in (Ok ran) = ran.changes
-changes_in (Err refusal) = []
-
 -- The run is a step of the machine, over parts that were answered between two moments. Where each answer that was remembered
--- before is one that the children may tell, so is each outcome.
+-- before is one that the children may tell, so is each outcome. Each answer that is remembered afterwards was so before, or was
+-- told.
 pub record IsRunStep (tells : List (List ℕ) → List File → Outcome → Type 0) (from to : Moment) (before : Repository) (ask : HostAsk) (ran : StagedRun) (after : Repository) : Type 0 where
   pub parts : List Part
   pub step : Step before (Run ask) (reply_of_run ran) parts after
   pub answered : AreAnswered tells ask.fresh from to parts
   pub told : IsTold tells from.remembered → AllTold tells parts
+  pub adds : AddsTold tells from.remembered to.remembered
 
 -- ---- a run that is refused
 
@@ -76,20 +73,29 @@ IsUnset fault fixes = Unit {0}
 abbrev pub IsUnrun : Moment → Moment → List Part → Type 0
 IsUnrun from to parts = (parts ≡ []) × (to ≡ from)
 
--- How far a run came that is refused so, with these parts, between two moments: it is spent where it has a further part that
--- needs a child and no call more can be counted, the store refuses behind its last part, and want of memory may come anywhere.
--- The other refusals come before any part.
-abbrev pub IsStoppedAt : Kept → HostAsk → List Part → Moment → Moment → HostRefusal → Type 0
-IsStoppedAt kept ask parts from to Spent = HasFurther kept.repo ask to.remembered parts × (to.calls ≡ 2 ^ 64 - 1)
-IsStoppedAt kept ask parts from to Collision = HasRunBut kept.repo ask parts (λ fixes. FixCollides fixes kept.contents)
-IsStoppedAt kept ask parts from to (Store fault) = HasRunBut kept.repo ask parts (IsUnset fault)
-IsStoppedAt kept ask parts from to OutOfMemory = IsUnrun from to parts ⊎ HasBegun kept.repo ask parts
-IsStoppedAt kept ask parts from to refusal = IsUnrun from to parts
+-- Hooks with these parts were stopped by the store between two moments: behind the last part, each of them answered, since what
+-- they did to the staged files can't be the fixes for this reason; or in the middle, by what is remembered of their answers.
+abbrev pub StoreStopsRun : (List (List ℕ) → List File → Outcome → Type 0) → Moment → Moment → Repository → HostAsk → List Part → (List Change → Type 0) → Type 0
+StoreStopsRun tells from to before ask parts reason =
+    (HasRunBut before ask parts reason × AreAnswered tells ask.fresh from to parts) ⊎ HasBegun before ask parts
 
--- The refused run is a step of the machine that leaves the repository as it was. Its parts up to there were answered.
-pub record IsStoppedStep (tells : List (List ℕ) → List File → Outcome → Type 0) (from to : Moment) (kept : Kept) (ask : HostAsk) (refusal : HostRefusal) : Type 0 where
+-- How far a run came that is refused so, with these parts, between two moments: it is spent where it has a further part that
+-- needs a child and no call more can be counted, and the store and want of memory may stop it anywhere. The other refusals come
+-- before any part. Contents that collide do so with those that are kept by then.
+abbrev pub IsStoppedAt : (List (List ℕ) → List File → Outcome → Type 0) → Moment → Moment → Repository → HostAsk → List Part → List (List ℕ) → HostRefusal → Type 0
+IsStoppedAt tells from to before ask parts contents Spent = HasFurther before ask to.remembered parts × (to.calls ≡ 2 ^ 64 - 1)
+IsStoppedAt tells from to before ask parts contents Collision = StoreStopsRun tells from to before ask parts (λ fixes. FixCollides fixes contents)
+IsStoppedAt tells from to before ask parts contents (Store fault) = StoreStopsRun tells from to before ask parts (IsUnset fault)
+IsStoppedAt tells from to before ask parts contents OutOfMemory = IsUnrun from to parts ⊎ HasBegun before ask parts
+IsStoppedAt tells from to before ask parts contents refusal = IsUnrun from to parts
+
+-- The refused run is a step of the machine that leaves the repository as it was. Its parts up to there were answered. Where the
+-- children are spent, what they told is put, as `Starts` says.
+pub record IsStoppedStep (tells : List (List ℕ) → List File → Outcome → Type 0) (from to : Moment) (before : Repository) (ask : HostAsk) (after : Kept) (refusal : HostRefusal) : Type 0 where
   pub parts : List Part
-  pub step : Step kept.repo (Run ask) (Refused refusal) [] kept.repo
+  pub step : Step before (Run ask) (Refused refusal) [] after.repo
   pub answered : AreAnsweredSoFar tells ask.fresh from to parts
   pub told : IsTold tells from.remembered → AllTold tells parts
-  pub stopped : IsStoppedAt kept ask parts from to refusal
+  pub adds : AddsTold tells from.remembered to.remembered
+  pub stopped : IsStoppedAt tells from to before ask parts after.contents refusal
+  pub put : refusal ≡ Spent → answered.last ≡ []

@@ -2,12 +2,13 @@
 
 ghost use Rattle.std.specs.Prelude.{IfOk, IfErr};
 ghost use Rattle.child_port.specs.Telling.{SameTells};
+ghost use Rattle.result_book.specs.StoreBooks.{IsAtRest, remembered_by};
 ghost use Rattle.hook_run.specs.Moments.{moment};
 ghost use Rattle.commit_flow.specs.declared.command.Command.TheVariants.{Commit};
 ghost use Rattle.commit_flow.specs.Commands.{reply_of, reply_of_ending};
 ghost use Rattle.commit_flow.specs.CommitCalls.{IsThrough, IsUnthrough};
-ghost use Rattle.commit_flow.specs.CommitKept.{KeepsFor};
-ghost use Rattle.commit_flow.specs.Crashes.{IsOneCommand};
+ghost use Rattle.commit_flow.specs.KeptByHooks.{KeepsForCommit};
+ghost use Rattle.commit_flow.specs.Crashes.{IsHookCommand};
 ghost use Rattle.commit_flow.specs.CommitSteps.{IsCommitStep};
 
 use crate::commit_begun::{CommitBegun, begin_commit};
@@ -19,7 +20,6 @@ use child_port::Children;
 use hook_base::Text;
 use hook_config::Config;
 use repo_store::Store;
-use result_book::ListBook;
 use sqlite::Alter;
 use std::alloc::Global;
 
@@ -46,9 +46,10 @@ impl<S: Alter> Host<S> {
     /// the hooks come, in this order, a cleaned message that is empty (`EmptyMessage`), one of more than 16 MiB (`Store`), and
     /// more than 100,000 commits (`TooMany`); where a hook failed, fixes whose contents have the digest of others
     /// (`Collision`), and fixes of more than 16 MiB (`Store`). `Store` comes also where the database refuses a commit that none
-    /// of these speaks against, or fixes, and `OutOfMemory` where memory is refused. A refusal leaves the repository as it was,
-    /// the children with the outcomes that they have told, and what was remembered by then. No stage is run afresh: where the
-    /// answer to a child is remembered, none is started, behind the commit too.
+    /// of these speaks against, or fixes, and both come where the store can't remember an answer; `OutOfMemory` comes where memory is
+    /// refused. A refusal leaves the repository as it was, the children with the outcomes that they have told, and what was
+    /// remembered by then. No stage is run afresh: where the answer to a child is remembered, none is started, behind the commit
+    /// too.
     pub fn commit<C: Children>(
         &mut self,
         alloc: Global,
@@ -57,20 +58,12 @@ impl<S: Alter> Host<S> {
         no_verify: bool,
         skip: &[Text],
     ) -> Result<CommitEnding, HostRefusal>
-        ensures step { IsCommitStep (C.tells children.old) (moment (C.call_count children.old) (C.fault_count children.old) self.old.book) (moment (C.call_count children.new) (C.fault_count children.new) self.new.book) self.old.store.kept message.now no_verify skip.now (reply_of reply_of_ending result) self.new.store.kept.repo }
-        ensures kept { KeepsFor self.old.store.kept self.new.store.kept result }
-        ensures command { IsOneCommand S.Store self.old.store self.new.store (Commit message.now no_verify skip.now) result }
+        ensures step { IsCommitStep (C.tells children.old) (moment (C.call_count children.old) (C.fault_count children.old) (remembered_by self.old.store.kept)) (moment (C.call_count children.new) (C.fault_count children.new) (remembered_by self.new.store.kept)) self.old.store.kept.repo message.now no_verify skip.now (reply_of reply_of_ending result) self.new.store.kept }
+        ensures kept { KeepsForCommit self.old.store.kept self.new.store.kept result }
+        ensures command { IsHookCommand S.Store self.old.store self.new.store (Commit message.now no_verify skip.now) result }
         ensures same { SameTells (C.tells children.old) (C.tells children.new) }
     {
-        commit_in(
-            alloc,
-            children,
-            &mut self.book,
-            &mut self.store,
-            message,
-            no_verify,
-            skip,
-        )
+        commit_in(alloc, children, &mut self.store, message, no_verify, skip)
     }
 }
 
@@ -78,18 +71,17 @@ impl<S: Alter> Host<S> {
 fn commit_in<C: Children, S: Alter>(
     alloc: Global,
     children: &mut C,
-    book: &mut ListBook,
     store: &mut Store<S>,
     message: &[u8],
     no_verify: bool,
     skip: &[Text],
 ) -> Result<CommitEnding, HostRefusal>
-    ensures step { IsCommitStep (C.tells children.old) (moment (C.call_count children.old) (C.fault_count children.old) book.old) (moment (C.call_count children.new) (C.fault_count children.new) book.new) store.old.kept message.now no_verify skip.now (reply_of reply_of_ending result) store.new.kept.repo }
-    ensures kept { KeepsFor store.old.kept store.new.kept result }
-    ensures command { IsOneCommand S.Store store.old store.new (Commit message.now no_verify skip.now) result }
+    ensures step { IsCommitStep (C.tells children.old) (moment (C.call_count children.old) (C.fault_count children.old) (remembered_by store.old.kept)) (moment (C.call_count children.new) (C.fault_count children.new) (remembered_by store.new.kept)) store.old.kept.repo message.now no_verify skip.now (reply_of reply_of_ending result) store.new.kept }
+    ensures kept { KeepsForCommit store.old.kept store.new.kept result }
+    ensures command { IsHookCommand S.Store store.old store.new (Commit message.now no_verify skip.now) result }
     ensures same { SameTells (C.tells children.old) (C.tells children.new) }
 {
-    let through = go_through(alloc, children, book, store, message, no_verify, skip)?;
+    let through = go_through(alloc, children, store, message, no_verify, skip)?;
     let Through { config, end } = through;
     match end {
         StagesEnd::Failed {
@@ -102,7 +94,7 @@ fn commit_in<C: Children, S: Alter>(
         }
         StagesEnd::Passed { reports, course } => {
             let number = commit_staged(alloc, store, course.message.as_slice())?;
-            let post = run_post_commit(alloc, children, book, store, &config, skip);
+            let post = run_post_commit(alloc, children, store, &config, skip);
             Ok(CommitEnding::Committed {
                 number,
                 reports,
@@ -116,14 +108,14 @@ fn commit_in<C: Children, S: Alter>(
 fn go_through<C: Children, S: Alter>(
     alloc: Global,
     children: &mut C,
-    book: &mut ListBook,
-    store: &Store<S>,
+    store: &mut Store<S>,
     message: &[u8],
     no_verify: bool,
     skip: &[Text],
 ) -> Result<Through, HostRefusal>
-    ensures through { IfOk result (IsThrough (C.tells children.old) (moment (C.call_count children.old) (C.fault_count children.old) book.old) (moment (C.call_count children.new) (C.fault_count children.new) book.new) store.now.kept.repo message.now no_verify skip.now) }
-    ensures refused { IfErr result (IsUnthrough (C.tells children.old) (moment (C.call_count children.old) (C.fault_count children.old) book.old) (moment (C.call_count children.new) (C.fault_count children.new) book.new) store.now.kept.repo message.now no_verify skip.now) }
+    ensures through { IfOk result (IsThrough (C.tells children.old) (moment (C.call_count children.old) (C.fault_count children.old) (remembered_by store.old.kept)) (moment (C.call_count children.new) (C.fault_count children.new) (remembered_by store.new.kept)) store.old.kept.repo message.now no_verify skip.now) }
+    ensures refused { IfErr result (IsUnthrough (C.tells children.old) (moment (C.call_count children.old) (C.fault_count children.old) (remembered_by store.old.kept)) (moment (C.call_count children.new) (C.fault_count children.new) (remembered_by store.new.kept)) store.old.kept.repo message.now no_verify skip.now) }
+    ensures rest { IsAtRest S.Store store.old store.new }
     ensures same { SameTells (C.tells children.old) (C.tells children.new) }
 {
     let begun = begin_commit(alloc, store, message)?;
@@ -136,7 +128,7 @@ fn go_through<C: Children, S: Alter>(
     let end = run_stages(
         alloc,
         children,
-        book,
+        store,
         &config,
         changed.as_slice(),
         skip,

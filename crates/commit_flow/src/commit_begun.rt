@@ -1,7 +1,7 @@
 //! What a commit begins with.
 
 ghost use Rattle.std.specs.Prelude.{IfOk, IfErr, OnOk};
-ghost use Rattle.commit_flow.specs.CommitCalls.{IsBegun, IsUnbegun};
+ghost use Rattle.commit_flow.specs.CommitCalls.{IsCommitBegun, IsUnbegun};
 ghost use Rattle.commit_flow.specs.Commits.{IsCommittable};
 
 use crate::HostRefusal;
@@ -34,7 +34,7 @@ pub(crate) fn begin_commit<S: Alter>(
     store: &Store<S>,
     message: &[u8],
 ) -> Result<CommitBegun, HostRefusal>
-    ensures begun { IfOk result (IsBegun store.now.kept.repo message.now) }
+    ensures begun { IfOk result (IsCommitBegun store.now.kept.repo message.now) }
     ensures refused { IfErr result (IsUnbegun store.now.kept.repo message.now) }
 {
     check_committable(store, message)?;

@@ -5,6 +5,7 @@ ghost use Rattle.child_port.specs.Telling.{SameTells};
 ghost use Rattle.hook_base.specs.Trees.{changes_between};
 ghost use Rattle.repo_store.specs.AllOrNothing.{IsAllOrNothing};
 ghost use Rattle.repo_store.specs.Kept.{setting};
+ghost use Rattle.result_book.specs.StoreBooks.{IsAtRest, RefusesAnswers, remembered_by};
 ghost use Rattle.hook_run.specs.Moments.{moment};
 ghost use Rattle.commit_flow.specs.CommitCalls.{IsOneChange, IsPostOver, IsRunStopped, IsUnfixed};
 ghost use Rattle.commit_flow.specs.CommitStages.{ask_in};
@@ -17,7 +18,6 @@ use hook_base::{Bytes, Items, Text, Tree};
 use hook_config::{Config, Stage};
 use hook_run::{RunOut, RunRefusal};
 use repo_store::Store;
-use result_book::ListBook;
 use sqlite::Alter;
 use std::alloc::Global;
 
@@ -46,7 +46,7 @@ pub enum CommitEnding {
 /// others, `Store` where the database refuses or a fix has more than 16 MiB, and `OutOfMemory` where memory is refused. A
 /// refusal leaves the store as it was.
 pub(crate) fn set_fixes_to<S: Alter>(store: &mut Store<S>, tree: &Tree) -> Result<(), HostRefusal>
-    ensures refused { IfErr result (IsUnfixed store.old.kept (changes_between store.old.kept.repo.staged tree.now)) }
+    ensures refused { IfErr result (IsUnfixed store.old.kept.contents (changes_between store.old.kept.repo.staged tree.now)) }
     ensures change { IsAllOrNothing store.old.kept store.new.kept result (setting (changes_between store.old.kept.repo.staged tree.now) store.old.kept) }
     ensures one { IsOneChange S.Store store.old store.new result (setting (changes_between store.old.kept.repo.staged tree.now) store.old.kept) }
 {
@@ -60,15 +60,15 @@ pub(crate) fn set_fixes_to<S: Alter>(store: &mut Store<S>, tree: &Tree) -> Resul
 pub(crate) fn run_post_commit<C: Children, S: Alter>(
     alloc: Global,
     children: &mut C,
-    book: &mut ListBook,
-    store: &Store<S>,
+    store: &mut Store<S>,
     config: &Config,
     skip: &[Text],
 ) -> PostCommit
-    ensures post { IsPostOver (C.tells children.old) (moment (C.call_count children.old) (C.fault_count children.old) book.old) (moment (C.call_count children.new) (C.fault_count children.new) book.new) config.now store.now.kept.repo.staged skip.now result }
+    ensures post { IsPostOver (C.tells children.old) (moment (C.call_count children.old) (C.fault_count children.old) (remembered_by store.old.kept)) (moment (C.call_count children.new) (C.fault_count children.new) (remembered_by store.new.kept)) config.now store.old.kept.repo.staged skip.now result }
+    ensures rest { IsAtRest S.Store store.old store.new }
     ensures same { SameTells (C.tells children.old) (C.tells children.new) }
 {
-    match run_on_staged(alloc, children, book, store, config, skip) {
+    match run_on_staged(alloc, children, store, config, skip) {
         Ok(
             RunOut {
                 passed: _,
@@ -85,20 +85,20 @@ pub(crate) fn run_post_commit<C: Children, S: Alter>(
 fn run_on_staged<C: Children, S: Alter>(
     alloc: Global,
     children: &mut C,
-    book: &mut ListBook,
-    store: &Store<S>,
+    store: &mut Store<S>,
     config: &Config,
     skip: &[Text],
 ) -> Result<RunOut, RunRefusal>
-    ensures run { IfOk result (HaveRun (C.tells children.old) (moment (C.call_count children.old) (C.fault_count children.old) book.old) (moment (C.call_count children.new) (C.fault_count children.new) book.new) config.now (ask_in [] skip.now Stage.PostCommit) store.now.kept.repo.staged) }
-    ensures stopped { IfErr result (IsRunStopped (C.tells children.old) (moment (C.call_count children.old) (C.fault_count children.old) book.old) (moment (C.call_count children.new) (C.fault_count children.new) book.new) config.now (ask_in [] skip.now Stage.PostCommit) store.now.kept.repo.staged) }
+    ensures run { IfOk result (HaveRun (C.tells children.old) (moment (C.call_count children.old) (C.fault_count children.old) (remembered_by store.old.kept)) (moment (C.call_count children.new) (C.fault_count children.new) (remembered_by store.new.kept)) config.now (ask_in [] skip.now Stage.PostCommit) store.old.kept.repo.staged) }
+    ensures stopped { IfErr result (IsRunStopped RefusesAnswers (C.tells children.old) (moment (C.call_count children.old) (C.fault_count children.old) (remembered_by store.old.kept)) (moment (C.call_count children.new) (C.fault_count children.new) (remembered_by store.new.kept)) config.now (ask_in [] skip.now Stage.PostCommit) store.old.kept.repo.staged) }
+    ensures rest { IsAtRest S.Store store.old store.new }
     ensures same { SameTells (C.tells children.old) (C.tells children.new) }
 {
     let staged = store.staged()?;
     run_hooks_of(
         alloc,
         children,
-        book,
+        store,
         config,
         &[],
         skip,

@@ -3,10 +3,10 @@
 ghost use Rattle.std.specs.Prelude.{◌≡◌, [], ◌∷◌, ◌++◌, IfOk, IfErr, OnOk};
 ghost use Rattle.child_port.specs.Telling.{SameTells};
 ghost use Rattle.hook_base.specs.Paths.{message_path};
-ghost use Rattle.hook_run.specs.RunOuts.{NeedsChild};
+ghost use Rattle.hook_run.specs.RunOuts.{IsBegun, NeedsChild};
 ghost use Rattle.hook_run.specs.Moments.{moment};
 ghost use Rattle.commit_flow.specs.CommitCalls.{AreRunOver, IsHalted, IsRunStopped, IsStageOver};
-ghost use Rattle.commit_flow.specs.CommitStages.{HaveFurther, ask_in, candidates_in, stages_before_commit, tree_in};
+ghost use Rattle.commit_flow.specs.CommitStages.{HaveBegun, HaveFurther, ask_in, candidates_in, stages_before_commit, tree_in};
 ghost use Rattle.commit_flow.specs.Preparations.{HaveRun};
 
 use crate::HostRefusal;
@@ -16,7 +16,7 @@ use child_port::Children;
 use hook_base::{Bytes, Items, OutOfMemory, RepoPath, Text, Tree, copy_texts};
 use hook_config::{Config, Stage};
 use hook_run::{RunAsk, RunOut, RunRefusal};
-use result_book::ListBook;
+use result_book::Book;
 use std::alloc::Global;
 
 /// How a stage of a commit ended.
@@ -63,18 +63,19 @@ pub(crate) fn stages_before_commit(no_verify: bool) -> &'static [Stage]
 }
 
 /// Runs the hooks of the stages in order, each on what the one before it passes on, up to the first in which a hook fails.
-pub(crate) fn run_stages<C: Children>(
+pub(crate) fn run_stages<C: Children, B: Book>(
     alloc: Global,
     children: &mut C,
-    book: &mut ListBook,
+    book: &mut B,
     config: &Config,
     changed: &[RepoPath],
     skip: &[Text],
     stages: &[Stage],
     course: Course,
 ) -> Result<StagesEnd, HostRefusal>
-    ensures run { IfOk result (AreRunOver (C.tells children.old) (moment (C.call_count children.old) (C.fault_count children.old) book.old) (moment (C.call_count children.new) (C.fault_count children.new) book.new) config.now changed.now skip.now stages.now course) }
-    ensures halted { IfErr result (IsHalted (C.tells children.old) (moment (C.call_count children.old) (C.fault_count children.old) book.old) (moment (C.call_count children.new) (C.fault_count children.new) book.new) (HaveFurther book.new config.now changed.now skip.now stages.now course)) }
+    ensures run { IfOk result (AreRunOver (C.tells children.old) (moment (C.call_count children.old) (C.fault_count children.old) (B.contents book.old)) (moment (C.call_count children.new) (C.fault_count children.new) (B.contents book.new)) config.now changed.now skip.now stages.now course) }
+    ensures halted { IfErr result (IsHalted B.refuses (C.tells children.old) (moment (C.call_count children.old) (C.fault_count children.old) (B.contents book.old)) (moment (C.call_count children.new) (C.fault_count children.new) (B.contents book.new)) (HaveBegun config.now changed.now skip.now stages.now course) (HaveFurther (B.contents book.new) config.now changed.now skip.now stages.now course)) }
+    ensures rest { B.rests book.old book.new }
     ensures same { SameTells (C.tells children.old) (C.tells children.new) }
 {
     let mut reports = Vec::new(alloc);
@@ -110,18 +111,19 @@ fn add_report(reports: &mut Vec<Bytes>, report: Bytes) -> Result<(), OutOfMemory
 }
 
 // Runs the hooks of a stage on what is passed to it.
-fn run_stage<C: Children>(
+fn run_stage<C: Children, B: Book>(
     alloc: Global,
     children: &mut C,
-    book: &mut ListBook,
+    book: &mut B,
     config: &Config,
     changed: &[RepoPath],
     skip: &[Text],
     stage: Stage,
     course: Course,
 ) -> Result<StageEnd, HostRefusal>
-    ensures run { IfOk result (IsStageOver (C.tells children.old) (moment (C.call_count children.old) (C.fault_count children.old) book.old) (moment (C.call_count children.new) (C.fault_count children.new) book.new) config.now changed.now skip.now stage course) }
-    ensures halted { IfErr result (IsHalted (C.tells children.old) (moment (C.call_count children.old) (C.fault_count children.old) book.old) (moment (C.call_count children.new) (C.fault_count children.new) book.new) (NeedsChild book.new config.now (ask_in changed.now skip.now stage) (tree_in stage course))) }
+    ensures run { IfOk result (IsStageOver (C.tells children.old) (moment (C.call_count children.old) (C.fault_count children.old) (B.contents book.old)) (moment (C.call_count children.new) (C.fault_count children.new) (B.contents book.new)) config.now changed.now skip.now stage course) }
+    ensures halted { IfErr result (IsHalted B.refuses (C.tells children.old) (moment (C.call_count children.old) (C.fault_count children.old) (B.contents book.old)) (moment (C.call_count children.new) (C.fault_count children.new) (B.contents book.new)) (IsBegun config.now (ask_in changed.now skip.now stage) (tree_in stage course)) (NeedsChild (B.contents book.new) config.now (ask_in changed.now skip.now stage) (tree_in stage course))) }
+    ensures rest { B.rests book.old book.new }
     ensures same { SameTells (C.tells children.old) (C.tells children.new) }
 {
     let begun = course.into_stage(alloc, stage)?;
@@ -151,18 +153,19 @@ fn run_stage<C: Children>(
 }
 
 /// Runs the hooks of a stage on the files of the tree.
-pub(crate) fn run_hooks_of<C: Children>(
+pub(crate) fn run_hooks_of<C: Children, B: Book>(
     alloc: Global,
     children: &mut C,
-    book: &mut ListBook,
+    book: &mut B,
     config: &Config,
     changed: &[RepoPath],
     skip: &[Text],
     stage: Stage,
     tree: &Tree,
 ) -> Result<RunOut, RunRefusal>
-    ensures run { IfOk result (HaveRun (C.tells children.old) (moment (C.call_count children.old) (C.fault_count children.old) book.old) (moment (C.call_count children.new) (C.fault_count children.new) book.new) config.now (ask_in changed.now skip.now stage) tree.now) }
-    ensures stopped { IfErr result (IsRunStopped (C.tells children.old) (moment (C.call_count children.old) (C.fault_count children.old) book.old) (moment (C.call_count children.new) (C.fault_count children.new) book.new) config.now (ask_in changed.now skip.now stage) tree.now) }
+    ensures run { IfOk result (HaveRun (C.tells children.old) (moment (C.call_count children.old) (C.fault_count children.old) (B.contents book.old)) (moment (C.call_count children.new) (C.fault_count children.new) (B.contents book.new)) config.now (ask_in changed.now skip.now stage) tree.now) }
+    ensures stopped { IfErr result (IsRunStopped B.refuses (C.tells children.old) (moment (C.call_count children.old) (C.fault_count children.old) (B.contents book.old)) (moment (C.call_count children.new) (C.fault_count children.new) (B.contents book.new)) config.now (ask_in changed.now skip.now stage) tree.now) }
+    ensures rest { B.rests book.old book.new }
     ensures same { SameTells (C.tells children.old) (C.tells children.new) }
 {
     let ask = ask_in(alloc, changed, skip, stage)?;

@@ -1,16 +1,16 @@
-//! The commands of a host. Each looks for what the host itself refuses, in a fixed order, and then makes at most one call
-//! that changes the store, or one that changes what is remembered.
+//! The commands of a host that run no hooks. Each looks for what the host itself refuses, in a fixed order, and then makes at most
+//! one call that changes the store.
 
 ghost use Rattle.std.specs.Prelude.{◌≡◌, ◌↔◌, [], IsTrue, IfOk, IfErr, IfSome, OnOk, OnErr, option_map};
 ghost use Rattle.hook_base.specs.Trees.{IsRising, IsRisingChanges, entry_of};
 ghost use Rattle.repo_store.specs.AllOrNothing.{IsAllOrNothing};
 ghost use Rattle.repo_store.specs.Contents.{Collides};
-ghost use Rattle.repo_store.specs.Kept.{accepting, staging, unstaging};
+ghost use Rattle.repo_store.specs.Kept.{accepting, forgetting, staging, unstaging};
 ghost use Rattle.repo_store.specs.Log.{log_from};
 ghost use Rattle.repo_store.specs.Repository.{Commit, commit_at, last_tree};
-ghost use Rattle.repo_store.specs.Shown.{LeavesOnly};
 ghost use Rattle.result_book.specs.Calls.{AfterForget};
-ghost use Rattle.result_book.specs.Contents.{count_of, nothing};
+ghost use Rattle.result_book.specs.Contents.{count_of};
+ghost use Rattle.result_book.specs.StoreBooks.{remembered_by};
 ghost use Rattle.commit_flow.specs.declared.command.Command.TheVariants.{Add, Remove, Accept, Forget};
 ghost use Rattle.commit_flow.specs.declared.reply.Reply.TheVariants.{Added, Removed, Accepted, Forgot};
 ghost use Rattle.commit_flow.specs.Commands.{reply_of};
@@ -21,52 +21,36 @@ ghost use Rattle.commit_flow.specs.Steps.{IsAddable, IsRemoveRefusal, IsUnaddabl
 use crate::HostRefusal;
 use hook_base::{Change, Mode, OutOfMemory, RepoPath, Tree};
 use repo_store::{LogEntry, MOST_CONTENT_BYTES, Store};
-use result_book::{Book, ListBook};
+use result_book::Book;
 use sqlite::Alter;
 use std::alloc::Global;
-use std::marker::Model;
 
-/// The host of a repository, which stands in a store, and of the remembered answers of children, which stand in memory. Each
-/// command changes the repository as a whole or not at all, whatever stops it.
+/// The host of a repository and of the remembered answers of children, which both stand in a store. Each command changes the
+/// repository as a whole or not at all, whatever stops it.
 pub struct Host<S: Alter> {
     pub(crate) store: Store<S>,
-    pub(crate) book: ListBook,
 }
 
 // It is written out, so that a caller doesn't prove again how each part is dropped.
 impl<S: Alter + Drop> Drop for Host<S> {
     fn drop(self) {
-        let Host { store: _, book: _ } = self;
+        let Host { store: _ } = self;
     }
-}
-
-impl<S: Alter> Model for Host<S> {
-    ghost use Rattle.commit_flow.specs.Hosts.{Hosted, hosted_code};
-
-    ghost Value = { Hosted S };
-
-    ghost coded = { hosted_code S.code };
-
-    ghost view = { λ host. record { store = host.store; book = host.book } };
 }
 
 impl<S: Alter> Host<S> {
-    /// The host of the repository in a store, which remembers nothing yet. It takes no memory: what it remembers later comes
-    /// from the allocator.
-    pub fn over(alloc: Global, store: Store<S>) -> Host<S>
-        ensures { result ≡ record { store = store; book = nothing } }
+    /// The host of the repository in a store, which remembers what the store does. It takes no memory.
+    pub fn over(store: Store<S>) -> Host<S>
+        ensures { result ≡ record { store = store } }
     {
-        Host {
-            store,
-            book: ListBook::new(alloc),
-        }
+        Host { store }
     }
 
-    /// The store, as the host leaves it; what is remembered is let go. It takes no memory.
+    /// The store, as the host leaves it. It takes no memory.
     pub fn into_store(self) -> Store<S>
         ensures { result ≡ self.store }
     {
-        let Host { store, book: _ } = self;
+        let Host { store } = self;
         store
     }
 
@@ -92,7 +76,6 @@ impl<S: Alter> Host<S> {
         ensures step { Step self.old.store.kept.repo (Add path.now bytes.now mode) (reply_of (λ _. Added) result) [] self.new.store.kept.repo }
         ensures change { IsAllOrNothing self.old.store.kept self.new.store.kept result (staging path.now (entry_to_add self.old.store.kept.repo path.now bytes.now mode) self.old.store.kept) }
         ensures command { IsOneCommand S.Store self.old.store self.new.store (Add path.now bytes.now mode) result }
-        ensures book { self.new.book ≡ self.old.book }
         ensures apart { OnOk result (¬ Collides bytes.now self.old.store.kept.contents) }
         ensures collides { IfErr result (λ refusal. refusal ≡ HostRefusal.Collision → Collides bytes.now self.old.store.kept.contents) }
     {
@@ -109,7 +92,6 @@ impl<S: Alter> Host<S> {
         ensures step { Step self.old.store.kept.repo (Remove path.now) (reply_of (λ _. Removed) result) [] self.new.store.kept.repo }
         ensures change { IsAllOrNothing self.old.store.kept self.new.store.kept result (unstaging path.now self.old.store.kept) }
         ensures command { IsOneCommand S.Store self.old.store self.new.store (Remove path.now) result }
-        ensures book { self.new.book ≡ self.old.book }
     {
         let path = self.removable(alloc, path)?;
         self.store.unstage(&path)?;
@@ -123,7 +105,6 @@ impl<S: Alter> Host<S> {
         ensures step { Step self.old.store.kept.repo Accept (reply_of Accepted result) [] self.new.store.kept.repo }
         ensures change { IsAllOrNothing self.old.store.kept self.new.store.kept result (accepting self.old.store.kept) }
         ensures command { IsOneCommand S.Store self.old.store self.new.store Accept result }
-        ensures book { self.new.book ≡ self.old.book }
     {
         if self.has_no_fixes() {
             return Err(HostRefusal::NoFixes);
@@ -132,25 +113,25 @@ impl<S: Alter> Host<S> {
         Ok(number)
     }
 
-    /// Forgets all remembered answers, and answers how many there were. `OutOfMemory` comes where memory is refused, and `Store`
-    /// where the database refuses. A refusal leaves what is remembered as it was, and the repository stays in any case. The store
-    /// isn't touched: where a crash would leave what it shows, it still does.
+    /// Forgets all remembered answers, and answers how many there were. Their contents stay in the store. `OutOfMemory` comes where
+    /// memory is refused, and `Store` where the database refuses. A refusal leaves what is remembered as it was, and the repository
+    /// stays in any case.
     pub fn forget(&mut self) -> Result<u64, HostRefusal>
         ensures step { Step self.old.store.kept.repo Forget (reply_of Forgot result) [] self.new.store.kept.repo }
-        ensures store { self.new.store ≡ self.old.store }
-        ensures command { LeavesOnly S.Store self.old.store.conn self.old.store.kept → IsOneCommand S.Store self.old.store self.new.store Forget result }
-        ensures number { IfOk result (λ number. number ≡ count_of self.old.book) }
-        ensures forgotten { OnOk result (AfterForget self.old.book self.new.book) }
-        ensures refused { OnErr result (self.new.book ≡ self.old.book) }
+        ensures change { IsAllOrNothing self.old.store.kept self.new.store.kept result (forgetting self.old.store.kept) }
+        ensures command { IsOneCommand S.Store self.old.store self.new.store Forget result }
+        ensures number { IfOk result (λ number. number ≡ count_of (remembered_by self.old.store.kept)) }
+        ensures forgotten { OnOk result (AfterForget (remembered_by self.old.store.kept) (remembered_by self.new.store.kept)) }
+        ensures refused { OnErr result (remembered_by self.new.store.kept ≡ remembered_by self.old.store.kept) }
     {
-        Ok(self.book.forget()?)
+        Ok(self.store.answers_forget()?)
     }
 
     /// How many answers are remembered. It takes no memory.
     pub fn remembered(&self) -> u64
-        ensures { result ≡ count_of self.now.book }
+        ensures { result ≡ count_of (remembered_by self.now.store.kept) }
     {
-        self.book.len()
+        self.store.len()
     }
 
     /// The staged files. It fails for want of memory alone.

@@ -1,8 +1,12 @@
 //! Laws of the definitions that the contracts cite. Each is a function that gives nothing: what it ensures is a theorem
 //! over the definitions alone.
 
-ghost use Rattle.std.specs.Prelude.{◌≡◌, ◌+◌, ◌-◌, ◌^◌, ◌≤◌, ℕ, All, Any, List, length};
+ghost use Rattle.std.specs.Prelude.{◌≡◌, ◌+◌, ◌-◌, ◌^◌, ◌≤◌, ℕ, All, Any, List, length, map};
+ghost use Rattle.child_port.specs.Telling.{SameTells};
+ghost use Rattle.result_book.specs.Told.{IsTold};
+ghost use Rattle.hook_run.specs.Answers.{IsCounted};
 ghost use Rattle.hook_run.specs.Moments.{Moment};
+ghost use Rattle.hook_run.specs.OneAnswer.{OneAnswer};
 ghost use Rattle.hook_run.specs.Parts.{Part, faults_of};
 ghost use Rattle.repo_store.specs.Repository.{Repository};
 ghost use Rattle.commit_flow.specs.declared.command.Command.{Command};
@@ -11,10 +15,11 @@ ghost use Rattle.commit_flow.specs.declared.reply.PostCommit.{PostCommit};
 ghost use Rattle.commit_flow.specs.declared.reply.Reply.{Reply};
 ghost use Rattle.commit_flow.specs.declared.reply.Reply.TheVariants.{Committed, Refused};
 ghost use Rattle.commit_flow.specs.CommitSteps.{SaysSpent, StandsOnAll};
-ghost use Rattle.commit_flow.specs.PlayLaws.{HasCommitted, SaysCommitted};
-ghost use Rattle.commit_flow.specs.Plays.{ArePlayed, RunsHooks};
+ghost use Rattle.commit_flow.specs.PlayLaws.{HasCommitted, PlayStarts, SaysCommitted};
+ghost use Rattle.commit_flow.specs.Plays.{ArePlayed, IsPlay, RunsHooks};
 ghost use Rattle.commit_flow.specs.StepLaws.{IsDecided, IsRunless};
 ghost use Rattle.commit_flow.specs.Steps.{Step};
+ghost use Rattle.commit_flow.specs.TwoHosts.{IsSteady, IsUnhinderedPlay, IsUnhinderedRun, without_memory, without_number};
 
 use child_port::Children;
 
@@ -50,6 +55,17 @@ pub fn a_play_without_hooks_starts_no_child<C: Children>(children: &C)
     ensures { (from to : Moment) (before after : Repository) (commands : List Command) (replies : List Reply) (parts : List Part) → ArePlayed (C.tells children.now) from to before commands replies parts after → All (λ command. ¬ RunsHooks command) commands → (to.calls ≡ from.calls) × (to.faults ≡ from.faults) }
 {}
 
+/// Commands that neither run hooks nor forget leave what is remembered as it was.
+pub fn a_play_without_hooks_leaves_what_is_remembered<C: Children>(children: &C)
+    ensures { (from to : Moment) (before after : Repository) (commands : List Command) (replies : List Reply) (parts : List Part) → ArePlayed (C.tells children.now) from to before commands replies parts after → All IsRunless commands → to ≡ from }
+{}
+
+/// Where each reply stands on all that was answered for it, what is remembered goes from command to command by the parts for which
+/// children were started, is emptied where it is forgotten, and nothing else changes it. The children count just these parts.
+pub fn a_play_counts_what_it_starts<C: Children>(children: &C)
+    ensures { (from to : Moment) (before after : Repository) (commands : List Command) (replies : List Reply) (parts : List Part) → ArePlayed (C.tells children.now) from to before commands replies parts after → All StandsOnAll replies → (started : List Part) × PlayStarts before from.remembered commands replies parts started to.remembered after × IsCounted from to started }
+{}
+
 /// A reply says that the children are spent only where they have told as many outcomes as can be counted, also once all the
 /// commands are made.
 pub fn spent_only_at_the_last_count<C: Children>(children: &C)
@@ -59,4 +75,21 @@ pub fn spent_only_at_the_last_count<C: Children>(children: &C)
 /// Each command that is played has one reply.
 pub fn a_played_command_has_one_reply<C: Children>(children: &C)
     ensures { (from to : Moment) (before after : Repository) (commands : List Command) (replies : List Reply) (parts : List Part) → ArePlayed (C.tells children.now) from to before commands replies parts after → length replies ≡ length commands }
+{}
+
+/// Where no words and seen files have two completed answers, a list of commands has one list of replies, and leaves one
+/// repository: two runs of the machine from one repository, over children that tell the same, are the same, but for what replies
+/// say of what is remembered. Each part is one that the children may tell and none is a fault, and no reply is left open by
+/// memory, the store, a configuration that can't be read, a collision, the count of children, or hooks behind a commit that were
+/// stopped.
+pub fn commands_have_one_answer<C: Children, D: Children>(children: &C, others: &D)
+    ensures { SameTells (C.tells children.now) (D.tells others.now) → OneAnswer (C.tells children.now) → (before after other : Repository) (commands : List Command) (replies seconds : List Reply) (parts more : List Part) → IsUnhinderedRun (C.tells children.now) before commands replies parts after → IsUnhinderedRun (D.tells others.now) before commands seconds more other → (map without_memory replies ≡ map without_memory seconds) × (after ≡ other) }
+{}
+
+/// Two hosts that play the same commands on equal repositories, over children that tell the same, give one answer, whatever each
+/// remembers of what such children told: equal replies, but for how many answers were forgotten, and equal repositories. And no
+/// hook of theirs is unsteady.
+pub fn two_hosts_give_one_answer<C: Children, D: Children>(children: &C, others: &D)
+    ensures same { SameTells (C.tells children.now) (D.tells others.now) → OneAnswer (C.tells children.now) → (from to start end : Moment) (before after other : Repository) (commands : List Command) (replies seconds : List Reply) → IsUnhinderedPlay (C.tells children.now) from to before commands replies after → IsUnhinderedPlay (D.tells others.now) start end before commands seconds other → (map without_number replies ≡ map without_number seconds) × (after ≡ other) }
+    ensures steady { OneAnswer (C.tells children.now) → (from to : Moment) (before after : Repository) (commands : List Command) (replies : List Reply) → IsPlay (C.tells children.now) from to before commands replies after → IsTold (C.tells children.now) from.remembered → All IsSteady replies }
 {}

@@ -1,19 +1,19 @@
 //! The host of a repository: the commands by which files are staged, and what each answers.
 //!
-//! A [`Host`] works on a store, and has a book of what children answered, which runs and commits read and put in. A [`HostAsk`]
-//! says what is asked of a run of hooks on the staged files, and a [`StagedRun`] what it gave; a [`CommitEnding`] says how a commit
-//! through its hooks ended. A [`HostRefusal`] says why a command is refused; [`Command`] and [`Reply`] are the commands and their
-//! answers as values.
+//! A [`Host`] works on a store, which keeps the repository and remembers what children answered; runs and commits look that up
+//! and have more remembered. A [`HostAsk`] says what is asked of a run of hooks on the staged files, and a [`StagedRun`] what it
+//! gave; a [`CommitEnding`] says how a commit through its hooks ended. A [`HostRefusal`] says why a command is refused;
+//! [`Command`] and [`Reply`] are the commands and their answers as values.
 //!
 //! The contracts cite `Step` of `specs/Steps.antt` (what each command may answer, and what it makes of the repository),
-//! `specs/Commands.antt` (the reply that a call's answer is), `IsOneCommand` of `specs/Crashes.antt` (what a crash leaves),
-//! `IsRunStep` and `IsStoppedStep` of `specs/RunSteps.antt` and `IsCommitStep` of `specs/CommitSteps.antt` (how a run and a
-//! commit stand to what was remembered and what children told), `specs/Runs.antt`, `specs/Commits.antt` and
-//! `specs/CommitStages.antt` (the cases of runs and of commits, and the stages of these), `specs/CommitKept.antt` (what a
-//! commit makes of what is kept), `specs/Hosts.antt` (what is seen of a host), `specs/Messages.antt` (how the message of a
-//! commit is cleaned) and `specs/Refusals.antt`; of the repository and its files they cite definitions of `repo_store` and
-//! `hook_base`. [`Host::play`] makes a list of commands, and its contract cites `specs/Plays.antt` (a run of the machine of
-//! `Step`, and what it makes of the children's counts and of what is remembered). `specs/Preparations.antt` and
+//! `specs/Commands.antt` (the reply that a call's answer is), `IsOneCommand` and `IsHookCommand` of `specs/Crashes.antt` (what
+//! a crash leaves), `IsRunStep` and `IsStoppedStep` of `specs/RunSteps.antt` and `IsCommitStep` of `specs/CommitSteps.antt` (how
+//! a run and a commit stand to what was remembered and what children told), `specs/Runs.antt`, `specs/Commits.antt` and
+//! `specs/CommitStages.antt` (the cases of runs and of commits, and the stages of these), `specs/KeptByHooks.antt` (what runs
+//! and commits make of what is kept), `specs/Messages.antt` (how the message of a commit is cleaned) and
+//! `specs/Refusals.antt`; of the repository, its files and what is remembered they cite definitions of `repo_store`,
+//! `hook_base` and `result_book`. [`Host::play`] makes a list of commands, and its contract cites `specs/Plays.antt` (a run of
+//! the machine of `Step`, and what it makes of the children's counts and of what is remembered). `specs/Preparations.antt` and
 //! `specs/CommitCalls.antt` serve private functions alone. [`laws`] says that a step has one answer at most, and what follows
 //! for a list of commands.
 #![tactic(auto)]

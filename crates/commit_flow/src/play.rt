@@ -4,6 +4,7 @@ ghost use Rattle.std.specs.Prelude.{◌≡◌, [], IfOk, OnErr};
 ghost use Rattle.child_port.specs.Telling.{SameTells};
 ghost use Rattle.hook_run.specs.Moments.{moment};
 ghost use Rattle.repo_store.specs.Shown.{Stands};
+ghost use Rattle.result_book.specs.StoreBooks.{remembered_by};
 ghost use Rattle.commit_flow.specs.declared.command.Command.TheVariants.{Add, Remove, Accept, Run, Commit, Forget};
 ghost use Rattle.commit_flow.specs.Commands.{reply_of_ending};
 ghost use Rattle.commit_flow.specs.Plays.{HasForgotten, IsPlay, IsPlayed};
@@ -26,7 +27,7 @@ impl<S: Alter> Host<S> {
         children: &mut C,
         commands: &[Command],
     ) -> Result<Vec<Reply>, OutOfMemory>
-        ensures run { IfOk result (λ replies. IsPlay (C.tells children.old) (moment (C.call_count children.old) (C.fault_count children.old) self.old.book) (moment (C.call_count children.new) (C.fault_count children.new) self.new.book) self.old.store.kept.repo commands.now replies.items self.new.store.kept.repo) }
+        ensures run { IfOk result (λ replies. IsPlay (C.tells children.old) (moment (C.call_count children.old) (C.fault_count children.old) (remembered_by self.old.store.kept)) (moment (C.call_count children.new) (C.fault_count children.new) (remembered_by self.new.store.kept)) self.old.store.kept.repo commands.now replies.items self.new.store.kept.repo) }
         ensures stands { Stands S.Store self.old.store.conn self.old.store.kept → Stands S.Store self.new.store.conn self.new.store.kept }
         ensures refused { OnErr result (self.new ≡ self.old) }
         ensures uncalled { OnErr result (children.new ≡ children.old) }
@@ -42,7 +43,7 @@ impl<S: Alter> Host<S> {
 
     // Makes a command.
     fn played<C: Children>(&mut self, alloc: Global, children: &mut C, command: &Command) -> Reply
-        ensures played { IsPlayed (C.tells children.old) (moment (C.call_count children.old) (C.fault_count children.old) self.old.book) (moment (C.call_count children.new) (C.fault_count children.new) self.new.book) self.old.store.kept.repo command.now result self.new.store.kept.repo }
+        ensures played { IsPlayed (C.tells children.old) (moment (C.call_count children.old) (C.fault_count children.old) (remembered_by self.old.store.kept)) (moment (C.call_count children.new) (C.fault_count children.new) (remembered_by self.new.store.kept)) self.old.store.kept.repo command.now result self.new.store.kept.repo }
         ensures stands { Stands S.Store self.old.store.conn self.old.store.kept → Stands S.Store self.new.store.conn self.new.store.kept }
         ensures same { SameTells (C.tells children.old) (C.tells children.new) }
     {
@@ -63,7 +64,7 @@ impl<S: Alter> Host<S> {
     fn play_add(&mut self, alloc: Global, path: &Text, bytes: &Bytes, mode: Option<Mode>) -> Reply
         ensures step { Step self.old.store.kept.repo (Add path.now bytes.now mode) result [] self.new.store.kept.repo }
         ensures stands { Stands S.Store self.old.store.conn self.old.store.kept → Stands S.Store self.new.store.conn self.new.store.kept }
-        ensures book { self.new.book ≡ self.old.book }
+        ensures answers { self.new.store.kept.answers ≡ self.old.store.kept.answers }
     {
         match self.add(alloc, path.as_str(), bytes.as_slice(), mode) {
             Ok(()) => Reply::Added,
@@ -74,7 +75,7 @@ impl<S: Alter> Host<S> {
     fn play_remove(&mut self, alloc: Global, path: &Text) -> Reply
         ensures step { Step self.old.store.kept.repo (Remove path.now) result [] self.new.store.kept.repo }
         ensures stands { Stands S.Store self.old.store.conn self.old.store.kept → Stands S.Store self.new.store.conn self.new.store.kept }
-        ensures book { self.new.book ≡ self.old.book }
+        ensures answers { self.new.store.kept.answers ≡ self.old.store.kept.answers }
     {
         match self.remove(alloc, path.as_str()) {
             Ok(()) => Reply::Removed,
@@ -85,7 +86,7 @@ impl<S: Alter> Host<S> {
     fn play_accept(&mut self) -> Reply
         ensures step { Step self.old.store.kept.repo Accept result [] self.new.store.kept.repo }
         ensures stands { Stands S.Store self.old.store.conn self.old.store.kept → Stands S.Store self.new.store.conn self.new.store.kept }
-        ensures book { self.new.book ≡ self.old.book }
+        ensures answers { self.new.store.kept.answers ≡ self.old.store.kept.answers }
     {
         match self.accept() {
             Ok(number) => Reply::Accepted(number),
@@ -94,7 +95,7 @@ impl<S: Alter> Host<S> {
     }
 
     fn play_run<C: Children>(&mut self, alloc: Global, children: &mut C, ask: &HostAsk) -> Reply
-        ensures played { IsPlayed (C.tells children.old) (moment (C.call_count children.old) (C.fault_count children.old) self.old.book) (moment (C.call_count children.new) (C.fault_count children.new) self.new.book) self.old.store.kept.repo (Run ask.now) result self.new.store.kept.repo }
+        ensures played { IsPlayed (C.tells children.old) (moment (C.call_count children.old) (C.fault_count children.old) (remembered_by self.old.store.kept)) (moment (C.call_count children.new) (C.fault_count children.new) (remembered_by self.new.store.kept)) self.old.store.kept.repo (Run ask.now) result self.new.store.kept.repo }
         ensures stands { Stands S.Store self.old.store.conn self.old.store.kept → Stands S.Store self.new.store.conn self.new.store.kept }
         ensures same { SameTells (C.tells children.old) (C.tells children.new) }
     {
@@ -124,7 +125,7 @@ impl<S: Alter> Host<S> {
         no_verify: bool,
         skip: &Items<Text>,
     ) -> Reply
-        ensures played { IsPlayed (C.tells children.old) (moment (C.call_count children.old) (C.fault_count children.old) self.old.book) (moment (C.call_count children.new) (C.fault_count children.new) self.new.book) self.old.store.kept.repo (Commit message.now no_verify skip.now) result self.new.store.kept.repo }
+        ensures played { IsPlayed (C.tells children.old) (moment (C.call_count children.old) (C.fault_count children.old) (remembered_by self.old.store.kept)) (moment (C.call_count children.new) (C.fault_count children.new) (remembered_by self.new.store.kept)) self.old.store.kept.repo (Commit message.now no_verify skip.now) result self.new.store.kept.repo }
         ensures stands { Stands S.Store self.old.store.conn self.old.store.kept → Stands S.Store self.new.store.conn self.new.store.kept }
         ensures same { SameTells (C.tells children.old) (C.tells children.new) }
     {
@@ -142,8 +143,8 @@ impl<S: Alter> Host<S> {
 
     fn play_forget(&mut self) -> Reply
         ensures step { Step self.old.store.kept.repo Forget result [] self.new.store.kept.repo }
-        ensures forgotten { HasForgotten self.old.book self.new.book result }
-        ensures store { self.new.store ≡ self.old.store }
+        ensures forgotten { HasForgotten (remembered_by self.old.store.kept) (remembered_by self.new.store.kept) result }
+        ensures stands { Stands S.Store self.old.store.conn self.old.store.kept → Stands S.Store self.new.store.conn self.new.store.kept }
     {
         match self.forget() {
             Ok(number) => Reply::Forgot(number),

@@ -8,7 +8,7 @@ use Rattle.commit_flow.specs.declared.command.Command.TheVariants as command
 use Rattle.commit_flow.specs.declared.host_refusal.HostRefusal.{HostRefusal}
 use Rattle.commit_flow.specs.declared.reply.Reply.TheVariants.{Accepted, Refused}
 use Rattle.commit_flow.specs.Crashes.{IsOneCommand}
-use Rattle.commit_flow.specs.Hosts.{Hosted}
+use Rattle.commit_flow.specs.declared.host.Host.{Host}
 use Rattle.commit_flow.specs.Steps.{IsAcceptRefusal, Step}
 use Rattle.command_line.specs.declared.line.Line.{Line}
 use Rattle.hook_cli.specs.declared.command_ending.CommandEnding.{CommandEnding}
@@ -39,35 +39,31 @@ silent-itself held = keeps-itself held
 
 -- ---- the fixes are accepted
 
-pub accepted-said : {S : Type 0} (g : Ghosts S) (old new : Hosted S) (out err : Output) (ending : CommandEnding) (number : ℕ)
+pub accepted-said : {S : Type 0} (g : Ghosts S) (old new : Host S) (out err : Output) (ending : CommandEnding) (number : ℕ)
     → Step old.store.kept.repo command.Accept (Accepted number) [] new.store.kept.repo
     → IsAllOrNothing {E = HostRefusal} old.store.kept new.store.kept (Ok number) (accepting old.store.kept)
     → IsOneCommand g old.store new.store command.Accept (Ok number)
-    → new.book ≡ old.book
     → IsSaid ends.Done out (accepted_text number) err untaken_line ending → IsAcceptOver g old new out err ending
-accepted-said g old new out err ending number step change one book said = record {
+accepted-said g old new out err ending number step change one said = record {
   answer = Ok tt;
   step = (record { some = step.0.some; counted = refl; made = step.0.made }, refl);
   change = record { done = change.done; same = tt };
   one = record { stands = one.stands; crash = one.crash; durable = one.durable };
-  book = book;
   apart = λ h. h;
   collides = tt;
   replied = subst (λ (number : ℕ). IsSaid ends.Done out (accepted_text number) err untaken_line ending) step.0.counted said;
 }
 
-pub accept-refused : {S : Type 0} (g : Ghosts S) (old new : Hosted S) (out err : Output) (ending : CommandEnding) (refusal : HostRefusal)
+pub accept-refused : {S : Type 0} (g : Ghosts S) (old new : Host S) (out err : Output) (ending : CommandEnding) (refusal : HostRefusal)
     → Step old.store.kept.repo command.Accept (Refused refusal) [] new.store.kept.repo
     → IsAllOrNothing {A = ℕ} old.store.kept new.store.kept (Err refusal) (accepting old.store.kept)
     → IsOneCommand {A = ℕ} g old.store new.store command.Accept (Err refusal)
-    → new.book ≡ old.book
     → IsTold ends.Refused err (refusal_text refusal) ending → IsSilent out → IsAcceptOver g old new out err ending
-accept-refused g old new out err ending refusal step change one book told silent = record {
+accept-refused g old new out err ending refusal step change one told silent = record {
   answer = Err refusal;
   step = step;
   change = record { done = tt; same = change.same };
   one = record { stands = one.stands; crash = one.crash; durable = tt };
-  book = book;
   apart = tt;
   collides = λ is. subst (λ (r : HostRefusal). IsAcceptRefusal old.store.kept.repo r) is step.0.0;
   replied = (silent, told);

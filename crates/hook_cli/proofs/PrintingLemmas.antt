@@ -8,7 +8,6 @@ use Rattle.commit_flow.specs.declared.host_refusal.HostRefusal.{HostRefusal}
 use Rattle.commit_flow.specs.Refusals.{inner_number_of, name_of, number_of}
 use Rattle.hook_cli.specs.declared.command_ending.CommandEnding.{CommandEnding}
 use Rattle.hook_cli.specs.declared.command_ending.CommandEnding.TheVariants.{CutOff}
-use Rattle.repository_text.specs.FixesText.{accepted_text}
 use Rattle.text_output.specs.Outputs.{Has, HasBeginning, IsSilent, Output}
 use Rattle.hook_cli.specs.Printing.{IsSaid, IsTold, untaken_line}
 use Rattle.hook_cli.specs.RefusalText.{inner_text, no_commit_text, refusal_text}
@@ -52,12 +51,6 @@ told-no-commit wanted err ending digits number is told =
     (sym (append_assoc no_commit_head digits (10 ∷ [])) ∙ ap (λ digits. line (no_commit_head ++ digits)) is) told
 
 -- ---- the text of what is done
-
-abbrev pub accepted_head : List ℕ
-accepted_head = codes "accepted: "
-
-pub accepted_pieces : (digits : List ℕ) (number : ℕ) → digits ≡ decimal number → accepted_head ++ (digits ++ (10 ∷ [])) ≡ accepted_text number
-accepted_pieces digits number is = sym (append_assoc accepted_head digits (10 ∷ [])) ∙ ap (λ digits. line (accepted_head ++ digits)) is
 
 -- standard output took the text, or gave an error that standard error tells
 pub said-of : {A E : Type 0} (wanted ending : CommandEnding) (written : Result A E) (out err : Output) (text : List ℕ)

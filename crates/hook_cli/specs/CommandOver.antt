@@ -10,8 +10,10 @@ use Rattle.child_port.specs.declared.answer.Outcome.{Outcome}
 use Rattle.hook_run.specs.Moments.{Moment, moment}
 use Rattle.repo_store.specs.AllOrNothing.{IsAllOrNothing}
 use Rattle.repo_store.specs.Contents.{Collides}
-use Rattle.repo_store.specs.Kept.{Kept, accepting, setting, staging, unstaging}
+use Rattle.repo_store.specs.Kept.{Kept, accepting, forgetting, staging, unstaging}
 use Rattle.repo_store.specs.Repository.{Repository, commit_at, last_tree}
+use Rattle.result_book.specs.Contents.{count_of}
+use Rattle.result_book.specs.StoreBooks.{remembered_by}
 use Rattle.commit_flow.specs.declared.command.Command.{Command}
 use Rattle.commit_flow.specs.declared.command.Command.TheVariants as command
 use Rattle.commit_flow.specs.declared.commit_ending.CommitEnding.{CommitEnding}
@@ -23,13 +25,14 @@ use Rattle.commit_flow.specs.declared.host_ask.Which.TheVariants as which
 use Rattle.commit_flow.specs.declared.host_refusal.HostRefusal.{HostRefusal}
 use Rattle.commit_flow.specs.declared.host_refusal.HostRefusal.TheVariants.{OutOfMemory, BadPath, NotStaged, Collision}
 use Rattle.commit_flow.specs.declared.reply.Reply.{Reply}
-use Rattle.commit_flow.specs.declared.reply.Reply.TheVariants.{Added, Removed, Accepted, Ran, Committed, HooksFailed, Refused}
+use Rattle.commit_flow.specs.declared.reply.Reply.TheVariants.{Added, Removed, Accepted, Ran, Committed, HooksFailed, Forgot, Refused}
 use Rattle.commit_flow.specs.declared.staged_run.StagedRun.{StagedRun}
 use Rattle.commit_flow.specs.Commands.{reply_of, reply_of_ending}
-use Rattle.commit_flow.specs.CommitKept.{KeepsFor}
-use Rattle.commit_flow.specs.Crashes.{IsOneCommand}
-use Rattle.commit_flow.specs.Hosts.{Hosted}
-use Rattle.commit_flow.specs.RunSteps.{IsRunStep, IsStoppedStep, changes_in, reply_of_run}
+use Rattle.commit_flow.specs.Crashes.{IsHookCommand, IsOneCommand}
+use Rattle.commit_flow.specs.KeptByHooks.{KeepsForCommit, KeepsForRun}
+use Rattle.commit_flow.specs.declared.host.Host.{Host}
+use Rattle.commit_flow.specs.Plays.{HasForgotten}
+use Rattle.commit_flow.specs.RunSteps.{IsRunStep, IsStoppedStep, reply_of_run}
 use Rattle.commit_flow.specs.StagedPaths.{IsLegal, IsStaged}
 use Rattle.commit_flow.specs.Steps.{Step, entry_to_add}
 use Rattle.commit_flow.specs.CommitSteps.{IsCommitStep}
@@ -38,10 +41,11 @@ use Rattle.command_line.specs.declared.line.FileChoice.TheVariants.{Changed, All
 use Rattle.command_line.specs.declared.line.StageChoice.{StageChoice}
 use Rattle.command_line.specs.declared.line.StageChoice.TheVariants.{PreCommit, Manual}
 use Rattle.command_line.specs.declared.line.Line.{Line}
-use Rattle.command_line.specs.declared.line.Line.TheVariants.{Init, Try, Check, Add, Remove, Status, Run, Fixes, Accept, Commit, Cat, Log, Show}
+use Rattle.command_line.specs.declared.line.Line.TheVariants.{Init, Try, Check, Add, Remove, Status, Run, Fixes, Accept, Commit, Cat, Log, Show, Memory, Forget}
 use Rattle.hook_cli.specs.declared.command_ending.CommandEnding.{CommandEnding}
 use Rattle.hook_cli.specs.declared.command_ending.CommandEnding.TheVariants as ends
 use Rattle.text_output.specs.Outputs.{IsSilent, Output}
+use Rattle.hook_cli.specs.MemoryText.{forgotten_text, remembered_text}
 use Rattle.hook_cli.specs.Printing.{IsSaid, IsTold, ending_of, status_of, untaken_line}
 use Rattle.repository_text.specs.FixesText.{accepted_text, fixes_text}
 use Rattle.repository_text.specs.LogText.{log_text}
@@ -66,12 +70,14 @@ IsOverHost Accept = Unit {0}
 IsOverHost (Cat path) = Unit {0}
 IsOverHost Log = Unit {0}
 IsOverHost (Show number) = Unit {0}
+IsOverHost Memory = Unit {0}
+IsOverHost Forget = Unit {0}
 
 -- ---- the commands that change the repository
 
 -- what each reply prints: a file that was added or removed nothing, fixes that were accepted how many there were, hooks that
--- were run what is reported of them, a commit that too, with its number where it was made, and a refusal why. Where standard
--- output doesn't take it, standard error says so, and of a commit that it was made
+-- were run what is reported of them, a commit that too, with its number where it was made, answers that were forgotten how many
+-- there were, and a refusal why. Where standard output doesn't take it, standard error says so, and of a commit that it was made
 abbrev pub IsReplied : Output → Output → Reply → CommandEnding → Type 0
 IsReplied out err Added ending = IsSilent out × IsSilent err × (ending ≡ ends.Done)
 IsReplied out err Removed ending = IsSilent out × IsSilent err × (ending ≡ ends.Done)
@@ -79,36 +85,52 @@ IsReplied out err (Accepted number) ending = IsSaid ends.Done out (accepted_text
 IsReplied out err (Ran passed report changes unsteady) ending = IsSaid (ending_of passed) out (run_text report unsteady) err untaken_line ending
 IsReplied out err (Committed number reports post) ending = IsCommitSaid number reports post out err ending
 IsReplied out err (HooksFailed stage reports) ending = IsSaid ends.Failed out (failure_text reports) err untaken_line ending
+IsReplied out err (Forgot number) ending = IsSaid ends.Done out (forgotten_text number) err untaken_line ending
 IsReplied out err (Refused refusal) ending = IsSilent out × IsTold ends.Refused err (refusal_text refusal) ending
-IsReplied out err reply ending = ⊥
 
 -- One call of the host that runs no hooks, whose answer is printed. Done, it has this reply and leaves this kept, and it may
 -- bring contents that collide. The repository takes a step of the host's machine, as a whole or not at all, whatever stops it,
 -- and a writer's error undoes none of it.
-pub record IsChanged {S : Type 0} (g : Ghosts S) (old new : Hosted S) (command : Command) (reply : Reply) (after : Kept) (BringsCollision : Type 0) (out err : Output) (ending : CommandEnding) : Type 0 where
+pub record IsChanged {S : Type 0} (g : Ghosts S) (old new : Host S) (command : Command) (reply : Reply) (after : Kept) (BringsCollision : Type 0) (out err : Output) (ending : CommandEnding) : Type 0 where
   pub answer : Result (Unit {0}) HostRefusal
   pub step : Step old.store.kept.repo command (reply_of (λ _. reply) answer) [] new.store.kept.repo
   pub change : IsAllOrNothing old.store.kept new.store.kept answer after
   pub one : IsOneCommand g old.store new.store command answer
-  pub book : new.book ≡ old.book
   pub apart : OnOk answer (¬ BringsCollision)
   pub collides : IfErr answer (λ refusal. refusal ≡ Collision → BringsCollision)
   pub replied : IsReplied out err (reply_of (λ _. reply) answer) ending
 
 -- the bytes are staged at the path
-abbrev pub IsAddOver : {S : Type 0} → Ghosts S → Hosted S → Hosted S → List ℕ → List ℕ → Option Mode → Output → Output → CommandEnding → Type 0
+abbrev pub IsAddOver : {S : Type 0} → Ghosts S → Host S → Host S → List ℕ → List ℕ → Option Mode → Output → Output → CommandEnding → Type 0
 IsAddOver g old new path bytes mode out err ending =
     IsChanged g old new (command.Add path bytes mode) Added (staging path (entry_to_add old.store.kept.repo path bytes mode) old.store.kept)
     (Collides bytes old.store.kept.contents) out err ending
 
 -- the path is taken out of the staged files
-abbrev pub IsRemoveOver : {S : Type 0} → Ghosts S → Hosted S → Hosted S → List ℕ → Output → Output → CommandEnding → Type 0
+abbrev pub IsRemoveOver : {S : Type 0} → Ghosts S → Host S → Host S → List ℕ → Output → Output → CommandEnding → Type 0
 IsRemoveOver g old new path out err ending = IsChanged g old new (command.Remove path) Removed (unstaging path old.store.kept) ⊥ out err ending
 
 -- the fixes are accepted
-abbrev pub IsAcceptOver : {S : Type 0} → Ghosts S → Hosted S → Hosted S → Output → Output → CommandEnding → Type 0
+abbrev pub IsAcceptOver : {S : Type 0} → Ghosts S → Host S → Host S → Output → Output → CommandEnding → Type 0
 IsAcceptOver g old new out err ending =
     IsChanged g old new command.Accept (Accepted (length old.store.kept.repo.fixes)) (accepting old.store.kept) ⊥ out err ending
+
+-- ---- the remembered answers
+
+-- `memory` prints how many answers are remembered, is never refused, and leaves the host as it was
+pub record IsMemoryOver {S : Type 0} (old new : Host S) (out err : Output) (ending : CommandEnding) : Type 0 where
+  pub same : new ≡ old
+  pub said : IsSaid ends.Done out (remembered_text (count_of (remembered_by old.store.kept))) err untaken_line ending
+
+-- All that is remembered is forgotten by one call of the host, whose answer is printed: how many answers there were. Refused, all
+-- of it stays remembered. The repository and the contents that are kept stay in any case. A writer's error undoes none of it.
+pub record IsForgetOver {S : Type 0} (g : Ghosts S) (old new : Host S) (out err : Output) (ending : CommandEnding) : Type 0 where
+  pub answer : Result ℕ HostRefusal
+  pub step : Step old.store.kept.repo command.Forget (reply_of Forgot answer) [] new.store.kept.repo
+  pub change : IsAllOrNothing old.store.kept new.store.kept answer (forgetting old.store.kept)
+  pub one : IsOneCommand g old.store new.store command.Forget answer
+  pub forgotten : HasForgotten (remembered_by old.store.kept) (remembered_by new.store.kept) (reply_of Forgot answer)
+  pub replied : IsReplied out err (reply_of Forgot answer) ending
 
 -- ---- runs of hooks
 
@@ -120,11 +142,11 @@ pub record Counts : Type 0 where
   pub faults_after : ℕ
 
 -- the counts with what the host remembers, before the command and after it
-abbrev pub moment_before : {S : Type 0} → Counts → Hosted S → Moment
-moment_before counts host = moment counts.calls counts.faults host.book
+abbrev pub moment_before : {S : Type 0} → Counts → Host S → Moment
+moment_before counts host = moment counts.calls counts.faults (remembered_by host.store.kept)
 
-abbrev pub moment_after : {S : Type 0} → Counts → Hosted S → Moment
-moment_after counts host = moment counts.calls_after counts.faults_after host.book
+abbrev pub moment_after : {S : Type 0} → Counts → Host S → Moment
+moment_after counts host = moment counts.calls_after counts.faults_after (remembered_by host.store.kept)
 
 -- the files and the stage of a line, as the host has them
 abbrev pub which_of : FileChoice → Which
@@ -142,24 +164,24 @@ ask_of files only stage fresh skip = record { which = which_of files; only = onl
 
 -- Hooks are run on the staged files by one call of the host, whose answer is printed. The repository takes a step of the host's
 -- machine over the children, or stays as it is, and a writer's error undoes none of it.
-pub record IsRunOverHost {S : Type 0} (g : Ghosts S) (tells : List (List ℕ) → List File → Outcome → Type 0) (counts : Counts) (old new : Hosted S) (ask : HostAsk) (out err : Output) (ending : CommandEnding) : Type 0 where
+pub record IsRunOverHost {S : Type 0} (g : Ghosts S) (tells : List (List ℕ) → List File → Outcome → Type 0) (counts : Counts) (old new : Host S) (ask : HostAsk) (out err : Output) (ending : CommandEnding) : Type 0 where
   pub answer : Result StagedRun HostRefusal
   pub step : IfOk answer (λ ran. IsRunStep tells (moment_before counts old) (moment_after counts new) old.store.kept.repo ask ran new.store.kept.repo)
-  pub stopped : IfErr answer (IsStoppedStep tells (moment_before counts old) (moment_after counts new) old.store.kept ask)
-  pub change : IsAllOrNothing old.store.kept new.store.kept answer (setting (changes_in answer) old.store.kept)
-  pub one : IsOneCommand g old.store new.store (command.Run ask) answer
+  pub stopped : IfErr answer (IsStoppedStep tells (moment_before counts old) (moment_after counts new) old.store.kept.repo ask new.store.kept)
+  pub change : KeepsForRun old.store.kept new.store.kept answer
+  pub one : IsHookCommand g old.store new.store (command.Run ask) answer
   pub replied : IsReplied out err (reply_of reply_of_run answer) ending
 
 -- The staged files are committed through their hooks by one call of the host, whose answer is printed. The repository takes a
 -- step of the host's machine over the children, or stays as it is, and a writer's error undoes none of it.
-pub record IsCommitOverHost {S : Type 0} (g : Ghosts S) (tells : List (List ℕ) → List File → Outcome → Type 0) (counts : Counts) (old new : Hosted S) (message : List ℕ) (no_verify : Bool) (skip : List (List ℕ)) (out err : Output) (ending : CommandEnding) : Type 0 where
+pub record IsCommitOverHost {S : Type 0} (g : Ghosts S) (tells : List (List ℕ) → List File → Outcome → Type 0) (counts : Counts) (old new : Host S) (message : List ℕ) (no_verify : Bool) (skip : List (List ℕ)) (out err : Output) (ending : CommandEnding) : Type 0 where
   pub answer : Result CommitEnding HostRefusal
-  pub step : IsCommitStep tells (moment_before counts old) (moment_after counts new) old.store.kept message no_verify skip (reply_of reply_of_ending answer) new.store.kept.repo
-  pub change : KeepsFor old.store.kept new.store.kept answer
-  pub one : IsOneCommand g old.store new.store (command.Commit message no_verify skip) answer
+  pub step : IsCommitStep tells (moment_before counts old) (moment_after counts new) old.store.kept.repo message no_verify skip (reply_of reply_of_ending answer) new.store.kept
+  pub change : KeepsForCommit old.store.kept new.store.kept answer
+  pub one : IsHookCommand g old.store new.store (command.Commit message no_verify skip) answer
   pub replied : IsReplied out err (reply_of reply_of_ending answer) ending
 
--- ---- the commands that look something up
+-- ---- the commands that look something up in the repository
 
 -- the text that a look-up prints
 abbrev pub IsAnswer : Repository → Line → List ℕ → Type 0
@@ -176,6 +198,8 @@ IsAnswer repo (Commit message no_verify) text = ⊥
 IsAnswer repo (Add path mode) text = ⊥
 IsAnswer repo (Remove path) text = ⊥
 IsAnswer repo Accept text = ⊥
+IsAnswer repo Memory text = ⊥
+IsAnswer repo Forget text = ⊥
 
 -- why a staged file's bytes aren't given, in this order: the path is none, or it isn't staged. Want of memory comes after a
 -- fault of the path.
@@ -202,6 +226,8 @@ IsRefusalText repo (Commit message no_verify) text = ⊥
 IsRefusalText repo (Add path mode) text = ⊥
 IsRefusalText repo (Remove path) text = ⊥
 IsRefusalText repo Accept text = ⊥
+IsRefusalText repo Memory text = ⊥
+IsRefusalText repo Forget text = ⊥
 
 -- the look-up's text is printed
 pub record Answers (repo : Repository) (line : Line) (out err : Output) (ending : CommandEnding) : Type 0 where
@@ -220,14 +246,14 @@ abbrev pub IsLookUp : Repository → Line → Output → Output → CommandEndin
 IsLookUp repo line out err ending = Answers repo line out err ending ⊎ Refuses repo line out err ending
 
 -- a look-up leaves the host as it was
-pub record IsLookedUp {S : Type 0} (old new : Hosted S) (line : Line) (out err : Output) (ending : CommandEnding) : Type 0 where
+pub record IsLookedUp {S : Type 0} (old new : Host S) (line : Line) (out err : Output) (ending : CommandEnding) : Type 0 where
   pub same : new ≡ old
   pub answered : IsLookUp old.store.kept.repo line out err ending
 
 -- ---- all of them
 
 -- the line is done so; the bytes are those of the file that is added, and the names those of the hooks that are skipped
-abbrev pub IsEnded : {S : Type 0} → Ghosts S → (List (List ℕ) → List File → Outcome → Type 0) → Counts → Hosted S → Hosted S → Line → List ℕ → List (List ℕ) → Output → Output → CommandEnding → Type 0
+abbrev pub IsEnded : {S : Type 0} → Ghosts S → (List (List ℕ) → List File → Outcome → Type 0) → Counts → Host S → Host S → Line → List ℕ → List (List ℕ) → Output → Output → CommandEnding → Type 0
 IsEnded g tells counts old new (Add path mode) bytes skip out err ending = IsAddOver g old new path bytes mode out err ending
 IsEnded g tells counts old new (Remove path) bytes skip out err ending = IsRemoveOver g old new path out err ending
 IsEnded g tells counts old new Status bytes skip out err ending = IsLookedUp old new Status out err ending
@@ -236,6 +262,8 @@ IsEnded g tells counts old new Accept bytes skip out err ending = IsAcceptOver g
 IsEnded g tells counts old new (Cat path) bytes skip out err ending = IsLookedUp old new (Cat path) out err ending
 IsEnded g tells counts old new Log bytes skip out err ending = IsLookedUp old new Log out err ending
 IsEnded g tells counts old new (Show number) bytes skip out err ending = IsLookedUp old new (Show number) out err ending
+IsEnded g tells counts old new Memory bytes skip out err ending = IsMemoryOver old new out err ending
+IsEnded g tells counts old new Forget bytes skip out err ending = IsForgetOver g old new out err ending
 IsEnded g tells counts old new Init bytes skip out err ending = ⊥
 IsEnded g tells counts old new (Try config paths) bytes skip out err ending = ⊥
 IsEnded g tells counts old new Check bytes skip out err ending = ⊥
@@ -255,7 +283,7 @@ abbrev pub IsCalledBy : Line → Counts → Type 0
 IsCalledBy line counts = IsRunless line → NoneCalled counts.calls counts.calls_after counts.faults counts.faults_after
 
 -- the line ends in one of these ways, and its exit status is that ending's
-pub record IsCommandOver {S : Type 0} (g : Ghosts S) (tells : List (List ℕ) → List File → Outcome → Type 0) (counts : Counts) (old new : Hosted S) (line : Line) (bytes : List ℕ) (skip : List (List ℕ)) (out err : Output) (status : ℕ) : Type 0 where
+pub record IsCommandOver {S : Type 0} (g : Ghosts S) (tells : List (List ℕ) → List File → Outcome → Type 0) (counts : Counts) (old new : Host S) (line : Line) (bytes : List ℕ) (skip : List (List ℕ)) (out err : Output) (status : ℕ) : Type 0 where
   pub ending : CommandEnding
   pub ended : IsEnded g tells counts old new line bytes skip out err ending
   pub called : IsCalledBy line counts

@@ -1,4 +1,5 @@
 pub mod CommandOver
+pub mod MemoryText
 pub mod Printing
 pub mod RefusalText
 pub mod RunText

@@ -3,12 +3,14 @@
 //! without a repository (`try_over`, `check_text` of `configuration_run`).
 //!
 //! The contracts cite `specs/CommandOver.antt` (what each command changes, prints and exits with), which stands on the
-//! definitions of `commit_flow`, on the texts of `repository_text`, on `specs/RunText.antt` and `specs/RefusalText.antt` (the
-//! texts of runs, commits and refusals), and on `specs/Printing.antt` (which text stands on which output).
+//! definitions of `commit_flow`, on the texts of `repository_text`, on `specs/RunText.antt`, `specs/MemoryText.antt` and
+//! `specs/RefusalText.antt` (the texts of runs and commits, of remembered answers, and of refusals), and on `specs/Printing.antt`
+//! (which text stands on which output).
 #![tactic(auto)]
 
 mod command_ending;
 mod look_up;
+mod over_answers;
 mod over_host;
 mod over_runs;
 mod printing;

@@ -1,14 +1,17 @@
 //! What a command says, on the writer that it is for. It takes no memory, since what is said is done already, or refused for
 //! want of memory.
 //!
-//! The contracts cite `specs/Printing.antt`, `specs/RefusalText.antt` and `repository_text/specs/FixesText.antt`.
+//! The contracts cite `specs/Printing.antt`, `specs/RefusalText.antt`, `specs/MemoryText.antt` and
+//! `repository_text/specs/FixesText.antt`.
 
 ghost use Rattle.std.specs.Prelude.{◌≡◌, ◌++◌, OnErr, OnOk, Some, codes, map};
+ghost use Rattle.std.specs.Fmt.{decimal};
 ghost use Rattle.std.specs.List.{concat};
 ghost use Rattle.report_text.specs.Report.{line};
 ghost use Rattle.repository_text.specs.FixesText.{accepted_text};
 ghost use Rattle.text_output.specs.Outputs.{IsSilent};
 ghost use Rattle.hook_cli.specs.declared.command_ending.CommandEnding.TheVariants as ends;
+ghost use Rattle.hook_cli.specs.MemoryText.{forgotten_text, remembered_text};
 ghost use Rattle.hook_cli.specs.Printing.{IsSaid, IsTold, untaken_line};
 ghost use Rattle.hook_cli.specs.RefusalText.{inner_text, no_commit_text, refusal_text};
 
@@ -36,8 +39,42 @@ pub(crate) fn say_accepted<O: Write, E: Write>(
 ) -> CommandEnding
     ensures { IsSaid ends.Done (record { held = O.contents out.old; holds = O.contents out.new }) (accepted_text number) (record { held = E.contents err.old; holds = E.contents err.new }) untaken_line result }
 {
+    say_number(out, err, "accepted: ", u64::from(number))
+}
+
+/// Says how many answers are remembered.
+pub(crate) fn say_remembered<O: Write, E: Write>(
+    out: &mut O,
+    err: &mut E,
+    number: u64,
+) -> CommandEnding
+    ensures { IsSaid ends.Done (record { held = O.contents out.old; holds = O.contents out.new }) (remembered_text number) (record { held = E.contents err.old; holds = E.contents err.new }) untaken_line result }
+{
+    say_number(out, err, "remembered: ", number)
+}
+
+/// Says how many answers were forgotten.
+pub(crate) fn say_forgotten<O: Write, E: Write>(
+    out: &mut O,
+    err: &mut E,
+    number: u64,
+) -> CommandEnding
+    ensures { IsSaid ends.Done (record { held = O.contents out.old; holds = O.contents out.new }) (forgotten_text number) (record { held = E.contents err.old; holds = E.contents err.new }) untaken_line result }
+{
+    say_number(out, err, "forgotten: ", number)
+}
+
+// Says a number behind a word.
+fn say_number<O: Write, E: Write>(
+    out: &mut O,
+    err: &mut E,
+    word: &str,
+    number: u64,
+) -> CommandEnding
+    ensures { IsSaid ends.Done (record { held = O.contents out.old; holds = O.contents out.new }) (line (word.now ++ decimal number)) (record { held = E.contents err.old; holds = E.contents err.new }) untaken_line result }
+{
     let mut digits = Buffer::new();
-    let written = write_pieces(out, &["accepted: ", digits.format(number), "\n"]);
+    let written = write_pieces(out, &[word, digits.format(number), "\n"]);
     ending_of(written, CommandEnding::Done, err)
 }
 

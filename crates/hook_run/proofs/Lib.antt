@@ -2,12 +2,15 @@ pub mod AdvanceLemmas
 pub mod BeginLemmas
 pub mod BoundLemmas
 pub mod CompletionLemmas
+pub mod EditLemmas
+pub mod EditedRunLemmas
 pub mod FaultLemmas
 pub mod HookRefs
 pub mod NextLemmas
-pub mod OneRunLemmas
 pub mod PartLemmas
 pub mod PlanLemmas
+pub mod ReplayLemmas
 pub mod RowLemmas
 pub mod RunLemmas
 pub mod SomeRunLemmas
+pub mod UnseenEditLemmas

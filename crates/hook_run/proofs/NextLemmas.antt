@@ -1,27 +1,25 @@
 -- A plan is what comes next in a run.
-use Rattle.std.proofs.Common.{◌≡◌, ◌∙◌, ap, ap₂, sym, subst, refl, append_assoc, ℕ, Bool, false, if◌then◌else◌, List, [], ◌∷◌, ◌++◌, All, Option, None, Some}
+use Rattle.std.proofs.Common.{◌≡◌, ◌∙◌, ap, sym, subst, refl, append_assoc, Bool, false, List, [], ◌∷◌, ◌++◌, All, Option, None, Some}
 use Rattle.std.proofs.lemmas.List.{append-nil}
-use Rattle.std.proofs.lemmas.List.Elements.{All-cons, All-head, All-nil, All-tail}
-use Rattle.std.proofs.lemmas.List.Folds.{list_any_none}
 use Rattle.hook_base.specs.declared.file.File.{File}
 use Rattle.child_port.specs.Outcomes.{after_outcome}
 use Rattle.child_port.specs.declared.answer.Outcome.{Outcome}
 use Rattle.child_port.specs.declared.answer.Outcome.TheVariants.{Failed}
 use Rattle.child_port.specs.declared.fault.Fault.TheVariants.{NotStarted}
 use Rattle.hook_config.specs.declared.configuration.Config.{Config}
-use Rattle.hook_config.specs.declared.configuration.Hook.{Hook}
 use Rattle.hook_run.specs.declared.need.Need.{Need}
 use Rattle.hook_run.specs.declared.need.Need.TheVariants.{Child, Over}
 use Rattle.hook_run.specs.declared.run_ask.RunAsk.{RunAsk}
 use Rattle.hook_run.specs.declared.run_out.RunOut.{RunOut}
 use Rattle.hook_run.specs.Asks.{hooks_of_run}
+use Rattle.hook_run.specs.OneAnswerLemmas.{no-ids}
+use Rattle.hook_run.specs.OneRunLemmas.{next-of}
 use Rattle.hook_run.specs.Parts.{Part, after_parts, all_parts}
 use Rattle.hook_run.specs.PlanLaws.{HasTold, IsNextBy, IsPlanBehind, IsWhatComesNext, IsWhole}
 use Rattle.hook_run.specs.Plans.{AtPart, Completes, CompletesAt, IsPlanAfter, IsPlanOf, Plan, need_of, out_of_plan, part_with, seen_of_plan, tree_of_plan, words_of}
-use Rattle.hook_run.specs.RunOuts.{IsBegun, IsRunOut, unsteady_ids}
+use Rattle.hook_run.specs.RunOuts.{IsBegun, IsRunOut}
 use Rattle.hook_run.specs.SameRuns.{IsNextOf}
 use Rattle.hook_run.proofs.CompletionLemmas.{AllFailed, can-fail, can-follow}
-use Rattle.hook_run.proofs.OneRunLemmas.{next-of}
 use Rattle.hook_run.proofs.PlanLemmas.{after_parts-append}
 use Rattle.hook_run.proofs.RunLemmas.{over-at}
 
@@ -38,26 +36,6 @@ tree-completed plan (Some at) rest out on =
     ∙ sym (after_parts-append plan.done.tree on.here (all_parts on.more.trace))
     ∙ ap (λ (parts : List Part). after_parts plan.done.tree (on.here ++ parts)) (sym on.more.joined)
     ∙ ap (after_parts plan.done.tree) (sym on.joined)
-
--- ---- marks
-
-abbrev IsUnmarked : Part → Type 0
-IsUnmarked part = part.unsteady ≡ false
-
-both-unmarked : (parts more : List Part) → All IsUnmarked (parts ++ more) → All IsUnmarked parts × All IsUnmarked more
-both-unmarked [] more all = (All-nil IsUnmarked, all)
-both-unmarked (part ∷ parts) more all =
-    let rest = both-unmarked parts more (All-tail IsUnmarked part (parts ++ more) all) in
-    (All-cons IsUnmarked part parts (All-head IsUnmarked part (parts ++ more) all) rest.0, rest.1)
-
-no-ids : (hooks : List Hook) (trace : List (List Part)) → All IsUnmarked (all_parts trace) → unsteady_ids hooks trace ≡ []
-no-ids [] trace all = refl
-no-ids (hook ∷ hooks) [] all = refl
-no-ids (hook ∷ hooks) (parts ∷ trace) all =
-    let split = both-unmarked parts (all_parts trace) all in
-    ap₂ (λ (here behind : List (List ℕ)). here ++ behind)
-    (ap (λ (unsteady : Bool). if unsteady then hook.id ∷ [] else []) (list_any_none (λ (part : Part). part.unsteady) parts split.0))
-    (no-ids hooks trace split.1)
 
 -- ---- what is left of another run
 
@@ -107,7 +85,7 @@ module _ (config : Config) (ask : RunAsk) (tree : List File) where
     none-unsteady need all =
         let run = whole need in
         ap (λ (o : RunOut). o.unsteady) run.run.is
-        ∙ no-ids (hooks_of_run config ask) run.trace (subst (All IsUnmarked) (sym run.joined) all)
+        ∙ no-ids (hooks_of_run config ask) run.trace (subst (All (λ (part : Part). part.unsteady ≡ false)) (sym run.joined) all)
 
     only-behind : (need : Need) → need_of plan ≡ need → (trace : List (List Part)) (out : RunOut) (rest : List Part) → IsRunOut config ask tree trace out → all_parts trace ≡ parts ++ rest → IsNextBy plan need rest out
     only-behind Child need trace out rest run joined =

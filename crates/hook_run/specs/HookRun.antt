@@ -44,8 +44,8 @@ abbrev pub ending_of_answer : Answer → Ending
 ending_of_answer answer = Ran answer.status [] false answer.output
 
 -- the hook answers this by itself, without a child
-abbrev pub IsAnswered : Answer → List Part → Ending → Type 0
-IsAnswered answer parts ending = (parts ≡ []) × (ending ≡ ending_of_answer answer)
+abbrev pub AnswersItself : Answer → List Part → Ending → Type 0
+AnswersItself answer parts ending = (parts ≡ []) × (ending ≡ ending_of_answer answer)
 
 -- a child sees all files of the tree where its hook isn't handed their names
 abbrev pub sees_whole : Hook → Bool
@@ -82,8 +82,8 @@ IsCommandRun hook words names tree parts ending =
 
 -- a hook of the language, run with these names on the tree, ends so
 abbrev pub IsLanguageRun : Language → Hook → List (List ℕ) → List File → List Part → Ending → Type 0
-IsLanguageRun Fail hook names tree parts ending = IsAnswered (fail_answer hook.entry names) parts ending
-IsLanguageRun (Pygrep search) hook names tree parts ending = IsAnswered (grep_answer search names tree) parts ending
+IsLanguageRun Fail hook names tree parts ending = AnswersItself (fail_answer hook.entry names) parts ending
+IsLanguageRun (Pygrep search) hook names tree parts ending = AnswersItself (grep_answer search names tree) parts ending
 IsLanguageRun (System words) hook names tree parts ending = IsCommandRun hook (command_of false words tree) names tree parts ending
 IsLanguageRun (Script words) hook names tree parts ending = IsCommandRun hook (command_of true words tree) names tree parts ending
 

@@ -1,3 +1,4 @@
+pub mod AgreeLemmas
 pub mod AnswerLemmas
 pub mod Answers
 pub mod Asks
@@ -7,6 +8,9 @@ pub mod CountLemmas
 pub mod HookRun
 pub mod Limits
 pub mod Moments
+pub mod OneAnswer
+pub mod OneAnswerLemmas
+pub mod OneRunLemmas
 pub mod Parts
 pub mod PartsEnding
 pub mod PlanBounds
@@ -19,3 +23,4 @@ pub mod RunOuts
 pub mod SameRuns
 pub mod StageRun
 pub mod Starts
+pub mod UnseenEdits

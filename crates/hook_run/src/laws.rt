@@ -1,18 +1,24 @@
 //! Laws of what the contracts cite. Each is a function that gives nothing: what it ensures is a theorem.
 
-ghost use Rattle.std.specs.Prelude.{◌≡◌, ◌++◌, ℕ, List};
+ghost use Rattle.std.specs.Prelude.{◌≡◌, ◌++◌, ℕ, List, []};
 ghost use Rattle.child_port.specs.declared.answer.Outcome.{Outcome};
+ghost use Rattle.child_port.specs.Telling.{SameTells};
 ghost use Rattle.hook_base.specs.declared.file.File.{File};
 ghost use Rattle.hook_config.specs.declared.configuration.Config.{Config};
+ghost use Rattle.result_book.specs.Told.{IsTold};
 ghost use Rattle.hook_run.specs.declared.run_ask.RunAsk.{RunAsk};
 ghost use Rattle.hook_run.specs.declared.run_out.RunOut.{RunOut};
 ghost use Rattle.hook_run.specs.ChildFaults.{child_faults};
 ghost use Rattle.hook_run.specs.Limits.{most_command_bytes, most_names};
+ghost use Rattle.hook_run.specs.Moments.{Moment};
+ghost use Rattle.hook_run.specs.OneAnswer.{AreSameRuns, IsFaultless, OneAnswer};
 ghost use Rattle.hook_run.specs.Parts.{AllTold, Part, all_parts, faults_of};
-ghost use Rattle.hook_run.specs.RunOuts.{IsRunOut};
+ghost use Rattle.hook_run.specs.RunOuts.{IsRunOut, IsRunOver};
 ghost use Rattle.hook_run.specs.SameRuns.{IsNextOf, outcomes_of, without_marks};
+ghost use Rattle.hook_run.specs.UnseenEdits.{EndAlike, HasRunAlike, HoldsAll, IsUnseenEdit, not_fresh};
 
 use crate::{MOST_COMMAND_BYTES, MOST_NAMES};
+use child_port::Children;
 
 /// The limits of the code are those that the definitions name.
 pub fn the_limits_are_those_defined()
@@ -42,4 +48,33 @@ pub fn outcomes_decide_a_run()
 /// The parts of a run, with their marks, decide all that it gives.
 pub fn parts_decide_what_is_given()
     ensures { (config : Config) (ask : RunAsk) (tree : List File) (trace others : List (List Part)) (first second : RunOut) → IsRunOut config ask tree trace first → IsRunOut config ask tree others second → all_parts trace ≡ all_parts others → first ≡ second }
+{}
+
+/// Children that give one answer to the same words on the same seen files leave no choice: two runs of one configuration, asked
+/// the same, on one tree, over children that tell the same, each outcome of which they may tell, and none of which is a fault,
+/// have the same parts and give the same. The marks of the parts, and so the ids of unsteady hooks, are left out: they speak of
+/// what was remembered.
+pub fn one_answer_makes_one_run<C: Children, D: Children>(children: &C, others: &D)
+    ensures { SameTells (C.tells children.now) (D.tells others.now) → OneAnswer (C.tells children.now) → (config : Config) (ask : RunAsk) (tree : List File) (trace theirs : List (List Part)) (first second : RunOut) → IsFaultless (C.tells children.now) config ask tree trace first → IsFaultless (D.tells others.now) config ask tree theirs second → AreSameRuns trace theirs first second }
+{}
+
+/// Over such children no hook of a run is unsteady, where each answer that was remembered before is one that they may tell.
+pub fn one_answer_leaves_no_hook_unsteady<C: Children>(children: &C)
+    ensures { OneAnswer (C.tells children.now) → (from to : Moment) (config : Config) (ask : RunAsk) (tree : List File) (out : RunOut) → IsTold (C.tells children.now) from.remembered → IsRunOver (C.tells children.now) from to config ask tree out → out.unsteady ≡ [] }
+{}
+
+/// An edit of files at which a run doesn't look changes none of its results. Let two trees hold the same paths, and differ only
+/// in files of some paths, none of which is a candidate, is that of a hook's script, or is seen by a child of a run on the first.
+/// Where no answer of that run strays, there is a run on the second with the same parts, so each outcome is told for it too, and
+/// with the same results. The trees that the two leave differ only in those files, which each holds as the tree does that its run
+/// began on.
+pub fn an_unseen_edit_changes_no_result()
+    ensures { (config : Config) (ask : RunAsk) (paths : List (List ℕ)) (tree other : List File) (trace : List (List Part)) (out : RunOut) → IsUnseenEdit config ask paths tree other trace out → HasRunAlike config ask paths tree other trace out }
+{}
+
+/// And it starts no child. Where the answer of each part of the run on the first tree is remembered, a run on the second that
+/// isn't fresh ends so, whatever children it is over, and calls none of them.
+pub fn an_unseen_edit_starts_no_child<C: Children>(children: &C)
+    ensures alike { (config : Config) (ask : RunAsk) (paths : List (List ℕ)) (tree other : List File) (trace : List (List Part)) (out there : RunOut) (from to : Moment) → IsUnseenEdit config ask paths tree other trace out → HoldsAll (all_parts trace) from.remembered → IsRunOver (C.tells children.now) from to config (not_fresh ask) other there → EndAlike paths tree other out there }
+    ensures unstarted { (config : Config) (ask : RunAsk) (paths : List (List ℕ)) (tree other : List File) (trace : List (List Part)) (out there : RunOut) (from to : Moment) → IsUnseenEdit config ask paths tree other trace out → HoldsAll (all_parts trace) from.remembered → (over : IsRunOver (C.tells children.now) from to config (not_fresh ask) other there) → (over.answered.started ≡ []) × (to.calls ≡ from.calls) }
 {}

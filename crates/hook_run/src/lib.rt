@@ -10,10 +10,15 @@
 //! `specs/Answers.antt` and `Starts` of `specs/Starts.antt`. They stand on `specs/StageRun.antt` (the hooks of a run one
 //! after another), `specs/HookRun.antt` (one of them), `specs/Commands.antt` (its command), `specs/Parts.antt` and
 //! `specs/PartsEnding.antt` (its children, and what they come to), `specs/Asks.antt` (which hooks a run goes through, and
-//! `names_no_hook`) and `specs/Limits.antt`; `specs/Refusals.antt` has the numbers, `specs/CountLemmas.antt` and
-//! `specs/AnswerLemmas.antt` what follows for the counts, for parts behind one another and for what is remembered. `specs/Standing.antt` and `specs/PlanRuns.antt` serve private functions alone. [`laws`] says
-//! that the outcomes decide all else of a run, and [`plan_laws`] that each plan can be completed and hands out what comes next in
-//! a run, in the words of `specs/PlanLaws.antt`.
+//! `names_no_hook`) and `specs/Limits.antt`; `specs/Refusals.antt` has the numbers. `specs/Standing.antt` and
+//! `specs/PlanRuns.antt` serve private functions alone.
+//!
+//! [`laws`] says that the outcomes decide all else of a run (`specs/SameRuns.antt`), so that there is one run alone over
+//! children that give one answer (`specs/OneAnswer.antt`), and that an edit of files at which no hook looks changes no result
+//! and starts no child (`specs/UnseenEdits.antt`). [`plan_laws`] says that each plan can be completed and hands out what comes
+//! next in a run, in the words of `specs/PlanLaws.antt`. Of the lemmas that other crates cite, `specs/CountLemmas.antt` and
+//! `specs/AnswerLemmas.antt` say what follows for the counts, for parts behind one another and for what is remembered, and
+//! `specs/OneAnswerLemmas.antt`, over `specs/OneRunLemmas.antt` and `specs/AgreeLemmas.antt`, what follows for two runs.
 #![tactic(auto)]
 
 mod advance;

@@ -51,6 +51,8 @@ fn word_alone(line: &Line) -> &'static str {
         Line::Fixes => "fixes\n",
         Line::Accept => "accept\n",
         Line::Log => "log\n",
+        Line::Memory => "memory\n",
+        Line::Forget => "forget\n",
         _ => "another command\n",
     }
 }

@@ -36,7 +36,7 @@ type Kept = Store<MemStore>;
 pub(crate) fn played(alloc: Global, arguments: &[Vec<u8>]) -> Result<Answer, Stop> {
     let mut words = Words { left: arguments };
     let mut children = children_of(alloc, &mut words)?;
-    let mut host = Host::over(alloc, empty_store(alloc)?);
+    let mut host = Host::over(empty_store(alloc)?);
     let mut told = Answer::new(alloc);
     for _ in 0..arguments.len() {
         match words.next() {
@@ -95,7 +95,7 @@ fn set_up(alloc: Global, step: &str, words: &mut Words<'_>, store: Kept) -> Resu
         "fixes" => set_fixes(alloc, words, &mut store)?,
         _ => return Err(Stop::BadLine),
     }
-    Ok(Host::over(alloc, store))
+    Ok(Host::over(store))
 }
 
 fn stage(alloc: Global, words: &mut Words<'_>, store: &mut Kept) -> Result<(), Stop> {

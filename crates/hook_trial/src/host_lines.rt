@@ -1,5 +1,6 @@
 //! Commands over a repository, from the words of a row: `add MODE PATH CONTENTS`, `add_zeros MODE PATH COUNT`, `rm PATH`,
-//! `status`, `fixes`, `accept`, `cat PATH`, `log`, `show NUMBER`, `run STAGE FILES ONLY HOW SKIP` or `commit MESSAGE HOW SKIP`.
+//! `status`, `fixes`, `accept`, `cat PATH`, `log`, `show NUMBER`, `memory`, `forget`, `run STAGE FILES ONLY HOW SKIP` or
+//! `commit MESSAGE HOW SKIP`.
 //! MODE is `plain`, `executable` or `none`; SKIP is a list of the hooks that are skipped, with commas between them; the others are
 //! those of `host_asks.rt`.
 
@@ -60,7 +61,6 @@ fn line_of(alloc: Global, command: &str, words: &mut Words<'_>) -> Result<Line, 
         "rm" => Ok(Line::Remove {
             path: asked_path(alloc, words)?,
         }),
-        "status" => Ok(Line::Status),
         "run" => Ok(Line::Run {
             stage: chosen_stage(stage_of(words)?),
             files: chosen_files(files_of(alloc, words)?),
@@ -71,15 +71,27 @@ fn line_of(alloc: Global, command: &str, words: &mut Words<'_>) -> Result<Line, 
             message: Text::copy_of(alloc, words.text()?)?,
             no_verify: is_unverified(words)?,
         }),
-        "fixes" => Ok(Line::Fixes),
-        "accept" => Ok(Line::Accept),
         "cat" => Ok(Line::Cat {
             path: asked_path(alloc, words)?,
         }),
-        "log" => Ok(Line::Log),
         "show" => Ok(Line::Show {
             number: words.number()?,
         }),
+        _ => line_alone(command),
+    }
+}
+
+// The line of a command that is a word alone.
+fn line_alone(command: &str) -> Result<Line, Stop>
+    ensures { IfOk result IsOverHost }
+{
+    match command {
+        "status" => Ok(Line::Status),
+        "fixes" => Ok(Line::Fixes),
+        "accept" => Ok(Line::Accept),
+        "log" => Ok(Line::Log),
+        "memory" => Ok(Line::Memory),
+        "forget" => Ok(Line::Forget),
         _ => Err(Stop::BadLine),
     }
 }

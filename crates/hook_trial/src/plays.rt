@@ -22,7 +22,7 @@ pub(crate) fn played(alloc: Global, arguments: &[Vec<u8>]) -> Result<Answer, Sto
     let mut words = Words { left: arguments };
     let mut children = children_of(alloc, &mut words)?;
     let commands = commands_of(alloc, &mut words)?;
-    let mut host = Host::over(alloc, empty_store(alloc)?);
+    let mut host = Host::over(empty_store(alloc)?);
     let replies = host.play(alloc, &mut children, commands.as_slice())?;
     let answer = with_replies(Answer::new(alloc), replies.as_slice());
     let answer = with_forgotten(with_counts(answer, &children, &host), &mut host);

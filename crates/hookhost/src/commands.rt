@@ -77,7 +77,7 @@ fn do_in<S: Alter + Drop>(
 {
     match open_store(rt, before, conn) {
         Ok(store) => {
-            let mut host = Host::over(rt.alloc(), store);
+            let mut host = Host::over(store);
             let status = answer(rt, line, bytes, runs, &mut host);
             Ok((status, host.into_store().into_connection()))
         }

@@ -80,7 +80,9 @@ pub(crate) fn read_file_of<R: Files + AllocGlobal>(rt: &R, line: &Line) -> Resul
         | Line::Commit { .. }
         | Line::Cat { .. }
         | Line::Log
-        | Line::Show { .. } => Ok(Vec::new(rt.alloc())),
+        | Line::Show { .. }
+        | Line::Memory
+        | Line::Forget => Ok(Vec::new(rt.alloc())),
     }
 }
 

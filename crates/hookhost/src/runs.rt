@@ -45,7 +45,9 @@ pub(crate) fn runs_of(rt: &HostRuntime, line: &Line) -> Result<Option<Runs>, Sto
         | Line::Accept
         | Line::Cat { .. }
         | Line::Log
-        | Line::Show { .. } => Ok(None),
+        | Line::Show { .. }
+        | Line::Memory
+        | Line::Forget => Ok(None),
     }
 }
 

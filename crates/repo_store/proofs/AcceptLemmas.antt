@@ -26,7 +26,7 @@ use Rattle.repo_store.specs.Sound.{IsSound}
 use Rattle.repo_store.proofs.CallLemmas.{step_then}
 use Rattle.repo_store.proofs.ListLemmas.{others_staged}
 use Rattle.repo_store.proofs.SameLemmas.{IsSame, same_staged, step_same}
-use Rattle.repo_store.proofs.StandLemmas.{tables_in}
+use Rattle.repo_store.proofs.StandLemmas.{tables_of}
 
 -- ---- one path
 
@@ -130,12 +130,12 @@ alike_rewritten (fix ∷ fixes) files others rows same =
 
 -- what the code hands over makes of the tables those of the accepted fixes
 pub accepting_handed : (files : List File) (fixes : List Change) (kept : Kept) → IsSound kept.repo → HaveSameFixed kept.repo.fixes files (apply_changes kept.repo.fixes kept.repo.staged) → fixes ≡ kept.repo.fixes
-    → IsSame (with_staged_rows (all_rewritten files fixes (tables_in kept).staged) (without_fixes (tables_in kept))) (tables_in (accepting kept))
+    → IsSame (with_staged_rows (all_rewritten files fixes (tables_of kept).staged) (without_fixes (tables_of kept))) (tables_of (accepting kept))
 accepting_handed files fixes kept sound files_same fixes_is =
     let staged = map staged_row kept.repo.staged in
-    subst (λ (l : List Change). IsSame (with_staged_rows (all_rewritten files l staged) (without_fixes (tables_in kept))) (tables_in (accepting kept))) (sym fixes_is)
-    (subst (λ (l : List StagedRow). IsSame (with_staged_rows l (without_fixes (tables_in kept))) (tables_in (accepting kept))) (sym (alike_rewritten kept.repo.fixes files (apply_changes kept.repo.fixes kept.repo.staged) staged files_same))
-    (same_staged (with_staged_rows (all_rewritten (apply_changes kept.repo.fixes kept.repo.staged) kept.repo.fixes staged) (without_fixes (tables_in kept))) (map staged_row (apply_changes kept.repo.fixes kept.repo.staged))
+    subst (λ (l : List Change). IsSame (with_staged_rows (all_rewritten files l staged) (without_fixes (tables_of kept))) (tables_of (accepting kept))) (sym fixes_is)
+    (subst (λ (l : List StagedRow). IsSame (with_staged_rows l (without_fixes (tables_of kept))) (tables_of (accepting kept))) (sym (alike_rewritten kept.repo.fixes files (apply_changes kept.repo.fixes kept.repo.staged) staged files_same))
+    (same_staged (with_staged_rows (all_rewritten (apply_changes kept.repo.fixes kept.repo.staged) kept.repo.fixes staged) (without_fixes (tables_of kept))) (map staged_row (apply_changes kept.repo.fixes kept.repo.staged))
     (accepted_rows kept.repo.fixes kept.repo.staged sound.staged_rise sound.fixes_rise)))
 
 -- ---- one fix more, at a step of the loop

@@ -14,12 +14,14 @@ use Rattle.hook_base.specs.declared.change.Change.{Change}
 use Rattle.hook_base.specs.Rising.{path_cmp}
 use Rattle.hook_base.specs.RisingLemmas.{bytes_same}
 use Rattle.hook_base.specs.Trees.{IsRisingChanges, apply_at, apply_changes, put_before, put_file, put_row, remove_file, rewrite_file, with_bytes}
-use Rattle.repo_store.specs.Complete.{HaveDistinctDigests, HaveContents, HaveNewContents, IsAmong, IsComplete}
+use Rattle.repo_store.specs.Answers.{KeptAnswer}
+use Rattle.repo_store.specs.Complete.{HasRecords, HaveDistinctDigests, HaveContents, HaveNewContents, HaveRecords, IsAmong, IsComplete}
 use Rattle.repo_store.specs.Contents.{Collides, has_content, with_content, with_new, with_changes}
-use Rattle.repo_store.specs.Kept.{FixCollides, Kept, accepting, committing, keeping, setting, staging, unstaging}
+use Rattle.repo_store.specs.Kept.{FixCollides, Kept, accepting, committing, forgetting, keeping, nothing_kept, setting, staging, unstaging}
 use Rattle.repo_store.specs.Limits.{Fits, most_commits}
 use Rattle.repo_store.specs.FromRows.{AreBare, with_file}
-use Rattle.repo_store.specs.Repository.{Commit, Repository, empty, staged_changes}
+use Rattle.repo_store.specs.Repository.{Commit, Repository, staged_changes}
+use Rattle.repo_store.specs.WrittenAnswers.{written_changes, written_seen, written_words}
 use Rattle.repo_store.proofs.FromRowsLemmas.{all_pushed}
 use Rattle.repo_store.proofs.SoundLemmas.{fixes_fit, fixes_rise, sound_accepted, sound_committed, sound_empty, sound_staged, sound_unstaged}
 use Rattle.repo_store.proofs.RowRuleLemmas.{all_weaker}
@@ -72,14 +74,14 @@ module _ (P : List ℕ → Type 0) where
 
 -- ---- what is among the contents, after more of them
 
-still : (x bytes : List ℕ) (contents : List (List ℕ)) → IsAmong contents x → IsAmong (with_content bytes contents) x
+pub still : (x bytes : List ℕ) (contents : List (List ℕ)) → IsAmong contents x → IsAmong (with_content bytes contents) x
 still x bytes contents there =
     elim (has_content bytes contents) as (λ b. has_content x (if b then contents else contents ++ bytes ∷ []) ≡ true) [
       | true ↦ there
       | false ↦ list_any-append (bytes_eq x) contents (bytes ∷ []) ∙ ap (λ b. b || has_content x (bytes ∷ [])) there
     ]
 
-here_now : (bytes : List ℕ) (contents : List (List ℕ)) → IsAmong (with_content bytes contents) bytes
+pub here_now : (bytes : List ℕ) (contents : List (List ℕ)) → IsAmong (with_content bytes contents) bytes
 here_now bytes contents =
     elim (has_content bytes contents) as (λ b. has_content bytes contents ≡ b → has_content bytes (if b then contents else contents ++ bytes ∷ []) ≡ true) [
       | true ↦ λ e. e
@@ -140,7 +142,7 @@ apart_pushed bytes contents clear absent apart i j i_in j_in same =
           ]
     ]
 
-apart_with : (bytes : List ℕ) (contents : List (List ℕ)) → ¬ Collides bytes contents → HaveDistinctDigests contents → HaveDistinctDigests (with_content bytes contents)
+pub apart_with : (bytes : List ℕ) (contents : List (List ℕ)) → ¬ Collides bytes contents → HaveDistinctDigests contents → HaveDistinctDigests (with_content bytes contents)
 apart_with bytes contents clear apart =
     elim (has_content bytes contents) as (λ b. has_content bytes contents ≡ b → HaveDistinctDigests (if b then contents else contents ++ bytes ∷ [])) [ true ↦ λ e. apart | false ↦ λ e. apart_pushed bytes contents clear e apart ] refl
 
@@ -156,16 +158,33 @@ apart_all (change ∷ changes) contents clear apart =
 
 -- ---- the calls
 
-grown : (old new : List (List ℕ)) (repo : Repository) → ((x : List ℕ) → IsAmong old x → IsAmong new x) → AllByRecursion (λ (commit : Commit). HaveContents old commit.tree) repo.history → AllByRecursion (λ (commit : Commit). HaveContents new commit.tree) repo.history
+pub grown : (old new : List (List ℕ)) (repo : Repository) → ((x : List ℕ) → IsAmong old x → IsAmong new x) → AllByRecursion (λ (commit : Commit). HaveContents old commit.tree) repo.history → AllByRecursion (λ (commit : Commit). HaveContents new commit.tree) repo.history
 grown old new repo grows all =
     all_weaker (λ (commit : Commit). HaveContents old commit.tree) (λ (commit : Commit). HaveContents new commit.tree) repo.history
     (λ commit there. all_weaker (λ (file : File). IsAmong old file.entry.bytes) (λ (file : File). IsAmong new file.entry.bytes) commit.tree (λ file. grows file.entry.bytes) there) all
 
-files_grown : (old new : List (List ℕ)) (files : List File) → ((x : List ℕ) → IsAmong old x → IsAmong new x) → HaveContents old files → HaveContents new files
+pub files_grown : (old new : List (List ℕ)) (files : List File) → ((x : List ℕ) → IsAmong old x → IsAmong new x) → HaveContents old files → HaveContents new files
 files_grown old new files grows all = all_weaker (λ (file : File). IsAmong old file.entry.bytes) (λ (file : File). IsAmong new file.entry.bytes) files (λ file. grows file.entry.bytes) all
 
-pub complete_empty : IsComplete (record { repo = empty; contents = [] })
-complete_empty = record { sound = sound_empty; staged = tt; fixes = tt; trees = tt; apart = λ i j i_in j_in same. absurd (omega arith) }
+pub fixes_grown : (old new : List (List ℕ)) (fixes : List Change) → ((x : List ℕ) → IsAmong old x → IsAmong new x) → HaveNewContents old fixes → HaveNewContents new fixes
+fixes_grown old new fixes grows all =
+    all_weaker (λ (change : Change). MatchOption change.now (Unit {0}) (IsAmong old)) (λ (change : Change). MatchOption change.now (Unit {0}) (IsAmong new)) fixes
+    (λ change. option_weaker (IsAmong old) (IsAmong new) change.now grows) all
+
+pub records_grown : (old new : List (List ℕ)) (answers : List KeptAnswer) → ((x : List ℕ) → IsAmong old x → IsAmong new x) → HaveRecords old answers → HaveRecords new answers
+records_grown old new answers grows all =
+    all_weaker (HasRecords old) (HasRecords new) answers
+    (λ answer there. record {
+      words = grows (written_words answer) there.words;
+      seen = grows (written_seen answer) there.seen;
+      output = grows answer.output there.output;
+      changes = grows (written_changes answer) there.changes;
+      seen_contents = files_grown old new answer.seen grows there.seen_contents;
+      new_contents = fixes_grown old new answer.changes grows there.new_contents;
+    }) all
+
+pub complete_empty : IsComplete nothing_kept
+complete_empty = record { sound = sound_empty; staged = tt; fixes = tt; trees = tt; sound_answers = tt; answers = tt; keys = tt; apart = λ i j i_in j_in same. absurd (omega arith) }
 
 pub complete_staged : (path : List ℕ) (entry : FileEntry) (kept : Kept) → IsComplete kept → Fits (put_file path entry kept.repo.staged) → ¬ Collides entry.bytes kept.contents → IsComplete (staging path entry kept)
 complete_staged path entry kept it fits clear =
@@ -176,11 +195,14 @@ complete_staged path entry kept it fits clear =
       staged = have_put (IsAmong new) (record { path = path; entry = entry }) kept.repo.staged (here_now entry.bytes kept.contents) (files_grown kept.contents new kept.repo.staged grows it.staged);
       fixes = tt;
       trees = grown kept.contents new kept.repo grows it.trees;
+      sound_answers = it.sound_answers;
+      answers = records_grown kept.contents new kept.answers grows it.answers;
+      keys = it.keys;
       apart = apart_with entry.bytes kept.contents clear it.apart;
     }
 
 pub complete_unstaged : (path : List ℕ) (kept : Kept) → IsComplete kept → IsComplete (unstaging path kept)
-complete_unstaged path kept it = record { sound = sound_unstaged path kept.repo it.sound; staged = have_removed (IsAmong kept.contents) path kept.repo.staged it.staged; fixes = tt; trees = it.trees; apart = it.apart }
+complete_unstaged path kept it = record { sound = sound_unstaged path kept.repo it.sound; staged = have_removed (IsAmong kept.contents) path kept.repo.staged it.staged; fixes = tt; trees = it.trees; sound_answers = it.sound_answers; answers = it.answers; keys = it.keys; apart = it.apart }
 
 pub complete_kept : (bytes : List ℕ) (kept : Kept) → IsComplete kept → ¬ Collides bytes kept.contents → IsComplete (keeping bytes kept)
 complete_kept bytes kept it clear =
@@ -189,10 +211,11 @@ complete_kept bytes kept it clear =
     record {
       sound = it.sound;
       staged = files_grown kept.contents new kept.repo.staged grows it.staged;
-      fixes =
-          all_weaker (λ (change : Change). MatchOption change.now (Unit {0}) (IsAmong kept.contents)) (λ (change : Change). MatchOption change.now (Unit {0}) (IsAmong new)) kept.repo.fixes
-          (λ change. option_weaker (IsAmong kept.contents) (IsAmong new) change.now grows) it.fixes;
+      fixes = fixes_grown kept.contents new kept.repo.fixes grows it.fixes;
       trees = grown kept.contents new kept.repo grows it.trees;
+      sound_answers = it.sound_answers;
+      answers = records_grown kept.contents new kept.answers grows it.answers;
+      keys = it.keys;
       apart = apart_with bytes kept.contents clear it.apart;
     }
 
@@ -202,11 +225,17 @@ complete_committed message kept it few = record {
   staged = it.staged;
   fixes = tt;
   trees = all_pushed (λ (commit : Commit). HaveContents kept.contents commit.tree) kept.repo.history (record { message = message; tree = kept.repo.staged }) it.trees it.staged;
+  sound_answers = it.sound_answers;
+  answers = it.answers;
+  keys = it.keys;
   apart = it.apart;
 }
 
+pub complete_forgotten : (kept : Kept) → IsComplete kept → IsComplete (forgetting kept)
+complete_forgotten kept it = record { sound = it.sound; staged = it.staged; fixes = it.fixes; trees = it.trees; sound_answers = tt; answers = tt; keys = tt; apart = it.apart }
+
 pub complete_accepted : (kept : Kept) → IsComplete kept → IsComplete (accepting kept)
-complete_accepted kept it = record { sound = sound_accepted kept.repo it.sound; staged = have_applied (IsAmong kept.contents) kept.repo.fixes kept.repo.staged it.fixes it.staged; fixes = tt; trees = it.trees; apart = it.apart }
+complete_accepted kept it = record { sound = sound_accepted kept.repo it.sound; staged = have_applied (IsAmong kept.contents) kept.repo.fixes kept.repo.staged it.fixes it.staged; fixes = tt; trees = it.trees; sound_answers = it.sound_answers; answers = it.answers; keys = it.keys; apart = it.apart }
 
 pub complete_set : (changes : List Change) (kept : Kept) → IsComplete kept → IsRisingChanges changes → ¬ FixCollides (staged_changes changes kept.repo.staged) kept.contents → IsComplete (setting changes kept)
 complete_set changes kept it rising clear =
@@ -225,5 +254,8 @@ complete_set changes kept it rising clear =
       staged = files_grown kept.contents new kept.repo.staged grows it.staged;
       fixes = all_now fixes kept.contents;
       trees = grown kept.contents new kept.repo grows it.trees;
+      sound_answers = it.sound_answers;
+      answers = records_grown kept.contents new kept.answers grows it.answers;
+      keys = it.keys;
       apart = apart_all fixes kept.contents clear it.apart;
     }

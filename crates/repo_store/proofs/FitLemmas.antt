@@ -25,9 +25,9 @@ module _ (db : Database) (t : Tables) (holds : Holds db t) where
   obeys_fit : AreStoreRows t → ¬ IsUnfit db Damaged
   obeys_fit obeys unfit = unfit.broken (obeys_same t unfit.tables (holds_one db t unfit.tables holds unfit.holds) obeys)
 
-pub held_fit : (db : Database) (kept : Kept) (fault : StoreFault) → Holds db (tables_of kept.repo kept.contents) → AreStoreRows (tables_of kept.repo kept.contents) → IsUnfit db fault → IsRefusal ⊥ ⊥ ⊥ fault
-held_fit db kept NotAStore holds obeys unfit = absurd (versioned_fit db (tables_of kept.repo kept.contents) holds (IsPermutation-refl (version_row ∷ [])) unfit)
-held_fit db kept Damaged holds obeys unfit = absurd (obeys_fit db (tables_of kept.repo kept.contents) holds obeys unfit)
+pub held_fit : (db : Database) (kept : Kept) (fault : StoreFault) → Holds db (tables_of kept) → AreStoreRows (tables_of kept) → IsUnfit db fault → IsRefusal ⊥ ⊥ ⊥ fault
+held_fit db kept NotAStore holds obeys unfit = absurd (versioned_fit db (tables_of kept) holds (IsPermutation-refl (version_row ∷ [])) unfit)
+held_fit db kept Damaged holds obeys unfit = absurd (obeys_fit db (tables_of kept) holds obeys unfit)
 held_fit db kept (Sql error) holds obeys unfit = tt
 held_fit db kept OutOfMemory holds obeys unfit = tt
 held_fit db kept Collision holds obeys unfit = unfit
@@ -41,9 +41,9 @@ pub left_versioned : (trees : Trees) (kept : Kept) → Leaves kept trees → ¬ 
 left_versioned trees kept left unfit = held_fit (with_schema trees) kept NotAStore left.holds left.obeys unfit
 
 -- A database with the trees of a store has its tables, whatever it takes them for.
-left_holds : (db : Database) (kept : Kept) → Leaves kept db.trees → IsDatabase db → Holds db (tables_of kept.repo kept.contents)
+left_holds : (db : Database) (kept : Kept) → Leaves kept db.trees → IsDatabase db → Holds db (tables_of kept)
 left_holds db kept left live =
-    subst (λ (s : Schema). Holds (record { schema = s; trees = db.trees }) (tables_of kept.repo kept.contents)) (sym (one_schema db.trees db.schema store_schema live left.holds.sound)) left.holds
+    subst (λ (s : Schema). Holds (record { schema = s; trees = db.trees }) (tables_of kept)) (sym (one_schema db.trees db.schema store_schema live left.holds.sound)) left.holds
 
 -- so what was left of a store is opened, or memory or the database refuses
 pub left_fit : (s : State) (fault : StoreFault) → (IsTrue s.is_open → IsDatabase s.now) → (IsTrue s.is_open → s.now ≡ s.committed) → IsUnfit s.now fault → IsTrue s.is_open → (kept : Kept) → Leaves kept s.committed.trees → IsRefusal ⊥ ⊥ ⊥ fault

@@ -44,7 +44,7 @@ with_changes-push (first ∷ changes) change contents = with_changes-push change
 -- ---- the contents before stay
 
 module _ (n : ℕ) where
-  content_before : (bytes : List ℕ) (contents : List (List ℕ)) → n ≤ length contents → (take n (with_content bytes contents) ≡ take n contents) × (n ≤ length (with_content bytes contents))
+  pub content_before : (bytes : List ℕ) (contents : List (List ℕ)) → n ≤ length contents → (take n (with_content bytes contents) ≡ take n contents) × (n ≤ length (with_content bytes contents))
   content_before bytes contents within =
       elim (has_content bytes contents) as (λ b. (take n (if b then contents else contents ++ bytes ∷ []) ≡ take n contents) × (n ≤ length (if b then contents else contents ++ bytes ∷ []))) [
         | true ↦ (refl, within)

@@ -27,6 +27,7 @@ use Rattle.repo_store.specs.declared.fault.StoreFault.TheVariants.{NotAStore, Da
 use Rattle.repo_store.specs.declared.shared.FileParts.{FileParts}
 use Rattle.repo_store.specs.declared.shared.SharedFix.{SharedFix}
 use Rattle.repo_store.specs.declared.table_rows.StoreRows.{StoreRows}
+use Rattle.repo_store.specs.Answers.{KeptAnswer}
 use Rattle.repo_store.specs.Kept.{Kept}
 use Rattle.repo_store.specs.Sound.{IsSound}
 use Rattle.repo_store.specs.declared.shared.SharedCommit.{SharedCommit}
@@ -34,8 +35,8 @@ use Rattle.repo_store.specs.Faults.{IsDamage}
 use Rattle.repo_store.specs.Lists.{commit_of, file_of, fix_of, repository_of}
 use Rattle.repo_store.specs.FromRows.{AreBare, AreEntered, IsSame, rows_in, with_file}
 use Rattle.repo_store.specs.Repository.{Commit}
-use Rattle.repo_store.specs.Rows.{blob_row, commit_rows, entry_row, entry_rows, fix_at, fix_row, staged_row, tables_of, version_row}
-use Rattle.repo_store.specs.RowRules.{AreCommitRows, AreStagedRows, IsBlobRow, IsEntryRow, IsFileRow, IsFixRow, AreStoreRows, is_staged, number_in, numbers_from}
+use Rattle.repo_store.specs.Rows.{answer_row, blob_row, commit_rows, entry_row, entry_rows, fix_at, fix_row, staged_row, tables_of, version_row}
+use Rattle.repo_store.specs.RowRules.{AreCommitRows, AreStagedRows, IsAnswerRow, IsBlobRow, IsEntryRow, IsFileRow, IsFixRow, AreStoreRows, is_staged, number_in, numbers_from}
 use Rattle.store_tables.specs.declared.rows.CommitRow.{CommitRow}
 use Rattle.repo_store.specs.Limits.{Fits, IsSmall, most_commits}
 use Rattle.repo_store.proofs.SoundLemmas.{AreStaged, few}
@@ -51,6 +52,12 @@ front_more {X} xs i x within is = take_more xs i x within ∙ ap (λ (y : X). ta
 pub rows_more : {X Y : Type 0} (row : Y → X) (rows : List X) (x : X) (held now : List Y) (one : Y) → map row held ≡ rows → now ≡ held ++ one ∷ [] → row one ≡ x → map row now ≡ rows ++ x ∷ []
 rows_more {X} row rows x held now one same added this =
     ap (map row) added ∙ map-append row held (one ∷ []) ∙ ap (λ (l : List X). l ++ row one ∷ []) same ∙ ap (λ (y : X). rows ++ y ∷ []) this
+
+-- what holds of each, holds of the one at a place
+pub all_of_at : {A X : Type 0} (f : A → X) (P : X → Type 0) (xs : List A) (i : ℕ) (x : A) → i < length xs → x ≡ get_or xs i x → AllByRecursion P (map f xs) → P (f x)
+all_of_at f P [] i x within is all = absurd (omega arith)
+all_of_at f P (y ∷ xs) zero x within is all = subst (λ z. P (f z)) (sym is) all.0
+all_of_at f P (y ∷ xs) (suc i) x within is all = all_of_at f P xs i x (omega arith) is all.1
 
 -- ---- what comes last
 
@@ -277,29 +284,29 @@ perm_same xs ys same = subst (IsPermutation xs) same (IsPermutation-refl xs)
 
 -- ---- all of them
 
-pub lists_same : (rows : StoreRows) (contents : List (List ℕ)) (history : List SharedCommit) (staged : List FileParts) (fixes : List SharedFix) (kept : Kept) → map blob_row contents ≡ rows.blobs.items → map staged_row (map file_of staged) ≡ rows.staged.items
-    → map fix_row (map fix_of fixes) ≡ rows.fixes.items → commit_rows 1 (map commit_of history) ≡ rows.commits.items → IsPermutation (entry_rows 1 (map commit_of history)) rows.entries.items → rows.answers.items ≡ []
-    → kept ≡ record { repo = repository_of history staged fixes; contents = contents } → IsSame (rows_in rows) (tables_of kept.repo kept.contents)
-lists_same rows contents history staged fixes kept blobs files changes commits entries answers is =
-    subst (λ (k : Kept). IsSame (rows_in rows) (tables_of k.repo k.contents)) (sym is) (record {
+pub lists_same : (rows : StoreRows) (contents : List (List ℕ)) (history : List SharedCommit) (staged : List FileParts) (fixes : List SharedFix) (answers : List KeptAnswer) (kept : Kept) → map blob_row contents ≡ rows.blobs.items → map staged_row (map file_of staged) ≡ rows.staged.items
+    → map fix_row (map fix_of fixes) ≡ rows.fixes.items → commit_rows 1 (map commit_of history) ≡ rows.commits.items → IsPermutation (entry_rows 1 (map commit_of history)) rows.entries.items → map answer_row answers ≡ rows.answers.items
+    → kept ≡ record { repo = repository_of history staged fixes; contents = contents; answers = answers } → IsSame (rows_in rows) (tables_of kept)
+lists_same rows contents history staged fixes answers kept blobs files changes commits entries remembered is =
+    subst (λ (k : Kept). IsSame (rows_in rows) (tables_of k)) (sym is) (record {
       meta = IsPermutation-refl (version_row ∷ []);
       blobs = perm_same rows.blobs.items (map blob_row contents) (sym blobs);
       staged = perm_same rows.staged.items (map staged_row (map file_of staged)) (sym files);
       fixes = perm_same rows.fixes.items (map fix_row (map fix_of fixes)) (sym changes);
       commits = perm_same rows.commits.items (commit_rows 1 (map commit_of history)) (sym commits);
       entries = IsPermutation-sym _ _ entries;
-      answers = perm_same rows.answers.items [] answers;
+      answers = perm_same rows.answers.items (map answer_row answers) (sym remembered);
     })
 
 pub lists_obey : (rows : StoreRows) (blobs : List BlobRow) (staged : List StagedRow) → blobs ≡ rows.blobs.items → staged ≡ rows.staged.items → AllByRecursion IsBlobRow rows.blobs.items → AreStagedRows blobs rows.staged.items
-    → AllByRecursion (IsFixRow blobs staged) rows.fixes.items → AreCommitRows rows.commits.items → AllByRecursion (IsEntryRow blobs (length rows.commits.items)) rows.entries.items → rows.answers.items ≡ [] → AreStoreRows (rows_in rows)
+    → AllByRecursion (IsFixRow blobs staged) rows.fixes.items → AreCommitRows rows.commits.items → AllByRecursion (IsEntryRow blobs (length rows.commits.items)) rows.entries.items → AllByRecursion (IsAnswerRow blobs) rows.answers.items → AreStoreRows (rows_in rows)
 lists_obey rows blobs staged blobs_are staged_are contents files fixes commits entries answers = record {
   blobs = contents;
   staged = subst (λ (l : List BlobRow). AreStagedRows l rows.staged.items) blobs_are files;
   fixes = subst (λ (l : List BlobRow). AllByRecursion (IsFixRow l rows.staged.items) rows.fixes.items) blobs_are (subst (λ (l : List StagedRow). AllByRecursion (IsFixRow blobs l) rows.fixes.items) staged_are fixes);
   commits = commits;
   entries = subst (λ (l : List BlobRow). AllByRecursion (IsEntryRow l (length rows.commits.items)) rows.entries.items) blobs_are entries;
-  answers = answers;
+  answers = subst (λ (l : List BlobRow). AllByRecursion (IsAnswerRow l) rows.answers.items) blobs_are answers;
 }
 
 pub lists_sound : (history : List SharedCommit) (staged : List FileParts) (fixes : List SharedFix) (blobs : List BlobRow) (rows : List FixRow) (commits : List CommitRow) → IsRising (map file_of staged) → Fits (map file_of staged)
@@ -316,7 +323,3 @@ lists_sound history staged fixes blobs rows commits rising fits up same all tree
   trees_rise = trees;
   numbered = let count = length_commit_rows 1 (map commit_of history) in let same_count = ap length numbers in let most = obeys.few in omega arith;
 }
-
-pub none_there : {X : Type 0} (xs : List X) → length xs ≡ 0 → xs ≡ []
-none_there [] none = refl
-none_there (x ∷ xs) none = absurd (omega arith)

@@ -1,5 +1,5 @@
 -- Contents found by their digests.
-use Rattle.std.proofs.Common.{◌≡◌, ℕ, ◌<◌, true, false, cond, List, [], ◌∷◌, ◌++◌, length, get_or, Option, None, Some, Result, Ok, Err, is_err, OnOk, OnErr, refl, sym, ap, subst, ◌∙◌, inl, inr, arith, length-append}
+use Rattle.std.proofs.Common.{◌≡◌, ℕ, ◌<◌, Bool, true, false, cond, List, [], ◌∷◌, ◌++◌, length, get_or, Option, None, Some, Result, Ok, Err, is_err, OnOk, OnErr, refl, sym, ap, subst, ◌∙◌, inl, inr, arith, length-append}
 use Rattle.std.specs.List.{Any}
 use Rattle.std.specs.Str.{bytes_eq}
 use Rattle.std.specs.HashMap.{HashMap, get}
@@ -11,9 +11,10 @@ use Rattle.std.proofs.lemmas.List.Folds.{list_any_at, Any-from_list_any, list_an
 use lib.Seq.{get_or-append_seam}
 use lib.ListN.{get_or-append}
 use Rattle.sha2.specs.Sha256.{sha256}
-use Rattle.hook_base.specs.RisingLemmas.{bytes_same, bytes_differ}
+use Rattle.hook_base.specs.RisingLemmas.{bytes_same}
 use Rattle.repo_store.specs.Complete.{HaveDistinctDigests}
-use Rattle.repo_store.specs.Contents.{Collides, has_digest, has_content, with_content, IsIndexed}
+use Rattle.repo_store.specs.Contents.{Collides, has_digest, has_content, with_content}
+use Rattle.repo_store.specs.Index.{IsIndexed, IsIndexedBy}
 
 never : {X : Type 0} {x : X} → ◌≡◌ {A = Option X} None (Some x) → ⊥
 never e = cc
@@ -28,6 +29,97 @@ err_part (Err y) e p = p
 
 same_some : {X : Type 0} {x y : X} → Some x ≡ Some y → x ≡ y
 same_some e = cc
+
+-- ---- a map from keys to places
+
+differ : {K : Type 0} (same : K → K → Bool) → ((a b : K) → (same a b ≡ true → a ≡ b) × (a ≡ b → same a b ≡ true)) → (a b : K) → (a ≡ b → ⊥) → same a b ≡ false
+differ same decides a b apart = false_from_ne_true (same a b) (λ h. apart ((decides a b).0 h))
+
+module _ {X K S : Type 0} (same : K → K → Bool) (decides : (a b : K) → (same a b ≡ true → a ≡ b) × (a ≡ b → same a b ≡ true)) (key : X → K) (blank : X) where
+  -- no two stand under one key
+  pub apart_by : (m : HashMap K ℕ S) (xs : List X) → IsIndexedBy same key blank m xs → (i j : ℕ) → i < length xs → j < length xs → key (get_or xs i blank) ≡ key (get_or xs j blank) → i ≡ j
+  apart_by m xs index i j i_in j_in one = same_some (sym (index.listed i i_in) ∙ ap (get same m) one ∙ index.listed j j_in)
+
+  -- one more, whose key none has
+  pub pushed_by : (m n : HashMap K ℕ S) (xs : List X) (x : X) → IsIndexedBy same key blank m xs → get same m (key x) ≡ None → ((q : K) → get same n q ≡ cond (same (key x) q) (Some (length xs)) (get same m q)) → IsIndexedBy same key blank n (xs ++ x ∷ [])
+  pushed_by m n xs x index none puts = record { listed = λ k within. listed k within; found = λ q k at. found q k at }
+    where
+      before : (k : ℕ) → k < length xs → get_or (xs ++ x ∷ []) k blank ≡ get_or xs k blank
+      before k within = get_or-append xs (x ∷ []) blank k within
+
+      earlier : (k : ℕ) → k < length xs → get same n (key (get_or (xs ++ x ∷ []) k blank)) ≡ Some k
+      earlier k within =
+          let placed = index.listed k within in
+          let differs : key x ≡ key (get_or xs k blank) → ⊥ = λ e. let other : get same m (key x) ≡ Some k = ap (get same m) e ∙ placed in never (sym none ∙ other) in
+          ap (λ y. get same n (key y)) (before k within) ∙ puts (key (get_or xs k blank)) ∙ rw (differ same decides (key x) (key (get_or xs k blank)) differs) placed
+
+      last : get same n (key (get_or (xs ++ x ∷ []) (length xs) blank)) ≡ Some (length xs)
+      last = ap (λ y. get same n (key y)) (get_or-append_seam xs x [] blank) ∙ puts (key x) ∙ rw ((decides (key x) (key x)).1 refl) refl
+
+      listed : (k : ℕ) → k < length (xs ++ x ∷ []) → get same n (key (get_or (xs ++ x ∷ []) k blank)) ≡ Some k
+      listed k within =
+          elim (cases_lt k (length xs)) [
+            | inl lt ↦ earlier k lt
+            | inr ge ↦ let end : length xs ≡ k = omega (arith, length-append xs (x ∷ [])) in subst (λ (j : ℕ). get same n (key (get_or (xs ++ x ∷ []) j blank)) ≡ Some j) end last
+          ]
+
+      found : (q : K) (k : ℕ) → get same n q ≡ Some k → (k < length (xs ++ x ∷ [])) × (key (get_or (xs ++ x ∷ []) k blank) ≡ q)
+      found q k is =
+          elim (same (key x) q) as (λ b. same (key x) q ≡ b → (k < length (xs ++ x ∷ [])) × (key (get_or (xs ++ x ∷ []) k blank) ≡ q)) [
+            | true ↦ λ e.
+                let end : length xs ≡ k = same_some (sym (puts q ∙ ap (λ b. cond b (Some (length xs)) (get same m q)) e) ∙ is) in
+                (omega (arith, length-append xs (x ∷ [])), ap (λ (j : ℕ). key (get_or (xs ++ x ∷ []) j blank)) (sym end) ∙ ap key (get_or-append_seam xs x [] blank) ∙ (decides (key x) q).0 e)
+            | false ↦ λ e.
+                let it = index.found q k (sym (puts q ∙ ap (λ b. cond b (Some (length xs)) (get same m q)) e) ∙ is) in
+                let within : k < length xs = it.0 in
+                (omega (arith, length-append xs (x ∷ [])), ap key (before k within) ∙ it.1)
+          ] refl
+
+  -- the last taken out
+  pub popped_by : (m n : HashMap K ℕ S) (xs : List X) (x : X) → IsIndexedBy same key blank m (xs ++ x ∷ []) → ((q : K) → get same n q ≡ cond (same (key x) q) None (get same m q)) → IsIndexedBy same key blank n xs
+  popped_by m n xs x index puts = record { listed = λ k within. listed k within; found = λ q k at. found q k at }
+    where
+      before : (k : ℕ) → k < length xs → get_or (xs ++ x ∷ []) k blank ≡ get_or xs k blank
+      before k within = get_or-append xs (x ∷ []) blank k within
+
+      last : get same m (key x) ≡ Some (length xs)
+      last = ap (λ y. get same m (key y)) (sym (get_or-append_seam xs x [] blank)) ∙ index.listed (length xs) (omega (arith, length-append xs (x ∷ [])))
+
+      listed : (k : ℕ) → k < length xs → get same n (key (get_or xs k blank)) ≡ Some k
+      listed k within =
+          let placed : get same m (key (get_or xs k blank)) ≡ Some k =
+          ap (λ y. get same m (key y)) (sym (before k within)) ∙ index.listed k (omega (arith, length-append xs (x ∷ []))) in
+          let differs : key x ≡ key (get_or xs k blank) → ⊥ = λ e. let end : k ≡ length xs = same_some (sym placed ∙ ap (get same m) (sym e) ∙ last) in omega arith in
+          puts (key (get_or xs k blank)) ∙ rw (differ same decides (key x) (key (get_or xs k blank)) differs) placed
+
+      found : (q : K) (k : ℕ) → get same n q ≡ Some k → (k < length xs) × (key (get_or xs k blank) ≡ q)
+      found q k is =
+          elim (same (key x) q) as (λ b. same (key x) q ≡ b → (k < length xs) × (key (get_or xs k blank) ≡ q)) [
+            | true ↦ λ e. absurd (never (sym (puts q ∙ ap (λ b. cond b None (get same m q)) e) ∙ is))
+            | false ↦ λ e.
+                let it = index.found q k (sym (puts q ∙ ap (λ b. cond b None (get same m q)) e) ∙ is) in
+                let obeys : k < length (xs ++ x ∷ []) = it.0 in
+                elim (cases_lt k (length xs)) [
+                  | inl lt ↦ (lt, ap key (sym (before k lt)) ∙ it.1)
+                  | inr ge ↦
+                      let end : length xs ≡ k = omega (arith, length-append xs (x ∷ [])) in
+                      let here : key x ≡ q = ap key (sym (get_or-append_seam xs x [] blank)) ∙ ap (λ (j : ℕ). key (get_or (xs ++ x ∷ []) j blank)) end ∙ it.1 in
+                      let there : same (key x) q ≡ true = (decides (key x) q).1 here in
+                      absurd (cc)
+                ]
+          ] refl
+
+  -- the same entries
+  pub same_by : (m n : HashMap K ℕ S) (xs : List X) → n.entries ≡ m.entries → IsIndexedBy same key blank m xs → IsIndexedBy same key blank n xs
+  same_by m n xs one index = record {
+    listed = λ k within. ap (λ es. lookup (same (key (get_or xs k blank))) es) one ∙ index.listed k within;
+    found = λ q k is. index.found q k (ap (λ es. lookup (same q) es) (sym one) ∙ is);
+  }
+
+-- ---- contents under their digests
+
+bytes_decide : (a b : List ℕ) → (bytes_eq a b ≡ true → a ≡ b) × (a ≡ b → bytes_eq a b ≡ true)
+bytes_decide a b = ((bytes_decides a b).0, bytes_same a b)
 
 module _ {S : Type 0} (m : HashMap (List ℕ) ℕ S) (contents : List (List ℕ)) (index : IsIndexed m contents) where
   abbrev at : ℕ → List ℕ
@@ -57,7 +149,7 @@ module _ {S : Type 0} (m : HashMap (List ℕ) ℕ S) (contents : List (List ℕ)
 
   -- no two of the contents stand under one digest
   pub index_apart : HaveDistinctDigests contents
-  index_apart i j i_in j_in same = same_some (sym (index.listed i i_in) ∙ ap (get bytes_eq m) same ∙ index.listed j j_in)
+  index_apart = apart_by bytes_eq bytes_decide sha256 [] m contents index
 
   -- the contents at the place of a digest are the only ones under it
   pub one_alone : (content : List ℕ) (k : ℕ) → get bytes_eq m (sha256 content) ≡ Some k → at k ≡ content → ¬ Collides content contents
@@ -69,89 +161,16 @@ module _ {S : Type 0} (m : HashMap (List ℕ) ℕ S) (contents : List (List ℕ)
 -- one more, whose digest no contents have
 pub index_pushed : {S : Type 0} (m n : HashMap (List ℕ) ℕ S) (contents : List (List ℕ)) (bytes : List ℕ) → IsIndexed m contents → has_digest (sha256 bytes) contents ≡ false
     → ((q : List ℕ) → get bytes_eq n q ≡ cond (bytes_eq (sha256 bytes) q) (Some (length contents)) (get bytes_eq m q)) → IsIndexed n (contents ++ bytes ∷ [])
-index_pushed m n contents bytes index new puts = record {
-  listed = λ k within. listed k within;
-  found = λ digest k at. found digest k at;
-}
-  where
-    none : get bytes_eq m (sha256 bytes) ≡ None
-    none = unplaced m contents index (sha256 bytes) new
-
-    before : (k : ℕ) → k < length contents → get_or (contents ++ bytes ∷ []) k [] ≡ get_or contents k []
-    before k within = get_or-append contents (bytes ∷ []) [] k within
-
-    earlier : (k : ℕ) → k < length contents → get bytes_eq n (sha256 (get_or (contents ++ bytes ∷ []) k [])) ≡ Some k
-    earlier k within =
-        let placed = index.listed k within in
-        let differs : sha256 bytes ≡ sha256 (get_or contents k []) → ⊥ = λ e. let other : get bytes_eq m (sha256 bytes) ≡ Some k = ap (get bytes_eq m) e ∙ placed in never (sym none ∙ other) in
-        ap (λ b. get bytes_eq n (sha256 b)) (before k within) ∙ puts (sha256 (get_or contents k [])) ∙ rw (bytes_differ (sha256 bytes) (sha256 (get_or contents k [])) differs) placed
-
-    last : get bytes_eq n (sha256 (get_or (contents ++ bytes ∷ []) (length contents) [])) ≡ Some (length contents)
-    last = ap (λ b. get bytes_eq n (sha256 b)) (get_or-append_seam contents bytes [] []) ∙ puts (sha256 bytes) ∙ rw (bytes_same (sha256 bytes) (sha256 bytes) refl) refl
-
-    listed : (k : ℕ) → k < length (contents ++ bytes ∷ []) → get bytes_eq n (sha256 (get_or (contents ++ bytes ∷ []) k [])) ≡ Some k
-    listed k within =
-        elim (cases_lt k (length contents)) [
-          | inl lt ↦ earlier k lt
-          | inr ge ↦ let same : length contents ≡ k = omega (arith, length-append contents (bytes ∷ [])) in subst (λ (j : ℕ). get bytes_eq n (sha256 (get_or (contents ++ bytes ∷ []) j [])) ≡ Some j) same last
-        ]
-
-    found : (digest : List ℕ) (k : ℕ) → get bytes_eq n digest ≡ Some k → (k < length (contents ++ bytes ∷ [])) × (sha256 (get_or (contents ++ bytes ∷ []) k []) ≡ digest)
-    found digest k is =
-        elim (bytes_eq (sha256 bytes) digest) as (λ b. bytes_eq (sha256 bytes) digest ≡ b → (k < length (contents ++ bytes ∷ [])) × (sha256 (get_or (contents ++ bytes ∷ []) k []) ≡ digest)) [
-          | true ↦ λ e.
-              let same : length contents ≡ k = same_some (sym (puts digest ∙ ap (λ b. cond b (Some (length contents)) (get bytes_eq m digest)) e) ∙ is) in
-              (omega (arith, length-append contents (bytes ∷ [])), ap (λ (j : ℕ). sha256 (get_or (contents ++ bytes ∷ []) j [])) (sym same) ∙ ap sha256 (get_or-append_seam contents bytes [] []) ∙ (bytes_decides (sha256 bytes) digest).0 e)
-          | false ↦ λ e.
-              let it = index.found digest k (sym (puts digest ∙ ap (λ b. cond b (Some (length contents)) (get bytes_eq m digest)) e) ∙ is) in
-              let within : k < length contents = it.0 in
-              (omega (arith, length-append contents (bytes ∷ [])), ap sha256 (before k within) ∙ it.1)
-        ] refl
+index_pushed m n contents bytes index new puts = pushed_by bytes_eq bytes_decide sha256 [] m n contents bytes index (unplaced m contents index (sha256 bytes) new) puts
 
 -- the last taken out
 pub index_popped : {S : Type 0} (m n : HashMap (List ℕ) ℕ S) (contents : List (List ℕ)) (bytes : List ℕ) → IsIndexed m (contents ++ bytes ∷ [])
     → ((q : List ℕ) → get bytes_eq n q ≡ cond (bytes_eq (sha256 bytes) q) None (get bytes_eq m q)) → IsIndexed n contents
-index_popped m n contents bytes index puts = record {
-  listed = λ k within. listed k within;
-  found = λ digest k at. found digest k at;
-}
-  where
-    before : (k : ℕ) → k < length contents → get_or (contents ++ bytes ∷ []) k [] ≡ get_or contents k []
-    before k within = get_or-append contents (bytes ∷ []) [] k within
-
-    last : get bytes_eq m (sha256 bytes) ≡ Some (length contents)
-    last = ap (λ b. get bytes_eq m (sha256 b)) (sym (get_or-append_seam contents bytes [] [])) ∙ index.listed (length contents) (omega (arith, length-append contents (bytes ∷ [])))
-
-    listed : (k : ℕ) → k < length contents → get bytes_eq n (sha256 (get_or contents k [])) ≡ Some k
-    listed k within =
-        let placed : get bytes_eq m (sha256 (get_or contents k [])) ≡ Some k =
-        ap (λ b. get bytes_eq m (sha256 b)) (sym (before k within)) ∙ index.listed k (omega (arith, length-append contents (bytes ∷ []))) in
-        let differs : sha256 bytes ≡ sha256 (get_or contents k []) → ⊥ = λ e. let same : k ≡ length contents = same_some (sym placed ∙ ap (get bytes_eq m) (sym e) ∙ last) in omega arith in
-        puts (sha256 (get_or contents k [])) ∙ rw (bytes_differ (sha256 bytes) (sha256 (get_or contents k [])) differs) placed
-
-    found : (digest : List ℕ) (k : ℕ) → get bytes_eq n digest ≡ Some k → (k < length contents) × (sha256 (get_or contents k []) ≡ digest)
-    found digest k is =
-        elim (bytes_eq (sha256 bytes) digest) as (λ b. bytes_eq (sha256 bytes) digest ≡ b → (k < length contents) × (sha256 (get_or contents k []) ≡ digest)) [
-          | true ↦ λ e. absurd (never (sym (puts digest ∙ ap (λ b. cond b None (get bytes_eq m digest)) e) ∙ is))
-          | false ↦ λ e.
-              let it = index.found digest k (sym (puts digest ∙ ap (λ b. cond b None (get bytes_eq m digest)) e) ∙ is) in
-              let obeys : k < length (contents ++ bytes ∷ []) = it.0 in
-              elim (cases_lt k (length contents)) [
-                | inl lt ↦ (lt, ap sha256 (sym (before k lt)) ∙ it.1)
-                | inr ge ↦
-                    let same : length contents ≡ k = omega (arith, length-append contents (bytes ∷ [])) in
-                    let here : sha256 bytes ≡ digest = ap sha256 (sym (get_or-append_seam contents bytes [] [])) ∙ ap (λ (j : ℕ). sha256 (get_or (contents ++ bytes ∷ []) j [])) same ∙ it.1 in
-                    let there : bytes_eq (sha256 bytes) digest ≡ true = bytes_same (sha256 bytes) digest here in
-                    absurd (cc)
-              ]
-        ] refl
+index_popped = popped_by bytes_eq bytes_decide sha256 []
 
 -- the same entries
 pub index_same : {S : Type 0} (m n : HashMap (List ℕ) ℕ S) (contents : List (List ℕ)) → n.entries ≡ m.entries → IsIndexed m contents → IsIndexed n contents
-index_same m n contents same index = record {
-  listed = λ k within. ap (λ es. lookup (bytes_eq (sha256 (get_or contents k []))) es) same ∙ index.listed k within;
-  found = λ digest k is. index.found digest k (ap (λ es. lookup (bytes_eq digest) es) (sym same) ∙ is);
-}
+index_same = same_by bytes_eq bytes_decide sha256 []
 
 -- contents whose digest none has collide with none
 pub none_under : (bytes : List ℕ) (contents : List (List ℕ)) → has_digest (sha256 bytes) contents ≡ false → ¬ Collides bytes contents

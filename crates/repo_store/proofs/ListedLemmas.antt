@@ -83,7 +83,7 @@ module _ {S X : Type 0} (g : Ghosts S) (a b : Held S) (meta : X) (listed : X →
   rows_fail c e Rows fault two why = record { found = λ clean ours live. refused_unfit (state g a).now fault why; was_open = λ clean ours. tt; kept = all_kept c two.survives two.kept; survives = along c two.survives }
 
   pub listed_all : (c : Held S) (rows : StoreRows) (r : Result Mirror StoreFault) → listed meta ≡ version_row ∷ [] → AreRead g b c (Ok rows) AreShown
-      → IfOk r (λ lists. IsSame (rows_in rows) (tables_of lists.kept.repo lists.kept.contents)) → IfErr r (IsDamage (¬ AreStoreRows (rows_in rows))) → AreListed g a c r
+      → IfOk r (λ lists. IsSame (rows_in rows) (tables_of lists.kept)) → IfErr r (IsDamage (¬ AreStoreRows (rows_in rows))) → AreListed g a c r
   listed_all c rows r versioned two same broken = record { found = λ clean ours live. decide r (holds clean ours live) same broken; was_open = λ clean ours. open_at r (one.rows no_more (clean_before c two.survives clean) ours).0.0.was_open; kept = all_kept c two.survives two.kept; survives = along c two.survives }
     where
       holds : HasCleanDisk (state g c) → (state g a).now.schema ≡ store_schema → (IsTrue (state g a).is_open → IsDatabase (state g a).now) → Holds (state g a).now (rows_in rows)
@@ -103,22 +103,22 @@ module _ {S X : Type 0} (g : Ghosts S) (a b : Held S) (meta : X) (listed : X →
             commits = shown.commits;
             entries = shown.entries;
             answers = shown.answers;
-            answers_numbered = shown.answers_numbered;
+            answers_keyed = shown.answers_keyed;
           }
 
       open_at : (r : Result Mirror StoreFault) → IsTrue (state g a).is_open → OnOk r (IsTrue (state g a).is_open)
       open_at (Ok lists) was = was
       open_at (Err fault) was = tt
 
-      decide : (r : Result Mirror StoreFault) → Holds (state g a).now (rows_in rows) → IfOk r (λ lists. IsSame (rows_in rows) (tables_of lists.kept.repo lists.kept.contents)) → IfErr r (IsDamage (¬ AreStoreRows (rows_in rows)))
+      decide : (r : Result Mirror StoreFault) → Holds (state g a).now (rows_in rows) → IfOk r (λ lists. IsSame (rows_in rows) (tables_of lists.kept)) → IfErr r (IsDamage (¬ AreStoreRows (rows_in rows)))
           → MatchResult r (IsFoundIn (state g a).now) (IsUnfit (state g a).now)
-      decide (Ok lists) hold same broken = holds_same (state g a).now (rows_in rows) (tables_of lists.kept.repo lists.kept.contents) same hold
+      decide (Ok lists) hold same broken = holds_same (state g a).now (rows_in rows) (tables_of lists.kept) same hold
       decide (Err fault) hold same broken =
           damage_unfit (state g a).now (¬ AreStoreRows (rows_in rows)) fault (λ breaks. record { tables = rows_in rows; holds = hold; versioned = IsPermutation-refl (version_row ∷ []); broken = breaks }) broken
 
 -- and those rows obey the rules
-pub listed_obey : (rows : StoreRows) (r : Result Mirror StoreFault) → IfOk r (λ lists. IsSame (rows_in rows) (tables_of lists.kept.repo lists.kept.contents)) → OnOk r (AreStoreRows (rows_in rows)) → IfOk r (λ lists. AreStoreRows (tables_of lists.kept.repo lists.kept.contents))
-listed_obey rows (Ok lists) same obeys = obeys_same (rows_in rows) (tables_of lists.kept.repo lists.kept.contents) same obeys
+pub listed_obey : (rows : StoreRows) (r : Result Mirror StoreFault) → IfOk r (λ lists. IsSame (rows_in rows) (tables_of lists.kept)) → OnOk r (AreStoreRows (rows_in rows)) → IfOk r (λ lists. AreStoreRows (tables_of lists.kept))
+listed_obey rows (Ok lists) same obeys = obeys_same (rows_in rows) (tables_of lists.kept) same obeys
 listed_obey rows (Err fault) same obeys = same
 
 -- in a transaction of its own, which is rolled back
@@ -146,38 +146,38 @@ loaded {S} g old mid end new r begun listed outside undone survives = record {
     clean_end clean = omega (arith, survives.clean)
 
 -- what stands in a store that was opened
-module _ {S : Type 0} (g : Ghosts S) (old new : Held S) (lists : Mirror) (complete : IsComplete lists.kept) (obeys : AreStoreRows (tables_of lists.kept.repo lists.kept.contents)) (ours : (state g old).now.schema ≡ store_schema) (live : IsTrue (state g old).is_open → IsDatabase (state g old).now)
+module _ {S : Type 0} (g : Ghosts S) (old new : Held S) (lists : Mirror) (complete : IsComplete lists.kept) (obeys : AreStoreRows (tables_of lists.kept)) (ours : (state g old).now.schema ≡ store_schema) (live : IsTrue (state g old).is_open → IsDatabase (state g old).now)
     (settled : IsTrue (state g old).is_open → (state g old).now ≡ (state g old).committed) (load : AreListedAlone g old new (Ok lists)) (dirty : ShutIfDirty (state g new)) where
   clean_new : IsTrue (state g new).is_open → HasCleanDisk (state g new)
   clean_new h = clean_if_open (state g new).is_clean (state g new).is_open dirty h
 
-  pub opened_holds : IsTrue (state g new).is_open → Holds (state g old).committed (tables_of lists.kept.repo lists.kept.contents)
+  pub opened_holds : IsTrue (state g new).is_open → Holds (state g old).committed (tables_of lists.kept)
   opened_holds h =
       let rest = load.rests (clean_new h) ours in
-      subst (λ (db : Database). Holds db (tables_of lists.kept.repo lists.kept.contents)) (settled (rest.was_open h)) (load.found (clean_new h) ours live)
+      subst (λ (db : Database). Holds db (tables_of lists.kept)) (settled (rest.was_open h)) (load.found (clean_new h) ours live)
 
   pub opened_stands : Stands g new lists.kept
   opened_stands = record {
     outside = load.outside;
     complete = complete;
     obeys = obeys;
-    now = λ h. let rest = load.rests (clean_new h) ours in subst (λ (db : Database). Holds db (tables_of lists.kept.repo lists.kept.contents)) (sym (rest.now h)) (opened_holds h);
-    committed = λ h. let rest = load.rests (clean_new h) ours in subst (λ (db : Database). Holds db (tables_of lists.kept.repo lists.kept.contents)) (sym (rest.committed h)) (opened_holds h);
+    now = λ h. let rest = load.rests (clean_new h) ours in subst (λ (db : Database). Holds db (tables_of lists.kept)) (sym (rest.now h)) (opened_holds h);
+    committed = λ h. let rest = load.rests (clean_new h) ours in subst (λ (db : Database). Holds db (tables_of lists.kept)) (sym (rest.committed h)) (opened_holds h);
   }
 
   -- the repository that was left is the one that is opened
   pub opened_again : IsTrue (state g new).is_open → (kept : Kept) → Leaves kept (state g old).committed.trees → AreAlike lists.kept kept
   opened_again h kept left =
-      left_alike (state g old).committed.trees lists.kept kept (record { holds = holds_as (state g old).committed (tables_of lists.kept.repo lists.kept.contents) (opened_holds h); complete = complete; obeys = obeys }) left
+      left_alike (state g old).committed.trees lists.kept kept (record { holds = holds_as (state g old).committed (tables_of lists.kept) (opened_holds h); complete = complete; obeys = obeys }) left
 
   -- what a crash may leave was there before, and is what was committed
   pub opened_durable : ((trees : Trees) → IsTrue (state g old).is_open → (state g old).may_leave trees → trees ≡ (state g old).committed.trees)
       → HasCleanDisk (state g new) → (trees : Trees) → (state g new).may_leave trees → Leaves lists.kept trees
   opened_durable law clean trees left =
       let was : IsTrue (state g old).is_open = load.was_open clean ours in
-      let holds : Holds (state g old).committed (tables_of lists.kept.repo lists.kept.contents) = subst (λ (db : Database). Holds db (tables_of lists.kept.repo lists.kept.contents)) (settled was) (load.found clean ours live) in
+      let holds : Holds (state g old).committed (tables_of lists.kept) = subst (λ (db : Database). Holds db (tables_of lists.kept)) (settled was) (load.found clean ours live) in
       record {
-        holds = leaves_commit (state g old).committed trees (tables_of lists.kept.repo lists.kept.contents) holds (law trees was (elim (load.survives.crash clean trees left) [ inl before ↦ before | inr none ↦ absurd none ]));
+        holds = leaves_commit (state g old).committed trees (tables_of lists.kept) holds (law trees was (elim (load.survives.crash clean trees left) [ inl before ↦ before | inr none ↦ absurd none ]));
         complete = complete;
         obeys = obeys;
       }

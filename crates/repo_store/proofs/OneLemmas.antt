@@ -1,40 +1,35 @@
 -- Rows tell one complete repository at most.
-use Rattle.std.proofs.Common.{◌≡◌, ℕ, ◌+◌, ◌<◌, ℤ, pos, Bool, true, false, not, List, [], ◌∷◌, ◌++◌, map, filter, length, get_or, Option, None, Some, MatchOption, Ordering, Less, Equal, Greater, is_lt, IsPermutation, ◌⊎◌, inl, inr, refl, sym, ap, ap₂, subst, ◌∙◌, arith}
-use Rattle.std.specs.List.{Any, AllByRecursion}
+use Rattle.std.proofs.Common.{◌≡◌, ℕ, ◌+◌, ◌<◌, ℤ, pos, Bool, true, false, not, List, [], ◌∷◌, ◌++◌, map, filter, length, Ordering, Less, Equal, Greater, is_lt, IsPermutation, ◌⊎◌, inl, inr, refl, sym, ap, ap₂, subst, ◌∙◌, arith}
+use Rattle.std.specs.List.{AllByRecursion}
 use Rattle.std.specs.Ordering.{int_cmp}
-use Rattle.std.specs.Str.{bytes_eq}
-use Rattle.std.specs.Cmp.Lexicographic.{bytes_decides}
 use Rattle.std.proofs.lemmas.Bool.{false_from_ne_true}
 use Rattle.std.proofs.lemmas.Cmp.{int_cmp_total, tied_itself}
-use Rattle.std.proofs.lemmas.List.{append-nil, get_or_default}
+use Rattle.std.proofs.lemmas.List.{append-nil}
 use Rattle.std.proofs.lemmas.List.Elements.{filter-append}
-use Rattle.std.proofs.lemmas.List.Folds.{Any-from_list_any}
-use Rattle.std.proofs.lemmas.List.Sorted.{length_permutation, IsPermutation-sym, IsPermutation-map, list_any-IsPermutation}
-use Rattle.sha2.specs.Sha256.{sha256}
+use Rattle.std.proofs.lemmas.List.Sorted.{length_permutation, IsPermutation-sym}
 use Rattle.sqlite_keyed.proofs.ListLemmas.{IsPermutation-filter, filter_all, filter_none}
 use Rattle.sqlite.specs.Effect.{Database}
 use Rattle.sqlite_trees.specs.Tree.{IsAscending, Trees}
 use Rattle.hook_base.specs.declared.file.File.{File}
-use Rattle.hook_base.specs.declared.file.Mode.{Mode}
-use Rattle.hook_base.specs.declared.file.Mode.TheVariants.{Plain, Executable}
 use Rattle.hook_base.specs.declared.change.Change.{Change}
 use Rattle.hook_base.specs.Rising.{path_cmp, IsBelow, IsBelowAll, IsRisingBy}
 use Rattle.hook_base.specs.RisingLemmas.{IsBelow-trans, below_not_same}
 use Rattle.hook_base.specs.Trees.{IsRising, path_of}
-use Rattle.store_tables.specs.declared.rows.BlobRow.{BlobRow}
 use Rattle.store_tables.specs.declared.rows.CommitRow.{CommitRow}
 use Rattle.store_tables.specs.declared.rows.EntryRow.{EntryRow}
 use Rattle.store_tables.specs.declared.rows.FixRow.{FixRow}
 use Rattle.store_tables.specs.declared.rows.StagedRow.{StagedRow}
 use Rattle.store_tables.specs.Tables.{Holds, with_schema}
-use Rattle.repo_store.specs.Complete.{AreAlike, HaveDistinctDigests, HaveContents, HaveNewContents, IsAmong, IsComplete}
+use Rattle.repo_store.specs.Complete.{AreAlike, HaveDistinctDigests, HaveContents, IsComplete}
 use Rattle.repo_store.specs.Kept.{Kept}
 use Rattle.repo_store.specs.FromRows.{IsSame}
 use Rattle.repo_store.specs.Repository.{Commit}
 use Rattle.repo_store.specs.Shown.{Leaves}
-use Rattle.repo_store.specs.Rows.{blob_row, commit_row, commit_rows, entry_row, entry_rows, fix_at, fix_row, mode_number, staged_row, tables_of}
+use Rattle.repo_store.specs.Rows.{commit_row, commit_rows, entry_row, entry_rows, fix_row, staged_row, tables_of}
+use Rattle.repo_store.proofs.DigestLemmas.{same_contents, same_files, same_fixes}
 use Rattle.repo_store.proofs.FromRowsLemmas.{fix_path, pos_less}
 use Rattle.repo_store.proofs.RowRuleLemmas.{all_both, all_same, all_weaker, holds_one}
+use Rattle.repo_store.proofs.SameAnswerLemmas.{same_answers}
 
 -- ---- lists in one order
 
@@ -98,69 +93,6 @@ module _ {X Y : Type 0} (path_in : X → List ℕ) (row : X → Y) (row_path : Y
 
   pub one_rising : (xs ys : List X) → IsRisingBy path_in xs → IsRisingBy path_in ys → IsPermutation (map row xs) (map row ys) → map row xs ≡ map row ys
   one_rising xs ys up also = one_order comes_first (λ r s. paths_apart (row_path r) (row_path s)) (map row xs) (map row ys) (rows_rise xs up) (rows_rise ys also)
-
--- ---- contents
-
-bytes_back : (contents : List (List ℕ)) → map (λ (row : BlobRow). row.bytes) (map blob_row contents) ≡ contents
-bytes_back [] = refl
-bytes_back (bytes ∷ contents) = ap (λ (l : List (List ℕ)). bytes ∷ l) (bytes_back contents)
-
-same_contents : (a b : List (List ℕ)) → IsPermutation (map blob_row a) (map blob_row b) → IsPermutation a b
-same_contents a b same =
-    subst (λ (l : List (List ℕ)). IsPermutation l b) (bytes_back a)
-    (subst (IsPermutation (map (λ (row : BlobRow). row.bytes) (map blob_row a))) (bytes_back b) (IsPermutation-map (λ (row : BlobRow). row.bytes) (map blob_row a) (map blob_row b) same))
-
-module _ (a b : List (List ℕ)) (same : IsPermutation a b) (apart : HaveDistinctDigests b) where
-  -- one digest stands for the same bytes among both
-  pub same_bytes : (x y : List ℕ) → IsAmong a x → IsAmong b y → sha256 x ≡ sha256 y → x ≡ y
-  same_bytes x y x_in y_in digests =
-      let one : Any (λ z. bytes_eq x z ≡ true) b = Any-from_list_any (bytes_eq x) b (sym (list_any-IsPermutation (bytes_eq x) a b same) ∙ x_in) in
-      let two : Any (λ z. bytes_eq y z ≡ true) b = Any-from_list_any (bytes_eq y) b y_in in
-      let x_is : get_or b one.0 [] ≡ x = get_or_default b one.0 [] one.1 one.2 ∙ one.3 ∙ sym ((bytes_decides x one.1).0 one.4) in
-      let y_is : get_or b two.0 [] ≡ y = get_or_default b two.0 [] two.1 two.2 ∙ two.3 ∙ sym ((bytes_decides y two.1).0 two.4) in
-      let at : one.0 ≡ two.0 = apart one.0 two.0 one.2 two.2 (ap sha256 x_is ∙ digests ∙ sym (ap sha256 y_is)) in
-      sym x_is ∙ ap (λ (i : ℕ). get_or b i []) at ∙ y_is
-
-  same_mode : (m n : Mode) → pos (mode_number m) ≡ pos (mode_number n) → m ≡ n
-  same_mode Plain Plain h = refl
-  same_mode Plain Executable h = absurd (cc)
-  same_mode Executable Plain h = absurd (cc)
-  same_mode Executable Executable h = refl
-
-  same_file : (f g : File) → IsAmong a f.entry.bytes → IsAmong b g.entry.bytes → staged_row f ≡ staged_row g → f ≡ g
-  same_file f g f_in g_in rows =
-      let path = ap (λ (row : StagedRow). row.path) rows in
-      let mode = same_mode f.entry.mode g.entry.mode (ap (λ (row : StagedRow). row.mode) rows) in
-      let bytes = same_bytes f.entry.bytes g.entry.bytes f_in g_in (ap (λ (row : StagedRow). row.digest) rows) in
-      ap₂ (λ (p : List ℕ) (e : _). let made : File = record { path = p; entry = e } in made) path (ap₂ (λ (m : Mode) (x : List ℕ). record { mode = m; bytes = x }) mode bytes)
-
-  -- files are the same where their rows are
-  module _ {Y : Type 0} (row : File → Y) (shown : Y → StagedRow) (shows : (f : File) → shown (row f) ≡ staged_row f) where
-    pub same_files : (fs gs : List File) → HaveContents a fs → HaveContents b gs → map row fs ≡ map row gs → fs ≡ gs
-    same_files [] [] fs_in gs_in rows = refl
-    same_files [] (g ∷ gs) fs_in gs_in rows = absurd (let count = ap length rows in omega arith)
-    same_files (f ∷ fs) [] fs_in gs_in rows = absurd (let count = ap length rows in omega arith)
-    same_files (f ∷ fs) (g ∷ gs) fs_in gs_in rows =
-        let first : row f ≡ row g = cc in
-        let rest : map row fs ≡ map row gs = cc in
-        ap₂ (λ (h : File) (l : List File). h ∷ l) (same_file f g fs_in.0 gs_in.0 (sym (shows f) ∙ ap shown first ∙ shows g)) (same_files fs gs fs_in.1 gs_in.1 rest)
-
-  same_now : (p q : List ℕ) (m n : Option (List ℕ)) → MatchOption m (Unit {0}) (IsAmong a) → MatchOption n (Unit {0}) (IsAmong b) → (fix_at p m).digest ≡ (fix_at q n).digest → m ≡ n
-  same_now p q None None m_in n_in rows = refl
-  same_now p q None (Some y) m_in n_in rows = absurd (let never : ◌≡◌ {A = Option (List ℕ)} None (Some (sha256 y)) = rows in cc)
-  same_now p q (Some x) None m_in n_in rows = absurd (let never : ◌≡◌ {A = Option (List ℕ)} (Some (sha256 x)) None = rows in cc)
-  same_now p q (Some x) (Some y) m_in n_in rows = let digests : sha256 x ≡ sha256 y = cc in ap Some (same_bytes x y m_in n_in digests)
-
-  same_fixes : (cs ds : List Change) → HaveNewContents a cs → HaveNewContents b ds → map fix_row cs ≡ map fix_row ds → cs ≡ ds
-  same_fixes [] [] cs_in ds_in rows = refl
-  same_fixes [] (d ∷ ds) cs_in ds_in rows = absurd (let count = ap length rows in omega arith)
-  same_fixes (c ∷ cs) [] cs_in ds_in rows = absurd (let count = ap length rows in omega arith)
-  same_fixes (c ∷ cs) (d ∷ ds) cs_in ds_in rows =
-      let first : fix_row c ≡ fix_row d = cc in
-      let rest : map fix_row cs ≡ map fix_row ds = cc in
-      let path = sym (fix_path c.path c.now) ∙ ap (λ (row : FixRow). row.path) first ∙ fix_path d.path d.now in
-      let now = same_now c.path d.path c.now d.now cs_in.0 ds_in.0 (ap (λ (row : FixRow). row.digest) first) in
-      ap₂ (λ (x : Change) (l : List Change). x ∷ l) (ap₂ (λ (p : List ℕ) (n : Option (List ℕ)). let made : Change = record { path = p; now = n } in made) path now) (same_fixes cs ds cs_in.1 ds_in.1 rest)
 
 -- ---- commits
 
@@ -233,7 +165,7 @@ module _ (a b : List (List ℕ)) (same : IsPermutation a b) (apart : HaveDistinc
 
 -- ---- all of it
 
-alike_from_same : (a b : Kept) → IsComplete a → IsComplete b → IsSame (tables_of a.repo a.contents) (tables_of b.repo b.contents) → AreAlike a b
+alike_from_same : (a b : Kept) → IsComplete a → IsComplete b → IsSame (tables_of a) (tables_of b) → AreAlike a b
 alike_from_same a b obeys other same =
     let contents = same_contents a.contents b.contents same.blobs in
     let staged =
@@ -248,10 +180,11 @@ alike_from_same a b obeys other same =
     record {
       repo = ap₂ (λ (h : List Commit) (r : List File × List Change). record { history = h; staged = r.0; fixes = r.1 }) history (ap₂ (λ (s : List File) (f : List Change). (s, f)) staged fixes);
       contents = contents;
+      answers = same_answers a.contents b.contents contents other.apart a.answers b.answers obeys.sound_answers obeys.answers other.sound_answers other.answers same.answers;
     }
 
-pub held_alike : (db : Database) (a b : Kept) → IsComplete a → IsComplete b → Holds db (tables_of a.repo a.contents) → Holds db (tables_of b.repo b.contents) → AreAlike a b
-held_alike db a b obeys other holds also = alike_from_same a b obeys other (holds_one db (tables_of a.repo a.contents) (tables_of b.repo b.contents) holds also)
+pub held_alike : (db : Database) (a b : Kept) → IsComplete a → IsComplete b → Holds db (tables_of a) → Holds db (tables_of b) → AreAlike a b
+held_alike db a b obeys other holds also = alike_from_same a b obeys other (holds_one db (tables_of a) (tables_of b) holds also)
 
 pub left_alike : (trees : Trees) (a b : Kept) → Leaves a trees → Leaves b trees → AreAlike a b
 left_alike trees a b left also = held_alike (with_schema trees) a b left.complete also.complete left.holds also.holds

@@ -1,22 +1,26 @@
 -- The rules of a store speak of its rows alone, and not of their order.
-use Rattle.std.proofs.Common.{◌≡◌, ℕ, ◌+◌, ℤ, pos, true, List, [], ◌∷◌, ◌++◌, map, length, Option, None, Some, IsPermutation, refl, sym, ap, ap₂, subst, ◌∙◌, arith}
+use Rattle.std.proofs.Common.{◌≡◌, ℕ, ◌+◌, ℤ, pos, true, List, [], ◌∷◌, ◌++◌, map, length, Option, None, Some, IfSome, IsPermutation, refl, sym, ap, ap₂, subst, ◌∙◌, arith}
 use Rattle.std.specs.List.{AllByRecursion}
 use Rattle.std.specs.Str.{bytes_eq}
 use Rattle.std.proofs.lemmas.List.Elements.{recursion_from_All, All-from_recursion}
-use Rattle.std.proofs.lemmas.List.Sorted.{length_permutation, All-permutation, IsPermutation-sym, IsPermutation-trans, IsPermutation-map, list_any-IsPermutation, sum_by-IsPermutation}
+use Rattle.std.proofs.lemmas.List.Sorted.{length_permutation, All-permutation, Contains-permutation, IsPermutation-sym, IsPermutation-trans, IsPermutation-map, list_any-IsPermutation, sum_by-IsPermutation}
 use Rattle.sqlite_value.specs.declared.value.Value.{Value}
 use Rattle.sqlite_value.specs.declared.value.Value.TheVariants.{Int, Text, Blob}
 use Rattle.sqlite_value.specs.Order.{Row, column}
 use Rattle.sqlite.specs.Effect.{Database}
+use Rattle.answer_records.specs.declared.changed_file.ChangedFile.{ChangedFile}
+use Rattle.answer_records.specs.declared.seen_file.SeenFile.{SeenFile}
+use Rattle.answer_records.specs.Reading.{IsChangesRecord, IsSeenRecord, IsWordsRecord}
 use Rattle.store_tables.specs.declared.rows.MetaRow.{MetaRow}
 use Rattle.store_tables.specs.declared.rows.BlobRow.{BlobRow}
 use Rattle.store_tables.specs.declared.rows.StagedRow.{StagedRow}
 use Rattle.store_tables.specs.declared.rows.FixRow.{FixRow}
 use Rattle.store_tables.specs.declared.rows.CommitRow.{CommitRow}
 use Rattle.store_tables.specs.declared.rows.EntryRow.{EntryRow}
+use Rattle.store_tables.specs.declared.rows.AnswerRow.{AnswerRow}
 use Rattle.store_tables.specs.Tables.{Tables, Holds, Stored, meta_cells, blob_cells, staged_cells, fix_cells, commit_cells, entry_cells, answer_cells}
 use Rattle.repo_store.specs.FromRows.{IsSame}
-use Rattle.repo_store.specs.RowRules.{AreCommitRows, AreStagedRows, IsBlobRow, IsEntryRow, IsFileRow, IsFixRow, IsMarked, IsNumbered, IsStagedRow, AreStoreRows, is_kept, number_in, numbers_from}
+use Rattle.repo_store.specs.RowRules.{AreCommitRows, AreStagedRows, HasKept, HaveKeptContents, HaveKeptNewContents, IsAnswerRow, IsBlobRow, IsEntryRow, IsFileRow, IsFixRow, IsMarked, IsNumbered, IsStagedRow, AreStoreRows, is_kept, number_in, numbers_from}
 
 -- ---- rows from what SQL shows of them
 
@@ -89,10 +93,6 @@ numbers_same n [] (y ∷ ys) same = absurd (omega arith)
 numbers_same n (x ∷ xs) [] same = absurd (omega arith)
 numbers_same n (x ∷ xs) (y ∷ ys) same = ap (λ (l : List ℤ). pos n ∷ l) (numbers_same (n + 1) xs ys (omega arith))
 
-none_left : {X : Type 0} (xs ys : List X) → IsPermutation xs ys → xs ≡ [] → ys ≡ []
-none_left xs [] same none = refl
-none_left xs (y ∷ ys) same none = let count = length_permutation xs (y ∷ ys) same in let empty : length xs ≡ 0 = ap length none in absurd (omega arith)
-
 module _ (a b : List BlobRow) (same : IsPermutation a b) where
   kept_same : (digest : List ℕ) → is_kept a digest ≡ true → is_kept b digest ≡ true
   kept_same digest h = sym (list_any-IsPermutation (λ (blob : BlobRow). bytes_eq digest blob.digest) a b same) ∙ h
@@ -121,6 +121,34 @@ module _ (a b : List BlobRow) (same : IsPermutation a b) where
   entry_same : (m n : ℕ) → m ≡ n → (row : EntryRow) → IsEntryRow a m row → IsEntryRow b n row
   entry_same m n count row h = record { owned = subst (λ (k : ℕ). IsNumbered k row.n) count h.owned; file = file_same row.path row.mode row.digest h.file }
 
+  has_kept_same : (digest : List ℕ) (AreSuch : List ℕ → Type 0) → HasKept a digest AreSuch → HasKept b digest AreSuch
+  has_kept_same digest AreSuch h = record { blob = h.blob; kept = Contains-permutation a b h.blob same h.kept; named = h.named; such = h.such }
+
+  seen_contents_same : (seen : List SeenFile) → HaveKeptContents a seen → HaveKeptContents b seen
+  seen_contents_same seen all = all_weaker _ _ seen (λ file one. kept_same file.digest one) all
+
+  now_same : (digest : Option (List ℕ)) → IfSome digest (λ digest. is_kept a digest ≡ true) → IfSome digest (λ digest. is_kept b digest ≡ true)
+  now_same None h = h
+  now_same (Some digest) h = kept_same digest h
+
+  new_contents_same : (changed : List ChangedFile) → HaveKeptNewContents a changed → HaveKeptNewContents b changed
+  new_contents_same changed all = all_weaker _ _ changed (λ file one. now_same file.digest one) all
+
+  answer_same : (row : AnswerRow) → IsAnswerRow a row → IsAnswerRow b row
+  answer_same row h = record {
+    words = h.words;
+    words_kept = has_kept_same row.words (IsWordsRecord h.words) h.words_kept;
+    seen = h.seen;
+    seen_kept = has_kept_same row.seen (IsSeenRecord h.seen) h.seen_kept;
+    seen_contents = seen_contents_same h.seen h.seen_contents;
+    output_kept = kept_same row.output h.output_kept;
+    changed = h.changed;
+    changes_kept = has_kept_same row.changes (IsChangesRecord h.changed) h.changes_kept;
+    new_contents = new_contents_same h.changed h.new_contents;
+    keeps_to_seen = h.keeps_to_seen;
+    status_known = h.status_known;
+  }
+
 commits_same : (xs ys : List CommitRow) → IsPermutation xs ys → AreCommitRows xs → AreCommitRows ys
 commits_same xs ys moved h =
     let count = length_permutation xs ys moved in
@@ -141,5 +169,5 @@ obeys_same t u same obeys = record {
       let count = length_permutation t.commits u.commits same.commits in
       all_same (IsEntryRow u.blobs (length u.commits)) t.entries u.entries same.entries
       (all_weaker (IsEntryRow t.blobs (length t.commits)) (IsEntryRow u.blobs (length u.commits)) t.entries (entry_same t.blobs u.blobs same.blobs (length t.commits) (length u.commits) (omega arith)) obeys.entries);
-  answers = none_left t.answers u.answers same.answers obeys.answers;
+  answers = all_same (IsAnswerRow u.blobs) t.answers u.answers same.answers (all_weaker (IsAnswerRow t.blobs) (IsAnswerRow u.blobs) t.answers (answer_same t.blobs u.blobs same.blobs) obeys.answers);
 }

@@ -1,5 +1,5 @@
 -- Each change keeps the rules that the rows of a store obey.
-use Rattle.std.proofs.Common.{◌≡◌, ℕ, suc, ◌+◌, ◌≤◌, pos, ◌||◌, true, false, List, [], ◌∷◌, ◌++◌, map, length, if◌then◌else◌, is_some, Option, None, Some, MatchOption, ◌⊎◌, inl, inr, refl, sym, ap, subst, ◌∙◌, arith}
+use Rattle.std.proofs.Common.{◌≡◌, ℕ, suc, ◌+◌, ◌≤◌, pos, true, false, List, [], ◌∷◌, ◌++◌, map, length, if◌then◌else◌, is_some, Option, None, Some, MatchOption, ◌⊎◌, inl, inr, refl, sym, ap, subst, ◌∙◌, arith}
 use Rattle.std.specs.declared.cmp.Ordering.TheVariants.{Less, Equal, Greater}
 use Rattle.std.specs.Cmp.Lexicographic.{bytes_decides}
 use Rattle.std.specs.List.{AllByRecursion}
@@ -14,34 +14,34 @@ use Rattle.hook_base.specs.declared.file.Mode.{Mode}
 use Rattle.hook_base.specs.declared.file.Mode.TheVariants.{Plain, Executable}
 use Rattle.hook_base.specs.declared.change.Change.{Change}
 use Rattle.hook_base.specs.Rising.{path_cmp}
-use Rattle.hook_base.specs.RisingLemmas.{bytes_same}
 use Rattle.hook_base.specs.Trees.{apply_at, apply_changes, entry_of, put_before, put_row, remove_file, rewrite_file, with_bytes}
 use Rattle.store_tables.specs.declared.rows.BlobRow.{BlobRow}
 use Rattle.store_tables.specs.declared.rows.CommitRow.{CommitRow}
 use Rattle.store_tables.specs.declared.rows.EntryRow.{EntryRow}
 use Rattle.repo_store.specs.Complete.{HaveContents, HaveNewContents, IsAmong, IsComplete}
 use Rattle.repo_store.specs.Contents.{has_content, with_content, with_new, with_changes}
-use Rattle.repo_store.specs.Kept.{HasLarge, Kept, accepting, committing, keeping, setting, staging, unstaging}
+use Rattle.repo_store.specs.Kept.{HasLarge, Kept, accepting, committing, forgetting, keeping, nothing_kept, setting, staging, unstaging}
 use Rattle.repo_store.specs.Limits.{IsSmall, most_content_bytes, most_tree_path_bytes}
-use Rattle.repo_store.specs.Repository.{Commit, empty, staged_changes}
+use Rattle.repo_store.specs.Repository.{Commit, staged_changes}
 use Rattle.repo_store.specs.Rows.{blob_row, commit_rows, entry_row, entry_rows, fix_at, fix_row, mode_number, staged_row, tables_of}
-use Rattle.repo_store.specs.RowRules.{IsBlobRow, IsEntryRow, IsFileRow, IsFixRow, IsMarked, IsPathText, IsStagedRow, AreStoreRows, is_kept, is_staged}
+use Rattle.repo_store.specs.RowRules.{IsBlobRow, IsEntryRow, IsFileRow, IsFixRow, IsMarked, IsPathText, IsStagedRow, AreStoreRows, is_staged}
+use Rattle.repo_store.proofs.AnswerRowLemmas.{answer_rows, kept_row}
 use Rattle.repo_store.proofs.ChangeLemmas.{large_among}
 use Rattle.repo_store.proofs.CompleteLemmas.{complete_empty}
 use Rattle.repo_store.proofs.FromRowsLemmas.{AreNumbered, all_pushed, commits_obey, fix_path, fixes_staged, length_commit_rows, staged_as_entry}
 use Rattle.repo_store.proofs.SoundLemmas.{AreStaged, all_kept}
 use Rattle.repo_store.proofs.RowRuleLemmas.{all_both}
 
-abbrev ArePaths : List File → Type 0
+abbrev pub ArePaths : List File → Type 0
 ArePaths files = AllByRecursion (λ (file : File). IsPathText file.path) files
 
 -- What the rules ask of the lists, beyond that they are one complete repository.
-record ObeysRules (kept : Kept) : Type 0 where
-  staged_legal : ArePaths kept.repo.staged
-  trees_legal : AllByRecursion (λ (commit : Commit). ArePaths commit.tree) kept.repo.history
-  fixes_staged : AreStaged kept.repo.fixes kept.repo.staged
-  messages_small : AllByRecursion (λ (commit : Commit). IsSmall commit.message) kept.repo.history
-  contents_small : AllByRecursion IsSmall kept.contents
+pub record ObeysRules (kept : Kept) : Type 0 where
+  pub staged_legal : ArePaths kept.repo.staged
+  pub trees_legal : AllByRecursion (λ (commit : Commit). ArePaths commit.tree) kept.repo.history
+  pub fixes_staged : AreStaged kept.repo.fixes kept.repo.staged
+  pub messages_small : AllByRecursion (λ (commit : Commit). IsSmall commit.message) kept.repo.history
+  pub contents_small : AllByRecursion IsSmall kept.contents
 
 -- ---- from the rows
 
@@ -66,7 +66,7 @@ row_contents : (contents : List (List ℕ)) → AllByRecursion IsBlobRow (map bl
 row_contents [] all = tt
 row_contents (bytes ∷ contents) all = (all.0.small, row_contents contents all.1)
 
-rules_in : (kept : Kept) → AreStoreRows (tables_of kept.repo kept.contents) → ObeysRules kept
+pub rules_in : (kept : Kept) → AreStoreRows (tables_of kept) → ObeysRules kept
 rules_in kept obeys =
     let blobs = map blob_row kept.contents in
     record {
@@ -78,15 +78,6 @@ rules_in kept obeys =
     }
 
 -- ---- to the rows
-
-kept_row : (bytes : List ℕ) (contents : List (List ℕ)) → IsAmong contents bytes → is_kept (map blob_row contents) (sha256 bytes) ≡ true
-kept_row bytes [] there = there
-kept_row bytes (other ∷ contents) there =
-    elim (bytes_eq bytes other) as (λ b. bytes_eq bytes other ≡ b → (b || has_content bytes contents) ≡ true → (bytes_eq (sha256 bytes) (sha256 other) || is_kept (map blob_row contents) (sha256 bytes)) ≡ true) [
-      | true ↦ λ e _. ap (λ b. b || is_kept (map blob_row contents) (sha256 bytes)) (bytes_same (sha256 bytes) (sha256 other) (ap sha256 ((bytes_decides bytes other).0 e)))
-      | false ↦ λ _ later.
-          elim (bytes_eq (sha256 bytes) (sha256 other)) as (λ b. (b || is_kept (map blob_row contents) (sha256 bytes)) ≡ true) [ true ↦ refl | false ↦ kept_row bytes contents later ]
-    ] refl there
 
 known_mode : (mode : Mode) → (pos (mode_number mode) ≡ pos 0) ⊎ (pos (mode_number mode) ≡ pos 1)
 known_mode Plain = inl refl
@@ -147,7 +138,7 @@ numbered_rows n [] small = tt
 numbered_rows n (commit ∷ history) small = ((refl, small.0), numbered_rows (n + 1) history small.1)
 
 -- a complete repository that obeys the rules stands in rows that obey them
-obeys_by : (kept : Kept) → IsComplete kept → ObeysRules kept → AreStoreRows (tables_of kept.repo kept.contents)
+pub obeys_by : (kept : Kept) → IsComplete kept → ObeysRules kept → AreStoreRows (tables_of kept)
 obeys_by kept complete rules =
     let staged = kept.repo.staged in
     let history = kept.repo.history in
@@ -162,7 +153,7 @@ obeys_by kept complete rules =
       fixes = fix_rows kept.contents staged kept.repo.fixes rules.staged_legal rules.fixes_staged complete.fixes;
       commits = commits_obey (commit_rows 1 history) (numbered_rows 1 history rules.messages_small) (let few = complete.sound.numbered in omega arith);
       entries = tree_entries kept.contents (length (commit_rows 1 history)) 0 history (omega arith) rules.trees_legal complete.trees;
-      answers = refl;
+      answers = answer_rows kept.contents kept.answers complete.sound_answers complete.answers;
     }
 
 -- ---- what the paths are after a change of the files
@@ -192,7 +183,7 @@ paths_applied (change ∷ changes) rows all = paths_applied changes (apply_at ch
 
 -- ---- how large the contents are after more of them
 
-small_with : (bytes : List ℕ) (contents : List (List ℕ)) → IsSmall bytes → AllByRecursion IsSmall contents → AllByRecursion IsSmall (with_content bytes contents)
+pub small_with : (bytes : List ℕ) (contents : List (List ℕ)) → IsSmall bytes → AllByRecursion IsSmall contents → AllByRecursion IsSmall (with_content bytes contents)
 small_with bytes contents small all =
     elim (has_content bytes contents) as (λ b. AllByRecursion IsSmall (if b then contents else contents ++ bytes ∷ [])) [ true ↦ all | false ↦ all_pushed IsSmall contents bytes all small ]
 
@@ -211,15 +202,15 @@ small_all (change ∷ changes) contents none all =
 
 -- ---- the calls
 
-pub obeys_empty : AreStoreRows (tables_of empty [])
-obeys_empty = obeys_by (record { repo = empty; contents = [] }) complete_empty (record { staged_legal = tt; trees_legal = tt; fixes_staged = tt; messages_small = tt; contents_small = tt })
+pub obeys_empty : AreStoreRows (tables_of nothing_kept)
+obeys_empty = obeys_by nothing_kept complete_empty (record { staged_legal = tt; trees_legal = tt; fixes_staged = tt; messages_small = tt; contents_small = tt })
 
-module _ (kept : Kept) (obeys : AreStoreRows (tables_of kept.repo kept.contents)) where
+module _ (kept : Kept) (obeys : AreStoreRows (tables_of kept)) where
   rules : ObeysRules kept
   rules = rules_in kept obeys
 
   abbrev After : Kept → Type 0
-  After after = IsComplete after → AreStoreRows (tables_of after.repo after.contents)
+  After after = IsComplete after → AreStoreRows (tables_of after)
 
   pub obeys_staged : (path : List ℕ) (entry : FileEntry) → IsPathText path → IsSmall entry.bytes → After (staging path entry kept)
   obeys_staged path entry legal small complete =
@@ -259,6 +250,16 @@ module _ (kept : Kept) (obeys : AreStoreRows (tables_of kept.repo kept.contents)
         trees_legal = all_pushed (λ (c : Commit). ArePaths c.tree) kept.repo.history commit rules.trees_legal rules.staged_legal;
         fixes_staged = tt;
         messages_small = all_pushed (λ (c : Commit). IsSmall c.message) kept.repo.history commit rules.messages_small small;
+        contents_small = rules.contents_small;
+      })
+
+  pub obeys_forgotten : After (forgetting kept)
+  obeys_forgotten complete =
+      obeys_by (forgetting kept) complete (record {
+        staged_legal = rules.staged_legal;
+        trees_legal = rules.trees_legal;
+        fixes_staged = rules.fixes_staged;
+        messages_small = rules.messages_small;
         contents_small = rules.contents_small;
       })
 

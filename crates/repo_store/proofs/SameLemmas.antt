@@ -87,7 +87,7 @@ holds_same db t u same h = record {
   commits = restored commit_cells (0 ∷ 2 ∷ []) t.commits u.commits (db.trees 8) same.commits h.commits;
   entries = restored entry_cells (1 ∷ 2 ∷ 3 ∷ 4 ∷ []) t.entries u.entries (db.trees 9) same.entries h.entries;
   answers = restored answer_cells (1 ∷ 2 ∷ 3 ∷ 4 ∷ 5 ∷ []) t.answers u.answers (db.trees 11) same.answers h.answers;
-  answers_numbered = h.answers_numbered;
+  answers_keyed = h.answers_keyed;
 }
 
 -- a step, told by rows in another order

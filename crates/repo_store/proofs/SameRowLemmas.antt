@@ -17,7 +17,7 @@ use Rattle.repo_store.specs.Kept.{Kept}
 use Rattle.repo_store.specs.Lists.{entry_in, file_of}
 use Rattle.repo_store.specs.Repository.{Commit, last_tree}
 use Rattle.repo_store.specs.Rows.{staged_row}
-use Rattle.repo_store.proofs.OneLemmas.{same_bytes, same_files}
+use Rattle.repo_store.proofs.DigestLemmas.{same_bytes, same_files}
 
 -- ---- which contents are kept
 

@@ -2,7 +2,6 @@
 use Rattle.std.specs.Prelude.{◌≡◌, ◌≢◌, ℕ, ◌<◌, Bool, List, [], ◌∷◌, ◌++◌, if◌then◌else◌, length, slice_index_or, Some, Option, None}
 use Rattle.std.specs.List.{list_any}
 use Rattle.std.specs.Str.{bytes_eq}
-use Rattle.std.specs.HashMap.{HashMap, get}
 use Rattle.hook_base.specs.declared.change.Change.{Change}
 use Rattle.sha2.specs.Sha256.{sha256}
 
@@ -32,8 +31,3 @@ pub record Collides (bytes : List ℕ) (contents : List (List ℕ)) : Type 0 whe
   pub within : at < length contents
   pub same_digest : sha256 (slice_index_or contents at []) ≡ sha256 bytes
   pub differs : slice_index_or contents at [] ≢ bytes
-
--- The map gives the place of each of the contents by its digest, and no other place.
-pub record IsIndexed {S : Type 0} (places : HashMap (List ℕ) ℕ S) (contents : List (List ℕ)) : Type 0 where
-  pub listed : (k : ℕ) → k < length contents → get bytes_eq places (sha256 (slice_index_or contents k [])) ≡ Some k
-  pub found : (digest : List ℕ) (k : ℕ) → get bytes_eq places digest ≡ Some k → (k < length contents) × (sha256 (slice_index_or contents k []) ≡ digest)

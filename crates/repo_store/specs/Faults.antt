@@ -3,6 +3,8 @@ use Rattle.std.specs.Prelude.{ℕ, List, codes}
 use Rattle.sqlite.specs.declared.error.Error.{Error}
 use Rattle.sqlite.specs.declared.error.Error.TheVariants.{SqliteFailure}
 use Rattle.sqlite.specs.declared.error.ErrorCode.TheVariants as code
+use Rattle.answer_records.specs.declared.record_fault.RecordFault.{RecordFault}
+use Rattle.answer_records.specs.declared.record_fault.RecordFault.TheVariants as refused
 use Rattle.repo_store.specs.declared.fault.StoreFault.{StoreFault}
 use Rattle.repo_store.specs.declared.fault.StoreFault.TheVariants.{NotAStore, Damaged, Sql, OutOfMemory, Collision, TooLarge, TooMany}
 
@@ -28,6 +30,11 @@ name_of TooMany = codes "TooMany"
 abbrev pub fault_of : Error → StoreFault
 fault_of (SqliteFailure code.OutOfMemory) = OutOfMemory
 fault_of error = Sql error
+
+-- the refusal of a record that isn't made
+abbrev pub record_fault : RecordFault → StoreFault
+record_fault refused.TooLarge = TooLarge
+record_fault refused.OutOfMemory = OutOfMemory
 
 -- A refusal that comes only where contents are too large, something is too many or contents collide, or where memory or
 -- the database refuses.

@@ -34,7 +34,7 @@ pub record AreShown (rows : StoreRows) (trees : Trees) : Type 0 where
   pub commits : Stored commit_cells (0 ∷ 2 ∷ []) rows.commits.items (trees 8)
   pub entries : Stored entry_cells (1 ∷ 2 ∷ 3 ∷ 4 ∷ []) rows.entries.items (trees 9)
   pub answers : Stored answer_cells (1 ∷ 2 ∷ 3 ∷ 4 ∷ 5 ∷ []) rows.answers.items (trees 11)
-  pub answers_numbered : have_rowids (trees 11) ≡ true
+  pub answers_keyed : AreKeyed (trees 11)
 
 -- no commit has a file
 abbrev pub AreBare : List Commit → Type 0

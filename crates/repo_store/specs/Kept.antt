@@ -1,5 +1,5 @@
--- A repository and the contents that are kept for it.
-use Rattle.std.specs.Prelude.{◌≡◌, ℕ, Bool, List, Some, MatchOption, slice_get, take, refl}
+-- A repository, the contents that are kept for it, and the answers of children that are remembered.
+use Rattle.std.specs.Prelude.{◌≡◌, ℕ, Bool, List, [], Some, MatchOption, slice_get, take, refl}
 use Rattle.std.specs.List.{Any}
 use Rattle.std.specs.Coded.{Coded, code_by, coded×, coded_ℕ, coded_bool, coded_list}
 use Rattle.hook_base.specs.declared.file.File.{File}
@@ -7,20 +7,27 @@ use Rattle.hook_base.specs.declared.change.Change.{Change}
 use Rattle.hook_base.specs.contracts.file.File as file
 use Rattle.hook_base.specs.contracts.change.Change as change
 use Rattle.hook_base.specs.declared.file.FileEntry.{FileEntry}
+use Rattle.repo_store.specs.Answers.{KeptAnswer, answer_code}
 use Rattle.repo_store.specs.Contents.{with_content, with_changes, Collides}
 use Rattle.repo_store.specs.Limits.{IsSmall}
-use Rattle.repo_store.specs.Repository.{Commit, Repository, with_staged, without_staged, with_new_commit, accepted, with_fixes, staged_changes}
+use Rattle.repo_store.specs.Repository.{Commit, Repository, empty, with_staged, without_staged, with_new_commit, accepted, with_fixes, staged_changes}
 
 pub record Kept : Type 0 where
   pub repo : Repository
   -- as they came, the oldest first; the tables don't tell this order
   pub contents : List (List ℕ)
+  -- as they were first put; the tables don't tell this order either
+  pub answers : List KeptAnswer
+
+-- what an empty store keeps
+abbrev pub nothing_kept : Kept
+nothing_kept = record { repo = empty; contents = []; answers = [] }
 
 -- ---- what the calls make of it
 
 -- a file is staged
 abbrev pub staging : List ℕ → FileEntry → Kept → Kept
-staging path entry kept = record { repo = with_staged path entry kept.repo; contents = with_content entry.bytes kept.contents }
+staging path entry kept = record kept { repo = with_staged path entry kept.repo; contents = with_content entry.bytes kept.contents }
 
 -- a path is staged no more
 abbrev pub unstaging : List ℕ → Kept → Kept
@@ -36,11 +43,15 @@ committing message kept = record kept { repo = with_new_commit message kept.repo
 
 -- the fixes are set, and their contents are kept
 abbrev pub setting : List Change → Kept → Kept
-setting changes kept = record { repo = with_fixes changes kept.repo; contents = with_changes (staged_changes changes kept.repo.staged) kept.contents }
+setting changes kept = record kept { repo = with_fixes changes kept.repo; contents = with_changes (staged_changes changes kept.repo.staged) kept.contents }
 
 -- the fixes are accepted
 abbrev pub accepting : Kept → Kept
 accepting kept = record kept { repo = accepted kept.repo }
+
+-- the answers are forgotten; the contents stay
+abbrev pub forgetting : Kept → Kept
+forgetting kept = record kept { answers = [] }
 
 -- why fixes can't be set: one of them is too large
 abbrev pub HasLarge : List Change → Type 0
@@ -65,9 +76,10 @@ repository_code =
 
 abbrev pub kept_code : Coded Kept
 kept_code =
-    code_by (Repository × List (List ℕ)) (coded× repository_code (coded_list (coded_list coded_ℕ))) (λ k. (k.repo, k.contents)) (λ p. record { repo = p.0; contents = p.1 }) (λ _. refl)
+    code_by (Repository × (List (List ℕ) × List KeptAnswer)) (coded× repository_code (coded× (coded_list (coded_list coded_ℕ)) (coded_list answer_code))) (λ k. (k.repo, (k.contents, k.answers)))
+    (λ p. record { repo = p.0; contents = p.1.0; answers = p.1.1 }) (λ _. refl)
 
--- What is kept, and whether the lists in memory have room for one more staged file and one more commit.
+-- What is kept, and whether the lists in memory have room for one more staged file, one more commit and one more answer.
 pub record Mirror : Type 0 where
   pub kept : Kept
   pub has_room : Bool

@@ -18,6 +18,10 @@ most_tree_path_bytes = 8388608
 abbrev pub most_content_bytes : ℕ
 most_content_bytes = most_file_bytes
 
+-- the most that the exit code of a child is
+abbrev pub most_status : ℕ
+most_status = 255
+
 -- the bytes of the paths together
 abbrev pub path_bytes : List File → ℕ
 path_bytes files = sum_by (λ (file : File). length file.path) files

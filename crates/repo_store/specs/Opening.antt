@@ -16,7 +16,7 @@ use Rattle.repo_store.specs.Unfit.{IsUnfit}
 
 -- the rows of the database are those of the lists
 abbrev pub IsFoundIn : Database → Mirror → Type 0
-IsFoundIn db lists = Holds db (tables_of lists.kept.repo lists.kept.contents)
+IsFoundIn db lists = Holds db (tables_of lists.kept)
 
 -- Rows are read inside a transaction, where the database has the tables of a store: at `Ok` they are Found in its trees
 -- and nothing has changed. Nothing is committed, and a crash leaves no more than before.

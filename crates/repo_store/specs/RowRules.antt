@@ -1,17 +1,21 @@
 -- The rules that the rows of a store obey, whatever their order. What breaks one of them is a damaged store.
-use Rattle.std.specs.Prelude.{◌≡◌, ◌⊎◌, ℕ, ◌+◌, ◌≤◌, ℤ, pos, Bool, true, List, [], ◌∷◌, length, map, sum_by, Option, None, Some, IsPermutation}
-use Rattle.std.specs.List.{AllByRecursion, list_any}
+use Rattle.std.specs.Prelude.{◌≡◌, ◌⊎◌, ℕ, ◌+◌, ◌≤◌, ℤ, pos, Bool, true, List, [], ◌∷◌, length, map, sum_by, Option, None, Some, IfSome, IsPermutation}
+use Rattle.std.specs.List.{AllByRecursion, Contains, list_any}
 use Rattle.std.specs.Str.{IsUtf8, bytes_eq}
 use Rattle.sha2.specs.Sha256.{sha256}
 use Rattle.hook_base.specs.Paths.{path_fault}
+use Rattle.answer_records.specs.declared.changed_file.ChangedFile.{ChangedFile}
+use Rattle.answer_records.specs.declared.seen_file.SeenFile.{SeenFile}
+use Rattle.answer_records.specs.Reading.{IsChangesRecord, IsSeenRecord, IsWordsRecord}
 use Rattle.store_tables.specs.declared.rows.MetaRow.{MetaRow}
 use Rattle.store_tables.specs.declared.rows.BlobRow.{BlobRow}
 use Rattle.store_tables.specs.declared.rows.StagedRow.{StagedRow}
 use Rattle.store_tables.specs.declared.rows.FixRow.{FixRow}
 use Rattle.store_tables.specs.declared.rows.CommitRow.{CommitRow}
 use Rattle.store_tables.specs.declared.rows.EntryRow.{EntryRow}
+use Rattle.store_tables.specs.declared.rows.AnswerRow.{AnswerRow}
 use Rattle.store_tables.specs.Tables.{Tables}
-use Rattle.repo_store.specs.Limits.{IsSmall, most_commits, most_files, most_tree_path_bytes}
+use Rattle.repo_store.specs.Limits.{IsSmall, most_commits, most_files, most_status, most_tree_path_bytes}
 use Rattle.repo_store.specs.Rows.{version_row}
 
 -- ---- single rows
@@ -74,6 +78,53 @@ pub record IsEntryRow (blobs : List BlobRow) (commits : ℕ) (row : EntryRow) : 
   pub owned : IsNumbered commits row.n
   pub file : IsFileRow blobs row.path row.mode row.digest
 
+-- the exit code of a child that ended by itself
+pub record IsStatus (number : ℤ) : Type 0 where
+  pub code : ℕ
+  pub is : number ≡ pos code
+  pub within : code ≤ most_status
+
+-- kept contents under the digest are such
+pub record HasKept (blobs : List BlobRow) (digest : List ℕ) (AreSuch : List ℕ → Type 0) : Type 0 where
+  pub blob : BlobRow
+  pub kept : Contains blobs blob
+  pub named : blob.digest ≡ digest
+  pub such : AreSuch blob.bytes
+
+-- the contents of each file that a child saw are kept
+abbrev pub HaveKeptContents : List BlobRow → List SeenFile → Type 0
+HaveKeptContents blobs seen = AllByRecursion (λ (file : SeenFile). is_kept blobs file.digest ≡ true) seen
+
+-- the new contents of each file that a child changed, where it isn't gone, are kept
+abbrev pub HaveKeptNewContents : List BlobRow → List ChangedFile → Type 0
+HaveKeptNewContents blobs changed = AllByRecursion (λ (file : ChangedFile). IfSome file.digest (λ digest. is_kept blobs digest ≡ true)) changed
+
+-- one of the files has the path
+abbrev pub is_seen : List SeenFile → List ℕ → Bool
+is_seen seen path = list_any (λ (file : SeenFile). bytes_eq path file.path) seen
+
+-- each file that a child changed is one that it saw
+abbrev pub AreSeen : List ChangedFile → List SeenFile → Type 0
+AreSeen changed seen = AllByRecursion (λ (file : ChangedFile). is_seen seen file.path ≡ true) changed
+
+-- a remembered answer
+pub record IsAnswerRow (blobs : List BlobRow) (row : AnswerRow) : Type 0 where
+  -- the record of words is kept
+  pub words : List (List ℕ)
+  pub words_kept : HasKept blobs row.words (IsWordsRecord words)
+  -- the record of files that a child saw, whose contents are kept too
+  pub seen : List SeenFile
+  pub seen_kept : HasKept blobs row.seen (IsSeenRecord seen)
+  pub seen_contents : HaveKeptContents blobs seen
+  -- what it wrote is kept
+  pub output_kept : is_kept blobs row.output ≡ true
+  -- the record of files that it changed, each of which it saw, whose new contents are kept too
+  pub changed : List ChangedFile
+  pub changes_kept : HasKept blobs row.changes (IsChangesRecord changed)
+  pub new_contents : HaveKeptNewContents blobs changed
+  pub keeps_to_seen : AreSeen changed seen
+  pub status_known : IsStatus row.status
+
 -- ---- the tables
 
 -- the numbers from one on, so many of them
@@ -114,8 +165,8 @@ pub record AreStoreRows (t : Tables) : Type 0 where
   pub commits : AreCommitRows t.commits
   -- each entry is a file of a commit
   pub entries : AllByRecursion (IsEntryRow t.blobs (length t.commits)) t.entries
-  -- no answer is remembered yet
-  pub answers : t.answers ≡ []
+  -- each answer is one of a child
+  pub answers : AllByRecursion (IsAnswerRow t.blobs) t.answers
 
 -- The rows of `meta`, in whatever order, say that the store is of version 1, and nothing else of it.
 abbrev pub AreVersionRows : List MetaRow → Type 0

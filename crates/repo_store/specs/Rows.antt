@@ -1,4 +1,5 @@
--- How a repository stands in the tables of a store: each content once, under the SHA-256 of its bytes.
+-- How a repository and the answers that are remembered stand in the tables of a store: each content once, under the SHA-256 of
+-- its bytes.
 use Rattle.std.specs.Prelude.{ℕ, ◌+◌, pos, List, [], ◌∷◌, ◌++◌, map, codes, Option, None, Some}
 use Rattle.sha2.specs.Sha256.{sha256}
 use Rattle.hook_base.specs.declared.file.File.{File}
@@ -11,8 +12,12 @@ use Rattle.store_tables.specs.declared.rows.StagedRow.{StagedRow}
 use Rattle.store_tables.specs.declared.rows.FixRow.{FixRow}
 use Rattle.store_tables.specs.declared.rows.CommitRow.{CommitRow}
 use Rattle.store_tables.specs.declared.rows.EntryRow.{EntryRow}
+use Rattle.store_tables.specs.declared.rows.AnswerRow.{AnswerRow}
 use Rattle.store_tables.specs.Tables.{Tables}
-use Rattle.repo_store.specs.Repository.{Commit, Repository}
+use Rattle.repo_store.specs.Answers.{KeptAnswer}
+use Rattle.repo_store.specs.Kept.{Kept}
+use Rattle.repo_store.specs.Repository.{Commit}
+use Rattle.repo_store.specs.WrittenAnswers.{written_changes, written_seen, written_words}
 
 abbrev pub mode_number : Mode → ℕ
 mode_number Plain = 0
@@ -49,16 +54,25 @@ abbrev pub entry_rows : ℕ → List Commit → List EntryRow
 entry_rows n [] = []
 entry_rows n (commit ∷ more) = map (entry_row n) commit.tree ++ entry_rows (n + 1) more
 
--- the tables of a store that keeps these contents
-abbrev pub tables_of : Repository → List (List ℕ) → Tables
-tables_of repo contents = record {
+abbrev pub answer_row : KeptAnswer → AnswerRow
+answer_row answer = record {
+  words = sha256 (written_words answer);
+  seen = sha256 (written_seen answer);
+  output = sha256 answer.output;
+  changes = sha256 (written_changes answer);
+  status = pos answer.status;
+}
+
+-- the tables of a store that keeps this
+abbrev pub tables_of : Kept → Tables
+tables_of kept = record {
   meta = version_row ∷ [];
-  blobs = map blob_row contents;
-  staged = map staged_row repo.staged;
-  fixes = map fix_row repo.fixes;
-  commits = commit_rows 1 repo.history;
-  entries = entry_rows 1 repo.history;
-  answers = [];
+  blobs = map blob_row kept.contents;
+  staged = map staged_row kept.repo.staged;
+  fixes = map fix_row kept.repo.fixes;
+  commits = commit_rows 1 kept.repo.history;
+  entries = entry_rows 1 kept.repo.history;
+  answers = map answer_row kept.answers;
 }
 
 -- contents more, which the table lacks

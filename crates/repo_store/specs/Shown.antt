@@ -24,16 +24,16 @@ shown_code {S} store = code_by (Held S × Kept) (coded× (held_code store) kept_
 pub record Stands {S : Type 0} (g : Ghosts S) (conn : Held S) (kept : Kept) : Type 0 where
   pub outside : conn.in_transaction ≡ false
   pub complete : IsComplete kept
-  pub obeys : AreStoreRows (tables_of kept.repo kept.contents)
-  pub now : IsTrue (state g conn).is_open → Holds (state g conn).now (tables_of kept.repo kept.contents)
-  pub committed : IsTrue (state g conn).is_open → Holds (state g conn).committed (tables_of kept.repo kept.contents)
+  pub obeys : AreStoreRows (tables_of kept)
+  pub now : IsTrue (state g conn).is_open → Holds (state g conn).now (tables_of kept)
+  pub committed : IsTrue (state g conn).is_open → Holds (state g conn).committed (tables_of kept)
 
 -- Opened again, the trees are a store that keeps this, one complete repository, in rows that obey the rules by which it is
 -- opened.
 pub record Leaves (kept : Kept) (trees : Trees) : Type 0 where
-  pub holds : Holds (with_schema trees) (tables_of kept.repo kept.contents)
+  pub holds : Holds (with_schema trees) (tables_of kept)
   pub complete : IsComplete kept
-  pub obeys : AreStoreRows (tables_of kept.repo kept.contents)
+  pub obeys : AreStoreRows (tables_of kept)
 
 -- on a clean disk, a crash can leave nothing but this
 abbrev pub LeavesOnly : {S : Type 0} (g : Ghosts S) (conn : Held S) (kept : Kept) → Type 0

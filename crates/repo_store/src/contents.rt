@@ -3,7 +3,7 @@
 ghost use Rattle.std.specs.Prelude.{◌≡◌, ◌≢◌, ◌+◌, ◌-◌, ◌<◌, ◌≤◌, [], ◌∷◌, ◌++◌, false, length, take, drop, IfOk, IfErr, IfNone, IfSome, OnOk, OnErr};
 ghost use Rattle.std.specs.List.{Any};
 ghost use Rattle.sha2.specs.Sha256.{sha256};
-ghost use Rattle.repo_store.specs.Contents.{Collides, has_digest, with_content};
+ghost use Rattle.repo_store.specs.Contents.{Collides, has_content, has_digest, with_content};
 ghost use Rattle.repo_store.specs.Faults.{IsDamage, IsRefusal};
 ghost use Rattle.repo_store.specs.Limits.{IsSmall};
 ghost use Rattle.repo_store.specs.RowRules.{IsBlobRow};
@@ -28,7 +28,7 @@ pub(crate) struct Contents {
 
 impl Model for Contents {
     ghost use Rattle.std.specs.Prelude.{List, ℕ};
-    ghost use Rattle.repo_store.specs.Contents.{IsIndexed};
+    ghost use Rattle.repo_store.specs.Index.{IsIndexed};
 
     ghost Value = { List (List ℕ) };
 
@@ -104,12 +104,41 @@ impl Contents {
         if bytes.len() > MOST_CONTENT_BYTES {
             return Err(StoreFault::TooLarge);
         }
-        let digest = Sha256::digest(bytes);
+        self.keep_under(Sha256::digest(bytes), bytes)
+    }
+
+    /// The bytes, which stand under the digest, as contents, kept anew where they aren't there yet. A refusal leaves all as it
+    /// was.
+    pub(crate) fn keep_under(
+        &mut self,
+        digest: [u8; 32],
+        bytes: &[u8],
+    ) -> Result<Content, StoreFault>
+        requires { digest ≡ sha256 bytes.now }
+        ensures content { IfOk result (λ content. content ≡ bytes.now) }
+        ensures kept { OnOk result (self.new ≡ with_content bytes.now self.old) }
+        ensures same { OnErr result (self.new ≡ self.old) }
+        ensures why { IfErr result (IsRefusal ⊥ ⊥ (Collides bytes.now self.old)) }
+        ensures apart { OnOk result (¬ Collides bytes.now self.old) }
+    {
         if let Some(content) = self.find(&digest) {
             return shared(content, bytes);
         }
         let content = self.add(digest, bytes)?;
         Ok(content)
+    }
+
+    /// Whether the bytes, which stand under the digest, are kept.
+    pub(crate) fn has(&self, digest: &[u8; 32], bytes: &[u8]) -> Result<bool, StoreFault>
+        requires { digest.now ≡ sha256 bytes.now }
+        ensures known { IfOk result (λ known. known ≡ has_content bytes.now self.now) }
+        ensures why { IfErr result (IsRefusal ⊥ ⊥ (Collides bytes.now self.now)) }
+    {
+        match self.find(digest) {
+            Some(content) if content.as_slice() != bytes => Err(StoreFault::Collision),
+            Some(_) => Ok(true),
+            None => Ok(false),
+        }
     }
 
     /// Takes in contents that stand under their own digest, without a copy of the bytes.

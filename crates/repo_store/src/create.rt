@@ -5,7 +5,7 @@ ghost use Rattle.store_tables.specs.Schema.{no_schema};
 ghost use Rattle.store_tables.specs.Steps.{IsMade};
 ghost use Rattle.store_tables.specs.Tables.{IsBare, Holds};
 ghost use Rattle.repo_store.specs.Transactions.{IsCall};
-ghost use Rattle.repo_store.specs.Repository.{empty};
+ghost use Rattle.repo_store.specs.Kept.{nothing_kept};
 ghost use Rattle.repo_store.specs.Rows.{tables_of};
 ghost use Rattle.sqlite.specs.Held.{state};
 
@@ -14,7 +14,7 @@ use store_tables::{make_tables, put_meta};
 
 fn make_in<S: Alter>(tx: &mut Transaction<'_, S>) -> Result<(), Error>
     ensures same_reference { tx.new.conn.ghost_name ≡ tx.old.conn.ghost_name }
-    ensures made { IsMade S.Store tx.old.conn.now tx.new.conn.now result (IsBare no_schema) (λ db. Holds db (tables_of empty [])) }
+    ensures made { IsMade S.Store tx.old.conn.now tx.new.conn.now result (IsBare no_schema) (λ db. Holds db (tables_of nothing_kept)) }
 {
     make_tables(tx)?;
     put_meta(tx, "version", 1)
@@ -22,7 +22,7 @@ fn make_in<S: Alter>(tx: &mut Transaction<'_, S>) -> Result<(), Error>
 
 pub(crate) fn make<S: Alter>(conn: &mut Connection<S>) -> Result<(), Error>
     requires { conn.old.in_transaction ≡ false }
-    ensures { IsCall S.Store conn.old conn.new result (IsBare no_schema) (λ db. Holds db (tables_of empty [])) }
+    ensures { IsCall S.Store conn.old conn.new result (IsBare no_schema) (λ db. Holds db (tables_of nothing_kept)) }
 {
     let mut tx = conn.transaction();
     make_in(&mut tx)?;

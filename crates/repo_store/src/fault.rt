@@ -1,5 +1,6 @@
 //! The refusals of the calls on a store.
 
+use answer_records::RecordFault;
 use hook_base::OutOfMemory;
 use sqlite::ErrorCode;
 use std::alloc::{AllocError, AllocFailed};
@@ -88,6 +89,21 @@ impl From<OutOfMemory> for StoreFault {
 
     fn from(_refused: OutOfMemory) -> StoreFault {
         StoreFault::OutOfMemory
+    }
+}
+
+impl From<RecordFault> for StoreFault {
+    ghost use Rattle.std.specs.Prelude.{◌≡◌};
+    ghost use Rattle.repo_store.specs.Faults.{record_fault};
+
+    ghost from_gives = { λ refused fault. fault ≡ record_fault refused };
+
+    /// A record over its limit is `TooLarge`, and want of memory is `OutOfMemory`.
+    fn from(refused: RecordFault) -> StoreFault {
+        match refused {
+            RecordFault::TooLarge => StoreFault::TooLarge,
+            RecordFault::OutOfMemory => StoreFault::OutOfMemory,
+        }
     }
 }
 

@@ -1,18 +1,30 @@
-//! A repository that is kept in SQL: its commits, the staged files and the fixes, each change one transaction. The public
-//! types are `Store`, `StoreFault`, `Digest` (of contents), `LogEntry` (a commit in the log) and `FileRef` (a file without a
-//! copy), and the constants are the limits. Contracts cite `specs/Repository` and `specs/Log` (the repository as plain lists),
-//! `specs/Kept`, `specs/AllOrNothing` and `specs/Contents` (what each call makes of it and of the contents, and which collide),
-//! `specs/Clashes` (which paths can't stand beside one another), `specs/FileRefs` (the file that is shown by reference),
-//! `specs/Limits`, `specs/Faults` (the refusals, and when each may come), `specs/Rows` (the tables of a repository),
-//! `specs/RowRules` (the rules of their rows), `specs/Sound` (a repository in order and within the limits), `specs/Complete`
-//! (a complete one, with its contents), `specs/Calls` and `specs/Shown` (what is seen of a store, and what a refusal or a crash
-//! leaves), and `specs/Unfit` (why a database isn't opened). `specs/Lists`, `specs/Accepted`,
-//! `specs/FromRows`, `specs/Opening` and `specs/Transactions` serve private functions only. [`laws`] says that a database holds
-//! one complete repository at most, and that what the calls and a crash leave is never taken for a damaged store or for none.
+//! A repository that is kept in SQL: its commits, the staged files and the fixes, and the answers of children that are
+//! remembered, each change one transaction. The public types are `Store`, `StoreFault`, `Digest` (of contents), `LogEntry` (a
+//! commit in the log), `FileRef` (a file without a copy), `AnswerRef` (an answer without a copy) and `StoredAnswer` (a copy of
+//! one that is remembered), and the constants are the limits.
+//!
+//! Contracts cite `specs/Repository` and `specs/Log` (the repository as plain lists), `specs/Answers` (the answers of children,
+//! and which one is remembered for words and seen files), `specs/WrittenAnswers` (how an answer is written down, and which
+//! contents are kept for it, in which order), `specs/Kept`, `specs/AllOrNothing` and `specs/Contents` (what each call makes of
+//! it, of these and of the contents, and which collide), `specs/Clashes` (which paths can't stand beside one another),
+//! `specs/FileRefs` (the file that is shown by reference), `specs/AnswerRefs` and `specs/Remembering` (an answer that is handed
+//! over by reference or given as a copy, and what a store makes of one that it is to remember), `specs/Limits`, `specs/Faults`
+//! (the refusals, and when each may come), `specs/Rows` (the tables of a repository), `specs/RowRules` (the rules of their rows),
+//! `specs/Sound` and `specs/SoundAnswers` (a repository in order and within the limits, and such an answer), `specs/Complete` (a
+//! complete one, with its contents), `specs/Calls` and `specs/Shown` (what is seen of a store, and what a refusal or a crash
+//! leaves), and `specs/Unfit` (why a database isn't opened). `specs/Lists`, `specs/Accepted`, `specs/FromRows`, `specs/Index`,
+//! `specs/KeptContents`, `specs/Remembered`, `specs/Shared`, `specs/SharedAnswers`, `specs/Opening` and `specs/Transactions`
+//! serve private functions only. `specs/AnswerLemmas` has the lemmas on remembered answers that callers need: which is found, and
+//! what remembering one makes of that. [`laws`] says that a database holds one complete repository at most, and that what the
+//! calls and a crash leave is never taken for a damaged store or for none.
 #![tactic(auto)]
 
 mod accept;
 mod accepted;
+mod answer_contents;
+mod answer_ref;
+mod answer_search;
+mod answers;
 mod blobs;
 mod clashes;
 mod commit;
@@ -27,6 +39,7 @@ mod file_ref;
 mod files;
 mod fixed_files;
 mod fixes;
+mod forget;
 mod from_rows;
 pub mod laws;
 mod limits;
@@ -35,16 +48,21 @@ mod log_entry;
 mod look_ups;
 mod mode;
 mod opening;
+mod remember;
 mod shared;
+mod shared_answer;
 mod stage;
 mod store;
+mod stored_answer;
 mod table_rows;
 mod trees;
 mod unstage;
 
+pub use answer_ref::AnswerRef;
 pub use digest::Digest;
 pub use fault::StoreFault;
 pub use file_ref::FileRef;
 pub use limits::{MOST_COMMITS, MOST_CONTENT_BYTES, MOST_FILES, MOST_TREE_PATH_BYTES};
 pub use log_entry::LogEntry;
 pub use store::Store;
+pub use stored_answer::StoredAnswer;

@@ -1,25 +1,36 @@
-//! What a store shows, in memory: its commits, staged files, fixes and contents.
+//! What a store shows, in memory: its commits, staged files, fixes, contents and answers.
 
 ghost use Rattle.std.specs.Prelude.{◌≡◌, ◌≢◌, ◌↔◌, ◌<◌, ◌≤◌, [], true, map, length, take, drop, is_some, option_map, slice_get, MatchOption, IfOk, IfErr, IfSome, IsTrue, OnOk, OnErr};
+ghost use Rattle.std.specs.List.{AllByRecursion};
 ghost use Rattle.std.specs.Option.{option_copied};
 ghost use Rattle.std.specs.Str.{IsUtf8};
 ghost use Rattle.hook_base.specs.declared.file.FileEntry.{FileEntry};
 ghost use Rattle.hook_base.specs.Paths.{IsRepoPath};
 ghost use Rattle.hook_base.specs.Trees.{IsRising, IsRisingChanges, entry_of, put_file};
 ghost use Rattle.repo_store.specs.Accepted.{IsAccepted, accepted_files};
+ghost use Rattle.repo_store.specs.AnswerRefs.{copied_answer, stored_answer};
+ghost use Rattle.repo_store.specs.Answers.{HaveOwnKeys, answer_for};
 ghost use Rattle.repo_store.specs.Clashes.{Clashes};
 ghost use Rattle.repo_store.specs.Complete.{IsComplete};
 ghost use Rattle.repo_store.specs.FileRefs.{copied_file};
-ghost use Rattle.repo_store.specs.Kept.{FixCollides, HasLarge, accepting, committing, keeping, unstaging};
+ghost use Rattle.repo_store.specs.Kept.{FixCollides, HasLarge, accepting, committing, forgetting, keeping, nothing_kept, unstaging};
 ghost use Rattle.repo_store.specs.Lists.{commit_of, file_of, fix_of, repository_of};
 ghost use Rattle.repo_store.specs.Contents.{Collides, with_changes, with_new};
 ghost use Rattle.repo_store.specs.Faults.{IsRefusal};
+ghost use Rattle.repo_store.specs.KeptContents.{AreAllKept};
 ghost use Rattle.repo_store.specs.Limits.{Fits, IsSmall, most_commits, most_files};
 ghost use Rattle.repo_store.specs.Log.{log_from};
-ghost use Rattle.repo_store.specs.Repository.{Commit, commit_at, empty, last_tree, staged_changes, tree_at, with_staged};
+ghost use Rattle.repo_store.specs.Remembered.{TellsKey};
+ghost use Rattle.repo_store.specs.Remembering.{AnyCollides, AreSmall, SomeCollides, with_answer, with_contents};
+ghost use Rattle.repo_store.specs.Repository.{Commit, commit_at, last_tree, staged_changes, tree_at, with_staged};
 ghost use Rattle.repo_store.specs.Sound.{IsSound};
+ghost use Rattle.repo_store.specs.SoundAnswers.{IsSoundAnswer, KeepToSeen};
+ghost use Rattle.repo_store.specs.WrittenAnswers.{contents_for, contents_of_key};
 
 use crate::accepted::Accepted;
+use crate::answer_contents::keep_answer;
+use crate::answer_search::{known_seen, known_words, stored};
+use crate::answers::Answers;
 use crate::clashes::clashes;
 use crate::content::Content;
 use crate::contents::Contents;
@@ -28,13 +39,14 @@ use crate::files::{commit_with, count_path_bytes, has_path, may_put, put_file, t
 use crate::limits::{MOST_COMMITS, MOST_CONTENT_BYTES};
 use crate::look_ups::{file_at, shown_at};
 use crate::shared::{SharedCommit, SharedFile, SharedFix};
+use crate::shared_answer::SharedAnswer;
 use crate::trees::{changes_of, log_of, tree_of};
-use crate::{FileRef, LogEntry, StoreFault};
-use hook_base::{Change, Mode, OutOfMemory, RepoPath, Tree};
+use crate::{AnswerRef, FileRef, LogEntry, StoreFault, StoredAnswer};
+use hook_base::{Change, Mode, OutOfMemory, RepoPath, Text, Tree};
 use std::alloc::Global;
 use std::marker::Model;
 
-/// A repository in memory, and the contents that are kept.
+/// A repository in memory, with the contents that are kept and the answers that are remembered.
 #[derive(Drop)]
 pub(crate) struct Lists {
     contents: Contents,
@@ -43,6 +55,7 @@ pub(crate) struct Lists {
     // The bytes of the staged paths together.
     staged_bytes: usize,
     fixes: Vec<SharedFix>,
+    answers: Answers,
 }
 
 impl Model for Lists {
@@ -59,8 +72,9 @@ impl Model for Lists {
       kept = record {
         repo = repository_of lists.history.items lists.staged.items lists.fixes.items;
         contents = lists.contents;
+        answers = lists.answers.answers;
       };
-      has_room = nat_lt (vec_len lists.history) (vec_capacity lists.history) && nat_lt (vec_len lists.staged) (vec_capacity lists.staged);
+      has_room = nat_lt (vec_len lists.history) (vec_capacity lists.history) && nat_lt (vec_len lists.staged) (vec_capacity lists.staged) && lists.answers.has_room;
     } };
 
     ghost invariant = { λ lists. AreKept lists.history.items lists.staged.items lists.fixes.items lists.staged_bytes };
@@ -68,7 +82,7 @@ impl Model for Lists {
 
 impl Lists {
     pub(crate) fn new(alloc: Global) -> Lists
-        ensures { result.kept ≡ record { repo = empty; contents = [] } }
+        ensures { result.kept ≡ nothing_kept }
     {
         Lists {
             contents: Contents::new(alloc),
@@ -76,6 +90,7 @@ impl Lists {
             staged: Vec::new(alloc),
             staged_bytes: 0,
             fixes: Vec::new(alloc),
+            answers: Answers::new(alloc),
         }
     }
 
@@ -85,9 +100,10 @@ impl Lists {
         history: Vec<SharedCommit>,
         staged: Vec<SharedFile>,
         fixes: Vec<SharedFix>,
+        answers: Answers,
     ) -> Lists
         requires { IsSound (repository_of history.items staged.items fixes.items) }
-        ensures { result.kept ≡ record { repo = repository_of history.items staged.items fixes.items; contents = contents } }
+        ensures { result.kept ≡ record { repo = repository_of history.items staged.items fixes.items; contents = contents; answers = answers.answers } }
     {
         let staged_bytes = count_path_bytes(staged.as_slice());
         Lists {
@@ -96,16 +112,18 @@ impl Lists {
             staged,
             staged_bytes,
             fixes,
+            answers,
         }
     }
 
-    /// Makes room for one more staged file and one more commit.
+    /// Makes room for one more staged file, one more commit and one more answer.
     pub(crate) fn reserve(&mut self) -> Result<(), OutOfMemory>
         ensures same { self.new.kept ≡ self.old.kept }
         ensures room { OnOk result (self.new.has_room ≡ true) }
     {
         self.history.reserve(1)?;
         self.staged.reserve(1)?;
+        self.answers.reserve()?;
         Ok(())
     }
 
@@ -265,6 +283,7 @@ impl Lists {
         ensures kept { OnOk result (self.new.kept.contents ≡ with_changes (staged_changes changes.now self.old.kept.repo.staged) self.old.kept.contents) }
         ensures sound { IsSound self.old.kept.repo }
         ensures repo { self.new.kept.repo ≡ self.old.kept.repo }
+        ensures answers { self.new.kept.answers ≡ self.old.kept.answers }
         ensures front { take (length self.old.kept.contents) self.new.kept.contents ≡ self.old.kept.contents }
         ensures within { OnOk result (¬ HasLarge (staged_changes changes.now self.old.kept.repo.staged)) }
         ensures apart { OnOk result (¬ FixCollides (staged_changes changes.now self.old.kept.repo.staged) self.old.kept.contents) }
@@ -467,6 +486,75 @@ impl Lists {
         ensures { IsComplete self.now.kept → IsTrue result ↔ (entry_of path.now self.now.kept.repo.staged ≢ entry_of path.now (last_tree self.now.kept.repo.history)) }
     {
         differ_at(self.staged.as_slice(), self.head_files(), path)
+    }
+
+    /// How many answers are remembered.
+    pub(crate) fn count_answers(&self) -> u64
+        ensures { result ≡ length self.now.kept.answers }
+    {
+        self.answers.len() as u64
+    }
+
+    /// An answer to be remembered, with room for it, whose contents are kept. A refusal leaves all as it was.
+    pub(crate) fn prepare_answer(
+        &mut self,
+        words: &[Text],
+        seen: &Tree,
+        answer: AnswerRef<'_>,
+    ) -> Result<SharedAnswer, StoreFault>
+        requires { KeepToSeen answer.changes.now seen.now }
+        ensures answer { IfOk result (λ made. made ≡ copied_answer words.now seen.now answer.entry) }
+        ensures sound { OnOk result (IsSoundAnswer (copied_answer words.now seen.now answer.entry)) }
+        ensures kept { OnOk result (self.new.kept ≡ record self.old.kept { contents = with_contents (contents_for (copied_answer words.now seen.now answer.entry)) self.old.kept.contents }) }
+        ensures room { OnOk result (self.new.has_room ≡ true) }
+        ensures same { OnErr result (self.new.kept ≡ self.old.kept) }
+        ensures all { OnOk result (AreAllKept (contents_for (copied_answer words.now seen.now answer.entry)) self.old.kept.contents self.new.kept.contents) }
+        ensures why { IfErr result (IsRefusal (¬ AreSmall (contents_for (copied_answer words.now seen.now answer.entry))) ⊥ (SomeCollides (contents_for (copied_answer words.now seen.now answer.entry)) self.old.kept.contents)) }
+    {
+        self.reserve()?;
+        let alloc = *self.staged.allocator();
+        let staged = self.staged.as_slice();
+        keep_answer(alloc, &mut self.contents, staged, words, seen, answer)
+    }
+
+    /// What is remembered for the words and the seen files, as a copy, or none where nothing is.
+    pub(crate) fn find_answer(
+        &self,
+        words: &[Text],
+        seen: &Tree,
+    ) -> Result<Option<StoredAnswer>, StoreFault>
+        requires { IsComplete self.now.kept }
+        ensures found { IfOk result (λ found. found ≡ option_map stored_answer (answer_for words.now seen.now self.now.kept.answers)) }
+        ensures why { IfErr result (IsRefusal ⊥ ⊥ (AnyCollides (contents_of_key words.now seen.now) self.now.kept.contents)) }
+    {
+        let alloc = *self.staged.allocator();
+        let Some(words) = known_words(alloc, &self.contents, words)? else {
+            return Ok(None);
+        };
+        let staged = self.staged.as_slice();
+        let Some(seen) = known_seen(alloc, &self.contents, staged, seen)? else {
+            return Ok(None);
+        };
+        match self.answers.find(words, seen) {
+            Some(answer) => Ok(Some(stored(alloc, answer)?)),
+            None => Ok(None),
+        }
+    }
+
+    /// Remembers an answer, for which there is room, in place of the one of its key.
+    pub(crate) fn remember(&mut self, answer: SharedAnswer)
+        requires room { self.old.has_room ≡ true }
+        requires told { AllByRecursion (TellsKey answer) self.old.kept.answers }
+        ensures { self.new.kept ≡ record self.old.kept { answers = with_answer answer self.old.kept.answers } }
+    {
+        self.answers.put(answer);
+    }
+
+    /// Forgets all answers.
+    pub(crate) fn forget_answers(&mut self)
+        ensures { self.new.kept ≡ forgetting self.old.kept }
+    {
+        self.answers.clear();
     }
 
     /// How many fixes there are.

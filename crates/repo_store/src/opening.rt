@@ -45,7 +45,7 @@ fn read_store_in<S: Alter>(alloc: Global, tx: &mut Transaction<'_, S>) -> Result
     ensures same_reference { tx.new.conn.ghost_name ≡ tx.old.conn.ghost_name }
     ensures listed { AreListed S.Store tx.old.conn.now tx.new.conn.now result }
     ensures complete { IfOk result (λ lists. IsComplete lists.kept) }
-    ensures obeys { IfOk result (λ lists. AreStoreRows (tables_of lists.kept.repo lists.kept.contents)) }
+    ensures obeys { IfOk result (λ lists. AreStoreRows (tables_of lists.kept)) }
 {
     match read_meta(alloc, tx) {
         Ok(meta) => {
@@ -80,7 +80,7 @@ pub(crate) fn read_store<S: Alter>(
     requires { conn.old.in_transaction ≡ false }
     ensures read { AreListedAlone S.Store conn.old conn.new result }
     ensures complete { IfOk result (λ lists. IsComplete lists.kept) }
-    ensures obeys { IfOk result (λ lists. AreStoreRows (tables_of lists.kept.repo lists.kept.contents)) }
+    ensures obeys { IfOk result (λ lists. AreStoreRows (tables_of lists.kept)) }
 {
     let mut tx = conn.transaction();
     read_store_in(alloc, &mut tx)

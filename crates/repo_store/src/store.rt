@@ -12,18 +12,23 @@ ghost use Rattle.sqlite.specs.State.{HasCleanDisk, Survives};
 ghost use Rattle.store_tables.specs.Tables.{Holds};
 ghost use Rattle.repo_store.specs.Calls.{Rests};
 ghost use Rattle.repo_store.specs.AllOrNothing.{IsAllOrNothing};
+ghost use Rattle.repo_store.specs.AnswerRefs.{copied_answer, stored_answer};
+ghost use Rattle.repo_store.specs.Answers.{HaveOwnKeys, answer_for};
 ghost use Rattle.repo_store.specs.Clashes.{Clashes};
 ghost use Rattle.repo_store.specs.Complete.{AreAlike};
 ghost use Rattle.repo_store.specs.Contents.{Collides};
 ghost use Rattle.repo_store.specs.Faults.{IsRefusal};
 ghost use Rattle.repo_store.specs.FileRefs.{copied_file};
-ghost use Rattle.repo_store.specs.Kept.{FixCollides, HasLarge, Kept, accepting, committing, keeping, setting, staging, unstaging};
+ghost use Rattle.repo_store.specs.Kept.{FixCollides, HasLarge, Kept, accepting, committing, forgetting, keeping, nothing_kept, setting, staging, unstaging};
 ghost use Rattle.repo_store.specs.Limits.{Fits, IsSmall, most_commits};
 ghost use Rattle.repo_store.specs.Log.{log_from};
-ghost use Rattle.repo_store.specs.Repository.{Commit, commit_at, empty, last_tree, staged_changes, tree_at};
+ghost use Rattle.repo_store.specs.Remembering.{AnyCollides, AreSmall, SomeCollides, remembering};
+ghost use Rattle.repo_store.specs.Repository.{Commit, commit_at, last_tree, staged_changes, tree_at};
 ghost use Rattle.repo_store.specs.Rows.{tables_of};
 ghost use Rattle.repo_store.specs.Shown.{IsOneTransaction, Leaves, LeavesOnly, Stands};
+ghost use Rattle.repo_store.specs.SoundAnswers.{KeepToSeen};
 ghost use Rattle.repo_store.specs.Unfit.{IsUnfit};
+ghost use Rattle.repo_store.specs.WrittenAnswers.{contents_for, contents_of_key};
 
 use crate::accept::accept_rows;
 use crate::blobs::keep_rows;
@@ -31,17 +36,20 @@ use crate::commit::commit_rows;
 use crate::create::{has_no_tables, make};
 use crate::fault::fault_of;
 use crate::fixes::set_rows;
+use crate::forget::forget_rows;
 use crate::lists::Lists;
 use crate::opening::{has_tables, read_store};
+use crate::remember::remember_rows;
 use crate::stage::stage_rows;
 use crate::unstage::unstage_rows;
-use crate::{Digest, FileRef, LogEntry, StoreFault};
-use hook_base::{Change, Mode, OutOfMemory, RepoPath, Tree};
+use crate::{AnswerRef, Digest, FileRef, LogEntry, StoreFault, StoredAnswer};
+use hook_base::{Change, Mode, OutOfMemory, RepoPath, Text, Tree};
 use sqlite::{Alter, Connection, Error, ErrorCode};
 use std::alloc::Global;
 use std::marker::Model;
 
-/// A repository in a database: its commits, the staged files and the fixes. Each call that changes it is one transaction:
+/// A repository in a database: its commits, the staged files and the fixes, and the answers of children that are remembered.
+/// Each call that changes it is one transaction:
 /// it is done as a whole or not at all, whatever stops it. `StoreFault` says what a refused one leaves in the tables. The calls
 /// that read are answered from memory.
 pub struct Store<S: Alter> {
@@ -77,16 +85,16 @@ impl<S: Alter> Store<S> {
         conn: Connection<S>,
     ) -> Result<Store<S>, (StoreFault, Connection<S>)>
         requires { conn.in_transaction ≡ false }
-        ensures made { IfOk result (λ store. store.kept ≡ record { repo = empty; contents = [] }) }
+        ensures made { IfOk result (λ store. store.kept ≡ nothing_kept) }
         ensures stands { IfOk result (λ store. Stands S.Store store.conn store.kept) }
         ensures occupied { IsTrue (state S.Store conn).is_open → (state S.Store conn).now.schema ≢ no_schema → MatchResult result (λ _. ⊥) (λ e. (e.0 ≡ StoreFault.Sql (Error.SqliteFailure ErrorCode.NameTaken)) × (e.1 ≡ conn)) }
         ensures was_bare { IfOk result (λ _. IsTrue (state S.Store conn).is_open → (state S.Store conn).now.schema ≡ no_schema) }
         ensures why { IfErr result (λ e. IsRefusal ⊥ ⊥ ⊥ e.0) }
         ensures refused { IfErr result (λ e. Rests (state S.Store conn) (state S.Store e.1)) }
         ensures outside { IfErr result (λ e. e.1.in_transaction ≡ false) }
-        ensures crash_made { IfOk result (λ store. Survives (state S.Store conn) (state S.Store store.conn) (Leaves (record { repo = empty; contents = [] }))) }
-        ensures crash_refused { IfErr result (λ e. Survives (state S.Store conn) (state S.Store e.1) (Leaves (record { repo = empty; contents = [] }))) }
-        ensures durable { IfOk result (λ store. LeavesOnly S.Store store.conn (record { repo = empty; contents = [] })) }
+        ensures crash_made { IfOk result (λ store. Survives (state S.Store conn) (state S.Store store.conn) (Leaves nothing_kept)) }
+        ensures crash_refused { IfErr result (λ e. Survives (state S.Store conn) (state S.Store e.1) (Leaves nothing_kept)) }
+        ensures durable { IfOk result (λ store. LeavesOnly S.Store store.conn nothing_kept) }
     {
         let mut conn = conn;
         if !has_no_tables(&conn) {
@@ -111,7 +119,7 @@ impl<S: Alter> Store<S> {
     pub fn open(alloc: Global, conn: Connection<S>) -> Result<Store<S>, (StoreFault, Connection<S>)>
         requires { conn.in_transaction ≡ false }
         ensures stands { IfOk result (λ store. Stands S.Store store.conn store.kept) }
-        ensures holds { IfOk result (λ store. IsTrue (state S.Store store.conn).is_open → Holds (state S.Store conn).committed (tables_of store.kept.repo store.kept.contents)) }
+        ensures holds { IfOk result (λ store. IsTrue (state S.Store store.conn).is_open → Holds (state S.Store conn).committed (tables_of store.kept)) }
         ensures again { IfOk result (λ store. IsTrue (state S.Store store.conn).is_open → (kept : Kept) → Leaves kept (state S.Store conn).committed.trees → AreAlike store.kept kept) }
         ensures same { IfOk result (λ store. Rests (state S.Store conn) (state S.Store store.conn)) }
         ensures refused { IfErr result (λ e. Rests (state S.Store conn) (state S.Store e.1)) }
@@ -245,6 +253,74 @@ impl<S: Alter> Store<S> {
         Ok(Digest {
             bytes: *content.digest(),
         })
+    }
+
+    /// Remembers an answer to the words of a command and the files that its child saw, in place of the one to the same, and
+    /// keeps its contents: those of the seen files, the new ones of the changes, and then, as they are written down, its words
+    /// and its seen files, what it wrote, and its changes as they are written down. Each change must be of a seen file. Refused
+    /// are contents or records of more than 16 MiB (`TooLarge`), and those whose digest is that of others (`Collision`); a
+    /// refusal leaves what the store shows as it was.
+    pub fn answer_put(
+        &mut self,
+        words: &[Text],
+        seen: &Tree,
+        answer: AnswerRef<'_>,
+    ) -> Result<(), StoreFault>
+        requires { KeepToSeen answer.changes.now seen.now }
+        ensures change { IsAllOrNothing self.old.kept self.new.kept result (remembering (copied_answer words.now seen.now answer.entry) self.old.kept) }
+        ensures transaction { IsOneTransaction S.Store self.old self.new result (remembering (copied_answer words.now seen.now answer.entry) self.old.kept) }
+        ensures within { OnOk result (AreSmall (contents_for (copied_answer words.now seen.now answer.entry))) }
+        ensures apart { OnOk result (¬ SomeCollides (contents_for (copied_answer words.now seen.now answer.entry)) self.old.kept.contents) }
+        ensures why { IfErr result (IsRefusal (¬ AreSmall (contents_for (copied_answer words.now seen.now answer.entry))) ⊥ (SomeCollides (contents_for (copied_answer words.now seen.now answer.entry)) self.old.kept.contents)) }
+    {
+        let before = self.lists.count();
+        let answer = self.lists.prepare_answer(words, seen, answer)?;
+        if let Err(error) = remember_rows(&mut self.conn, self.lists.since(before), &answer) {
+            self.lists.forget_since(before);
+            return Err(fault_of(error));
+        }
+        self.lists.remember(answer);
+        Ok(())
+    }
+
+    /// What is remembered for the words of a command and the files that its child saw, with their modes and bytes, as a copy,
+    /// or `None` where nothing is. Bytes are compared, not digests alone, and contents that a staged file has at the same path
+    /// aren't hashed anew. It is refused as `Collision` only where other bytes stand under the digest of a seen file's contents
+    /// or of what is written down of the key, and otherwise for want of memory alone.
+    pub fn answer_find(
+        &self,
+        words: &[Text],
+        seen: &Tree,
+    ) -> Result<Option<StoredAnswer>, StoreFault>
+        ensures found { IfOk result (λ found. found ≡ option_map stored_answer (answer_for words.now seen.now self.now.kept.answers)) }
+        ensures why { IfErr result (IsRefusal ⊥ ⊥ (AnyCollides (contents_of_key words.now seen.now) self.now.kept.contents)) }
+        ensures keys { HaveOwnKeys self.now.kept.answers }
+    {
+        self.lists.find_answer(words, seen)
+    }
+
+    /// Forgets all remembered answers, and answers how many there were. Their contents stay. A refusal leaves what the store
+    /// shows as it was.
+    pub fn answers_forget(&mut self) -> Result<u64, StoreFault>
+        ensures change { IsAllOrNothing self.old.kept self.new.kept result (forgetting self.old.kept) }
+        ensures transaction { IsOneTransaction S.Store self.old self.new result (forgetting self.old.kept) }
+        ensures number { IfOk result (λ n. n ≡ length self.old.kept.answers) }
+        ensures why { IfErr result (IsRefusal ⊥ ⊥ ⊥) }
+    {
+        let number = self.lists.count_answers();
+        if let Err(error) = forget_rows(&mut self.conn) {
+            return Err(fault_of(error));
+        }
+        self.lists.forget_answers();
+        Ok(number)
+    }
+
+    /// How many answers are remembered. It takes no memory.
+    pub fn answers_len(&self) -> u64
+        ensures number { result ≡ length self.now.kept.answers }
+        ensures keys { HaveOwnKeys self.now.kept.answers }
+    {
+        self.lists.count_answers()
     }
 
     /// The staged files. It fails for want of memory alone.

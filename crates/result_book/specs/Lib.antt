@@ -4,5 +4,7 @@ pub mod Contents
 pub mod Faults
 pub mod KeyLemmas
 pub mod Places
+pub mod RestLemmas
+pub mod StoreBooks
 pub mod Told
 pub mod ToldLemmas

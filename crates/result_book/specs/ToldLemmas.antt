@@ -1,12 +1,12 @@
 -- Lemmas on what calls add to what is remembered.
-use Rattle.std.specs.Prelude.{◌≡◌, ◌⊎◌, ℕ, List}
+use Rattle.std.specs.Prelude.{◌≡◌, ℕ, List}
 use Rattle.std.proofs.Common.{inl, inr, sym, subst}
 use Rattle.child_port.specs.declared.answer.Answer.{Answer}
 use Rattle.child_port.specs.declared.answer.Outcome.{Outcome}
 use Rattle.hook_base.specs.declared.file.File.{File}
 use Rattle.result_book.specs.Calls.{AfterFind, AfterForget, AfterPut}
 use Rattle.result_book.specs.CallLemmas.{have_none}
-use Rattle.result_book.specs.Contents.{Contents, Holds}
+use Rattle.result_book.specs.Contents.{Contents}
 use Rattle.result_book.specs.Told.{AddsTold, IsTold, IsToldAnswer}
 
 pub adds-none : (tells : List (List ℕ) → List File → Outcome → Type 0) (contents : Contents) → AddsTold tells contents contents

@@ -14,6 +14,8 @@ use std::marker::Model;
 #[derive(Debug, Drop)]
 pub struct ListBook {
     rows: Vec<BookRow>,
+    // The index behind the row that was found last, which is looked at first.
+    next: usize,
 }
 
 impl Model for ListBook {
@@ -35,6 +37,7 @@ impl ListBook {
     {
         ListBook {
             rows: Vec::new(alloc),
+            next: 0,
         }
     }
 }
@@ -56,7 +59,8 @@ impl Book for ListBook {
     ghost rests_on = { λ first second third before after. tt };
 
     fn find(&mut self, words: &[Text], seen: &Tree) -> Result<Option<Answer>, BookFault> {
-        Ok(found_in(self.rows.as_slice(), words, seen)?)
+        let rows = self.rows.as_slice();
+        Ok(found_in(rows, &mut self.next, words, seen)?)
     }
 
     fn put(&mut self, words: &[Text], seen: &Tree, answer: &Answer) -> Result<(), BookFault> {

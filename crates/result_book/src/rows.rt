@@ -22,18 +22,31 @@ fn place_of(rows: &[BookRow], words: &[Text], seen: &Tree) -> Option<usize>
     None
 }
 
-/// What is remembered in the rows for the words and the seen files, as a copy.
+// The same. The row at the index `near` is looked at first.
+fn place_near(rows: &[BookRow], near: usize, words: &[Text], seen: &Tree) -> Option<usize>
+    ensures { IsPlace words.now seen.now rows.now result }
+{
+    if near < rows.len() && rows[near].is_for(words, seen) {
+        return Some(near);
+    }
+    place_of(rows, words, seen)
+}
+
+/// What is remembered in the rows for the words and the seen files, as a copy. Where that is found, `next` is the index behind
+/// it, at which it is looked for first the next time: a run asks in the order in which it was put by an earlier one.
 #[tactic(auto, using(crate::proofs::PlaceLemmas::at_within))]
 pub(crate) fn found_in(
     rows: &[BookRow],
+    next: &mut usize,
     words: &[Text],
     seen: &Tree,
 ) -> Result<Option<Answer>, OutOfMemory>
     ensures { IfOk result (λ found. Finds words.now seen.now (with_rows rows.now) found) }
 {
-    let Some(index) = place_of(rows, words, seen) else {
+    let Some(index) = place_near(rows, *next, words, seen) else {
         return Ok(None);
     };
+    *next = index + 1;
     let answer = rows[index].answer.clone()?;
     Ok(Some(answer))
 }

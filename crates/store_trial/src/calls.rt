@@ -1,6 +1,7 @@
 //! Plays a call on a store that is open. Contents and messages are texts as `read_text` reads them.
 
 use crate::answer::Answer;
+use crate::answers::{recall, remember};
 use crate::bulk::{contents_of, number, stage_many, staged_path};
 use crate::look_ups::{add_files, add_message, count, look, walk};
 use crate::stop::Stop;
@@ -12,6 +13,7 @@ use sqlite::Alter;
 /// The calls that are a line by themselves.
 pub(crate) const CALLS: &[&str] = &[
     "set", "accept", "staged", "head", "fixes", "log", "trees", "weigh", "count", "walk",
+    "answers", "forget",
 ];
 
 /// The calls whose word something follows.
@@ -28,6 +30,8 @@ pub(crate) const CALLS_OF: &[&str] = &[
     "files",
     "look",
     "message",
+    "remember",
+    "recall",
 ];
 
 /// Plays a call that changes the store, or one that only reads.
@@ -61,6 +65,23 @@ fn play_further<S: Alter>(
         "commit" => commit(store, rest, answer),
         "blob" => keep_text(store, rest, answer),
         "blob-of" => keep_of(store, rest, answer),
+        "forget" => {
+            forget(store, answer);
+            Ok(())
+        }
+        _ => play_answers(store, word, rest, answer),
+    }
+}
+
+fn play_answers<S: Alter>(
+    store: &mut Store<S>,
+    word: &str,
+    rest: &str,
+    answer: &mut Answer,
+) -> Result<(), Stop> {
+    match word {
+        "remember" => remember(store, rest, answer),
+        "recall" => recall(store, rest, answer),
         _ => {
             answer.begin("ok");
             show(store, word, rest, answer)
@@ -108,6 +129,7 @@ fn show_counts<S: Alter>(
     match word {
         "count" => count(store, answer),
         "walk" => walk(store, answer),
+        "answers" => answer.show(store.answers_len()),
         _ => return show_commit(store, word, number(rest)?, answer),
     }
     Ok(())
@@ -187,6 +209,16 @@ fn commit<S: Alter>(store: &mut Store<S>, text: &str, answer: &mut Answer) -> Re
     let message = read_text(answer.alloc(), text)?;
     answer.numbered(store.commit(message.as_slice()));
     Ok(())
+}
+
+fn forget<S: Alter>(store: &mut Store<S>, answer: &mut Answer) {
+    match store.answers_forget() {
+        Ok(count) => {
+            answer.begin("ok");
+            answer.show(count)
+        }
+        Err(fault) => answer.refused(&fault),
+    }
 }
 
 fn keep_text<S: Alter>(store: &mut Store<S>, text: &str, answer: &mut Answer) -> Result<(), Stop> {

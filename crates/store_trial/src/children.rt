@@ -1,6 +1,6 @@
 //! Children that answer by a table, of which a line adds a row: the words of the command, the files that its child has seen,
-//! those that it changes, and its exit status. Bars part these, and blanks what stands within them. A file is written
-//! `PATH=TEXT`, and `PATH` alone is one that is gone. What a child prints is nothing, since no line shows a report.
+//! those that it changes, its exit status and what it writes, which may be left out and then is nothing. Bars part these, and
+//! blanks what stands within them. A file is written `PATH=TEXT`, and `PATH` alone is one that is gone.
 
 use crate::stop::Stop;
 use crate::text::read_text;
@@ -24,16 +24,23 @@ pub(crate) fn children_of(alloc: Global, texts: &[Text]) -> Result<TableChildren
 pub(crate) fn read_row(alloc: Global, text: &str) -> Result<TableRow, Stop> {
     let (words, rest) = text.split_once('|').ok_or(Stop::BadLine)?;
     let (seen, rest) = rest.split_once('|').ok_or(Stop::BadLine)?;
-    let (changes, status) = rest.split_once('|').ok_or(Stop::BadLine)?;
+    let (changes, rest) = rest.split_once('|').ok_or(Stop::BadLine)?;
+    let (status, output) = rest.split_once('|').unwrap_or((rest, ""));
     Ok(TableRow {
         words: Items::from(words_in(alloc, words)?),
         seen: tree_in(alloc, seen)?,
         answer: Answer {
             status: status.trim().parse().map_err(|_| Stop::BadLine)?,
-            output: Bytes::new(alloc),
+            output: Bytes::from(read_text(alloc, output.trim())?),
             changes: changes_in(alloc, changes)?,
         },
     })
+}
+
+/// The words and the seen files that a text is, parted by a bar.
+pub(crate) fn key_of(alloc: Global, text: &str) -> Result<(Vec<Text>, Tree), Stop> {
+    let (words, seen) = text.split_once('|').ok_or(Stop::BadLine)?;
+    Ok((words_in(alloc, words)?, tree_in(alloc, seen)?))
 }
 
 fn words_in(alloc: Global, text: &str) -> Result<Vec<Text>, Stop> {

@@ -4,6 +4,7 @@
 
 mod alone;
 mod answer;
+mod answers;
 mod ask;
 mod bulk;
 mod calls;

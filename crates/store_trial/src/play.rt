@@ -151,7 +151,7 @@ impl<S: Alter + Drop> Play<S> {
             }
             Some(store) => {
                 let (word, rest) = parted(line);
-                let mut host = Host::over(answer.alloc(), store);
+                let mut host = Host::over(store);
                 let played = play_command(&mut host, self.rows.as_slice(), word, rest, answer);
                 self.store = Some(host.into_store());
                 played

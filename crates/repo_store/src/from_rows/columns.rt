@@ -4,6 +4,7 @@ ghost use Rattle.std.specs.Prelude.{◌≡◌, ◌⊎◌, pos, true, false, map,
 ghost use Rattle.sha2.specs.Sha256.{sha256};
 ghost use Rattle.hook_base.specs.Rising.{IsBelow as IsBelowPath};
 ghost use Rattle.repo_store.specs.Complete.{IsAmong};
+ghost use Rattle.repo_store.specs.Contents.{Collides};
 ghost use Rattle.repo_store.specs.Faults.{IsDamage};
 ghost use Rattle.repo_store.specs.Lists.{file_of};
 ghost use Rattle.repo_store.specs.Rows.{blob_row, mode_number, staged_row};
@@ -23,6 +24,7 @@ fn find<'a>(contents: &'a Contents, digest: &[u8]) -> Option<&'a Content>
     ensures under { IfSome result (λ content. sha256 content.now ≡ digest.now) }
     ensures kept { IfSome result (λ _. is_kept (map blob_row contents.now) digest.now ≡ true) }
     ensures among { IfSome result (λ content. IsAmong contents.now content.now) }
+    ensures alone { IfSome result (λ content. ¬ Collides content.now contents.now) }
     ensures absent { IfNone result (is_kept (map blob_row contents.now) digest.now ≡ false) }
 {
     match <&[u8; 32]>::try_from(digest) {
@@ -36,6 +38,7 @@ pub(crate) fn content_at(contents: &Contents, digest: &[u8]) -> Result<Content, 
     ensures found { IfOk result (λ content. sha256 content ≡ digest.now) }
     ensures kept { OnOk result (is_kept (map blob_row contents.now) digest.now ≡ true) }
     ensures among { IfOk result (IsAmong contents.now) }
+    ensures alone { IfOk result (λ content. ¬ Collides content contents.now) }
     ensures missing { IfErr result (IsDamage (is_kept (map blob_row contents.now) digest.now ≡ false)) }
     ensures damage { is_kept (map blob_row contents.now) digest.now ≡ false → MatchResult result (λ _. ⊥) (λ fault. fault ≡ StoreFault.Damaged) }
 {

@@ -8,12 +8,13 @@ use Rattle.commit_flow.proofs.run.run_prepared.Goals as goal
 pub returns-in_err-changes-clause-stopped : goal.returns-in_err-changes-clause-stopped
 returns-in_err-changes-clause-stopped g c =
     let children = g.C.Children in
-    let from = moment (children.call_count c.args.children.now) (children.fault_count c.args.children.now) c.args.book.now in
-    let to = moment (children.call_count c.run_with_book.new.children) (children.fault_count c.run_with_book.new.children) c.run_with_book.new.book in
+    let book = g.B.Book in
+    let from = moment (children.call_count c.args.children.now) (children.fault_count c.args.children.now) (book.contents c.args.book.now) in
+    let to = moment (children.call_count c.run_with_book.new.children) (children.fault_count c.run_with_book.new.children) (book.contents c.run_with_book.new.book) in
     let ready = c.args.prepared.now in
     let p = err_from_is_err_and c.from_residual-in_err-changes.result c.from_residual-in_err-changes.ensures.1 in
     rw (p.1, p.2) (record {
       inner = run.OutOfMemory;
-      stopped = lost (children.tells c.args.children.now) from to ready.config ready.ask ready.tree c.in_ok-out.out c.in_ok-out.ensures.run;
+      stopped = lost book.refuses (children.tells c.args.children.now) from to ready.config ready.ask ready.tree c.in_ok-out.out c.in_ok-out.ensures.run;
       is = refl;
     })

@@ -1,4 +1,4 @@
-use Rattle.hook_run.proofs.OneRunLemmas.{next-of}
+use Rattle.hook_run.specs.OneRunLemmas.{next-of}
 use Rattle.hook_run.proofs.laws.outcomes_decide_a_run.Goals as goal
 
 pub returns : goal.returns

@@ -1,4 +1,4 @@
-use Rattle.hook_run.proofs.OneRunLemmas.{same-out}
+use Rattle.hook_run.specs.OneRunLemmas.{same-out}
 use Rattle.hook_run.proofs.laws.parts_decide_what_is_given.Goals as goal
 
 pub returns : goal.returns

@@ -1,13 +1,12 @@
-use Rattle.std.proofs.Common.{List, map, vec_len, sym, subst, ◌∙◌, arith}
+use Rattle.std.proofs.Common.{List, map, sym, subst}
 use Rattle.std.specs.List.{AllByRecursion}
-use Rattle.std.proofs.lemmas.Bool.{eqb-true}
 use Rattle.repo_store.specs.declared.shared.FileParts.{FileParts}
 use Rattle.repo_store.specs.Complete.{HaveDistinctDigests, IsComplete}
 use Rattle.repo_store.specs.Lists.{file_of}
 use Rattle.repo_store.specs.Rows.{blob_row, staged_row}
 use Rattle.repo_store.specs.RowRules.{IsFixRow}
 use Rattle.repo_store.proofs.IndexLemmas.{index_apart}
-use Rattle.repo_store.proofs.FromRowsLemmas.{lists_same, lists_sound, lists_obey, none_there}
+use Rattle.repo_store.proofs.FromRowsLemmas.{lists_same, lists_sound, lists_obey}
 use Rattle.repo_store.proofs.from_rows.lists_of.Goals as goal
 
 pub of-requires : goal.of-requires
@@ -29,20 +28,18 @@ returns-clause-complete c =
     lists_sound c.in_ok-history.history.items staged c.in_ok-fixes.fixes.items blobs rows.fixes.items rows.commits.items c.in_ok-staged.ensures.rising c.in_ok-staged.ensures.fits
     c.in_ok-fixes.ensures.rising c.in_ok-fixes.ensures.fixes fixes c.in_ok-history.ensures.rising c.in_ok-history.ensures.commits c.in_ok-history.ensures.obeys.0 in
     let apart = subst HaveDistinctDigests c.contents.view_is (index_apart c.contents.inside.places c.contents.inside.items.items c.contents.invariant) in
-    subst IsComplete (sym c.of.ensures) (record { sound = sound; staged = c.in_ok-staged.ensures.among; fixes = c.in_ok-fixes.ensures.among; trees = c.in_ok-history.ensures.among; apart = apart })
+    subst IsComplete (sym c.of.ensures) (record { sound = sound; staged = c.in_ok-staged.ensures.among; fixes = c.in_ok-fixes.ensures.among; trees = c.in_ok-history.ensures.among; sound_answers = c.in_ok-answers.ensures.sound; answers = c.in_ok-answers.ensures.records; keys = c.in_ok-answers.ensures.keys; apart = apart })
 
 pub returns-clause-same : goal.returns-clause-same
 returns-clause-same c =
     let rows = c.args.rows in
-    let none = none_there rows.answers.items (let empty = eqb-true (vec_len rows.answers) 0 (sym c.is_empty.ensures ∙ c.if-not-is_empty.false) in let long = rows.answers.ok.0 in omega arith) in
-    lists_same rows c.in_ok-contents.contents c.in_ok-history.history.items c.in_ok-staged.staged.items c.in_ok-fixes.fixes.items c.of.result.kept c.in_ok-contents.ensures.contents c.in_ok-staged.ensures.files
-    c.in_ok-fixes.ensures.fixes c.in_ok-history.ensures.commits c.in_ok-history.ensures.entries none c.of.ensures
+    lists_same rows c.in_ok-contents.contents c.in_ok-history.history.items c.in_ok-staged.staged.items c.in_ok-fixes.fixes.items c.in_ok-answers.answers.answers c.of.result.kept c.in_ok-contents.ensures.contents c.in_ok-staged.ensures.files
+    c.in_ok-fixes.ensures.fixes c.in_ok-history.ensures.commits c.in_ok-history.ensures.entries c.in_ok-answers.ensures.rows c.of.ensures
 
 pub returns-clause-obeys : goal.returns-clause-obeys
 returns-clause-obeys c =
     let rows = c.args.rows in
     let blobs = map blob_row c.in_ok-contents.contents in
-    let none = none_there rows.answers.items (let empty = eqb-true (vec_len rows.answers) 0 (sym c.is_empty.ensures ∙ c.if-not-is_empty.false) in let long = rows.answers.ok.0 in omega arith) in
     let fixes = subst (λ (l : List FileParts). AllByRecursion (IsFixRow blobs (map staged_row (map file_of l))) rows.fixes.items) c.as_slice.ensures.value c.in_ok-fixes.ensures.obeys in
     lists_obey rows blobs (map staged_row (map file_of c.in_ok-staged.staged.items)) c.in_ok-contents.ensures.contents c.in_ok-staged.ensures.files c.in_ok-contents.ensures.obeys c.in_ok-staged.ensures.obeys
-    fixes c.in_ok-history.ensures.obeys.0 c.in_ok-history.ensures.obeys.1 none
+    fixes c.in_ok-history.ensures.obeys.0 c.in_ok-history.ensures.obeys.1 c.in_ok-answers.ensures.obeys

@@ -1,10 +1,12 @@
 use Rattle.std.proofs.Common.{◌≡◌, ℕ, List, [], sym, ap₂}
 use Rattle.std.proofs.lemmas.List.{nil_from_length}
 use Rattle.std.proofs.lemmas.List.Sorted.{length_permutation}
+use Rattle.repo_store.specs.Answers.{KeptAnswer}
 use Rattle.repo_store.specs.Repository.{Repository}
 use Rattle.repo_store.proofs.laws.only_the_empty_store_is_like_it.Goals as goal
 
 pub returns : goal.returns
 returns c kept alike =
-    let none : kept.contents ≡ [] = nil_from_length kept.contents (length_permutation [] kept.contents alike.contents) in
-    ap₂ (λ (repo : Repository) (contents : List (List ℕ)). record { repo = repo; contents = contents }) (sym alike.repo) none
+    let contents : kept.contents ≡ [] = nil_from_length kept.contents (length_permutation [] kept.contents alike.contents) in
+    let answers : kept.answers ≡ [] = nil_from_length kept.answers (length_permutation [] kept.answers alike.answers) in
+    ap₂ (λ (repo : Repository) (lists : List (List ℕ) × List KeptAnswer). record { repo = repo; contents = lists.0; answers = lists.1 }) (sym alike.repo) (ap₂ (λ (l : List (List ℕ)) (m : List KeptAnswer). (l, m)) contents answers)

@@ -58,7 +58,7 @@ returns-clause-read g c =
     let r6 = next_read g.S.Store c.args.tx.now.conn.now c.read_commits.new.tx.conn.now c.read_entries.new.tx.conn.now _ r5 c.in_ok-entries.entries _ c.in_ok-entries.ensures.read in
     read_ends g.S.Store c.args.tx.now.conn.now c.read_entries.new.tx.conn.now _ _ AreShown r6 (λ trees it. record {
       answers = it.0.0.0.0.0.0;
-      answers_numbered = it.0.0.0.0.0.1;
+      answers_keyed = it.0.0.0.0.0.1;
       blobs = it.0.0.0.0.1;
       staged = it.0.0.0.1.0;
       staged_keyed = it.0.0.0.1.1;

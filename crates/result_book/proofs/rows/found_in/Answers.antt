@@ -1,8 +1,8 @@
-use Rattle.std.proofs.Common.{◌≡◌, ◌∙◌, List, rules, ap, sym, subst, arith}
+use Rattle.std.proofs.Common.{◌≡◌, ◌∙◌, rules, ap, sym, subst}
 use Rattle.child_port.specs.declared.answer.Answer.{Answer}
 use Rattle.result_book.specs.declared.book_row.BookRow.{BookRow}
 use Rattle.result_book.specs.Contents.{HaveRow}
-use Rattle.result_book.proofs.PlaceLemmas.{at_within, at_have}
+use Rattle.result_book.proofs.PlaceLemmas.{at_have}
 use Rattle.result_book.proofs.rows.found_in.Goals as goal
 
 pub returns : goal.returns

@@ -1,6 +1,7 @@
 use Rattle.std.proofs.Common.{◌≡◌, ◌∙◌, ◌+◌, ◌<◌, ◌∷◌, ◌++◌, [], refl, sym, ap, arith, length, rules, take}
 use Rattle.std.proofs.lemmas.List.{take_more}
 use Rattle.child_port.specs.TellingLemmas.{SameTells-trans}
+use Rattle.result_book.specs.StoreBooks.{remembered_by}
 use Rattle.hook_run.specs.Moments.{moment}
 use Rattle.commit_flow.specs.declared.command.Command.{Command}
 use Rattle.commit_flow.proofs.PlayLemmas.{more_played, none_played}
@@ -9,7 +10,7 @@ use Rattle.commit_flow.proofs.host.Host.play.Goals as goal
 pub commands-init : goal.commands-init
 commands-init g c =
     let children = g.C.Children in
-    let at = moment (children.call_count c.args.children.now) (children.fault_count c.args.children.now) c.args.self.now.book in
+    let at = moment (children.call_count c.args.children.now) (children.fault_count c.args.children.now) (remembered_by c.args.self.now.store.kept) in
     record {
       played = rw c.in_ok-replies.ensures.items (none_played (children.tells c.args.children.now) at c.args.self.now.store.kept.repo);
       stands = λ stands. stands;
@@ -24,9 +25,9 @@ commands-preserved g c =
     let so_far = c.commands.invariant in
     let commands = c.args.commands.now in
     let index = c.commands.command-index in
-    let from = moment (children.call_count c.args.children.now) (children.fault_count c.args.children.now) c.args.self.now.book in
-    let at = moment (children.call_count c.commands.children) (children.fault_count c.commands.children) c.commands.self.book in
-    let to = moment (children.call_count c.played-reply.new.children) (children.fault_count c.played-reply.new.children) c.played-reply.new.self.book in
+    let from = moment (children.call_count c.args.children.now) (children.fault_count c.args.children.now) (remembered_by c.args.self.now.store.kept) in
+    let at = moment (children.call_count c.commands.children) (children.fault_count c.commands.children) (remembered_by c.commands.self.store.kept) in
+    let to = moment (children.call_count c.played-reply.new.children) (children.fault_count c.played-reply.new.children) (remembered_by c.played-reply.new.self.store.kept) in
     let within : index < length commands = omega (arith, c.commands-test.true) in
     let taken : take (index + 1) commands ≡ take index commands ++ c.command-item.result ∷ [] =
     take_more commands index c.command-item.result within ∙ ap (λ (command : Command). take index commands ++ command ∷ []) (sym c.command-item.is) in

@@ -1,5 +1,6 @@
 use Rattle.std.specs.Prelude.{◌≡◌, take, length, vec_len, vec_capacity}
 use Rattle.child_port.specs.Telling.{SameTells}
+use Rattle.result_book.specs.StoreBooks.{remembered_by}
 use Rattle.hook_run.specs.Moments.{moment}
 use Rattle.repo_store.specs.Shown.{Stands}
 use Rattle.commit_flow.specs.Plays.{IsPlay}
@@ -9,8 +10,8 @@ abbrev pub invariant-commands : goal.invariant-commands
 invariant-commands g l =
     let children = g.C.Children in
     record {
-      played : IsPlay (children.tells l.fn.children) (moment (children.call_count l.fn.children) (children.fault_count l.fn.children) l.fn.self.book)
-          (moment (children.call_count l.children) (children.fault_count l.children) l.self.book) l.fn.self.store.kept.repo (take l.command-index l.commands) l.replies.items l.self.store.kept.repo;
+      played : IsPlay (children.tells l.fn.children) (moment (children.call_count l.fn.children) (children.fault_count l.fn.children) (remembered_by l.fn.self.store.kept))
+          (moment (children.call_count l.children) (children.fault_count l.children) (remembered_by l.self.store.kept)) l.fn.self.store.kept.repo (take l.command-index l.commands) l.replies.items l.self.store.kept.repo;
       stands : Stands g.S.Store l.fn.self.store.conn l.fn.self.store.kept → Stands g.S.Store l.self.store.conn l.self.store.kept;
       same : SameTells (children.tells l.fn.children) (children.tells l.children);
       count : vec_len l.replies ≡ l.command-index;

@@ -1,7 +1,7 @@
 use Rattle.std.proofs.Common.{List, ℕ, None, cond, subst, ap, ◌∙◌}
 use Rattle.std.specs.Str.{bytes_eq}
 use Rattle.std.specs.HashMap.{get}
-use Rattle.repo_store.specs.Contents.{IsIndexed}
+use Rattle.repo_store.specs.Index.{IsIndexed}
 use Rattle.repo_store.proofs.IndexLemmas.{index_popped}
 use Rattle.repo_store.proofs.contents.Contents.pop.Goals as goal
 

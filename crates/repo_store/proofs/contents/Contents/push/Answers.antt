@@ -3,7 +3,8 @@ use Rattle.std.specs.Str.{bytes_eq}
 use Rattle.std.specs.HashMap.{get}
 use lib.Seq.{take-append_seam}
 use Rattle.sha2.specs.Sha256.{sha256}
-use Rattle.repo_store.specs.Contents.{IsIndexed, has_digest}
+use Rattle.repo_store.specs.Contents.{has_digest}
+use Rattle.repo_store.specs.Index.{IsIndexed}
 use Rattle.repo_store.proofs.IndexLemmas.{index_pushed, index_same, ok_part, err_part}
 use Rattle.repo_store.proofs.contents.Contents.push.Goals as goal
 

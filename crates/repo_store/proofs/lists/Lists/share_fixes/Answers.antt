@@ -58,6 +58,7 @@ changes-preserved c =
           let pushed = made_item w.push.result w.push.new.self.items _ _ (sym w.is_err.ensures.value ∙ w.if-is_err.false) w.push.ensures.items in
           record {
             repo = ap (λ (m : Mirror). m.kept.repo) w.self-is ∙ ap (λ (k : Kept). k.repo) held ∙ inv.repo;
+            answers = ap (λ (m : Mirror). m.kept.answers) w.self-is ∙ ap (λ (k : Kept). k.answers) held ∙ inv.answers;
             fixes = rw w.fixes-is (ap (map fix_of) pushed ∙ map-append fix_of c.changes.fixes.items (w.in-Ok.fix ∷ []) ∙ ap₂ (λ (a : List Change) (b : Change). a ++ b ∷ []) inv.fixes (w.in-Ok.ensures).fix ∙ sym one);
             contents = ap (λ (m : Mirror). m.kept.contents) w.self-is ∙ ap (λ (k : Kept). k.contents) held ∙ ap (with_new change.now) inv.contents ∙ sym (ap (λ (l : List Change). with_changes l old.contents) one ∙ with_changes-push front change old.contents);
             within = none_large front change (staged_changes (take (i + 1) all) old.repo.staged) one inv.within (w.in-Ok.ensures).within;
@@ -67,6 +68,7 @@ changes-preserved c =
           let none = none_staged all old.repo.staged i change c.changes-test.true c.change-item.is (sym staged ∙ w.if-is_staged.false) in
           record {
             repo = ap (λ (m : Mirror). m.kept.repo) w.self-is ∙ inv.repo;
+            answers = ap (λ (m : Mirror). m.kept.answers) w.self-is ∙ inv.answers;
             fixes = rw w.fixes-is (inv.fixes ∙ sym none);
             contents = ap (λ (m : Mirror). m.kept.contents) w.self-is ∙ inv.contents ∙ sym (ap (λ (l : List Change). with_changes l old.contents) none);
             within = subst (λ (l : List Change). ¬ HasLarge l) (sym none) inv.within;

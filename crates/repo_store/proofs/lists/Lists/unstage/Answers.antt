@@ -19,5 +19,5 @@ invariant_of-self c =
 
 pub returns : goal.returns
 returns c =
-    let after : Mirror → Kept = λ m. record { repo = without_staged c.args.path.now m.kept.repo; contents = m.kept.contents } in
+    let after : Mirror → Kept = λ m. record m.kept { repo = without_staged c.args.path.now m.kept.repo } in
     rw (c.take_out-freed.ensures.files, c.clear.ensures.items) (ap after c.self.view_is)

@@ -10,7 +10,7 @@ use Rattle.repo_store.proofs.AcceptLemmas.{accepting_handed}
 use Rattle.repo_store.proofs.CompleteLemmas.{complete_accepted}
 use Rattle.repo_store.proofs.FewLemmas.{accepted_same}
 use Rattle.repo_store.proofs.RuleLemmas.{obeys_accepted}
-use Rattle.repo_store.proofs.StandLemmas.{tables_in, unnamed_in, refused_stands, done_stands, refused_transaction, done_transaction}
+use Rattle.repo_store.proofs.StandLemmas.{tables_of, unnamed_in, refused_stands, done_stands, refused_transaction, done_transaction}
 use Rattle.repo_store.proofs.store.Store.accept.Goals as goal
 
 pub invariant_of-self : goal.invariant_of-self
@@ -23,7 +23,7 @@ invariant_of-self g c =
     let complete = complete_accepted kept c.self.invariant.complete in
     let obeys = obeys_accepted kept c.self.invariant.obeys complete in
     refused_stands g.S.Store c.self.inside.conn new kept (accepting kept) _ c.self.invariant same (g.met.S.Store.shut_if_dirty new.store) complete obeys
-    kept refl c.in-Err.error (c.in-Err.ensures (tables_in kept))
+    kept refl c.in-Err.error (c.in-Err.ensures (tables_of kept))
 
 pub returns-in-Err-clause-change : goal.returns-in-Err-clause-change
 returns-in-Err-clause-change g c =
@@ -41,7 +41,7 @@ returns-in-Err-clause-transaction g c =
     let obeys = obeys_accepted kept c.self.invariant.obeys complete in
     subst (λ (s : Shown g.row.S.Denot). IsOneTransaction g.S.Store s (record { conn = new; kept = kept }) (Err c.fault_of.result) (accepting s.kept)) c.self.view_is
     (refused_transaction g.S.Store c.self.inside.conn new kept (accepting kept) _ c.self.invariant same (g.met.S.Store.shut_if_dirty new.store) complete obeys
-    kept refl c.in-Err.error (c.in-Err.ensures (tables_in kept)) c.fault_of.result _ _ (c.in-Err.ensures (unnamed_in kept)) (λ (h : 1 ≡ 0). let never : ⊥ = omega arith in never))
+    kept refl c.in-Err.error (c.in-Err.ensures (tables_of kept)) c.fault_of.result _ _ (c.in-Err.ensures (unnamed_in kept)) (λ (h : 1 ≡ 0). let never : ⊥ = omega arith in never))
 
 pub invariant_of-self-2 : goal.invariant_of-self-2
 invariant_of-self-2 g c =
@@ -53,7 +53,7 @@ invariant_of-self-2 g c =
     let complete = complete_accepted kept c.self.invariant.complete in
     let obeys = obeys_accepted kept c.self.invariant.obeys complete in
     done_stands g.S.Store c.self.inside.conn new kept (accepting kept) _ c.self.invariant same (g.met.S.Store.shut_if_dirty new.store) complete obeys
-    c.accept.new.self.kept c.accept.ensures c.in_default.field-0 (c.in_default.ensures (tables_in kept))
+    c.accept.new.self.kept c.accept.ensures c.in_default.field-0 (c.in_default.ensures (tables_of kept))
 
 pub returns-clause-change : goal.returns-clause-change
 returns-clause-change g c =
@@ -70,4 +70,4 @@ returns-clause-transaction g c =
     let obeys = obeys_accepted kept c.self.invariant.obeys complete in
     subst (λ (s : Shown g.row.S.Denot). IsOneTransaction g.S.Store s (record { conn = new; kept = c.accept.new.self.kept }) (Ok c.count_fixes-number.result) (accepting s.kept)) c.self.view_is
     (done_transaction g.S.Store c.self.inside.conn new kept (accepting kept) _ c.self.invariant same (g.met.S.Store.shut_if_dirty new.store) complete obeys
-    (g.met.S.Store.settled new.store) c.accept.new.self.kept c.accept.ensures c.in_default.field-0 (c.in_default.ensures (tables_in kept)) c.count_fixes-number.result _ _ (c.in_default.ensures (unnamed_in kept)) (λ (h : 1 ≡ 0). let never : ⊥ = omega arith in never))
+    (g.met.S.Store.settled new.store) c.accept.new.self.kept c.accept.ensures c.in_default.field-0 (c.in_default.ensures (tables_of kept)) c.count_fixes-number.result _ _ (c.in_default.ensures (unnamed_in kept)) (λ (h : 1 ≡ 0). let never : ⊥ = omega arith in never))

@@ -5,7 +5,7 @@ use Rattle.repo_store.specs.Shown.{Shown, IsOneTransaction}
 use Rattle.repo_store.proofs.KeptLemmas.{keeping_handed, forgotten}
 use Rattle.repo_store.proofs.CompleteLemmas.{complete_kept}
 use Rattle.repo_store.proofs.RuleLemmas.{obeys_kept}
-use Rattle.repo_store.proofs.StandLemmas.{tables_in, unnamed_in, refused_stands, done_stands, refused_transaction, done_transaction}
+use Rattle.repo_store.proofs.StandLemmas.{tables_of, unnamed_in, refused_stands, done_stands, refused_transaction, done_transaction}
 use Rattle.repo_store.proofs.store.Store.blob_put.Goals as goal
 
 pub invariant_of-self-in-Err : goal.invariant_of-self-in-Err
@@ -19,7 +19,7 @@ invariant_of-self-in-Err g c =
     let complete = complete_kept c.args.bytes.now kept c.self.invariant.complete (c.in_ok-content.ensures).apart in
     let obeys = obeys_kept kept c.self.invariant.obeys c.args.bytes.now (c.in_ok-content.ensures).small complete in
     refused_stands g.S.Store c.self.inside.conn new kept (keeping c.args.bytes.now kept) _ c.self.invariant same (g.met.S.Store.shut_if_dirty new.store) complete obeys
-    c.forget_since.new.self.kept now c.in-Err.error (c.in-Err.ensures (tables_in kept))
+    c.forget_since.new.self.kept now c.in-Err.error (c.in-Err.ensures (tables_of kept))
 
 pub returns-in-Err-clause-change : goal.returns-in-Err-clause-change
 returns-in-Err-clause-change g c =
@@ -40,7 +40,7 @@ returns-in-Err-clause-transaction g c =
     let obeys = obeys_kept kept c.self.invariant.obeys c.args.bytes.now (c.in_ok-content.ensures).small complete in
     subst (λ (s : Shown g.row.S.Denot). IsOneTransaction g.S.Store s (record { conn = new; kept = c.forget_since.new.self.kept }) (Err c.fault_of.result) (keeping c.args.bytes.now s.kept)) c.self.view_is
     (refused_transaction g.S.Store c.self.inside.conn new kept (keeping c.args.bytes.now kept) _ c.self.invariant same (g.met.S.Store.shut_if_dirty new.store) complete obeys
-    c.forget_since.new.self.kept now c.in-Err.error (c.in-Err.ensures (tables_in kept)) c.fault_of.result _ _ (c.in-Err.ensures (unnamed_in kept)) (λ (h : 1 ≡ 0). let never : ⊥ = omega arith in never))
+    c.forget_since.new.self.kept now c.in-Err.error (c.in-Err.ensures (tables_of kept)) c.fault_of.result _ _ (c.in-Err.ensures (unnamed_in kept)) (λ (h : 1 ≡ 0). let never : ⊥ = omega arith in never))
 
 pub invariant_of-self-in_default : goal.invariant_of-self-in_default
 invariant_of-self-in_default g c =
@@ -52,7 +52,7 @@ invariant_of-self-in_default g c =
     let complete = complete_kept c.args.bytes.now kept c.self.invariant.complete (c.in_ok-content.ensures).apart in
     let obeys = obeys_kept kept c.self.invariant.obeys c.args.bytes.now (c.in_ok-content.ensures).small complete in
     done_stands g.S.Store c.self.inside.conn new kept (keeping c.args.bytes.now kept) _ c.self.invariant same (g.met.S.Store.shut_if_dirty new.store) complete obeys
-    c.keep.new.self.kept here c.in_default.field-0 (c.in_default.ensures (tables_in kept))
+    c.keep.new.self.kept here c.in_default.field-0 (c.in_default.ensures (tables_of kept))
 
 pub returns-clause-change : goal.returns-clause-change
 returns-clause-change g c =
@@ -71,4 +71,4 @@ returns-clause-transaction g c =
     let obeys = obeys_kept kept c.self.invariant.obeys c.args.bytes.now (c.in_ok-content.ensures).small complete in
     subst (λ (s : Shown g.row.S.Denot). IsOneTransaction g.S.Store s (record { conn = new; kept = c.keep.new.self.kept }) (Ok (record { bytes = c.digest.result.now })) (keeping c.args.bytes.now s.kept)) c.self.view_is
     (done_transaction g.S.Store c.self.inside.conn new kept (keeping c.args.bytes.now kept) _ c.self.invariant same (g.met.S.Store.shut_if_dirty new.store) complete obeys
-    (g.met.S.Store.settled new.store) c.keep.new.self.kept here c.in_default.field-0 (c.in_default.ensures (tables_in kept)) (record { bytes = c.digest.result.now }) _ _ (c.in_default.ensures (unnamed_in kept)) (λ (h : 1 ≡ 0). let never : ⊥ = omega arith in never))
+    (g.met.S.Store.settled new.store) c.keep.new.self.kept here c.in_default.field-0 (c.in_default.ensures (tables_of kept)) (record { bytes = c.digest.result.now }) _ _ (c.in_default.ensures (unnamed_in kept)) (λ (h : 1 ≡ 0). let never : ⊥ = omega arith in never))

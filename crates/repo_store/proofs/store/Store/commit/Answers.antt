@@ -7,7 +7,7 @@ use Rattle.repo_store.specs.Shown.{Shown, IsOneTransaction}
 use Rattle.repo_store.proofs.KeptLemmas.{committing_handed}
 use Rattle.repo_store.proofs.CompleteLemmas.{complete_committed}
 use Rattle.repo_store.proofs.RuleLemmas.{obeys_committed}
-use Rattle.repo_store.proofs.StandLemmas.{tables_in, unnamed_in, refused_stands, done_stands, refused_transaction, done_transaction}
+use Rattle.repo_store.proofs.StandLemmas.{tables_of, unnamed_in, refused_stands, done_stands, refused_transaction, done_transaction}
 use Rattle.repo_store.proofs.store.Store.commit.Goals as goal
 
 pub invariant_of-self-in-Err : goal.invariant_of-self-in-Err
@@ -21,7 +21,7 @@ invariant_of-self-in-Err g c =
     let complete = complete_committed c.args.message.now kept c.self.invariant.complete prepared.within.1 in
     let obeys = obeys_committed kept c.self.invariant.obeys c.args.message.now prepared.within.0 complete in
     refused_stands g.S.Store c.self.inside.conn new kept (committing c.args.message.now kept) _ c.self.invariant same (g.met.S.Store.shut_if_dirty new.store) complete obeys
-    c.prepare_commit.new.self.kept prepared.same c.in-Err.error (c.in-Err.ensures (tables_in kept))
+    c.prepare_commit.new.self.kept prepared.same c.in-Err.error (c.in-Err.ensures (tables_of kept))
 
 pub returns-in-Err-clause-change : goal.returns-in-Err-clause-change
 returns-in-Err-clause-change g c =
@@ -40,7 +40,7 @@ returns-in-Err-clause-transaction g c =
     let obeys = obeys_committed kept c.self.invariant.obeys c.args.message.now prepared.within.0 complete in
     subst (λ (s : Shown g.row.S.Denot). IsOneTransaction g.S.Store s (record { conn = new; kept = c.prepare_commit.new.self.kept }) (Err c.fault_of.result) (committing c.args.message.now s.kept)) c.self.view_is
     (refused_transaction g.S.Store c.self.inside.conn new kept (committing c.args.message.now kept) _ c.self.invariant same (g.met.S.Store.shut_if_dirty new.store) complete obeys
-    c.prepare_commit.new.self.kept prepared.same c.in-Err.error (c.in-Err.ensures (tables_in kept)) c.fault_of.result _ _ (c.in-Err.ensures (unnamed_in kept)) (λ (h : 1 ≡ 0). let never : ⊥ = omega arith in never))
+    c.prepare_commit.new.self.kept prepared.same c.in-Err.error (c.in-Err.ensures (tables_of kept)) c.fault_of.result _ _ (c.in-Err.ensures (unnamed_in kept)) (λ (h : 1 ≡ 0). let never : ⊥ = omega arith in never))
 
 pub invariant_of-self-2 : goal.invariant_of-self-2
 invariant_of-self-2 g c =
@@ -54,7 +54,7 @@ invariant_of-self-2 g c =
     let complete = complete_committed c.args.message.now kept c.self.invariant.complete prepared.within.1 in
     let obeys = obeys_committed kept c.self.invariant.obeys c.args.message.now prepared.within.0 complete in
     done_stands g.S.Store c.self.inside.conn new kept (committing c.args.message.now kept) _ c.self.invariant same (g.met.S.Store.shut_if_dirty new.store) complete obeys
-    c.commit.new.self.kept now c.in_default.field-0 (c.in_default.ensures (tables_in kept))
+    c.commit.new.self.kept now c.in_default.field-0 (c.in_default.ensures (tables_of kept))
 
 pub returns-clause-change : goal.returns-clause-change
 returns-clause-change g c =
@@ -75,4 +75,4 @@ returns-clause-transaction g c =
     let obeys = obeys_committed kept c.self.invariant.obeys c.args.message.now prepared.within.0 complete in
     subst (λ (s : Shown g.row.S.Denot). IsOneTransaction g.S.Store s (record { conn = new; kept = c.commit.new.self.kept }) (Ok (c.count_commits-number.result + 1)) (committing c.args.message.now s.kept)) c.self.view_is
     (done_transaction g.S.Store c.self.inside.conn new kept (committing c.args.message.now kept) _ c.self.invariant same (g.met.S.Store.shut_if_dirty new.store) complete obeys
-    (g.met.S.Store.settled new.store) c.commit.new.self.kept now c.in_default.field-0 (c.in_default.ensures (tables_in kept)) (c.count_commits-number.result + 1) _ _ (c.in_default.ensures (unnamed_in kept)) (λ (h : 1 ≡ 0). let never : ⊥ = omega arith in never))
+    (g.met.S.Store.settled new.store) c.commit.new.self.kept now c.in_default.field-0 (c.in_default.ensures (tables_of kept)) (c.count_commits-number.result + 1) _ _ (c.in_default.ensures (unnamed_in kept)) (λ (h : 1 ≡ 0). let never : ⊥ = omega arith in never))

@@ -1,6 +1,6 @@
-use Rattle.std.proofs.Common.{[], refl}
+use Rattle.std.proofs.Common.{refl}
 use Rattle.sqlite.specs.Held.{state}
-use Rattle.repo_store.specs.Repository.{empty}
+use Rattle.repo_store.specs.Kept.{nothing_kept}
 use Rattle.repo_store.specs.Rows.{tables_of}
 use Rattle.repo_store.proofs.CallLemmas.{leaves_commit}
 use Rattle.repo_store.proofs.CompleteLemmas.{complete_empty}
@@ -29,7 +29,7 @@ pub returns-in-Ok-clause-durable : goal.returns-in-Ok-clause-durable
 returns-in-Ok-clause-durable g c clean trees left =
     let new = c.make.new.conn in
     let it = c.in-Ok.ensures.done clean (c.if-not-has_no_tables.ensures.bare refl) in
-    record { holds = leaves_commit (state g.S.Store new).committed trees (tables_of empty []) it.committed (g.met.S.Store.settled new.store trees it.is_open left); complete = complete_empty; obeys = obeys_empty }
+    record { holds = leaves_commit (state g.S.Store new).committed trees (tables_of nothing_kept) it.committed (g.met.S.Store.settled new.store trees it.is_open left); complete = complete_empty; obeys = obeys_empty }
 
 pub returns-in-Err-clause-crash_refused : goal.returns-in-Err-clause-crash_refused
 returns-in-Err-clause-crash_refused g c = made_survives (state g.S.Store c.args.conn) (state g.S.Store c.make.new.conn) (c.make.ensures.survives (c.if-not-has_no_tables.ensures.bare refl))

@@ -11,7 +11,7 @@ use Rattle.repo_store.proofs.FixLemmas.{changes_grow}
 use Rattle.repo_store.proofs.KeptLemmas.{setting_handed, forgotten_changes}
 use Rattle.repo_store.proofs.CompleteLemmas.{complete_set}
 use Rattle.repo_store.proofs.RuleLemmas.{obeys_set}
-use Rattle.repo_store.proofs.StandLemmas.{tables_in, unnamed_in, refused_stands, done_stands, refused_transaction, done_transaction}
+use Rattle.repo_store.proofs.StandLemmas.{tables_of, unnamed_in, refused_stands, done_stands, refused_transaction, done_transaction}
 use Rattle.repo_store.proofs.store.Store.set_fixes.Goals as goal
 
 pub since-requires : goal.since-requires
@@ -40,7 +40,7 @@ invariant_of-self-in-Err g c =
     let complete = complete_set c.args.changes.now kept c.self.invariant.complete c.requires prepared.apart in
     let obeys = obeys_set kept c.self.invariant.obeys c.args.changes.now prepared.within complete in
     refused_stands g.S.Store c.self.inside.conn new kept (setting c.args.changes.now kept) _ c.self.invariant same (g.met.S.Store.shut_if_dirty new.store) complete obeys
-    c.forget_since.new.self.kept now c.in-Err.error (c.in-Err.ensures (tables_in kept))
+    c.forget_since.new.self.kept now c.in-Err.error (c.in-Err.ensures (tables_of kept))
 
 pub returns-in-Err-clause-change : goal.returns-in-Err-clause-change
 returns-in-Err-clause-change g c =
@@ -64,7 +64,7 @@ returns-in-Err-clause-transaction g c =
     let obeys = obeys_set kept c.self.invariant.obeys c.args.changes.now prepared.within complete in
     subst (λ (s : Shown g.row.S.Denot). IsOneTransaction g.S.Store s (record { conn = new; kept = c.forget_since.new.self.kept }) (Err c.fault_of.result) (setting c.args.changes.now s.kept)) c.self.view_is
     (refused_transaction g.S.Store c.self.inside.conn new kept (setting c.args.changes.now kept) _ c.self.invariant same (g.met.S.Store.shut_if_dirty new.store) complete obeys
-    c.forget_since.new.self.kept now c.in-Err.error (c.in-Err.ensures (tables_in kept)) c.fault_of.result _ _ (c.in-Err.ensures (unnamed_in kept)) (λ (h : 1 ≡ 0). let never : ⊥ = omega arith in never))
+    c.forget_since.new.self.kept now c.in-Err.error (c.in-Err.ensures (tables_of kept)) c.fault_of.result _ _ (c.in-Err.ensures (unnamed_in kept)) (λ (h : 1 ≡ 0). let never : ⊥ = omega arith in never))
 
 pub invariant_of-self-2 : goal.invariant_of-self-2
 invariant_of-self-2 g c =
@@ -79,7 +79,7 @@ invariant_of-self-2 g c =
     let complete = complete_set c.args.changes.now kept c.self.invariant.complete c.requires prepared.apart in
     let obeys = obeys_set kept c.self.invariant.obeys c.args.changes.now prepared.within complete in
     done_stands g.S.Store c.self.inside.conn new kept (setting c.args.changes.now kept) _ c.self.invariant same (g.met.S.Store.shut_if_dirty new.store) complete obeys
-    c.set_fixes.new.self.kept now c.in_default.field-0 (c.in_default.ensures (tables_in kept))
+    c.set_fixes.new.self.kept now c.in_default.field-0 (c.in_default.ensures (tables_of kept))
 
 pub returns-clause-change : goal.returns-clause-change
 returns-clause-change g c =
@@ -101,4 +101,4 @@ returns-clause-transaction g c =
     let obeys = obeys_set kept c.self.invariant.obeys c.args.changes.now prepared.within complete in
     subst (λ (s : Shown g.row.S.Denot). IsOneTransaction g.S.Store s (record { conn = new; kept = c.set_fixes.new.self.kept }) (Ok tt) (setting c.args.changes.now s.kept)) c.self.view_is
     (done_transaction g.S.Store c.self.inside.conn new kept (setting c.args.changes.now kept) _ c.self.invariant same (g.met.S.Store.shut_if_dirty new.store) complete obeys
-    (g.met.S.Store.settled new.store) c.set_fixes.new.self.kept now c.in_default.field-0 (c.in_default.ensures (tables_in kept)) tt _ _ (c.in_default.ensures (unnamed_in kept)) (λ (h : 1 ≡ 0). let never : ⊥ = omega arith in never))
+    (g.met.S.Store.settled new.store) c.set_fixes.new.self.kept now c.in_default.field-0 (c.in_default.ensures (tables_of kept)) tt _ _ (c.in_default.ensures (unnamed_in kept)) (λ (h : 1 ≡ 0). let never : ⊥ = omega arith in never))

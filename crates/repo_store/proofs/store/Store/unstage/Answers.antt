@@ -5,7 +5,7 @@ use Rattle.repo_store.specs.Shown.{Shown, IsOneTransaction}
 use Rattle.repo_store.proofs.KeptLemmas.{unstaging_tables}
 use Rattle.repo_store.proofs.CompleteLemmas.{complete_unstaged}
 use Rattle.repo_store.proofs.RuleLemmas.{obeys_unstaged}
-use Rattle.repo_store.proofs.StandLemmas.{tables_in, unnamed_in, refused_stands, done_stands, refused_transaction, done_transaction}
+use Rattle.repo_store.proofs.StandLemmas.{tables_of, unnamed_in, refused_stands, done_stands, refused_transaction, done_transaction}
 use Rattle.repo_store.proofs.store.Store.unstage.Goals as goal
 
 pub invariant_of-self : goal.invariant_of-self
@@ -15,7 +15,7 @@ invariant_of-self g c =
     let complete = complete_unstaged c.args.path.now kept c.self.invariant.complete in
     let obeys = obeys_unstaged kept c.self.invariant.obeys c.args.path.now complete in
     refused_stands g.S.Store c.self.inside.conn new kept (unstaging c.args.path.now kept) _ c.self.invariant (unstaging_tables c.args.path.now kept) (g.met.S.Store.shut_if_dirty new.store) complete obeys
-    kept refl c.in-Err.error (c.in-Err.ensures (tables_in kept))
+    kept refl c.in-Err.error (c.in-Err.ensures (tables_of kept))
 
 pub invariant_of-self-2 : goal.invariant_of-self-2
 invariant_of-self-2 g c =
@@ -24,7 +24,7 @@ invariant_of-self-2 g c =
     let complete = complete_unstaged c.args.path.now kept c.self.invariant.complete in
     let obeys = obeys_unstaged kept c.self.invariant.obeys c.args.path.now complete in
     done_stands g.S.Store c.self.inside.conn new kept (unstaging c.args.path.now kept) _ c.self.invariant (unstaging_tables c.args.path.now kept) (g.met.S.Store.shut_if_dirty new.store) complete obeys
-    c.unstage.new.self.kept c.unstage.ensures c.in_default.field-0 (c.in_default.ensures (tables_in kept))
+    c.unstage.new.self.kept c.unstage.ensures c.in_default.field-0 (c.in_default.ensures (tables_of kept))
 
 pub returns-in-Err-clause-change : goal.returns-in-Err-clause-change
 returns-in-Err-clause-change g c =
@@ -39,7 +39,7 @@ returns-in-Err-clause-transaction g c =
     let obeys = obeys_unstaged kept c.self.invariant.obeys c.args.path.now complete in
     subst (λ (s : Shown g.row.S.Denot). IsOneTransaction g.S.Store s (record { conn = new; kept = kept }) (Err c.fault_of.result) (unstaging c.args.path.now s.kept)) c.self.view_is
     (refused_transaction g.S.Store c.self.inside.conn new kept (unstaging c.args.path.now kept) _ c.self.invariant (unstaging_tables c.args.path.now kept) (g.met.S.Store.shut_if_dirty new.store) complete obeys
-    kept refl c.in-Err.error (c.in-Err.ensures (tables_in kept)) c.fault_of.result _ _ (c.in-Err.ensures (unnamed_in kept)) (λ (h : 1 ≡ 0). let never : ⊥ = omega arith in never))
+    kept refl c.in-Err.error (c.in-Err.ensures (tables_of kept)) c.fault_of.result _ _ (c.in-Err.ensures (unnamed_in kept)) (λ (h : 1 ≡ 0). let never : ⊥ = omega arith in never))
 
 pub returns-clause-change : goal.returns-clause-change
 returns-clause-change g c =
@@ -53,4 +53,4 @@ returns-clause-transaction g c =
     let obeys = obeys_unstaged kept c.self.invariant.obeys c.args.path.now complete in
     subst (λ (s : Shown g.row.S.Denot). IsOneTransaction g.S.Store s (record { conn = new; kept = c.unstage.new.self.kept }) (Ok tt) (unstaging c.args.path.now s.kept)) c.self.view_is
     (done_transaction g.S.Store c.self.inside.conn new kept (unstaging c.args.path.now kept) _ c.self.invariant (unstaging_tables c.args.path.now kept) (g.met.S.Store.shut_if_dirty new.store) complete obeys
-    (g.met.S.Store.settled new.store) c.unstage.new.self.kept c.unstage.ensures c.in_default.field-0 (c.in_default.ensures (tables_in kept)) tt _ _ (c.in_default.ensures (unnamed_in kept)) (λ (h : 1 ≡ 0). let never : ⊥ = omega arith in never))
+    (g.met.S.Store.settled new.store) c.unstage.new.self.kept c.unstage.ensures c.in_default.field-0 (c.in_default.ensures (tables_of kept)) tt _ _ (c.in_default.ensures (unnamed_in kept)) (λ (h : 1 ≡ 0). let never : ⊥ = omega arith in never))

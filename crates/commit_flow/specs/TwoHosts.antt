@@ -1,0 +1,61 @@
+-- What laws on two hosts say: which replies the commands, the repository and the children leave no choice in, and what of a reply
+-- speaks of what is remembered.
+use Rattle.std.specs.Prelude.{◌≡◌, ℕ, All, List, []}
+use Rattle.hook_base.specs.declared.file.File.{File}
+use Rattle.child_port.specs.declared.answer.Outcome.{Outcome}
+use Rattle.result_book.specs.Told.{IsTold}
+use Rattle.hook_run.specs.Moments.{Moment}
+use Rattle.hook_run.specs.Parts.{AllTold, Part, faults_of}
+use Rattle.repo_store.specs.Repository.{Repository}
+use Rattle.commit_flow.specs.declared.command.Command.{Command}
+use Rattle.commit_flow.specs.declared.host_refusal.HostRefusal.TheVariants.{OutOfMemory, Store, BadConfig, Collision, Spent}
+use Rattle.commit_flow.specs.declared.reply.PostCommit.TheVariants.{Stopped}
+use Rattle.commit_flow.specs.declared.reply.Reply.{Reply}
+use Rattle.commit_flow.specs.declared.reply.Reply.TheVariants.{Ran, Committed, Forgot, Refused}
+use Rattle.commit_flow.specs.MachineRuns.{IsMachineRun}
+use Rattle.commit_flow.specs.Plays.{IsPlay}
+
+-- ---- which replies leave no choice
+
+-- The command wasn't refused for want of memory, by the store, since its configuration can't be read, by other contents under
+-- the same digest, or for want of a number for a child; and the hooks behind a commit weren't stopped.
+abbrev pub IsUnhindered : Reply → Type 0
+IsUnhindered (Refused OutOfMemory) = ⊥
+IsUnhindered (Refused (Store fault)) = ⊥
+IsUnhindered (Refused (BadConfig fault)) = ⊥
+IsUnhindered (Refused Collision) = ⊥
+IsUnhindered (Refused Spent) = ⊥
+IsUnhindered (Committed number reports (Stopped refusal)) = ⊥
+IsUnhindered reply = Unit {0}
+
+-- a run of the machine of which each part is one that the children may tell, and none is a fault
+pub record IsUnhinderedRun (tells : List (List ℕ) → List File → Outcome → Type 0) (before : Repository) (commands : List Command) (replies : List Reply) (parts : List Part) (after : Repository) : Type 0 where
+  pub run : IsMachineRun before commands replies parts after
+  pub told : AllTold tells parts
+  pub no_fault : faults_of parts ≡ 0
+  pub unhindered : All IsUnhindered replies
+
+-- The commands were played by a host that remembered at first what the children may tell, and between the two moments the
+-- children counted no fault.
+pub record IsUnhinderedPlay (tells : List (List ℕ) → List File → Outcome → Type 0) (from to : Moment) (before : Repository) (commands : List Command) (replies : List Reply) (after : Repository) : Type 0 where
+  pub play : IsPlay tells from to before commands replies after
+  pub told : IsTold tells from.remembered
+  pub no_fault : to.faults ≡ from.faults
+  pub unhindered : All IsUnhindered replies
+
+-- ---- what of a reply speaks of what is remembered
+
+-- how many answers were forgotten is left out
+abbrev pub without_number : Reply → Reply
+without_number (Forgot number) = Forgot 0
+without_number reply = reply
+
+-- and so are the ids of the hooks whose answer was another than the remembered one
+abbrev pub without_memory : Reply → Reply
+without_memory (Ran passed report changes unsteady) = Ran passed report changes []
+without_memory reply = without_number reply
+
+-- the answer of no hook was another than the remembered one
+abbrev pub IsSteady : Reply → Type 0
+IsSteady (Ran passed report changes unsteady) = unsteady ≡ []
+IsSteady reply = Unit {0}

@@ -1,0 +1,10 @@
+-- What `memory` and `forget` say: how many answers are remembered, and how many were forgotten.
+use Rattle.std.specs.Prelude.{ℕ, List, ◌++◌, codes}
+use Rattle.std.specs.Fmt.{decimal}
+use Rattle.report_text.specs.Report.{line}
+
+abbrev pub remembered_text : ℕ → List ℕ
+remembered_text number = line (codes "remembered: " ++ decimal number)
+
+abbrev pub forgotten_text : ℕ → List ℕ
+forgotten_text number = line (codes "forgotten: " ++ decimal number)

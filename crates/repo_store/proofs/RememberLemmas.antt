@@ -1,0 +1,184 @@
+-- What an answer that is remembered makes of what is kept, and of the tables.
+use Rattle.std.proofs.Common.{◌≡◌, ℕ, ◌&&◌, Bool, true, false, not, List, [], ◌∷◌, ◌++◌, map, option_to_list, Option, None, Some, MatchOption, filter, length, take, drop, if◌then◌else◌, IsPermutation, refl, sym, ap, ap₂, subst, ◌∙◌, inl, inr}
+use Rattle.std.specs.List.{AllByRecursion}
+use Rattle.std.specs.Str.{bytes_eq}
+use Rattle.std.proofs.lemmas.Bool.{false_from_ne_true}
+use Rattle.std.proofs.lemmas.List.Sorted.{IsPermutation-refl, IsPermutation-cons, IsPermutation-middle, IsPermutation-sym, IsPermutation-trans}
+use Rattle.sqlite_keyed.proofs.ListLemmas.{filter_all}
+use Rattle.hook_base.specs.declared.change.Change.{Change}
+use Rattle.hook_base.specs.declared.file.File.{File}
+use Rattle.hook_base.specs.RisingLemmas.{bytes_same}
+use Rattle.store_tables.specs.declared.rows.AnswerRow.{AnswerRow}
+use Rattle.repo_store.specs.AnswerLemmas.{all_with, other_key, other_key_back, own_keys_with}
+use Rattle.repo_store.specs.Answers.{KeptAnswer, HaveOwnKeys, have_one_key}
+use Rattle.repo_store.specs.Complete.{HasRecords, HaveDistinctDigests, IsAmong, IsComplete}
+use Rattle.repo_store.specs.Contents.{with_content}
+use Rattle.repo_store.specs.FromRows.{IsSame}
+use Rattle.repo_store.specs.Index.{Key, key_of, keys_eq}
+use Rattle.repo_store.specs.Kept.{Kept}
+use Rattle.repo_store.specs.Remembered.{TellsKey}
+use Rattle.repo_store.specs.Remembering.{AreSmall, SomeCollides, remembering, with_answer, with_answer_row, with_contents}
+use Rattle.repo_store.specs.RowRules.{AreStoreRows}
+use Rattle.repo_store.specs.Rows.{answer_row, commit_rows, entry_rows, fix_row, staged_row, tables_of, version_row, with_blobs}
+use Rattle.repo_store.specs.SoundAnswers.{IsSoundAnswer}
+use Rattle.repo_store.specs.WrittenAnswers.{contents_for, contents_in_changes, contents_in_files, records_of}
+use Rattle.repo_store.proofs.CompleteLemmas.{apart_with, files_grown, fixes_grown, grown, here_now, records_grown, still}
+use Rattle.repo_store.proofs.KeptLemmas.{blobs_after}
+use Rattle.repo_store.proofs.KeyLemmas.{keys_decide, keys_same}
+use Rattle.repo_store.proofs.ManyLemmas.{contents_front}
+use Rattle.repo_store.proofs.RowRuleLemmas.{all_weaker}
+use Rattle.repo_store.proofs.RuleLemmas.{obeys_by, rules_in, small_with}
+use Rattle.repo_store.proofs.SameAnswerLemmas.{keys_told}
+
+-- ---- contents kept one after another
+
+pub apart_contents : (xs contents : List (List ℕ)) → ¬ SomeCollides xs contents → HaveDistinctDigests contents → HaveDistinctDigests (with_contents xs contents)
+apart_contents [] contents none apart = apart
+apart_contents (x ∷ xs) contents none apart = apart_contents xs (with_content x contents) (λ later. none (inr later)) (apart_with x contents (λ here. none (inl here)) apart)
+
+pub still_there : (x : List ℕ) (xs contents : List (List ℕ)) → IsAmong contents x → IsAmong (with_contents xs contents) x
+still_there x [] contents there = there
+still_there x (y ∷ xs) contents there = still_there x xs (with_content y contents) (still x y contents there)
+
+pub small_contents : (xs contents : List (List ℕ)) → AreSmall xs → AreSmall contents → AreSmall (with_contents xs contents)
+small_contents [] contents small all = all
+small_contents (x ∷ xs) contents small all = small_contents xs (with_content x contents) small.1 (small_with x contents small.0 all)
+
+each_there : (xs contents : List (List ℕ)) → AllByRecursion (IsAmong (with_contents xs contents)) xs
+each_there [] contents = tt
+each_there (x ∷ xs) contents = (still_there x xs (with_content x contents) (here_now x contents), each_there xs (with_content x contents))
+
+module _ (P : List ℕ → Type 0) where
+  both_parts : (xs ys : List (List ℕ)) → AllByRecursion P (xs ++ ys) → AllByRecursion P xs × AllByRecursion P ys
+  both_parts [] ys all = (tt, all)
+  both_parts (x ∷ xs) ys all = let rest = both_parts xs ys all.1 in ((all.0, rest.0), rest.1)
+
+  files_have : (files : List File) → AllByRecursion P (contents_in_files files) → AllByRecursion (λ (file : File). P file.entry.bytes) files
+  files_have [] all = tt
+  files_have (file ∷ files) all = (all.0, files_have files all.1)
+
+  now_has : (now : Option (List ℕ)) (more : List (List ℕ)) → AllByRecursion P (option_to_list now ++ more) → MatchOption now (Unit {0}) P × AllByRecursion P more
+  now_has None more all = (tt, all)
+  now_has (Some bytes) more all = (all.0, all.1)
+
+  changes_have : (changes : List Change) → AllByRecursion P (contents_in_changes changes) → AllByRecursion (λ (change : Change). MatchOption change.now (Unit {0}) P) changes
+  changes_have [] all = tt
+  changes_have (change ∷ changes) all = let parts = now_has change.now (contents_in_changes changes) all in (parts.0, changes_have changes parts.1)
+
+records_there : (contents : List (List ℕ)) (answer : KeptAnswer) → HasRecords (with_contents (contents_for answer) contents) answer
+records_there contents answer =
+    let after = with_contents (contents_for answer) contents in
+    let parts = both_parts (IsAmong after) (contents_in_files answer.seen) (contents_in_changes answer.changes ++ records_of answer) (each_there (contents_for answer) contents) in
+    let rest = both_parts (IsAmong after) (contents_in_changes answer.changes) (records_of answer) parts.1 in
+    let records = rest.1 in
+    record {
+      words = records.0;
+      seen = records.1.0;
+      output = records.1.1.0;
+      changes = records.1.1.1.0;
+      seen_contents = files_have (IsAmong after) answer.seen parts.0;
+      new_contents = changes_have (IsAmong after) answer.changes rest.0;
+    }
+
+-- ---- its row
+
+abbrev other_row : AnswerRow → AnswerRow → Bool
+other_row row other = not (bytes_eq other.words row.words && bytes_eq other.seen row.seen)
+
+-- whether a row has the key of another, by the answers
+row_told : (answer other : KeptAnswer) → TellsKey answer other → other_row (answer_row answer) (answer_row other) ≡ not (have_one_key other answer)
+row_told answer other tells =
+    elim (have_one_key other answer) as (λ b. have_one_key other answer ≡ b → other_row (answer_row answer) (answer_row other) ≡ not b) [
+      | true ↦ λ e.
+          let keys = keys_same other answer e in
+          ap not (ap₂ (λ x y. x && y) (bytes_same (key_of other).0 (key_of answer).0 (ap (λ (k : Key). k.0) keys)) (bytes_same (key_of other).1 (key_of answer).1 (ap (λ (k : Key). k.1) keys)))
+      | false ↦ λ e.
+          ap not (false_from_ne_true (keys_eq (key_of other) (key_of answer)) (λ h.
+          let keys : key_of other ≡ key_of answer = (keys_decide (key_of other) (key_of answer)).0 h in
+          let one : have_one_key other answer ≡ true = tells keys in
+          let never : true ≡ false = sym one ∙ e in
+          absurd (cc)))
+    ] refl
+
+others_stay : (answer : KeptAnswer) (answers : List KeptAnswer) → AllByRecursion (TellsKey answer) answers → AllByRecursion (λ other. have_one_key answer other ≡ false) answers → AllByRecursion (λ row. other_row (answer_row answer) row ≡ true) (map answer_row answers)
+others_stay answer [] tells apart = tt
+others_stay answer (other ∷ others) tells apart = (row_told answer other tells.0 ∙ ap not (other_key_back answer other apart.0), others_stay answer others tells.1 apart.1)
+
+pub answer_rows_with : (answer : KeptAnswer) (answers : List KeptAnswer) → HaveOwnKeys answers → AllByRecursion (TellsKey answer) answers
+    → IsPermutation (answer_row answer ∷ filter (other_row (answer_row answer)) (map answer_row answers)) (map answer_row (with_answer answer answers))
+answer_rows_with answer [] own tells = IsPermutation-refl (answer_row answer ∷ [])
+answer_rows_with answer (other ∷ others) own tells =
+    elim (have_one_key other answer) as (λ b. have_one_key other answer ≡ b
+    → IsPermutation (answer_row answer ∷ (if other_row (answer_row answer) (answer_row other) then answer_row other ∷ filter (other_row (answer_row answer)) (map answer_row others) else filter (other_row (answer_row answer)) (map answer_row others)))
+    (map answer_row (if b then answer ∷ others else other ∷ with_answer answer others))) [
+      | true ↦ λ e.
+          let out : other_row (answer_row answer) (answer_row other) ≡ false = row_told answer other tells.0 ∙ ap not e in
+          let apart = all_weaker (λ x. have_one_key other x ≡ false) (λ x. have_one_key answer x ≡ false) others (λ x there. other_key other answer x e there) own.0 in
+          rw (out, filter_all (other_row (answer_row answer)) (map answer_row others) (others_stay answer others tells.1 apart)) (IsPermutation-refl (answer_row answer ∷ map answer_row others))
+      | false ↦ λ e.
+          let in_place : other_row (answer_row answer) (answer_row other) ≡ true = row_told answer other tells.0 ∙ ap not e in
+          rw in_place (IsPermutation-trans _ _ _ (IsPermutation-sym _ _ (IsPermutation-middle (answer_row other ∷ []) (answer_row answer) (filter (other_row (answer_row answer)) (map answer_row others))))
+          (IsPermutation-cons (answer_row other) _ _ (answer_rows_with answer others own.1 tells.1)))
+    ] refl
+
+-- what came is forgotten
+pub forgotten_answer : (all : List (List ℕ)) (kept mid now : Kept) (count : ℕ) → count ≡ length kept.contents → mid ≡ record kept { contents = with_contents all kept.contents } → now ≡ record mid { contents = take count mid.contents } → now ≡ kept
+forgotten_answer all kept mid now count count_is mid_is is =
+    is ∙ ap₂ (λ (n : ℕ) (k : Kept). record k { contents = take n k.contents }) count_is mid_is ∙ ap (λ (l : List (List ℕ)). record kept { contents = l }) (contents_front all kept.contents (with_contents all kept.contents) refl)
+
+-- ---- all of it
+
+module _ (answer : KeptAnswer) (kept : Kept) (it : IsComplete kept) (sound : IsSoundAnswer answer) (clear : ¬ SomeCollides (contents_for answer) kept.contents) where
+  abbrev new : List (List ℕ)
+  new = with_contents (contents_for answer) kept.contents
+
+  grows : (x : List ℕ) → IsAmong kept.contents x → IsAmong new x
+  grows x there = still_there x (contents_for answer) kept.contents there
+
+  new_apart : HaveDistinctDigests new
+  new_apart = apart_contents (contents_for answer) kept.contents clear it.apart
+
+  pub complete_remembered : IsComplete (remembering answer kept)
+  complete_remembered = record {
+    sound = it.sound;
+    staged = files_grown kept.contents new kept.repo.staged grows it.staged;
+    fixes = fixes_grown kept.contents new kept.repo.fixes grows it.fixes;
+    trees = grown kept.contents new kept.repo grows it.trees;
+    sound_answers = all_with IsSoundAnswer answer sound kept.answers it.sound_answers;
+    answers = all_with (HasRecords new) answer (records_there kept.contents answer) kept.answers (records_grown kept.contents new kept.answers grows it.answers);
+    keys = own_keys_with answer kept.answers it.keys;
+    apart = new_apart;
+  }
+
+  -- the digests of the answers tell their keys
+  pub all_told : AllByRecursion (TellsKey answer) kept.answers
+  all_told = told_by kept.answers it.sound_answers (records_grown kept.contents new kept.answers grows it.answers)
+    where
+      told_by : (others : List KeptAnswer) → AllByRecursion IsSoundAnswer others → AllByRecursion (HasRecords new) others → AllByRecursion (TellsKey answer) others
+      told_by [] sounds have = tt
+      told_by (other ∷ others) sounds have = (keys_told new new_apart other answer sounds.0 have.0 (records_there kept.contents answer), told_by others sounds.1 have.1)
+
+  pub remembering_handed : (news : List (List ℕ)) (handed : KeptAnswer) → news ≡ drop (length kept.contents) new → handed ≡ answer
+      → IsSame (with_answer_row (answer_row handed) (with_blobs news (tables_of kept))) (tables_of (remembering answer kept))
+  remembering_handed news handed news_is is =
+      subst (λ (l : List (List ℕ)). IsSame (with_answer_row (answer_row handed) (with_blobs l (tables_of kept))) (tables_of (remembering answer kept))) (sym news_is)
+      (subst (λ (a : KeptAnswer). IsSame (with_answer_row (answer_row a) (with_blobs (drop (length kept.contents) new) (tables_of kept))) (tables_of (remembering answer kept))) (sym is) (record {
+        meta = IsPermutation-refl (version_row ∷ []);
+        blobs = blobs_after kept.contents new (contents_front (contents_for answer) kept.contents new refl);
+        staged = IsPermutation-refl (map staged_row kept.repo.staged);
+        fixes = IsPermutation-refl (map fix_row kept.repo.fixes);
+        commits = IsPermutation-refl (commit_rows 1 kept.repo.history);
+        entries = IsPermutation-refl (entry_rows 1 kept.repo.history);
+        answers = answer_rows_with answer kept.answers it.keys all_told;
+      }))
+
+  pub obeys_remembered : AreStoreRows (tables_of kept) → AreSmall (contents_for answer) → AreStoreRows (tables_of (remembering answer kept))
+  obeys_remembered obeys small =
+      let rules = rules_in kept obeys in
+      obeys_by (remembering answer kept) complete_remembered (record {
+        staged_legal = rules.staged_legal;
+        trees_legal = rules.trees_legal;
+        fixes_staged = rules.fixes_staged;
+        messages_small = rules.messages_small;
+        contents_small = small_contents (contents_for answer) kept.contents small rules.contents_small;
+      })

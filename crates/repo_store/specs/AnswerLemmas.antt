@@ -1,0 +1,181 @@
+-- Lemmas: which answer is found for words and seen files, and what becomes of that where an answer is remembered.
+use Rattle.std.specs.Prelude.{◌≡◌, ◌↔◌, ℕ, zero, suc, ◌<◌, ◌&&◌, true, false, List, [], ◌∷◌, length, Option, None, Some, if◌then◌else◌, IsPermutation, refl}
+use Rattle.std.specs.Bool.{Decides}
+use Rattle.std.specs.Cmp.Lexicographic.{bytes_decides, pointwise, pointwise_decides}
+use Rattle.std.specs.List.{AllByRecursion, Contains}
+use Rattle.std.specs.Str.{bytes_eq}
+use Rattle.std.proofs.Common.{sym, ap, subst, ◌∙◌, get_or, arith}
+use Rattle.std.proofs.lemmas.Bool.{false_from_ne_true}
+use Rattle.std.proofs.lemmas.List.Elements.{All-from_recursion, recursion_from_All}
+use Rattle.std.proofs.lemmas.List.Sorted.{All-permutation, Contains-permutation}
+use Rattle.hook_base.specs.declared.file.File.{File}
+use Rattle.hook_base.specs.declared.file.Mode.{Mode}
+use Rattle.hook_base.specs.declared.file.Mode.TheVariants.{Plain, Executable}
+use Rattle.hook_base.specs.AlikeLemmas.{and_decides, same_decides}
+use Rattle.repo_store.specs.Answers.{KeptAnswer, HaveOwnKeys, answer_for, have_one_key, is_for, is_same_file, is_same_mode}
+use Rattle.repo_store.specs.Remembering.{with_answer}
+
+-- ---- whether an answer is that of words and seen files
+
+mode_decides : (a b : Mode) → Decides (is_same_mode a b) (a ≡ b)
+mode_decides Plain Plain = (λ h. refl, λ h. refl)
+mode_decides Plain Executable = (λ h. cc, λ h. cc)
+mode_decides Executable Plain = (λ h. cc, λ h. cc)
+mode_decides Executable Executable = (λ h. refl, λ h. refl)
+
+abbrev file_with : List ℕ → Mode → List ℕ → File
+file_with path mode bytes = record { path = path; entry = record { mode = mode; bytes = bytes } }
+
+same_parts : (p q : List ℕ) (m n : Mode) (x y : List ℕ) → p ≡ q → m ≡ n → x ≡ y → file_with p m x ≡ file_with q n y
+same_parts p q m n x y path mode bytes = cc
+
+file_decides : (a b : File) → Decides (is_same_file a b) (a ≡ b)
+file_decides a b =
+    same_decides (is_same_file a b)
+    (and_decides (bytes_eq a.path b.path && is_same_mode a.entry.mode b.entry.mode) (bytes_eq a.entry.bytes b.entry.bytes) (and_decides (bytes_eq a.path b.path) (is_same_mode a.entry.mode b.entry.mode) (bytes_decides a.path b.path) (mode_decides a.entry.mode b.entry.mode))
+    (bytes_decides a.entry.bytes b.entry.bytes))
+    (λ h. same_parts a.path b.path a.entry.mode b.entry.mode a.entry.bytes b.entry.bytes h.0.0 h.0.1 h.1)
+    (λ h. ((ap (λ (file : File). file.path) h, ap (λ (file : File). file.entry.mode) h), ap (λ (file : File). file.entry.bytes) h))
+
+pub is_for_decides : (words : List (List ℕ)) (seen : List File) (answer : KeptAnswer) → (is_for words seen answer ≡ true) ↔ ((answer.words ≡ words) × (answer.seen ≡ seen))
+is_for_decides words seen answer =
+    and_decides (pointwise bytes_eq answer.words words) (pointwise is_same_file answer.seen seen) (pointwise_decides bytes_decides answer.words words) (pointwise_decides file_decides answer.seen seen)
+
+-- an answer is that of its own words and seen files
+pub is_for_itself : (answer : KeptAnswer) → is_for answer.words answer.seen answer ≡ true
+is_for_itself answer = (is_for_decides answer.words answer.seen answer).1 (refl, refl)
+
+pub one_key : (a b : KeptAnswer) → have_one_key a b ≡ true → (a.words ≡ b.words) × (a.seen ≡ b.seen)
+one_key a b h = (is_for_decides b.words b.seen a).0 h
+
+pub own_key : (a b : KeptAnswer) → a.words ≡ b.words → a.seen ≡ b.seen → have_one_key a b ≡ true
+own_key a b words seen = (is_for_decides b.words b.seen a).1 (words, seen)
+
+-- two answers to the same have one key
+pub one_key_for : (words : List (List ℕ)) (seen : List File) (a b : KeptAnswer) → is_for words seen a ≡ true → is_for words seen b ≡ true → have_one_key a b ≡ true
+one_key_for words seen a b one other =
+    let here = (is_for_decides words seen a).0 one in
+    let there = (is_for_decides words seen b).0 other in
+    own_key a b (here.0 ∙ sym there.0) (here.1 ∙ sym there.1)
+
+-- an answer has another key than one of the same key
+pub other_key : (a b c : KeptAnswer) → have_one_key a b ≡ true → have_one_key a c ≡ false → have_one_key b c ≡ false
+other_key a b c one apart =
+    let same = one_key a b one in
+    false_from_ne_true (have_one_key b c) (λ h.
+    let also = one_key b c h in
+    let both : have_one_key a c ≡ true = own_key a c (same.0 ∙ also.0) (same.1 ∙ also.1) in
+    let never : true ≡ false = sym both ∙ apart in
+    absurd (cc))
+
+pub other_key_back : (a b : KeptAnswer) → have_one_key a b ≡ false → have_one_key b a ≡ false
+other_key_back a b apart =
+    false_from_ne_true (have_one_key b a) (λ h.
+    let same = one_key b a h in
+    let back : have_one_key a b ≡ true = own_key a b (sym same.0) (sym same.1) in
+    let never : true ≡ false = sym back ∙ apart in
+    absurd (cc))
+
+all_moved : (P : KeptAnswer → Type 0) (answers others : List KeptAnswer) → IsPermutation answers others → AllByRecursion P answers → AllByRecursion P others
+all_moved P answers others moved all = recursion_from_All P others (All-permutation P answers others moved (All-from_recursion P answers all))
+
+-- ---- which answer is found
+
+contains_first : (answer : KeptAnswer) (answers : List KeptAnswer) → Contains (answer ∷ answers) answer
+contains_first answer answers = (0, omega arith, refl)
+
+contains_later : (other answer : KeptAnswer) (answers : List KeptAnswer) → Contains answers answer → Contains (other ∷ answers) answer
+contains_later other answer answers there = (suc there.0, let within = there.1 in omega arith, there.2)
+
+module _ (words : List (List ℕ)) (seen : List File) where
+  -- the answer that is found is one of them, and is that of the words and the seen files
+  pub found_among : (answer : KeptAnswer) (answers : List KeptAnswer) → answer_for words seen answers ≡ Some answer → Contains answers answer × (is_for words seen answer ≡ true)
+  found_among answer [] found = absurd (let never : ◌≡◌ {A = Option KeptAnswer} None (Some answer) = found in cc)
+  found_among answer (other ∷ others) found =
+      elim (is_for words seen other) as (λ b. is_for words seen other ≡ b → (if b then Some other else answer_for words seen others) ≡ Some answer → Contains (other ∷ others) answer × (is_for words seen answer ≡ true)) [
+        | true ↦ λ e here. let is : other ≡ answer = cc in (subst (λ (a : KeptAnswer). Contains (other ∷ others) a) is (contains_first other others), ap (is_for words seen) (sym is) ∙ e)
+        | false ↦ λ e later. let rest = found_among answer others later in (contains_later other answer others rest.0, rest.1)
+      ] refl found
+
+  -- where none is found, none is that of the words and the seen files
+  pub none_among : (answers : List KeptAnswer) → answer_for words seen answers ≡ None → AllByRecursion (λ answer. is_for words seen answer ≡ false) answers
+  none_among [] none = tt
+  none_among (other ∷ others) none =
+      elim (is_for words seen other) as (λ b. is_for words seen other ≡ b → (if b then Some other else answer_for words seen others) ≡ None → AllByRecursion (λ answer. is_for words seen answer ≡ false) (other ∷ others)) [
+        | true ↦ λ e here. absurd (let never : ◌≡◌ {A = Option KeptAnswer} (Some other) None = here in cc)
+        | false ↦ λ e later. (e, none_among others later)
+      ] refl none
+
+  pub finds_none : (answers : List KeptAnswer) → AllByRecursion (λ answer. is_for words seen answer ≡ false) answers → answer_for words seen answers ≡ None
+  finds_none [] none = refl
+  finds_none (other ∷ others) none = ap (λ b. if b then Some other else answer_for words seen others) none.0 ∙ finds_none others none.1
+
+  -- of answers with keys of their own, the one that is that of the words and the seen files is found
+  pub finds : (answer : KeptAnswer) (answers : List KeptAnswer) → HaveOwnKeys answers → Contains answers answer → is_for words seen answer ≡ true → answer_for words seen answers ≡ Some answer
+  finds answer answers own there is = go answers own there.0 there.1 there.2
+    where
+      apart_at : (other : KeptAnswer) (others : List KeptAnswer) (k : ℕ) → k < length others → get_or others k answer ≡ answer → AllByRecursion (λ (a : KeptAnswer). have_one_key other a ≡ false) others → have_one_key other answer ≡ false
+      apart_at other [] k within at all = absurd (omega arith)
+      apart_at other (first ∷ others) zero within at all = ap (have_one_key other) (sym at) ∙ all.0
+      apart_at other (first ∷ others) (suc k) within at all = apart_at other others k (omega arith) at all.1
+
+      go : (answers : List KeptAnswer) → HaveOwnKeys answers → (k : ℕ) → k < length answers → get_or answers k answer ≡ answer → answer_for words seen answers ≡ Some answer
+      go [] own k within at = absurd (omega arith)
+      go (other ∷ others) own zero within at = ap (λ b. if b then Some other else answer_for words seen others) (ap (is_for words seen) at ∙ is) ∙ ap Some at
+      go (other ∷ others) own (suc k) within at =
+          let apart = apart_at other others k (omega arith) at own.0 in
+          let not_first = false_from_ne_true (is_for words seen other) (λ h. let one = one_key_for words seen other answer h is in let never : true ≡ false = sym one ∙ apart in absurd (cc)) in
+          ap (λ b. if b then Some other else answer_for words seen others) not_first ∙ go others own.1 k (omega arith) at
+
+  -- in another order the same answer is found
+  pub answer_for_permuted : (answers others : List KeptAnswer) → IsPermutation answers others → HaveOwnKeys others → answer_for words seen others ≡ answer_for words seen answers
+  answer_for_permuted answers others moved own =
+      elim (answer_for words seen answers) as (λ found. answer_for words seen answers ≡ found → answer_for words seen others ≡ found) [
+        | None ↦ λ e. finds_none others (all_moved (λ answer. is_for words seen answer ≡ false) answers others moved (none_among answers e))
+        | Some answer ↦ λ e. let it = found_among answer answers e in finds answer others own (Contains-permutation answers others answer moved it.0) it.1
+      ] refl
+
+  -- what is remembered for other words or seen files stays
+  pub answer_for_others : (answer : KeptAnswer) (answers : List KeptAnswer) → is_for words seen answer ≡ false → answer_for words seen (with_answer answer answers) ≡ answer_for words seen answers
+  answer_for_others answer [] other = ap (λ b. if b then Some answer else None) other
+  answer_for_others answer (first ∷ rest) other =
+      elim (have_one_key first answer) as (λ b. have_one_key first answer ≡ b → answer_for words seen (if b then answer ∷ rest else first ∷ with_answer answer rest) ≡ (if is_for words seen first then Some first else answer_for words seen rest)) [
+        | true ↦ λ e.
+            let same = one_key first answer e in
+            let not_first : is_for words seen first ≡ false = false_from_ne_true (is_for words seen first) (λ h.
+            let it = (is_for_decides words seen first).0 h in
+            let one : is_for words seen answer ≡ true = (is_for_decides words seen answer).1 (sym same.0 ∙ it.0, sym same.1 ∙ it.1) in
+            let never : true ≡ false = sym one ∙ other in
+            absurd (cc)) in
+            ap (λ b. if b then Some answer else answer_for words seen rest) other ∙ sym (ap (λ b. if b then Some first else answer_for words seen rest) not_first)
+        | false ↦ λ e. ap (λ (o : Option KeptAnswer). if is_for words seen first then Some first else o) (answer_for_others answer rest other)
+      ] refl
+
+-- an answer that is remembered is found
+pub answer_for_remembered : (answer : KeptAnswer) (answers : List KeptAnswer) → answer_for answer.words answer.seen (with_answer answer answers) ≡ Some answer
+answer_for_remembered answer [] = ap (λ b. if b then Some answer else None) (is_for_itself answer)
+answer_for_remembered answer (first ∷ rest) =
+    elim (have_one_key first answer) as (λ b. have_one_key first answer ≡ b → answer_for answer.words answer.seen (if b then answer ∷ rest else first ∷ with_answer answer rest) ≡ Some answer) [
+      | true ↦ λ e. ap (λ b. if b then Some answer else answer_for answer.words answer.seen rest) (is_for_itself answer)
+      | false ↦ λ e. ap (λ b. if b then Some first else answer_for answer.words answer.seen (with_answer answer rest)) e ∙ answer_for_remembered answer rest
+    ] refl
+
+-- ---- what holds of all answers, after one is remembered
+
+pub all_with : (P : KeptAnswer → Type 0) (answer : KeptAnswer) → P answer → (answers : List KeptAnswer) → AllByRecursion P answers → AllByRecursion P (with_answer answer answers)
+all_with P answer here [] all = (here, tt)
+all_with P answer here (other ∷ others) all =
+    elim (have_one_key other answer) as (λ b. AllByRecursion P (if b then answer ∷ others else other ∷ with_answer answer others)) [ true ↦ (here, all.1) | false ↦ (all.0, all_with P answer here others all.1) ]
+
+apart_from : (a b : KeptAnswer) → have_one_key a b ≡ true → (answers : List KeptAnswer) → AllByRecursion (λ (c : KeptAnswer). have_one_key a c ≡ false) answers → AllByRecursion (λ (c : KeptAnswer). have_one_key b c ≡ false) answers
+apart_from a b one [] all = tt
+apart_from a b one (c ∷ answers) all = (other_key a b c one all.0, apart_from a b one answers all.1)
+
+-- the keys stay their own
+pub own_keys_with : (answer : KeptAnswer) (answers : List KeptAnswer) → HaveOwnKeys answers → HaveOwnKeys (with_answer answer answers)
+own_keys_with answer [] own = (tt, tt)
+own_keys_with answer (other ∷ others) own =
+    elim (have_one_key other answer) as (λ b. have_one_key other answer ≡ b → HaveOwnKeys (if b then answer ∷ others else other ∷ with_answer answer others)) [
+      | true ↦ λ e. (apart_from other answer e others own.0, own.1)
+      | false ↦ λ e. (all_with (λ (x : KeptAnswer). have_one_key other x ≡ false) answer e others own.0, own_keys_with answer others own.1)
+    ] refl

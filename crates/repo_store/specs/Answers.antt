@@ -1,0 +1,56 @@
+-- What is remembered of the answers of children.
+use Rattle.std.specs.Prelude.{◌≡◌, ℕ, Bool, true, false, ◌&&◌, List, [], ◌∷◌, Option, None, Some, if◌then◌else◌, refl}
+use Rattle.std.specs.Cmp.Lexicographic.{pointwise}
+use Rattle.std.specs.Coded.{Coded, code_by, coded×, coded_ℕ, coded_list}
+use Rattle.std.specs.Str.{bytes_eq}
+use Rattle.sqlite_trees.specs.Tree.{IsAscending}
+use Rattle.hook_base.specs.declared.file.File.{File}
+use Rattle.hook_base.specs.declared.file.Mode.{Mode}
+use Rattle.hook_base.specs.declared.file.Mode.TheVariants.{Plain, Executable}
+use Rattle.hook_base.specs.declared.change.Change.{Change}
+use Rattle.hook_base.specs.contracts.file.File as file
+use Rattle.hook_base.specs.contracts.change.Change as change
+
+-- An answer: what a child was given (the words of its command, and the files that it saw) and what it did (what it wrote, what
+-- became of its files, and its exit code), with whole contents.
+pub record KeptAnswer : Type 0 where
+  pub words : List (List ℕ)
+  pub seen : List File
+  pub output : List ℕ
+  pub changes : List Change
+  pub status : ℕ
+
+-- ---- its key
+
+abbrev pub is_same_mode : Mode → Mode → Bool
+is_same_mode Plain Plain = true
+is_same_mode Plain Executable = false
+is_same_mode Executable Plain = false
+is_same_mode Executable Executable = true
+
+abbrev pub is_same_file : File → File → Bool
+is_same_file a b = bytes_eq a.path b.path && is_same_mode a.entry.mode b.entry.mode && bytes_eq a.entry.bytes b.entry.bytes
+
+-- the answer is that of these words and these seen files, with their modes and bytes
+abbrev pub is_for : List (List ℕ) → List File → KeptAnswer → Bool
+is_for words seen answer = pointwise bytes_eq answer.words words && pointwise is_same_file answer.seen seen
+
+-- an answer's key is the words of its command and the files that it saw
+abbrev pub have_one_key : KeptAnswer → KeptAnswer → Bool
+have_one_key a b = is_for b.words b.seen a
+
+-- no two have one key
+abbrev pub HaveOwnKeys : List KeptAnswer → Type 0
+HaveOwnKeys = IsAscending (λ a b. have_one_key a b ≡ false)
+
+-- what is remembered for the words and the seen files
+abbrev pub answer_for : List (List ℕ) → List File → List KeptAnswer → Option KeptAnswer
+answer_for words seen [] = None
+answer_for words seen (answer ∷ answers) = if is_for words seen answer then Some answer else answer_for words seen answers
+
+-- ---- how it is told apart
+
+abbrev pub answer_code : Coded KeptAnswer
+answer_code =
+    code_by (List (List ℕ) × (List File × (List ℕ × (List Change × ℕ)))) (coded× (coded_list (coded_list coded_ℕ)) (coded× (coded_list file.the_row.coded) (coded× (coded_list coded_ℕ) (coded× (coded_list change.the_row.coded) coded_ℕ))))
+    (λ a. (a.words, (a.seen, (a.output, (a.changes, a.status))))) (λ p. record { words = p.0; seen = p.1.0; output = p.1.1.0; changes = p.1.1.1.0; status = p.1.1.1.1 }) (λ _. refl)

@@ -1,0 +1,31 @@
+-- Serves private functions only, those of the modules `answer_contents` and `answer_search`: contents that are kept one after
+-- another, and contents that are looked for.
+use Rattle.std.specs.Prelude.{◌≡◌, ℕ, List, length, take}
+use Rattle.hook_base.specs.declared.file.File.{File}
+use Rattle.answer_records.specs.Limits.{IsStorable}
+use Rattle.answer_records.specs.Records.{seen_of_files, seen_record}
+use Rattle.repo_store.specs.declared.fault.StoreFault.{StoreFault}
+use Rattle.repo_store.specs.Complete.{HaveContents, IsAmong}
+use Rattle.repo_store.specs.Faults.{IsRefusal}
+use Rattle.repo_store.specs.Remembering.{AreSmall, SomeCollides, with_contents}
+
+-- all of these were kept, in their order
+pub record AreAllKept (all old new : List (List ℕ)) : Type 0 where
+  pub kept : new ≡ with_contents all old
+  pub small : AreSmall all
+  pub apart : ¬ SomeCollides all old
+
+-- some of these were kept, behind those that were, until one was refused
+pub record IsStopped (all old new : List (List ℕ)) (fault : StoreFault) : Type 0 where
+  pub front : take (length old) new ≡ old
+  pub why : IsRefusal (¬ AreSmall all) ⊥ (SomeCollides all old) fault
+
+-- the bytes may be a record, and are kept
+pub record IsKnownRecord (contents : List (List ℕ)) (bytes : List ℕ) : Type 0 where
+  pub storable : IsStorable bytes
+  pub among : IsAmong contents bytes
+
+-- so may that of the files, whose contents are kept too
+pub record AreKnownFiles (contents : List (List ℕ)) (files : List File) : Type 0 where
+  pub record_known : IsKnownRecord contents (seen_record (seen_of_files files))
+  pub contents_known : HaveContents contents files

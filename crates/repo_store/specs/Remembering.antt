@@ -1,0 +1,42 @@
+-- What a store makes of an answer that it is to remember.
+use Rattle.std.specs.Prelude.{◌⊎◌, ℕ, List, [], ◌∷◌, if◌then◌else◌}
+use Rattle.std.specs.List.{AllByRecursion, Any}
+use Rattle.repo_store.specs.Answers.{KeptAnswer, have_one_key}
+use Rattle.repo_store.specs.Contents.{Collides, with_content}
+use Rattle.repo_store.specs.Kept.{Kept}
+use Rattle.repo_store.specs.Limits.{IsSmall}
+use Rattle.repo_store.specs.WrittenAnswers.{contents_for}
+use Rattle.store_tables.specs.declared.rows.AnswerRow.{AnswerRow}
+use Rattle.store_tables.specs.Tables as tables
+use Rattle.store_tables.specs.Tables.{Tables, without_answer}
+
+-- the answer in place of the one of its key, or behind all where none has it
+abbrev pub with_answer : KeptAnswer → List KeptAnswer → List KeptAnswer
+with_answer answer [] = answer ∷ []
+with_answer answer (other ∷ others) = if have_one_key other answer then answer ∷ others else other ∷ with_answer answer others
+
+-- the contents with all of these among them, kept one after another
+abbrev pub with_contents : List (List ℕ) → List (List ℕ) → List (List ℕ)
+with_contents [] contents = contents
+with_contents (bytes ∷ more) contents = with_contents more (with_content bytes contents)
+
+-- an answer is remembered, and its contents are kept
+abbrev pub remembering : KeptAnswer → Kept → Kept
+remembering answer kept = record kept { contents = with_contents (contents_for answer) kept.contents; answers = with_answer answer kept.answers }
+
+-- each of these may be contents
+abbrev pub AreSmall : List (List ℕ) → Type 0
+AreSmall all = AllByRecursion IsSmall all
+
+-- one of these collides with what is kept by then
+abbrev pub SomeCollides : List (List ℕ) → List (List ℕ) → Type 0
+SomeCollides [] contents = ⊥
+SomeCollides (bytes ∷ more) contents = Collides bytes contents ⊎ SomeCollides more (with_content bytes contents)
+
+-- one of these collides with the contents, each for itself
+abbrev pub AnyCollides : List (List ℕ) → List (List ℕ) → Type 0
+AnyCollides all contents = Any (λ bytes. Collides bytes contents) all
+
+-- the row in place of the one of its key, if there is one
+abbrev pub with_answer_row : AnswerRow → Tables → Tables
+with_answer_row row t = tables.with_answer row (without_answer row.words row.seen t)

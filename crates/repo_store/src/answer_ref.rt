@@ -1,0 +1,14 @@
+//! An answer of a child, without a copy.
+
+use hook_base::Changes;
+
+/// What a child did, by reference.
+#[derive(Clone, Copy, Debug)]
+pub struct AnswerRef<'a> {
+    /// Its exit code, from 0 to 255.
+    pub status: u8,
+    /// What it wrote.
+    pub output: &'a [u8],
+    /// What became of the files that it saw.
+    pub changes: &'a Changes,
+}

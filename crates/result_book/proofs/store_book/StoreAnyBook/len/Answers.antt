@@ -1,0 +1,5 @@
+use Rattle.result_book.proofs.StoreBookLemmas.{distinct_rows}
+use Rattle.result_book.proofs.store_book.StoreAnyBook.len.Goals as goal
+
+pub returns-clause-distinct : goal.returns-clause-distinct
+returns-clause-distinct g c = distinct_rows c.args.self.now.kept.answers c.answers_len.ensures.keys

@@ -1,0 +1,79 @@
+-- A store as a book: what it remembers, what rests over a call, what a crash leaves, and by what it refuses.
+use Rattle.std.specs.Prelude.{◌≡◌, map}
+use Rattle.child_port.specs.declared.answer.Answer.{Answer}
+use Rattle.sqlite_trees.specs.declared.store.Store.{Ghosts}
+use Rattle.sqlite_trees.specs.Tree.{Trees}
+use Rattle.sqlite.specs.Held.{state}
+use Rattle.sqlite.specs.State.{HasCleanDisk, Survives}
+use Rattle.repo_store.specs.declared.fault.StoreFault.{StoreFault}
+use Rattle.repo_store.specs.declared.fault.StoreFault.TheVariants as store
+use Rattle.repo_store.specs.declared.answer_ref.AnswerRef.{AnswerRef}
+use Rattle.repo_store.specs.declared.stored_answer.StoredAnswer.{StoredAnswer}
+use Rattle.repo_store.specs.Answers.{KeptAnswer}
+use Rattle.repo_store.specs.Kept.{Kept}
+use Rattle.repo_store.specs.Repository.{Repository}
+use Rattle.repo_store.specs.Shown.{Leaves, Shown, Stands}
+use Rattle.result_book.specs.declared.book_fault.BookFault.{BookFault}
+use Rattle.result_book.specs.declared.book_fault.BookFault.TheVariants.{OutOfMemory, Store}
+use Rattle.result_book.specs.declared.book_row.BookRow.{BookRow}
+use Rattle.result_book.specs.Contents.{Contents, with_rows}
+
+-- ---- what it remembers
+
+-- what a store gives of an answer, as that of a child
+abbrev pub answer_in : StoredAnswer → Answer
+answer_in answer = record { status = answer.status; output = answer.output; changes = answer.changes }
+
+-- the answer that is handed over by reference
+abbrev pub answer_by : AnswerRef → Answer
+answer_by answer = record { status = answer.status; output = answer.output.now; changes = answer.changes.now }
+
+-- a remembered answer without its key
+abbrev pub given_answer : KeptAnswer → Answer
+given_answer answer = record { status = answer.status; output = answer.output; changes = answer.changes }
+
+abbrev pub row_of : KeptAnswer → BookRow
+row_of answer = record { words = answer.words; seen = answer.seen; answer = given_answer answer }
+
+-- the remembered answers of a store, as those of a book
+abbrev pub remembered_by : Kept → Contents
+remembered_by kept = with_rows (map row_of kept.answers)
+
+-- ---- what a crash leaves
+
+-- opened again, the trees are a store of this repository, whatever it remembers
+pub record LeavesRepository (repo : Repository) (trees : Trees) : Type 0 where
+  pub kept : Kept
+  pub leaves : Leaves kept trees
+  pub same : kept.repo ≡ repo
+
+-- a store that a crash may leave remembers this, once it is opened again
+pub record MayRemember {S : Type 0} (g : Ghosts S) (shown : Shown S) (left : Contents) : Type 0 where
+  pub clean : HasCleanDisk (state g shown.conn)
+  pub trees : Trees
+  pub may : (state g shown.conn).may_leave trees
+  pub kept : Kept
+  pub leaves : Leaves kept trees
+  pub remembers : left ≡ remembered_by kept
+
+-- ---- what rests
+
+-- The repository is the same, and stands in the tables if it did. A crash leaves what it could leave before, or a store of this
+-- repository.
+pub record IsAtRest {S : Type 0} (g : Ghosts S) (before after : Shown S) : Type 0 where
+  pub repo : after.kept.repo ≡ before.kept.repo
+  pub stands : Stands g before.conn before.kept → Stands g after.conn after.kept
+  pub survives : Survives (state g before.conn) (state g after.conn) (LeavesRepository before.kept.repo)
+
+-- ---- by what it refuses
+
+-- the database refuses, contents are too large, or others stand under their digest
+abbrev pub IsOfAnswers : StoreFault → Type 0
+IsOfAnswers (store.Sql error) = Unit {0}
+IsOfAnswers store.TooLarge = Unit {0}
+IsOfAnswers store.Collision = Unit {0}
+IsOfAnswers fault = ⊥
+
+abbrev pub RefusesAnswers : BookFault → Type 0
+RefusesAnswers OutOfMemory = Unit {0}
+RefusesAnswers (Store fault) = IsOfAnswers fault

@@ -1,0 +1,82 @@
+//! A store as a book.
+
+ghost use Rattle.std.specs.Prelude.{◌≡◌, option_map};
+ghost use Rattle.result_book.specs.StoreBooks.{answer_by, answer_in};
+
+use crate::{Book, BookFault};
+use child_port::Answer;
+use hook_base::{Text, Tree};
+use repo_store::{AnswerRef, Store, StoredAnswer};
+use sqlite::Alter;
+
+/// A book that is kept in the store of a repository, and outlives the process: it is the store itself. Each answer is put in a
+/// transaction of its own, and stays when a later one is refused. Its calls are refused where memory is (`OutOfMemory`), and where
+/// the store is (`Store`): by the database, by contents of more than 16 MiB, and by contents whose digest is that of others.
+pub type StoreBook<S> = Store<S>;
+
+impl<S: Alter> Book for Store<S> {
+    ghost use Rattle.result_book.specs.StoreBooks.{IsAtRest, MayRemember, RefusesAnswers, remembered_by};
+    ghost use Rattle.result_book.specs.RestLemmas.{rests_itself, rests_on};
+
+    ghost contents = { λ shown. remembered_by shown.kept };
+
+    ghost leaves = { λ shown left. MayRemember S.Store shown left };
+
+    ghost rests = { λ before after. IsAtRest S.Store before after };
+
+    ghost refuses = { RefusesAnswers };
+
+    ghost rests_itself = { λ book. rests_itself _ book };
+
+    ghost rests_on = { λ first second third before after. rests_on _ first second third before after };
+
+    fn find(&mut self, words: &[Text], seen: &Tree) -> Result<Option<Answer>, BookFault> {
+        let found = self.answer_find(words, seen)?;
+        Ok(given(found))
+    }
+
+    fn put(&mut self, words: &[Text], seen: &Tree, answer: &Answer) -> Result<(), BookFault> {
+        self.answer_put(words, seen, handed(answer))?;
+        Ok(())
+    }
+
+    fn forget(&mut self) -> Result<u64, BookFault> {
+        let count = self.answers_forget()?;
+        Ok(count)
+    }
+
+    fn len(&self) -> u64 {
+        self.answers_len()
+    }
+}
+
+// What a store remembers, as an answer of a child.
+fn given(found: Option<StoredAnswer>) -> Option<Answer>
+    ensures { result ≡ option_map answer_in found }
+{
+    match found {
+        Some(
+            StoredAnswer {
+                status,
+                output,
+                changes,
+            },
+        ) => Some(Answer {
+            status,
+            output,
+            changes,
+        }),
+        None => None,
+    }
+}
+
+// The answer of a child by reference, as a store takes it.
+fn handed(answer: &Answer) -> AnswerRef<'_>
+    ensures { answer_by result ≡ answer.entry.now }
+{
+    AnswerRef {
+        status: answer.status,
+        output: answer.output.as_slice(),
+        changes: &answer.changes,
+    }
+}
