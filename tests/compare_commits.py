@@ -199,6 +199,8 @@ class Hookhost(Side):
         self.must(PROGRAM, "rm", path)
 
     def commit(self, message, no_verify, skip):
+        # Git starts each hook again.
+        self.must(PROGRAM, "forget")
         words = [PROGRAM, "commit", "-m", message] + (["--no-verify"] if no_verify else [])
         status, out, error = self.run(*words, **({"SKIP": skip} if skip else {}))
         self.told = out.decode() + error.decode()

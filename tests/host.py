@@ -6,7 +6,8 @@ Usage: tests/host.py [KILLS [PROGRAM [STORE_TRIAL]]]   (default: 30 kills of eac
 
 What one program alone prints stands in tests/sessions/. Here stands what no session can make: names that no text file
 keeps, another user, fifos, programs side by side. Each kill is a SIGKILL at a random moment of a command on a copy of a
-repository, which then has to be the one before the command or the one after it. The commits are made by store_trial.
+repository, which then has to be the one before the command or the one after it. The commits are made by store_trial. The
+cases of runs whose children outlive them, and of runs side by side, stand in tests/host_runs.py.
 """
 import os
 import random
@@ -20,75 +21,15 @@ import time
 from concurrent.futures import ThreadPoolExecutor
 from pathlib import Path
 
-CRATES = Path(__file__).resolve().parent.parent / "crates"
+import host_runs
+from host_program import LOCK, PROGRAM, STORE, STORE_TRIAL, Wrong, check, do, paths_in, play, refuses, rows, run, staged_rows, write
+
 KILLS = int(sys.argv[1]) if len(sys.argv) > 1 else 30
-PROGRAM = os.path.abspath(sys.argv[2] if len(sys.argv) > 2 else CRATES / "hookhost/out/hookhost")
-STORE_TRIAL = os.path.abspath(sys.argv[3] if len(sys.argv) > 3 else CRATES / "store_trial/out/store_trial")
-STORE, LOCK = ".hookhost/store.db", ".hookhost/lock"
 NOBODY = 65534
 HARD_NAMES = [
     "a b", " a", "a ", "a'b", 'a"b', "a\\b", "a\\nb", "-x", "--chmod=+x", "--help", "--", "-", "é", "e\u0301", "日本語", "🙂", "\u0085", "\u2028x", "\ufeffx",
     "*", "[a]", "$HOME", "`x`", "%s%n", "'); DROP TABLE staged; --", "~", "#", "...", "..a", "a..", "a:b", "A b/é'/\"x\"", ".gitx/a", "sub/.git/a", "x" * 255,
 ]
-
-
-class Wrong(Exception):
-    """What is wrong, in words."""
-
-
-def check(holds, text):
-    if not holds:
-        raise Wrong(text)
-
-
-# ---- the program
-
-def run(folder, *words, **how):
-    """The exit status and what was printed on both outputs, of the program with these words in the folder."""
-    done = subprocess.run([how.pop("program", PROGRAM), *words], cwd=folder, stdin=subprocess.DEVNULL, capture_output=True, timeout=120, **how)
-    return done.returncode, done.stdout, done.stderr
-
-
-def do(folder, *words):
-    """What the command prints, which has to be done."""
-    status, out, err = run(folder, *words)
-    check((status, err) == (0, b""), f"{words!r} in {os.listdir(folder)!r} ends with {status} and says {err!r}")
-    return out
-
-
-def refuses(folder, words, text, **how):
-    answer = run(folder, *words, **how)
-    wanted = (3, b"", b"hookhost: " + text.encode() + b"\n")
-    check(answer == wanted, f"{words!r} is answered {answer!r}, wanted {wanted!r}")
-
-
-def play(folder, lines):
-    """What store_trial answers to lines on the folder's store."""
-    text = "".join(line + "\n" for line in ["open", *lines, "close"])
-    done = subprocess.run([STORE_TRIAL, STORE], cwd=folder, input=text.encode(), capture_output=True, timeout=120)
-    answers = done.stdout.decode().splitlines()
-    check(len(answers) == len(lines) + 2 and all(answer.startswith("ok") for answer in answers), f"store_trial answers {answers!r}")
-    return answers[1:-1]
-
-
-def rows(folder, text):
-    """What sqlite3 answers to SQL on the folder's store, which isn't to be open."""
-    done = subprocess.run(["sqlite3", "-batch", os.path.join(folder, STORE), text], capture_output=True, timeout=60)
-    check(done.returncode == 0, f"sqlite3 refuses {text!r}: {done.stderr!r}")
-    return done.stdout.decode().splitlines()
-
-
-def staged_rows(folder):
-    """The staged files as sqlite3 reads them: mode and contents by path."""
-    found = (line.split("|") for line in rows(folder, "SELECT hex(path), mode, hex(bytes) FROM staged JOIN blobs USING (digest)"))
-    return {bytes.fromhex(path): (int(mode), bytes.fromhex(held)) for path, mode, held in found}
-
-
-def write(folder, path, held):
-    path = os.path.join(folder, path)
-    os.makedirs(os.path.dirname(path), exist_ok=True)
-    with open(path, "wb") as file:
-        file.write(held)
 
 
 # ---- names
@@ -236,11 +177,6 @@ def leaves_nothing_of_an_init_that_fails(folder):
             do(work, "init")
         check(do(work, "status") == b"", f"an init within {most} bytes makes no store")
     check(3 in ends and 0 in ends, f"the inits end with {ends!r}")
-
-
-def paths_in(folder):
-    """All that lies in the folder."""
-    return sorted(os.path.relpath(os.path.join(at, name), folder) for at, folders, names in os.walk(folder) for name in (*folders, *names))
 
 
 # ---- standard output
@@ -415,8 +351,9 @@ def filled(folder):
     return base
 
 
-def check_kills(killed, words, wanted):
-    """A command that changes the repository and ends with the wanted status leaves it, killed, as it was before or after."""
+def check_kills(killed, words, wanted, look=lambda work: None):
+    """A command that changes the repository and ends with the wanted status leaves it, killed, as it was before or after.
+    Then this looks at the folder."""
     before = state(killed.copy())
     work = killed.copy()
     status, _, err = run(work, *words)
@@ -426,6 +363,7 @@ def check_kills(killed, words, wanted):
     for work, is_ended, _ in killed.each([PROGRAM, *words]):
         found = state(work)
         check(found == after or (found == before and not is_ended), f"after a kill of {words!r} it shows {found!r:.1000}")
+        look(work)
 
 
 def is_left_whole_by_kills_of_add_rm_and_accept(folder):
@@ -454,12 +392,29 @@ def is_left_whole_by_kills_of_runs_and_commits(folder):
         write(base, name, held)
         do(base, "add", name)
     play(base, ["fix a 2", "set"])
-    check_kills(killed, ["run", "--hook-stage", "manual"], 1)
+    words = ["run", "--hook-stage", "manual"]
+    wanted = run(killed.copy(), *words)
+    check_kills(killed, words, 1, lambda work: check(run(work, *words) == wanted, "after a kill a run says something else"))
     check_kills(killed, ["commit", "-m", "second"], 0)
     write(base, "bad", b"x" * 100000)
     do(base, "add", "bad")
     play(base, ["fix a 2", "set"])
     check_kills(killed, ["commit", "-m", "refused"], 1)
+
+
+def is_left_whole_by_kills_of_forget(folder):
+    """After a kill all answers are remembered, or none as soon as anything was printed, and the repository is as it was."""
+    base = filled(folder)
+    write(base, ".pre-commit-config.yaml", HOOKS)
+    do(base, "add", ".pre-commit-config.yaml")
+    check(run(base, "run", "--all-files")[0] == 0 and do(base, "memory") == b"remembered: 1\n", "nothing is remembered")
+    before = state(base)
+    for work, is_ended, out in Killed(folder, base).each([PROGRAM, "forget"]):
+        found = do(work, "memory")
+        # A kill may come between two writes of one line.
+        check(b"forgotten: 1\n".startswith(out) and state(work) == before, f"a killed forget says {out!r}, and leaves {state(work)!r:.1000}")
+        is_kept = found == b"remembered: 1\n" and not is_ended and out == b""
+        check(found == b"remembered: 0\n" or is_kept, f"after a kill it says {found!r}")
 
 
 def is_left_whole_by_kills_of_init(folder):
@@ -610,9 +565,9 @@ CASES = [keeps_files_of_hard_names, keeps_the_longest_path_that_the_system_opens
          refuses_what_may_not_be_read_or_written, refuses_fifos_and_waits_for_none, leaves_nothing_of_an_init_that_fails,
          keeps_a_change_whose_text_was_not_taken, lets_one_init_make_the_store, lets_one_program_work_at_a_time,
          loses_nothing_of_programs_at_once, is_left_whole_by_kills_of_init, is_left_whole_by_kills_of_add_rm_and_accept,
-         is_left_whole_by_kills_of_commits, is_left_whole_by_kills_of_runs_and_commits,
+         is_left_whole_by_kills_of_commits, is_left_whole_by_kills_of_runs_and_commits, is_left_whole_by_kills_of_forget,
          waits_for_the_disk_only_where_something_is_written, takes_a_store_with_pages_of_another_size,
-         leaves_a_log_without_a_change, cuts_the_long_log_of_a_change_that_was_not_made]
+         leaves_a_log_without_a_change, cuts_the_long_log_of_a_change_that_was_not_made, *host_runs.CASES]
 
 
 def main():

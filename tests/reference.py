@@ -40,6 +40,7 @@ LIMITS = [
     ("staged tree of a store", "{} files", "repo_store", "most_files", 0),
     ("staged tree of a store", "8 MiB ({} bytes) together", "repo_store", "most_tree_path_bytes", 0),
     ("commits of a store", "{}", "repo_store", "most_commits", 0),
+    ("exit code of a remembered answer", "{}", "repo_store", "most_status", 0),
 ]
 # The constants of command_line with what the help of a command says, and the enum whose refusals the command prints.
 HELP = {"TRY_HELP": "TryFault", "CHECK_HELP": "ConfigKind"}
@@ -60,6 +61,8 @@ REPOSITORY_HELP = {
     "cat": "CAT_HELP",
     "log": "LOG_HELP",
     "show": "SHOW_HELP",
+    "memory": "MEMORY_HELP",
+    "forget": "FORGET_HELP",
 }
 REPOSITORY_REFUSALS = ["StoreFault", "HostRefusal"]
 # The columns of a line of help, at most.

@@ -165,6 +165,7 @@ class Play:
     children: str = None
 
 
+LOOKS = [["status"], ["cat", "a.txt"], ["fixes"], ["log"]]
 OVER_FILES = ["try", ".pre-commit-config.yaml", "a.txt", "b.txt", "dir/c.txt"]
 PLAYS = [
     Play("the run without words", [], stdin=CONFIGURATION, status=0),
@@ -190,6 +191,8 @@ PLAYS = [
     Play("the bytes of a staged file", ["cat", "a.txt"], OF_COMMAND, status=0, repository="there"),
     Play("the log", ["log"], OF_COMMAND, status=0, repository="there"),
     Play("a commit", ["show", "1"], OF_COMMAND, status=0, repository="there"),
+    Play("how many answers are remembered", ["memory"], status=0, repository="there"),
+    Play("forgotten answers", ["forget"], OF_COMMAND, status=0, repository="there"),
     Play("a run on the staged files", ["run", "--all-files", "--hook-stage", "manual"], OF_PREPARED, status=1, repository="there"),
     Play("a run on named files", ["run-files", "a.txt"], OF_PREPARED, status=0, repository="there"),
     Play("a commit through all stages", ["commit", "-m", "second"], OF_PREPARED, status=0, repository="there"),
@@ -233,7 +236,9 @@ def shown_before(play, shared, folder):
 
 def shown_after(play, work):
     """What the folder of a play shows: what its repository does, or the files that the children got copies of."""
-    shown = shown_in(work) if play.repository else files_in(work) if play.children else None
+    # A run that is refused may remember answers; `forget` may not forget some.
+    looks = [*LOOKS, ["memory"]] if play.words == ["forget"] else LOOKS
+    shown = shown_in(work, looks) if play.repository else files_in(work) if play.children else None
     return shown, empty_in(work)
 
 
@@ -262,9 +267,9 @@ def end_of(words, work, given=b"", env=None):
     return done.returncode, done.stdout, done.stderr
 
 
-def shown_in(work):
+def shown_in(work, looks):
     """What the repository in a folder shows, or how the program says that there is none."""
-    return [end_of([PROGRAM, *words], work) for words in (["status"], ["cat", "a.txt"], ["fixes"], ["log"])]
+    return [end_of([PROGRAM, *words], work) for words in looks]
 
 
 def number_of(said):
@@ -347,7 +352,7 @@ def make_repository(folder):
     made = [end_of([PROGRAM, *words], folder) for words in (["init"], ["add", "a.txt"], ["add", "b.txt"])]
     made.append(end_of([STORE_TRIAL, ".hookhost/store.db"], folder, b"open\ncommit first\\n\\nbody\nclose\n"))
     made += [end_of([PROGRAM, *words], folder) for words in (["rm", "b.txt"], ["add", ".pre-commit-config.yaml"])]
-    made.append(end_of([STORE_TRIAL, ".hookhost/store.db"], folder, b"open\nfix a.txt 2\nset\nclose\n"))
+    made.append(end_of([STORE_TRIAL, ".hookhost/store.db"], folder, b"open\nfix a.txt 2\nset\nremember c a.txt | a.txt=1 | a.txt=2 | 0 | said\nremember d | | | 1\nclose\n"))
     if any(status for status, _, _ in made):
         sys.exit(f"refused_memory: no repository is made: {made!r}")
 

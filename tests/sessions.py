@@ -27,15 +27,17 @@ A session file holds cases. `== NAME` begins a case, in an empty folder. Within 
   -- sql TEXT       sqlite3 answers this to SQL on the store: the lines that follow, and nothing else
   -- files          the lines that follow are the folder's files, all of them, in order
 
-After each command but an `init`, `add`, `rm`, `accept`, `run`, `run-files` or `commit` that is done, every file has to be as
-it was; it is done also where its output takes no more, and where a hook fails. Two may change, since every command that opens a store does that to them: the lock, and the
-log that the database begins anew. What lies in the scratch folder of the commands of hooks isn't looked at, nor is the folder
+After each command but an `init`, `add`, `rm`, `accept`, `run`, `run-files`, `commit` or `forget` that is done, every file has to be as
+it was; it is done also where its output takes no more, and where a hook fails. Behind one that runs hooks and is refused, the
+repository in the store has to be as it was, since answers may have been remembered. Two files may change, since every command
+that opens a store does that to them: the lock, and the log that the database begins anew. What lies in the scratch folder of the commands of hooks isn't looked at, nor is the folder
 that holds it.
 """
 import fcntl
 import os
 import shlex
 import shutil
+import sqlite3
 import subprocess
 import sys
 import tempfile
@@ -49,7 +51,9 @@ STORE, LOCK = ".hookhost/store.db", ".hookhost/lock"
 FOLDER, SCRATCH = "./.hookhost", "./.hookhost/scratch"
 LAID = ("file", "bytes", "fill", "repeat", "folder", "remove", "demo")
 LOOKED_AT = ("play", "sql", "files")
-CHANGING = ("init", "add", "rm", "accept", "run", "run-files", "commit")
+RUNNING = ("run", "run-files", "commit")
+REPOSITORY = ("meta", "staged", "fixes", "commits", "entries")
+CHANGING = ("init", "add", "rm", "accept", "run", "run-files", "commit", "forget")
 
 
 def unescaped(text):
@@ -125,6 +129,24 @@ def files_that_stay():
     return {path: held for path, held in found.items() if path not in (FOLDER, "./" + LOCK, "./" + STORE + "-wal")}
 
 
+def repository_in(store):
+    """The rows of a store's repository, whose file holds these bytes."""
+    database = sqlite3.connect(":memory:")
+    # The database in memory has no log, so the bytes must not ask for one.
+    database.deserialize(store[:18] + b"\1\1" + store[20:])
+    rows = [database.execute(f"SELECT * FROM {table}").fetchall() for table in REPOSITORY]
+    database.close()
+    return rows
+
+
+def is_left(before, after, words):
+    """The files are as before; behind hooks the store may have other answers."""
+    store = "./" + STORE
+    if before == after or words[:1] not in [[word] for word in RUNNING] or store not in before or store not in after:
+        return before == after
+    return {**before, store: repository_in(before[store])} == {**after, store: repository_in(after[store])}
+
+
 def run_alone(command):
     """What is wrong with the command's answer, or with the files after it, or None."""
     before = files_that_stay()
@@ -136,7 +158,7 @@ def run_alone(command):
         held.close()
     is_done = command["status"] in (0, 1) or command["output"] is not None
     may_change = is_done and command["words"][:1] in [[word] for word in CHANGING]
-    return wrong or (None if may_change or files_that_stay() == before else "it changed the folder's files")
+    return wrong or (None if may_change or is_left(before, files_that_stay(), command["words"]) else "it changed the folder's files")
 
 
 def run(command):

@@ -19,10 +19,11 @@ import tempfile
 import time
 from concurrent.futures import ThreadPoolExecutor
 
-from store_cases import (ANSWER_ROWS, ANSWER_ROWS_LEFT, BAD_LINES, CHILDREN, COMMITTED_ROWS, CONFIG, DAMAGED, FACTS, FAULTS, FILLING, FIXES_AFTER, HOOKS_STORY,
-                         HOST_STORY, KEPT_ROWS, META_ROWS, NOT_A_STORE, ONE, ONE_STAGED, OTHER_SCHEMAS, OTHER_TABLES, PLANTS, REFUSED_ROWS, REPLACED_META_ROWS,
-                         SCHEMA, SHOWN, SQL, STOPPED_CALLS, STOPPED_COMMANDS, STORY, TAKEN_ROWS, TOO_LARGE, TOO_MANY, UNSTAGED_STORY)
-from store_model import Model, digest_of, random_play, unescaped
+from kept_answers import contents_of, digest, planting, records_of, row_of
+from store_cases import (ANSWER_ROWS, ANSWER_ROWS_LEFT, ANSWERS_LEFT, ANSWERS_STORY, BAD_LINES, CHILDREN, COMMITTED_ROWS, CONFIG, DAMAGED, FACTS, FAULTS, FILLING, FIXES_AFTER, HOOKS_STORY,
+                         HOST_STORY, KEPT_ROWS, META_ROWS, NOT_A_STORE, ONE, ONE_STAGED, OTHER_SCHEMAS, OTHER_TABLES, PLANTED_ANSWERS, PLANTS, RECALLED, REFUSED_ROWS, REPLACED_META_ROWS,
+                         SCHEMA, SHOWN, SQL, STOPPED_CALLS, STOPPED_COMMANDS, STORY, TAKEN_ROWS, TOO_LARGE, TOO_MANY, UNSTAGED_STORY, damaged_answers)
+from store_model import Model, random_play, unescaped
 
 HERE = os.path.dirname(os.path.abspath(__file__))
 PROGRAM = os.path.abspath(sys.argv[1] if len(sys.argv) > 1 else os.path.join(HERE, "..", "crates/store_trial/out/store_trial"))
@@ -83,7 +84,7 @@ def rows_of(path):
         "fixes": ask(path, "SELECT path, gone, lower(hex(digest)) FROM fixes ORDER BY path"),
         "commits": ask(path, "SELECT n, hex(message) FROM commits ORDER BY n"),
         "entries": ask(path, "SELECT n, path, mode, lower(hex(digest)) FROM entries ORDER BY n, path"),
-        "answers": ask(path, "SELECT count(*) FROM answers"),
+        "answers": ask(path, "SELECT lower(hex(words)), lower(hex(seen)), lower(hex(output)), lower(hex(changes)), status FROM answers ORDER BY words, seen"),
     }
 
 
@@ -99,13 +100,13 @@ def rows_of_model(store):
     """The rows that the tables of a store must have."""
     return {
         "meta": ["version|1"],
-        "blobs": sorted(f"{digest_of(content)}|{hex_of(content)}" for content in store["blobs"]),
-        "staged": [f"{path}|{mode_of(mode)}|{digest_of(content)}" for path, (mode, content) in sorted(store["staged"].items())],
-        "fixes": [f"{path}|1|" if now is None else f"{path}|0|{digest_of(now)}" for path, now in sorted(store["fixes"].items())],
+        "blobs": sorted(f"{digest(content).hex()}|{content.hex().upper()}" for content in store["blobs"]),
+        "staged": [f"{path}|{mode_of(mode)}|{digest(unescaped(content)).hex()}" for path, (mode, content) in sorted(store["staged"].items())],
+        "fixes": [f"{path}|1|" if now is None else f"{path}|0|{digest(unescaped(now)).hex()}" for path, now in sorted(store["fixes"].items())],
         "commits": [f"{at + 1}|{hex_of(message)}" for at, (message, _) in enumerate(store["history"])],
-        "entries": [f"{at + 1}|{path}|{mode_of(mode)}|{digest_of(content)}" for at, (_, tree) in enumerate(store["history"])
+        "entries": [f"{at + 1}|{path}|{mode_of(mode)}|{digest(unescaped(content)).hex()}" for at, (_, tree) in enumerate(store["history"])
                     for path, (mode, content) in sorted(tree.items())],
-        "answers": ["0"],
+        "answers": sorted(row_of(answer) for answer in store["answers"].values()),
     }
 
 
@@ -252,6 +253,57 @@ def refuses_planted_files(folder):
         os.remove(path)
 
 
+def remembers_answers(folder):
+    """What is put is found, by its words and its seen files with their modes and bytes, and by nothing else; another answer to the
+    same takes its place; all of it outlives the process, and a commit; and it can be forgotten."""
+    path, model = os.path.join(folder, "store.db"), model_of(FILLING)
+    answers(path, FILLING)
+    lines = [line for line, _ in ANSWERS_STORY]
+    given = answers(path, ["open", *lines, "close"])
+    model.play("open")
+    for (line, wanted), answer in zip(ANSWERS_STORY, given[1:]):
+        check(answer == wanted, f"{line!r} is answered {answer!r}, wanted {wanted!r}")
+        check(model.play(line) == wanted, f"the model answers {line!r} otherwise")
+    check_file(path, model.store)
+    given = answers(path, ["open", *RECALLED, "stage plain c.txt 3", "commit o\\n", *RECALLED, "close"])
+    wanted = [model.play(line) for line in RECALLED]
+    check(given[1:] == [*wanted, "ok", "ok\t3", *wanted, "ok"], f"opened again, the answers are {given!r}")
+    for line in ["stage plain c.txt 3", "commit o\\n", "forget"]:
+        model.play(line)
+    given = answers(path, ["open", "answers", "forget", "answers", "forget", *RECALLED, "close"])
+    count = f"ok\t{ANSWERS_LEFT}"
+    check(given == ["ok", count, count, "ok\t0", "ok\t0", *["ok\tnone"] * len(RECALLED), "ok"], f"forgetting is answered {given!r}")
+    check_file(path, model.store)
+
+
+def finds_answers_that_another_program_wrote(folder):
+    """Rows and records that are put together here are opened, and found."""
+    path = os.path.join(folder, "store.db")
+    answers(path, FILLING)
+    for answer, _, _ in PLANTED_ANSWERS:
+        ask(path, planting(contents_of(answer), records_of(answer), answer.status))
+    given = answers(path, ["open", "answers", *(f"recall {line}" for _, line, _ in PLANTED_ANSWERS), "close"])
+    wanted = ["ok", f"ok\t{len(PLANTED_ANSWERS)}", *(f"ok\t{told}" for _, _, told in PLANTED_ANSWERS), "ok"]
+    check(given == wanted, f"answers that were planted are answered {given!r}, wanted {wanted!r}")
+
+
+def refuses_planted_answers(folder):
+    """Each rule of a remembered answer that is broken makes the store damaged, and nothing is changed."""
+    whole = os.path.join(folder, "whole.db")
+    answers(whole, FILLING)
+    before = model_of(FILLING).shown()
+    path = os.path.join(folder, "store.db")
+    for name, contents, records, status in damaged_answers():
+        shutil.copyfile(whole, path)
+        ask(path, planting(contents, records, status))
+        rows = rows_of(path)
+        given = answers(path, ["open", "staged"])
+        check(given[0].startswith(DAMAGED) and given[1] == "no store", f"{name}: answered {given[0]!r}")
+        check(rows_of(path) == rows, f"{name}: the refusal changed the rows")
+        ask(path, "DELETE FROM answers")
+        check(shown(path) == before, f"{name}: without the answer it shows {shown(path)!r}")
+
+
 def refuses_rows_of_contents_and_commits_that_are_not_there(folder):
     path = os.path.join(folder, "store.db")
     answers(path, FILLING)
@@ -376,10 +428,10 @@ def is_left_whole_by_a_kill(folder):
     lines = random_play(7, 600)
     # The least of three, so that a busy moment doesn't put the kills after the play's end; and a second at most.
     whole = min(1.0, *(seconds_of(os.path.join(folder, f"whole{at}.db"), lines) for at in range(3)))
-    states, model, in_play = [(None, None)], Model(), 0
+    states, model, in_play = [[(None, None)]], Model(), 0
     for line in lines:
         model.play(line)
-        states.append((model.shown(), rows_of_model(model.store)))
+        states.append(model.states(lambda after: (after.shown(), rows_of_model(after.store))))
     for number in range(40):
         path = os.path.join(folder, f"{number}.db")
         answered = answered_until_killed(path, lines, chance.uniform(0.002, whole))
@@ -387,7 +439,7 @@ def is_left_whole_by_a_kill(folder):
         found = opened[1:] if opened[0] == "ok" else None
         check(found is not None or opened[0].startswith(NOT_A_STORE), f"kill {number}: {opened[0]!r}")
         state = (found, rows_of(path) if found else None)
-        check(state in states[answered:answered + 2], f"kill {number} after {answered} answers: it is {state!r}")
+        check(state in [states[answered][-1], *states[min(answered + 1, len(lines))]], f"kill {number} after {answered} answers: it is {state!r}")
         in_play += 0 < answered < len(lines)
     check(in_play > 0, "no kill came in mid-play")
     print(f"kills: {in_play} of 40 came in mid-play")
@@ -395,7 +447,7 @@ def is_left_whole_by_a_kill(folder):
 
 # ---- memory that is refused
 
-REFUSED_PLAY = [*CHILDREN, "create", "stage plain a.txt 1", "fix a.txt 2", "set", "accept", "commit m\\n", "blob abc", "add - h 1", "remove h", "unstage a.txt",
+REFUSED_PLAY = [*CHILDREN, "create", "stage plain a.txt 1", "fix a.txt 2", "set", "accept", "commit m\\n", "blob abc", "remember c a | a=1 | a=2 | 3 | one", "recall c a | a=1", "forget", "add - h 1", "remove h", "unstage a.txt",
                 f"stage plain {CONFIG}", "add - b.txt 1", "run-hooks all", "accept-fixes", "commit-verified m", "close", "open", *SHOWN, "tree 1"]
 
 
@@ -410,6 +462,11 @@ def is_want(answer):
     return answer.startswith(("refused\t4\tOutOfMemory\t", "refused\t1\tOutOfMemory\t"))
 
 
+def is_stopped_behind(answer, right):
+    """A commit was made, and only the hooks behind it were stopped."""
+    return answer != right and answer == right.replace("\ttold", "\tstopped")
+
+
 def states_after(given, status):
     """What the store may show after a play in which one allocation was refused and these answers were given: a refused call
     has changed nothing, and where the program itself gave up, the call may be done or not."""
@@ -417,8 +474,7 @@ def states_after(given, status):
     for line, answer in zip(REFUSED_PLAY, given):
         after = copy.deepcopy(model)
         right = after.play(line)
-        # A commit stands also where the hooks behind it are stopped.
-        is_done = answer in (right, right.replace("\ttold", "\tstopped"))
+        is_done = answer == right or is_stopped_behind(answer, right)
         if answer != right:
             check(not is_refused and (is_done or is_want(answer)), f"{line!r} is answered {answer!r}, wanted {right!r}")
             is_refused = True
@@ -475,22 +531,24 @@ STOPPED = (SQL, "refused\t2\tStore\t3")
 
 
 def model_before_the_stop(play, which, number, given):
-    """The model after the lines before the first that was refused, and their number."""
+    """The model after the lines before the first that was stopped, their number, and whether hooks behind a commit were."""
     model = Model()
     for count, (line, answer) in enumerate(zip(play, given)):
         after = copy.deepcopy(model)
-        if answer != after.play(line):
-            check(answer.startswith(STOPPED), f"{which} {number}: {line!r} is answered {answer!r}")
-            return model, count
+        right = after.play(line)
+        if answer != right:
+            is_behind = is_stopped_behind(answer, right)
+            check(is_behind or answer.startswith(STOPPED), f"{which} {number}: {line!r} is answered {answer!r}")
+            return model, count, is_behind
         model = after
-    return model, len(play)
+    return model, len(play), False
 
 
 def counts_of(store):
     """The answer to read-tables: the rows of a store's tables but for the contents, the contents, and that none of them
     stands under another's digest."""
     rows = rows_of_model(store)
-    count = sum(len(rows[table]) for table in ("meta", "staged", "fixes", "commits", "entries"))
+    count = sum(len(rows[table]) for table in ("meta", "staged", "fixes", "commits", "entries", "answers"))
     return f"ok\t{count}\t{len(rows['blobs'])}\t0"
 
 
@@ -501,15 +559,14 @@ def state_of(model):
 
 def state_after_the_stop(played, which, number, answered, before):
     """What a store shows, and how many rows it has, that is opened after a crash behind the lines that were played, and
-    crashes again before its rows are counted. Until the first crash it has to show what it showed before the line that was
-    stopped."""
+    crashes again before its rows are counted. Until the first crash it has to show this, unless there is no store."""
     lines = [*played, *(SHOWN if before else []), "crash", "open", *SHOWN, "crash", "read-tables"]
     given, status, _ = run_words([which, str(number)], lines)
     check(status == 0 and len(given) == len(lines) and given[:len(played)] == answered, f"{which} {number}: played again it answers {given!r}, status {status}")
     shown = given[len(played):-len(SHOWN) - 4]
     crashed, opened, *found, crashed_again, counts = given[-len(SHOWN) - 4:]
     check(crashed == crashed_again == "ok", f"{which} {number}: the crashes are answered {crashed!r} and {crashed_again!r}")
-    check(before is None or shown == before[:-1], f"{which} {number}: a refused call left {shown!r} in place of {before!r}")
+    check(before is None or shown == before[:-1], f"{which} {number}: a call that was stopped left {shown!r} in place of {before!r}")
     check(opened == "ok" or opened.startswith(NOT_A_STORE), f"{which} {number}: opened again: {opened!r}")
     if opened == "ok":
         return [*found, counts]
@@ -523,13 +580,15 @@ def play_stopped(play, which, number):
     that one, or none where no line was stopped."""
     given, status, _ = run_words([which, str(number)], play)
     check(status == 0 and len(given) == len(play), f"{which} {number}: status {status} after {len(given)} answers")
-    model, count = model_before_the_stop(play, which, number, given)
-    before = state_of(model)
-    states = [before]
+    model, count, is_behind = model_before_the_stop(play, which, number, given)
+    states = [state_of(model)]
     if count < len(play):
         model.play(play[count])
-        states.append(state_of(model))
-    found = state_after_the_stop(play[:count + 1], which, number, given[:count + 1], before)
+        states += model.states(state_of)
+    if is_behind:
+        # The commit is told, so nothing loses it.
+        states = [state for state in states if state[:-1] == states[-1][:-1]]
+    found = state_after_the_stop(play[:count + 1], which, number, given[:count + 1], states[0])
     check(found in states, f"{which} {number}: {found!r} is none of {states!r}")
     return None if count == len(play) else count
 
@@ -565,7 +624,7 @@ def is_left_before_or_after_a_command_by_a_stop(_folder):
 
 CASES = [plays_the_story, plays_the_story_of_an_unstaged_file, plays_the_story_of_a_host, plays_the_story_of_hooks, keeps_fixes_of_staged_files_until_the_next_stage,
          numbers_and_says_each_refusal, reads_rows_in_the_order_of_their_keys, keeps_each_content_once, plays_as_the_model,
-         refuses_bad_lines, refuses_a_second_store, refuses_planted_files, refuses_rows_of_contents_and_commits_that_are_not_there,
+         refuses_bad_lines, refuses_a_second_store, refuses_planted_files, remembers_answers, finds_answers_that_another_program_wrote, refuses_planted_answers, refuses_rows_of_contents_and_commits_that_are_not_there,
          refuses_files_that_hold_no_store, refuses_files_with_other_tables, refuses_what_is_too_large,
          refuses_more_files_than_a_tree_may_have, refuses_more_commits_than_a_store_may_have, is_left_whole_by_a_kill,
          is_left_before_or_after_a_call_by_a_stop, is_left_before_or_after_a_command_by_a_stop, refuses_for_want_of_memory]

@@ -1,6 +1,8 @@
 """The tables of cases of tests/store.py: lines with their answers, and what is done to a store's file and refused then."""
 import hashlib
 
+from kept_answers import KeptAnswer, b, changed_item, changes_record, contents_of, digest, listed, n4, records_of, seen_item
+
 SHOWN = ["staged", "head", "log", "fixes", "trees"]
 # Single facts that a store is asked for: paths that are staged in some plays, their folders, and paths below them.
 FACTS = [*(f"look {path}" for path in ["a", "b.txt", "dir/c", "dir", "di", "dir/c/d", "a/b/c", "dir/cd"]), "count", "walk",
@@ -192,7 +194,8 @@ HOOKS_STORY = [
 ]
 # Plays in which a disk stops: of the store's calls, and of a host's commands.
 STOPPED_CALLS = ["create", "stage plain a.txt 1", "stage executable tools/run 2", "blob 3", "fix a.txt 4", "set", "accept", "commit m\\n",
-                 "unstage a.txt", "fix-gone tools/run", "set", "stage plain tools/run 5", "commit n\\n"]
+                 "remember c a.txt | a.txt=6 | a.txt=7 | 0 | one", "remember c a.txt | a.txt=6 | | 1", "unstage a.txt", "fix-gone tools/run", "set",
+                 "stage plain tools/run 5", "commit n\\n", "forget", "remember d | | | 0"]
 STOPPED_COMMANDS = [*CHILDREN, "create", f"stage plain {CONFIG}", "add - b.txt 1", "commit-verified m", "commit-unverified n", "run-hooks all",
                     "run-hooks changed", "run-hooks all", "accept-fixes", "commit-verified m"]
 # Paths that clash with those of the random plays, and texts that are none.
@@ -294,7 +297,6 @@ PLANTS = [
     ("commits 1, 2 and 4", "INSERT INTO commits VALUES (4, x'6d')", DAMAGED, "DELETE FROM commits WHERE n = 4"),
     ("a commit 0", "INSERT INTO commits VALUES (0, x'6d')", DAMAGED, "DELETE FROM commits WHERE n = 0"),
     ("a commit below 0", "INSERT INTO commits VALUES (-1, x'6d')", DAMAGED, "DELETE FROM commits WHERE n = -1"),
-    ("a remembered answer", f"INSERT INTO answers VALUES (x'{ONE}', x'{ONE}', x'{TWO}', x'{TWO}', 0)", DAMAGED, "DELETE FROM answers"),
     ("8 MiB of staged paths and more", "WITH RECURSIVE c(n) AS (SELECT 1 UNION ALL SELECT n + 1 FROM c WHERE n < 2049) "
      f"INSERT INTO staged SELECT printf('%04096d', n), 0, x'{ONE}' FROM c", DAMAGED, "DELETE FROM staged WHERE length(path) = 4096"),
     ("100,001 staged files", "WITH RECURSIVE c(n) AS (SELECT 1 UNION ALL SELECT n + 1 FROM c WHERE n < 99999) "
@@ -308,12 +310,88 @@ PLANTS = [
     *((f"the greatest rowid in {table}", f"UPDATE {table} SET rowid = {2 ** 63 - 1} WHERE {where}", NO_ROWID, f"UPDATE {table} SET rowid = {2 ** 63 - 2} WHERE {where}")
       for table, where in [("meta", "name = 'version'"), ("blobs", f"digest = x'{ONE}'"), ("staged", "path = 'a.txt'"), ("fixes", "path = 'a.txt'"),
                            ("entries", "n = 1 AND path = 'a.txt'")]),
+    ("the greatest rowid in answers", f"INSERT INTO answers (rowid, words, seen, output, changes, status) VALUES ({2 ** 63 - 1}, x'{ONE}', x'{ONE}', x'{TWO}', x'{TWO}', 0)", NO_ROWID,
+     "DELETE FROM answers"),
     # Here the tables' own rules are broken, which the kit's database refuses when it opens a file.
     ("an entry without its commit", f"INSERT INTO entries VALUES (3, 'a.txt', 0, x'{ONE}')", SQL, "DELETE FROM entries WHERE n = 3"),
     ("a staged digest that isn't there", "INSERT INTO staged VALUES ('c.txt', 0, x'00')", SQL, "DELETE FROM staged WHERE path = 'c.txt'"),
     ("a committed digest that isn't there", "INSERT INTO entries VALUES (1, 'c.txt', 0, x'00')", SQL, "DELETE FROM entries WHERE path = 'c.txt'"),
     ("a digest of a fix that isn't there", "INSERT INTO fixes VALUES ('b.txt', 0, x'00')", SQL, "DELETE FROM fixes WHERE path = 'b.txt'"),
+    *((f"the {column} of an answer that aren't there", f"INSERT INTO answers VALUES ({', '.join(digests)}, 0)", SQL, "DELETE FROM answers")
+      for column, digests in [(column, [f"x'{ONE}'"] * at + ["x'00'"] + [f"x'{TWO}'"] * (3 - at)) for at, column in enumerate(["words", "seen files", "output", "changes"])]),
 ]
+# What is remembered and found, on the store of FILLING.
+ANSWERS_STORY = [
+    ("answers", "ok\t0"),
+    ("recall c a.txt | a.txt=1", "ok\tnone"),
+    ("remember c a.txt | a.txt=1 | | 0", "ok"),
+    ("recall c a.txt | a.txt=1", "ok\t0\t"),
+    ("recall c a.txt | a.txt=2", "ok\tnone"),
+    ("recall c a.txt |", "ok\tnone"),
+    ("recall c a.txt | a.txt=1 b.txt=2", "ok\tnone"),
+    ("recall d a.txt | a.txt=1", "ok\tnone"),
+    ("recall c | a.txt=1", "ok\tnone"),
+    ("recall c a .txt | a.txt=1", "ok\tnone"),
+    ("remember c a.txt | a.txt=1 | a.txt=2 | 3 | one\\n", "ok"),
+    ("recall c a.txt | a.txt=1", "ok\t3\tone\\n\ta.txt\tnow\t2"),
+    ("answers", "ok\t1"),
+    ("remember c a.txt b.txt | a.txt=1 b.txt=2 | a.txt b.txt=x | 255", "ok"),
+    ("remember | | | 0", "ok"),
+    ("recall |", "ok\t0\t"),
+    ("remember c .git/COMMIT_EDITMSG | .git/COMMIT_EDITMSG=m | .git/COMMIT_EDITMSG=n | 0", "ok"),
+    ("answers", "ok\t4"),
+    ("recall c a.txt b.txt | a.txt=1 b.txt=2", "ok\t255\t\ta.txt\tgone\tb.txt\tnow\tx"),
+    ("recall c .git/COMMIT_EDITMSG | .git/COMMIT_EDITMSG=m", "ok\t0\t\t.git/COMMIT_EDITMSG\tnow\tn"),
+]
+RECALLED = ["recall c a.txt | a.txt=1", "recall c a.txt b.txt | a.txt=1 b.txt=2", "recall |", "recall c .git/COMMIT_EDITMSG | .git/COMMIT_EDITMSG=m"]
+ANSWERS_LEFT = 4
+# An answer, the words and seen files of a line that recalls it, and what is told of it.
+PLANTED_ANSWERS = [
+    (KeptAnswer([b"c", b"a.txt"], [("a.txt", 0, b"abc")], [], 0), "c a.txt | a.txt=abc", "0\t"),
+    (KeptAnswer([b"c"], [("a", 0, b""), ("b/c", 0, b"1")], [("a", b"new"), ("b/c", None)], 255, b"said\n"), "c | a= b/c=1", "255\tsaid\\n\ta\tnow\tnew\tb/c\tgone"),
+    (KeptAnswer(["\u00e9".encode()], [(MESSAGE, 0, b"m\n")], [(MESSAGE, b"n\n")], 1), f"\u00e9 | {MESSAGE}=m\\n", f"1\t\t{MESSAGE}\tnow\tn\\n"),
+    (KeptAnswer([], [], [], 7), " | ", "7\t"),
+]
+
+
+def damaged_answers():
+    """Answers that break one rule of a store each: its name, the contents that are planted, the four records and the status."""
+    whole = KeptAnswer([b"c", b"a"], [("a", 0, b"1"), ("b", 1, b"2")], [("a", b"3"), ("b", None)], 0)
+    contents, records = contents_of(whole), records_of(whole)
+    words, seen, output, changes = records
+    yield "an answer of status 256", contents, records, 256
+    yield "an answer of a status below 0", contents, records, -1
+    for at, name in [(0, "words"), (1, "seen files"), (3, "changes")]:
+        for end in range(len(records[at])):
+            yield f"{name} cut at {end}", contents, [*records[:at], records[at][:end], *records[at + 1:]], 0
+        yield f"{name} with a byte more", contents, [*records[:at], records[at] + b"\0", *records[at + 1:]], 0
+    for name, other in [
+        ("a word that is no text", listed([b(b"\xff")])),
+        ("more words than are there", n4(3) + words[4:]),
+    ]:
+        yield name, contents, [other, seen, output, changes], 0
+    one, two = digest(b"1"), digest(b"2")
+    for name, items in [
+        ("a seen file of another mode", [seen_item("a", 2, one), seen_item("b", 1, two)]),
+        ("a seen file whose contents aren't kept", [seen_item("a", 0, one), seen_item("b", 1, bytes(32))]),
+        ("a seen file of no path", [seen_item("", 0, one), seen_item("a", 0, one), seen_item("b", 0, one)]),
+        ("a seen file above the repository", [seen_item("../a", 0, one), seen_item("a", 0, one), seen_item("b", 0, one)]),
+        ("a seen file under .git", [seen_item(".git/config", 0, one), seen_item("a", 0, one), seen_item("b", 0, one)]),
+        ("seen files that don't rise", [seen_item("b", 1, two), seen_item("a", 0, one)]),
+        ("a seen file twice", [seen_item("a", 0, one), seen_item("a", 0, one), seen_item("b", 1, two)]),
+    ]:
+        yield name, contents, [words, listed(items), output, changes], 0
+    for name, items in [
+        ("a change of a file that wasn't seen", [changed_item("c", digest(b"3"))]),
+        ("a change whose contents aren't kept", [changed_item("a", bytes(32))]),
+        ("changes that don't rise", [changed_item("b", None), changed_item("a", None)]),
+        ("a change twice", [changed_item("a", None), changed_item("a", None)]),
+        ("a change with another mark", [b(b"a") + b"\2" + one]),
+    ]:
+        yield name, contents, [words, seen, output, listed(items)], 0
+    yield "no changes, and a file that wasn't seen is gone", contents, [words, listed([]), output, changes_record([("a", None)])], 0
+
+
 # What the tables of the file of FILLING themselves refuse, so that no store comes to hold it.
 REFUSED_ROWS = [
     f"INSERT INTO entries VALUES (3, 'a.txt', 0, x'{ONE}')",

@@ -1,19 +1,17 @@
 """The model of a store and of a host over it, which tests/store.py plays beside the program."""
-import hashlib
+import copy
 import random
 
+from kept_answers import KeptAnswer, contents_of, digest, records_of
 from store_cases import CHILDREN, CONFIG, CONFIG_PATH, HOOKS, MESSAGE, OTHER_PATHS, SHOWN
 
 NO_CONFIG, NOTHING_STAGED = "refused\t7\tNoConfig\tnone", "refused\t10\tNothingStaged\tnone"
+MODES = {"plain": 0, "executable": 1}
 NO_FIXES, EMPTY_MESSAGE = "refused\t11\tNoFixes\tnone", "refused\t12\tEmptyMessage\tnone"
 
 
 def unescaped(text):
     return text.replace("\\\\", "\0").replace("\\n", "\n").replace("\\t", "\t").replace("\0", "\\").encode()
-
-
-def digest_of(text):
-    return hashlib.sha256(unescaped(text)).hexdigest()
 
 
 def path_fault(path):
@@ -29,17 +27,34 @@ def files_in(texts):
     return {path: content if equals else None for path, equals, content in (text.partition("=") for text in texts)}
 
 
+def answer_in(text):
+    """The answer that a line remembers, in the order of paths. Its contents are bytes."""
+    words, seen, changes, status, output = (part.strip() for part in (text + " |").split("|")[:5])
+    files = sorted(files_in(seen.split()).items())
+    changed = sorted(files_in(changes.split()).items())
+    return KeptAnswer([word.encode() for word in words.split()], [(path, 0, unescaped(content)) for path, content in files],
+                      [(path, None if now is None else unescaped(now)) for path, now in changed], int(status), unescaped(output))
+
+
+def escaped(contents):
+    return contents.decode().replace("\\", "\\\\").replace("\n", "\\n").replace("\t", "\\t")
+
+
 def begun_message(message):
     return message if not message or message.endswith("\\n") else message + "\\n"
 
 
 class Model:
-    """What a store holds, and what it answers to a line. Contents and messages stay as the lines write them."""
+    """What a store holds, and what it answers to a line. Contents and messages stay as the lines write them, but for all contents
+    that are kept, which are bytes."""
 
     def __init__(self):
         self.store, self.is_open, self.waiting, self.children = None, False, {}, []
+        # The store behind each answer that a command of the host put, before its end.
+        self.passed = []
 
     def play(self, line):
+        self.passed = []
         word, blank, rest = line.partition(" ")
         if word == "child":
             return self.child(rest)
@@ -53,7 +68,7 @@ class Model:
     def create(self):
         if self.store is not None:
             return "refused\t3\tSql\tthere is already an object of this name"
-        self.store, self.is_open = {"staged": {}, "fixes": {}, "history": [], "blobs": set()}, True
+        self.store, self.is_open = {"staged": {}, "fixes": {}, "history": [], "blobs": set(), "answers": {}}, True
         return "ok"
 
     def open(self):
@@ -69,7 +84,7 @@ class Model:
     def stage(self, mode, path, content):
         self.store["staged"][path] = (mode, content)
         self.store["fixes"] = {}
-        self.store["blobs"].add(content)
+        self.store["blobs"].add(unescaped(content))
         return "ok"
 
     def unstage(self, path):
@@ -113,7 +128,7 @@ class Model:
 
     def set_fixes(self, fixes):
         self.store["fixes"] = {path: now for path, now in fixes.items() if path in self.store["staged"]}
-        self.store["blobs"].update(now for now in self.store["fixes"].values() if now is not None)
+        self.store["blobs"].update(unescaped(now) for now in self.store["fixes"].values() if now is not None)
 
     def accept(self):
         fixes, self.store["fixes"] = self.store["fixes"], {}
@@ -129,6 +144,30 @@ class Model:
         self.store["fixes"] = {}
         return f"ok\t{len(self.store['history'])}"
 
+    def remember(self, text):
+        self.put(answer_in(text))
+        return "ok"
+
+    def put(self, answer):
+        words, seen, *_ = records_of(answer)
+        self.store["answers"][words, seen] = answer
+        self.store["blobs"].update(contents_of(answer))
+
+    def recall(self, text):
+        words, seen, *_ = records_of(answer_in(text + " | | 0"))
+        answer = self.store["answers"].get((words, seen))
+        if answer is None:
+            return "ok\tnone"
+        changes = "".join(f"\t{path}\tgone" if now is None else f"\t{path}\tnow\t{escaped(now)}" for path, now in answer.changes)
+        return f"ok\t{answer.status}\t{escaped(answer.output)}{changes}"
+
+    def answers(self):
+        return f"ok\t{len(self.store['answers'])}"
+
+    def forget(self):
+        count, self.store["answers"] = len(self.store["answers"]), {}
+        return f"ok\t{count}"
+
     def child(self, text):
         words, seen, changes, status = (part.split() for part in text.split("|"))
         self.children.append((words, files_in(seen), files_in(changes), int(status[0])))
@@ -142,10 +181,26 @@ class Model:
         seen = {path: file for path, file in sorted(files.items()) if path.endswith(ending)}
         if not seen:
             return {}, True
-        answers = [(changes, status) for words, rows, changes, status in self.children
-                   if words == [word, *seen] and seen == {path: ("plain", content) for path, content in rows.items()}]
-        changes, status = answers[0] if answers else ({}, 1)
-        return changes, status == 0 and (stage == "commit-msg" or not changes)
+        answer = self.answered([word, *seen], seen)
+        if answer is None:
+            return {}, False
+        changes = {path: None if now is None else escaped(now) for path, now in answer.changes}
+        return changes, answer.status == 0 and (stage == "commit-msg" or not changes)
+
+    def answered(self, words, seen):
+        """What is remembered for the words and the seen files, or else the answer of a child, which is remembered then; none where
+        no row has one, since it isn't started."""
+        files = [(path, MODES[mode], unescaped(content)) for path, (mode, content) in sorted(seen.items())]
+        key = tuple(records_of(KeptAnswer([word.encode() for word in words], files, [], 0))[:2])
+        if key not in self.store["answers"]:
+            rows = [(changes, status) for row, held, changes, status in self.children
+                    if row == words and seen == {path: ("plain", content) for path, content in held.items()}]
+            if not rows:
+                return None
+            changes = [(path, None if now is None else unescaped(now)) for path, now in sorted(rows[0][0].items())]
+            self.put(KeptAnswer([word.encode() for word in words], files, changes, rows[0][1]))
+            self.passed.append(copy.deepcopy(self.store))
+        return self.store["answers"][key]
 
     def candidates(self, which):
         """The staged files that the hooks of a run may get."""
@@ -189,11 +244,14 @@ class Model:
         """Commits, unless the message is blank. The plays have no message but those, in which there is nothing to clean."""
         if not message.replace("\\n", "").strip():
             return EMPTY_MESSAGE
-        return self.commit(message).replace("ok", "ok\tcommitted") + "\ttold"
+        made = self.commit(message)
+        self.passed.append(copy.deepcopy(self.store))
+        self.answered(["tell"], {})
+        return made.replace("ok", "ok\tcommitted") + "\ttold"
 
     def blob(self, content):
-        self.store["blobs"].add(content)
-        return "ok\t" + digest_of(content)
+        self.store["blobs"].add(unescaped(content))
+        return "ok\t" + digest(unescaped(content)).hex()
 
     def staged(self):
         return self.tree_line(self.store["staged"])
@@ -253,6 +311,22 @@ class Model:
         """All that an open store shows, or none where there is no store."""
         return None if self.store is None else [getattr(self, word)() for word in SHOWN]
 
+    def states(self, state_of):
+        """What the function says of the model, behind each change that the last line made before its end, and then."""
+        end, found = self.store, []
+        for self.store in [*self.passed, end]:
+            found.append(state_of(self))
+        return found
+
+
+def random_answer(chance, paths, contents):
+    """The words and the seen files of a line on an answer, and the rest of one that remembers it."""
+    seen = sorted(chance.sample(paths, chance.randrange(3)))
+    files = " ".join(f"{path}={chance.choice(contents)}" for path in seen)
+    changes = " ".join(chance.choice([path, f"{path}={chance.choice(contents)}"]) for path in seen if chance.random() < 0.5)
+    key = f"{chance.choice(['c', 'c -v', 'd'])} {' '.join(seen)} | {files}"
+    return key, f"{changes} | {chance.choice([0, 1, 255])} | {chance.choice(['', 'one', chr(92) + 'n'])}"
+
 
 def random_play(seed, length):
     """A play of every call and command, over few paths and contents so that they meet."""
@@ -261,7 +335,7 @@ def random_play(seed, length):
     lines = ["create", *CHILDREN, f"stage plain {CONFIG}"]
     while len(lines) < length:
         path, content = chance.choice(paths), chance.choice(contents)
-        kind = chance.randrange(17)
+        kind = chance.randrange(21)
         if kind < 4:
             lines.append(f"stage {chance.choice(['plain', 'executable'])} {path} {content}")
         elif kind == 4:
@@ -281,6 +355,11 @@ def random_play(seed, length):
             lines += [f"add - b.txt {chance.randrange(6)}", chance.choice(["run-hooks changed", "run-hooks all"])]
         elif kind == 14:
             lines.append(chance.choice(["run-hooks changed", "run-hooks all", "accept-fixes"]))
+        elif kind < 18:
+            key, rest = random_answer(chance, paths, [each for each in contents if each])
+            lines += [f"remember {key} | {rest}", f"recall {key}"][chance.randrange(2):]
+        elif kind == 18:
+            lines.append(chance.choice(["answers", "answers", "answers", "forget"]))
         else:
             lines.append(f"{chance.choice(['commit-verified', 'commit-unverified'])} {chance.choice(['m', 'm', content])}")
     return lines

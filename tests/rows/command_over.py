@@ -72,6 +72,8 @@ EMPTY = [
     (*line("fixes"), *STORE, done() + kept()),
     (*line("accept"), *STORE, refused("11 NoFixes") + kept()),
     (*line("log"), *STORE, done() + kept()),
+    (*line("memory"), *STORE, done("remembered: 0\n") + kept()),
+    (*line("forget"), *STORE, done("forgotten: 0\n") + kept()),
     (*line("show", "0"), *STORE, ended(3, err="hookhost: no commit 0\n") + kept()),
     (*line("show", "1"), *STORE, ended(3, err="hookhost: no commit 1\n") + kept()),
     (*line("cat", "a"), *STORE, refused("4 NotStaged") + kept()),
@@ -370,6 +372,8 @@ SAYING = [
     (("cat", "a"), "two\n"),
     (("log",), "1 first\n"),
     (("show", "1"), "first\nmore\n\na\nb\n"),
+    (("memory",), "remembered: 0\n"),
+    (("forget",), "forgotten: 0\n"),
 ]
 
 # What `accept` says and leaves there.
@@ -641,8 +645,8 @@ REMEMBERED = [
     ),
     # Once forgotten, it is started again.
     (*GOOD, *ONE_HOOK, *run(), "forget", "forget", *run(), *COUNTS, ADDED_THREE + done(GOOD_T) + b"1 forgotten\n0 forgotten\n" + done(GOOD_T) + counted(2, 0, 1, 0, 0)),
-    # A host that goes on with the store of another remembers nothing.
-    (*GOOD, *ONE_HOOK, *run(), *stage("c.md"), *run(), *COUNTS, ADDED_THREE + done(GOOD_T) * 2 + counted(2, 0, 1, 0, 0)),
+    # A host that goes on with the store of another remembers what that did.
+    (*GOOD, *ONE_HOOK, *run(), *stage("c.md"), *run(), *COUNTS, ADDED_THREE + done(GOOD_T) * 2 + counted(1, 0, 1, 0)),
     # No child that failed is remembered, and each run starts it again, until it answers.
     *(
         (
@@ -745,4 +749,57 @@ COMMITTED = [
     ),
 ]
 
-ROWS = [("command_over", *row) for row in [*RUNS, *COMMITS, *REMEMBERED, *STEADY, *COMMITTED, *EMPTY, *ADDED, *REMOVED, *BAD_PATHS, *GOOD_PATHS, *CLASHES, *TOO_LARGE, *FIXES, *STATUS, *CAT, *LOG, *SHOW, *WRITERS]]
+# What `memory` and `forget` say.
+REMEMBERS, FORGOTTEN = "remembered: {}\n".format, "forgotten: {}\n".format
+TRIM_LOOK = (
+    *child("trim\ta.txt", "a.txt=x ", "a.txt=x"), *child("look\ta.txt", "a.txt=x"), *child("trim\ta.txt", "a.txt=x"),
+    *with_hooks(hook("Trim", "trim"), hook("Look", "look")), *add("a.txt", "x \n"), *run(),
+)
+TRIMMED_ONE = done() * 2 + ended(1, out=failed("Trim", MODIFIED) + passed("Look"))
+MEMORY = [
+    # Runs and commits remember, a fresh run too, and look-ups forget nothing.
+    (
+        *GOOD, *ONE_HOOK, *line("memory"), *run(), *line("memory"), *line("memory"), *run(), *line("status"), *line("memory"), *FRESH, *line("memory"), *COUNTS,
+        ADDED_THREE + done(REMEMBERS(0)) + done(GOOD_T) + done(REMEMBERS(1)) * 2 + done(GOOD_T) + done("A .pre-commit-config.yaml\nA a.txt\nA b.md\n")
+        + done(REMEMBERS(1)) + done(GOOD_T) + done(REMEMBERS(1)) + counted(2, 0, 1, 0, 0),
+    ),
+    (
+        *GOOD, *NOTED, *child("tell"), *WITH_STAGES, *commit("verified"), *line("memory"), *line("forget"), *line("log"), *line("memory"),
+        done() * 2 + done(GOOD_T + passed("Note") + passed("Tell") + "commit 1\n") + done(REMEMBERS(3)) + done(FORGOTTEN(3)) + done("1 m\n") + done(REMEMBERS(0)),
+    ),
+    # Of children that failed nothing is remembered.
+    (*child(*C, fault="signal"), *ONE_HOOK, *run(), *line("memory"), *line("forget"), ADDED_THREE + ended(1, out=failed("T", SIGNAL)) + done(REMEMBERS(0)) + done(FORGOTTEN(0))),
+    # Once they are forgotten children are started again.
+    (
+        *GOOD, *ONE_HOOK, *run(), *line("forget"), *COUNTS, *line("memory"), *line("forget"), *run(), *COUNTS, *line("memory"),
+        ADDED_THREE + done(GOOD_T) + done(FORGOTTEN(1)) + counted(1, 0, 0, 0) + done(REMEMBERS(0)) + done(FORGOTTEN(0)) + done(GOOD_T) + counted(2, 0, 1, 0) + done(REMEMBERS(1)),
+    ),
+    # Fixes and staged files stay.
+    (
+        *TRIM_LOOK, *line("memory"), *line("forget"), *line("fixes"), *line("cat", "a.txt"), *line("accept"), *line("memory"),
+        TRIMMED_ONE + done(REMEMBERS(2)) + done(FORGOTTEN(2)) + done("M a.txt\n") + done("x \n") + done("accepted: 1\n") + done(REMEMBERS(0)),
+    ),
+    (
+        *TRIM_LOOK, *line("accept"), *run(), *line("memory"), *line("forget"), *line("forget"), *line("fixes"), *line("cat", "a.txt"),
+        TRIMMED_ONE + done("accepted: 1\n") + done(passed("Trim") + passed("Look")) + done(REMEMBERS(3)) + done(FORGOTTEN(3)) + done(FORGOTTEN(0)) + done() + done("x\n"),
+    ),
+    # A number of two digits.
+    (
+        *(word for at in range(11) for word in child("c\ta.txt", f"a.txt={at}")), *with_hooks(T), *(word for at in range(11) for word in (*add("a.txt", f"{at}\n"), *run())),
+        *line("memory"), *line("forget"), *line("memory"),
+        done() + (done() + done(GOOD_T)) * 11 + done(REMEMBERS(11)) + done(FORGOTTEN(11)) + done(REMEMBERS(0)),
+    ),
+    # All are forgotten, and what is remembered stays, whatever becomes of the line.
+    *(
+        (*GOOD, *ONE_HOOK, *run(), *line("forget", out=str(count)), *line("memory"), ADDED_THREE + done(GOOD_T) + cut_off(FORGOTTEN(1)[:count]) + done(REMEMBERS(0)))
+        for count in [0, 1, 11, 12]
+    ),
+    *((*GOOD, *ONE_HOOK, *run(), *line("forget", out=habit), *line("memory"), ADDED_THREE + done(GOOD_T) + done(FORGOTTEN(1)) + done(REMEMBERS(0))) for habit in PATIENT),
+    *((*GOOD, *ONE_HOOK, *run(), *line("forget", err=habit), *line("memory"), ADDED_THREE + done(GOOD_T) + done(FORGOTTEN(1)) + done(REMEMBERS(0))) for habit in HABITS),
+    *(
+        (*GOOD, *ONE_HOOK, *run(), *line("memory", out=str(count)), *line("memory"), ADDED_THREE + done(GOOD_T) + cut_off(REMEMBERS(1)[:count]) + done(REMEMBERS(1)))
+        for count in [0, 1, 12, 13]
+    ),
+]
+
+ROWS = [("command_over", *row) for row in [*RUNS, *COMMITS, *REMEMBERED, *STEADY, *COMMITTED, *MEMORY, *EMPTY, *ADDED, *REMOVED, *BAD_PATHS, *GOOD_PATHS, *CLASHES, *TOO_LARGE, *FIXES, *STATUS, *CAT, *LOG, *SHOW, *WRITERS]]

@@ -189,7 +189,7 @@ LINES = [
         [],
         "refused MissingSubcommand\n"
         "error: 'hookhost' requires a subcommand but one was not provided\n"
-        "  [subcommands: init, try, check, add, rm, status, cat, run, run-files, fixes, accept, commit, log, show]\n\n"
+        "  [subcommands: init, try, check, add, rm, status, cat, run, run-files, fixes, accept, commit, log, show, memory, forget]\n\n"
         f"Usage: hookhost <COMMAND>\n\n{MORE}",
     ),
     (
@@ -246,7 +246,9 @@ LINES = [
         "  accept     Applies the fixes to the staged files, and prints how many there were\n"
         "  commit     Commits the staged files, through the hooks of a commit\n"
         "  log        Prints the commits, the newest first\n"
-        "  show       Prints a commit's message and its paths\n\n"
+        "  show       Prints a commit's message and its paths\n"
+        "  memory     Prints how many answers of hooks' commands are remembered\n"
+        "  forget     Forgets the remembered answers, and prints how many there were\n\n"
         "Options:\n"
         "  -h, --help  Print help\n\n"
         "Without words, the configuration is read from standard input, and its hooks are\n"
@@ -278,6 +280,8 @@ USAGES = {
     "cat": "cat <PATH>",
     "log": "log",
     "show": "show <N>",
+    "memory": "memory",
+    "forget": "forget",
 }
 
 
@@ -326,6 +330,8 @@ REPOSITORY_LINES = [
     (["show", "007"], "show\n7\n"),
     (["show", "+1"], "show\n1\n"),
     (["show", "4294967295"], "show\n4294967295\n"),
+    (["memory"], "memory\n"),
+    (["forget"], "forget\n"),
     # A value is missing, or there is one too many.
     *(([command], refused(command, "MissingRequiredArgument", missing("PATH"))) for command in ["add", "rm", "cat"]),
     (["show"], refused("show", "MissingRequiredArgument", missing("N"))),
@@ -336,7 +342,7 @@ REPOSITORY_LINES = [
     ),
     *(
         ([command, "b"], refused(command, "UnknownArgument", "unexpected argument 'b' found"))
-        for command in ["init", "status", "fixes", "accept", "log"]
+        for command in ["init", "status", "fixes", "accept", "log", "memory", "forget"]
     ),
     # `--chmod` takes `+x` alone, and once.
     *((["add", f"--chmod={mode}", "a"], refused("add", "InvalidValue", no_mode(mode))) for mode in ["-x", "+X", "x", "755", ""]),
@@ -359,8 +365,10 @@ REPOSITORY_LINES = [
     (["remove"], no_command("remove", "  tip: a similar subcommand exists: 'rm'\n\n")),
     (["ADD", "a"], no_command("ADD")),
     (["fix"], no_command("fix", "  tip: a similar subcommand exists: 'fixes'\n\n")),
+    (["forgot"], no_command("forgot", "  tip: a similar subcommand exists: 'forget'\n\n")),
+    (["Memory"], no_command("Memory", "  tip: a similar subcommand exists: 'memory'\n\n")),
     # A command that takes no value has none to be told of.
-    (["accept", "--all"], refused("accept", "UnknownArgument", "unexpected argument '--all' found")),
+    *(([command, "--all"], refused(command, "UnknownArgument", "unexpected argument '--all' found")) for command in ["accept", "memory", "forget"]),
     (
         ["add", "--ch=+x", "a"],
         refused("add", "UnknownArgument", "unexpected argument '--ch' found\n\n  tip: a similar argument exists: '--chmod'"),
