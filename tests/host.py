@@ -471,6 +471,11 @@ def waits_for_the_disk_only_where_something_is_written(folder):
     write(folder, "b", b"2")
     counts = [waits_for(folder, helper, *words) for words in (["add", "a"], ["add", "b"], ["status"], ["cat", "a"], ["rm", "b"], ["log"], ["fixes"])]
     check(counts == [10, 10, 4, 4, 10, 4, 4], f"the disk is waited for {counts} times")
+    # An answer is put as a change is; a run whose answers are remembered, and which leaves no fixes, writes nothing.
+    write(folder, ".pre-commit-config.yaml", b"repos:\n- repo: local\n  hooks: [{id: look, name: Look, language: system, entry: 'true'}]\n")
+    do(folder, "add", ".pre-commit-config.yaml")
+    counts = [waits_for(folder, helper, "run", "--all-files") for _ in range(2)]
+    check(counts == [10, 4], f"the disk is waited for {counts} times by a run and by one that remembers")
     # Without the log a command makes it, and one that reads takes it away again.
     os.remove(os.path.join(folder, STORE + "-wal"))
     counts = [waits_for(folder, helper, *words) for words in (["status"], ["rm", "a"], ["status"])]

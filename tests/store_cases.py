@@ -220,7 +220,7 @@ FAULTS = [
     ("3", "Sql", "database or disk is full"),
     ("4", "OutOfMemory", "out of memory"),
     ("5", "Collision", "other contents have the same digest"),
-    ("6", "TooLarge", "contents or a message of more than 16 MiB"),
+    ("6", "TooLarge", "contents, a message or a record of more than 16 MiB"),
     ("7", "TooMany", "more commits, staged files or paths than a store takes"),
 ]
 # The rows of the play of statements, in the order of their keys: the numbers, and those once some are replaced; what is left
@@ -268,7 +268,7 @@ FILLING = ["create", "stage plain a.txt 1", "stage plain b.txt 2", "commit m\\n"
 ONE, TWO = (hashlib.sha256(text).hexdigest() for text in (b"1", b"2"))
 NOT_A_STORE, DAMAGED, SQL = "refused\t1\tNotAStore\t", "refused\t2\tDamaged\t", "refused\t3\tSql\t"
 NO_ROWID = SQL + "no rowid is left"
-TOO_LARGE, TOO_MANY = "refused\t6\tTooLarge\tcontents or a message of more than 16 MiB", "refused\t7\tTooMany\t"
+TOO_LARGE, TOO_MANY = "refused\t6\tTooLarge\tcontents, a message or a record of more than 16 MiB", "refused\t7\tTooMany\t"
 # What is done to the file of FILLING, how it is refused then, and what takes it back.
 PLANTS = [
     ("no version", "DELETE FROM meta", NOT_A_STORE, "INSERT INTO meta VALUES ('version', 1)"),

@@ -13,11 +13,6 @@ use Rattle.commit_flow.specs.declared.command.Command.{Command}
 use Rattle.commit_flow.specs.declared.host_refusal.HostRefusal.{HostRefusal}
 use Rattle.commit_flow.specs.CommitCalls.{IsOneChange}
 use Rattle.commit_flow.specs.Crashes.{IsHookCommand, LeavesDone}
-use Rattle.commit_flow.proofs.CommandLemmas.{survives_itself}
-
--- where nothing happens, all rests
-pub rests_at_once : {S : Type 0} (g : Ghosts S) (shown : Shown S) → IsAtRest g shown shown
-rests_at_once g shown = record { repo = refl; stands = λ stands. stands; survives = survives_itself (state g shown.conn) (LeavesRepository shown.kept.repo) }
 
 module _ {S : Type 0} (g : Ghosts S) (command : Command) (old : Shown S) where
   abbrev LeavesEither : Trees → Type 0

@@ -1,15 +1,21 @@
 -- Changes held one by one as fixes.
-use Rattle.std.proofs.Common.{◌≡◌, ℕ, ◌+◌, ◌<◌, ◌≤◌, Bool, true, false, cond, if◌then◌else◌, List, [], ◌∷◌, ◌++◌, length, take, get_or, Option, None, Some, is_some, Result, Ok, Err, is_ok, is_err, refl, sym, ap, ◌∙◌, arith, length-append, append-nil}
+use Rattle.std.proofs.Common.{◌≡◌, ◌↔◌, ℕ, ◌+◌, ◌<◌, ◌≤◌, Bool, IsTrue, true, false, cond, if◌then◌else◌, List, [], ◌∷◌, ◌++◌, length, map, take, get_or, Option, None, Some, is_some, Result, Ok, Err, is_ok, is_err, refl, sym, ap, ◌∙◌, arith, length-append, append-nil}
+use Rattle.std.specs.Bool.{◌==◌}
+use Rattle.std.proofs.lemmas.Bool.{eqb-true}
 use Rattle.std.proofs.lemmas.List.Elements.{filter_more}
 use lib.Seq.{take-length, take-append-le}
 use Rattle.hook_base.specs.declared.file.File.{File}
 use Rattle.hook_base.specs.declared.change.Change.{Change}
 use Rattle.hook_base.specs.Trees.{entry_of}
+use Rattle.store_tables.specs.declared.rows.FixRow.{FixRow}
+use Rattle.store_tables.specs.Tables.{Tables}
 use Rattle.repo_store.specs.declared.fault.StoreFault.{StoreFault}
 use Rattle.repo_store.specs.declared.fault.StoreFault.TheVariants.{NotAStore, Damaged, Sql, OutOfMemory, Collision, TooLarge, TooMany}
 use Rattle.repo_store.specs.Contents.{has_content, with_content, with_new, with_changes}
 use Rattle.repo_store.specs.Faults.{IsRefusal}
+use Rattle.repo_store.specs.Kept.{Kept}
 use Rattle.repo_store.specs.Repository.{staged_changes}
+use Rattle.repo_store.specs.Rows.{fix_row, tables_of, with_blobs, with_fix_rows}
 
 pub refusal_weaker : {L M C P Q R : Type 0} → (L → P) → (M → Q) → (C → R) → (fault : StoreFault) → IsRefusal L M C fault → IsRefusal P Q R fault
 refusal_weaker large many collides NotAStore h = h
@@ -68,3 +74,20 @@ changes_grow (change ∷ changes) contents =
     let one = (new_before (length contents) change.now contents (omega arith)).1 in
     let rest = changes_grow changes (with_new change.now contents) in
     omega arith
+
+-- ---- no fixes before and after
+
+-- without fixes their table has no rows
+pub no_rows : (kept : Kept) (none : Bool) → (IsTrue none ↔ (kept.repo.fixes ≡ [])) → IsTrue none → (tables_of kept).fixes ≡ []
+no_rows kept none known is = ap (map fix_row) (known.0 is)
+
+pub none_of : {X : Type 0} (l : List X) → (length l == 0) ≡ true → l ≡ []
+none_of [] e = refl
+none_of (x ∷ l) e = let some : length (x ∷ l) ≡ 0 = eqb-true (length (x ∷ l)) 0 e in absurd (omega (arith, some))
+
+none_replaced : (t : Tables) → t.fixes ≡ [] → with_fix_rows [] t ≡ t
+none_replaced t none = ap (λ (rows : List FixRow). record t { fixes = rows }) (sym none)
+
+-- no rows in place of none: the other tables alone change
+pub none_set : (rows : List FixRow) (news : List (List ℕ)) (t : Tables) → rows ≡ [] → t.fixes ≡ [] → with_fix_rows rows (with_blobs news t) ≡ with_blobs news t
+none_set rows news t empty none = ap (λ (r : List FixRow). with_fix_rows r (with_blobs news t)) empty ∙ none_replaced (with_blobs news t) none

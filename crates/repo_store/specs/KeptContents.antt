@@ -1,11 +1,14 @@
 -- Serves private functions only, those of the modules `answer_contents` and `answer_search`: contents that are kept one after
 -- another, and contents that are looked for.
-use Rattle.std.specs.Prelude.{◌≡◌, ℕ, List, length, take}
+use Rattle.std.specs.Prelude.{◌≡◌, ℕ, true, List, length, take}
+use Rattle.std.specs.List.{AllByRecursion}
+use Rattle.sha2.specs.Sha256.{sha256}
 use Rattle.hook_base.specs.declared.file.File.{File}
 use Rattle.answer_records.specs.Limits.{IsStorable}
 use Rattle.answer_records.specs.Records.{seen_of_files, seen_record}
 use Rattle.repo_store.specs.declared.fault.StoreFault.{StoreFault}
 use Rattle.repo_store.specs.Complete.{HaveContents, IsAmong}
+use Rattle.repo_store.specs.Contents.{has_digest}
 use Rattle.repo_store.specs.Faults.{IsRefusal}
 use Rattle.repo_store.specs.Remembering.{AreSmall, SomeCollides, with_contents}
 
@@ -29,3 +32,17 @@ pub record IsKnownRecord (contents : List (List ℕ)) (bytes : List ℕ) : Type 
 pub record AreKnownFiles (contents : List (List ℕ)) (files : List File) : Type 0 where
   pub record_known : IsKnownRecord contents (seen_record (seen_of_files files))
   pub contents_known : HaveContents contents files
+
+-- the bytes may be a record, and some contents stand under their digest
+pub record IsPlacedRecord (contents : List (List ℕ)) (bytes : List ℕ) : Type 0 where
+  pub storable : IsStorable bytes
+  pub placed : has_digest (sha256 bytes) contents ≡ true
+
+-- some contents stand under the digest of each file's
+abbrev pub HavePlaces : List (List ℕ) → List File → Type 0
+HavePlaces contents files = AllByRecursion (λ (file : File). has_digest (sha256 file.entry.bytes) contents ≡ true) files
+
+-- so may that of the files, and some stand under the digest of each file's contents too
+pub record ArePlacedFiles (contents : List (List ℕ)) (files : List File) : Type 0 where
+  pub record_placed : IsPlacedRecord contents (seen_record (seen_of_files files))
+  pub contents_placed : HavePlaces contents files

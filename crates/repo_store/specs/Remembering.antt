@@ -1,11 +1,14 @@
 -- What a store makes of an answer that it is to remember.
-use Rattle.std.specs.Prelude.{◌⊎◌, ℕ, List, [], ◌∷◌, if◌then◌else◌}
+use Rattle.std.specs.Prelude.{◌≡◌, ◌⊎◌, ℕ, true, List, [], ◌∷◌, if◌then◌else◌}
 use Rattle.std.specs.List.{AllByRecursion, Any}
+use Rattle.sha2.specs.Sha256.{sha256}
+use Rattle.hook_base.specs.declared.file.File.{File}
+use Rattle.answer_records.specs.Records.{seen_of_files, seen_record, words_record}
 use Rattle.repo_store.specs.Answers.{KeptAnswer, have_one_key}
-use Rattle.repo_store.specs.Contents.{Collides, with_content}
+use Rattle.repo_store.specs.Contents.{Collides, has_digest, with_content}
 use Rattle.repo_store.specs.Kept.{Kept}
 use Rattle.repo_store.specs.Limits.{IsSmall}
-use Rattle.repo_store.specs.WrittenAnswers.{contents_for}
+use Rattle.repo_store.specs.WrittenAnswers.{contents_for, contents_of_key}
 use Rattle.store_tables.specs.declared.rows.AnswerRow.{AnswerRow}
 use Rattle.store_tables.specs.Tables as tables
 use Rattle.store_tables.specs.Tables.{Tables, without_answer}
@@ -36,6 +39,12 @@ SomeCollides (bytes ∷ more) contents = Collides bytes contents ⊎ SomeCollide
 -- one of these collides with the contents, each for itself
 abbrev pub AnyCollides : List (List ℕ) → List (List ℕ) → Type 0
 AnyCollides all contents = Any (λ bytes. Collides bytes contents) all
+
+-- what is written down of the words and of the seen files may be kept, and some contents stand under each digest of the key
+pub record HasPlacedKey (contents words : List (List ℕ)) (seen : List File) : Type 0 where
+  pub words_fit : IsSmall (words_record words)
+  pub seen_fits : IsSmall (seen_record (seen_of_files seen))
+  pub placed : AllByRecursion (λ bytes. has_digest (sha256 bytes) contents ≡ true) (contents_of_key words seen)
 
 -- the row in place of the one of its key, if there is one
 abbrev pub with_answer_row : AnswerRow → Tables → Tables

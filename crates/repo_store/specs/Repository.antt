@@ -1,5 +1,6 @@
 -- A repository as plain lists: its commits, the staged files and the fixes, with whole contents.
-use Rattle.std.specs.Prelude.{ℕ, zero, suc, List, [], ◌∷◌, ◌++◌, filter, slice_get, Option, None, is_some, option_map, unwrap_or}
+use Rattle.std.specs.Prelude.{ℕ, zero, suc, List, [], ◌∷◌, ◌++◌, filter, slice_get, Option, None, is_some, option_map, unwrap_or, if◌then◌else◌}
+use Rattle.std.specs.Str.{bytes_eq}
 use Rattle.hook_base.specs.declared.file.File.{File}
 use Rattle.hook_base.specs.declared.file.FileEntry.{FileEntry}
 use Rattle.hook_base.specs.declared.change.Change.{Change}
@@ -56,3 +57,8 @@ commit_at (suc n) history = slice_get history n
 -- the files of a commit, and no files where no commit has the number
 abbrev pub tree_at : ℕ → List Commit → List File
 tree_at number history = unwrap_or (option_map (λ (commit : Commit). commit.tree) (commit_at number history)) []
+
+-- the new contents that the fixes give to a path; none where no fix is of it, and where its fix takes the file away
+abbrev pub fixed_bytes : List ℕ → List Change → Option (List ℕ)
+fixed_bytes path [] = None
+fixed_bytes path (fix ∷ fixes) = if bytes_eq path fix.path then fix.now else fixed_bytes path fixes

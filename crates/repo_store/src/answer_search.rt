@@ -1,14 +1,14 @@
 //! The key of an answer that is looked for: whether it is kept, by digests and bytes, and a copy of what is found.
 
-ghost use Rattle.std.specs.Prelude.{◌≡◌, ◌∷◌, map, IfOk, IfErr, IfSome, IfNone};
+ghost use Rattle.std.specs.Prelude.{◌≡◌, ◌∷◌, false, map, IfOk, IfErr, IfSome, IfNone};
 ghost use Rattle.sha2.specs.Sha256.{sha256};
 ghost use Rattle.hook_base.specs.Trees.{IsRising, IsRisingChanges};
 ghost use Rattle.answer_records.specs.Records.{seen_file, seen_of_files, seen_record, words_record};
 ghost use Rattle.repo_store.specs.AnswerRefs.{stored_answer};
 ghost use Rattle.repo_store.specs.Complete.{HaveContents, IsAmong};
-ghost use Rattle.repo_store.specs.Contents.{Collides};
+ghost use Rattle.repo_store.specs.Contents.{Collides, has_digest};
 ghost use Rattle.repo_store.specs.Faults.{IsRefusal};
-ghost use Rattle.repo_store.specs.KeptContents.{AreKnownFiles, IsKnownRecord};
+ghost use Rattle.repo_store.specs.KeptContents.{AreKnownFiles, ArePlacedFiles, HavePlaces, IsKnownRecord, IsPlacedRecord};
 ghost use Rattle.repo_store.specs.Lists.{file_of};
 ghost use Rattle.repo_store.specs.Remembering.{AnyCollides};
 ghost use Rattle.repo_store.specs.WrittenAnswers.{contents_in_files};
@@ -28,7 +28,7 @@ use std::alloc::Global;
 fn known_digest(contents: &Contents, bytes: &[u8]) -> Result<Option<[u8; 32]>, StoreFault>
     ensures digest { IfOk result (λ found. IfSome found (λ digest. digest ≡ sha256 bytes.now)) }
     ensures known { IfOk result (λ found. IfSome found (λ _. IsAmong contents.now bytes.now)) }
-    ensures unknown { IfOk result (λ found. IfNone found (¬ IsAmong contents.now bytes.now)) }
+    ensures absent { IfOk result (λ found. IfNone found (has_digest (sha256 bytes.now) contents.now ≡ false)) }
     ensures why { IfErr result (IsRefusal ⊥ ⊥ (Collides bytes.now contents.now)) }
 {
     let digest = Sha256::digest(bytes);
@@ -47,7 +47,7 @@ pub(crate) fn known_words(
 ) -> Result<Option<[u8; 32]>, StoreFault>
     ensures digest { IfOk result (λ found. IfSome found (λ digest. digest ≡ sha256 (words_record words.now))) }
     ensures known { IfOk result (λ found. IfSome found (λ _. IsKnownRecord contents.now (words_record words.now))) }
-    ensures unknown { IfOk result (λ found. IfNone found (¬ IsKnownRecord contents.now (words_record words.now))) }
+    ensures absent { IfOk result (λ found. IfNone found (¬ IsPlacedRecord contents.now (words_record words.now))) }
     ensures why { IfErr result (IsRefusal ⊥ ⊥ (Collides (words_record words.now) contents.now)) }
 {
     match words_record(alloc, words) {
@@ -66,7 +66,7 @@ fn known_file(
     requires { IsRising (map file_of staged.now) }
     ensures named { IfOk result (λ found. IfSome found (λ named. named ≡ seen_file file.now)) }
     ensures known { IfOk result (λ found. IfSome found (λ _. IsAmong contents.now file.now.entry.bytes)) }
-    ensures unknown { IfOk result (λ found. IfNone found (¬ IsAmong contents.now file.now.entry.bytes)) }
+    ensures absent { IfOk result (λ found. IfNone found (has_digest (sha256 file.now.entry.bytes) contents.now ≡ false)) }
     ensures why { IfErr result (IsRefusal ⊥ ⊥ (Collides file.now.entry.bytes contents.now)) }
 {
     let bytes = file.entry.bytes.as_slice();
@@ -92,7 +92,7 @@ fn known_files(
     requires { IsRising (map file_of staged.now) }
     ensures named { IfOk result (λ found. IfSome found (λ named. named.items ≡ seen_of_files seen.now)) }
     ensures known { IfOk result (λ found. IfSome found (λ _. HaveContents contents.now seen.now)) }
-    ensures unknown { IfOk result (λ found. IfNone found (¬ HaveContents contents.now seen.now)) }
+    ensures absent { IfOk result (λ found. IfNone found (¬ HavePlaces contents.now seen.now)) }
     ensures why { IfErr result (IsRefusal ⊥ ⊥ (AnyCollides (contents_in_files seen.now) contents.now)) }
 {
     let mut named = Vec::new(alloc);
@@ -116,7 +116,7 @@ pub(crate) fn known_seen(
     requires { IsRising (map file_of staged.now) }
     ensures digest { IfOk result (λ found. IfSome found (λ digest. digest ≡ sha256 (seen_record (seen_of_files seen.now)))) }
     ensures known { IfOk result (λ found. IfSome found (λ _. AreKnownFiles contents.now seen.now)) }
-    ensures unknown { IfOk result (λ found. IfNone found (¬ AreKnownFiles contents.now seen.now)) }
+    ensures absent { IfOk result (λ found. IfNone found (¬ ArePlacedFiles contents.now seen.now)) }
     ensures why { IfErr result (IsRefusal ⊥ ⊥ (AnyCollides (seen_record (seen_of_files seen.now) ∷ contents_in_files seen.now) contents.now)) }
 {
     let Some(named) = known_files(alloc, contents, staged, seen)? else {

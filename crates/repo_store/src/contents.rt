@@ -132,6 +132,7 @@ impl Contents {
     pub(crate) fn has(&self, digest: &[u8; 32], bytes: &[u8]) -> Result<bool, StoreFault>
         requires { digest.now ≡ sha256 bytes.now }
         ensures known { IfOk result (λ known. known ≡ has_content bytes.now self.now) }
+        ensures absent { IfOk result (λ known. known ≡ false → has_digest digest.now self.now ≡ false) }
         ensures why { IfErr result (IsRefusal ⊥ ⊥ (Collides bytes.now self.now)) }
     {
         match self.find(digest) {

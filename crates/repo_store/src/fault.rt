@@ -26,8 +26,8 @@ pub enum StoreFault {
     /// Other bytes are kept under the same digest.
     #[error("other contents have the same digest")]
     Collision,
-    /// Contents or a message of more than 16 MiB.
-    #[error("contents or a message of more than 16 MiB")]
+    /// Contents, a message or a record of an answer of more than 16 MiB.
+    #[error("contents, a message or a record of more than 16 MiB")]
     TooLarge,
     /// More than 100,000 commits, or a staged tree of more than 100,000 files or 8 MiB of paths.
     #[error("more commits, staged files or paths than a store takes")]

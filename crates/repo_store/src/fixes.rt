@@ -1,13 +1,13 @@
 //! The fixes in the tables: one transaction.
 
-ghost use Rattle.std.specs.Prelude.{◌≡◌, false, map};
+ghost use Rattle.std.specs.Prelude.{◌≡◌, [], false, map, IsTrue};
 ghost use Rattle.store_tables.specs.Steps.{IsStep};
 ghost use Rattle.store_tables.specs.Tables.{Tables, Holds, with_fix};
 ghost use Rattle.repo_store.specs.Transactions.{IsCall};
 ghost use Rattle.repo_store.specs.Lists.{fix_of};
 ghost use Rattle.repo_store.specs.Rows.{fix_row, with_blobs, with_fix_rows};
 
-use crate::blobs::keep_in;
+use crate::blobs::{keep_in, keep_rows};
 use crate::content::Content;
 use crate::shared::SharedFix;
 use sqlite::{Alter, Connection, Error, Transaction};
@@ -49,8 +49,25 @@ fn set_in<S: Alter>(
     put_fixes(tx, fixes)
 }
 
-/// Sets the fixes, and keeps the contents that the table lacks, in one transaction.
+/// Sets the fixes, and keeps the contents that the table lacks, in one transaction. Where there were none and there are none,
+/// the table of fixes isn't touched, so that nothing is written and the disk isn't waited for.
 pub(crate) fn set_rows<S: Alter>(
+    conn: &mut Connection<S>,
+    news: &[Content],
+    fixes: &[SharedFix],
+    were_none: bool,
+) -> Result<(), Error>
+    requires { conn.old.in_transaction ≡ false }
+    ensures { (t : Tables) → (IsTrue were_none → t.fixes ≡ []) → IsCall S.Store conn.old conn.new result (λ db. Holds db t) (λ db. Holds db (with_fix_rows (map fix_row (map fix_of fixes.now)) (with_blobs news.now t))) }
+{
+    if were_none && fixes.is_empty() {
+        return keep_rows(conn, news);
+    }
+    replace_rows(conn, news, fixes)
+}
+
+// Sets the fixes in place of those that were there, and keeps the contents that the table lacks, in one transaction.
+fn replace_rows<S: Alter>(
     conn: &mut Connection<S>,
     news: &[Content],
     fixes: &[SharedFix],

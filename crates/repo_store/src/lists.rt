@@ -21,8 +21,8 @@ ghost use Rattle.repo_store.specs.KeptContents.{AreAllKept};
 ghost use Rattle.repo_store.specs.Limits.{Fits, IsSmall, most_commits, most_files};
 ghost use Rattle.repo_store.specs.Log.{log_from};
 ghost use Rattle.repo_store.specs.Remembered.{TellsKey};
-ghost use Rattle.repo_store.specs.Remembering.{AnyCollides, AreSmall, SomeCollides, with_answer, with_contents};
-ghost use Rattle.repo_store.specs.Repository.{Commit, commit_at, last_tree, staged_changes, tree_at, with_staged};
+ghost use Rattle.repo_store.specs.Remembering.{AnyCollides, AreSmall, HasPlacedKey, SomeCollides, with_answer, with_contents};
+ghost use Rattle.repo_store.specs.Repository.{Commit, commit_at, fixed_bytes, last_tree, staged_changes, tree_at, with_staged};
 ghost use Rattle.repo_store.specs.Sound.{IsSound};
 ghost use Rattle.repo_store.specs.SoundAnswers.{IsSoundAnswer, KeepToSeen};
 ghost use Rattle.repo_store.specs.WrittenAnswers.{contents_for, contents_of_key};
@@ -37,7 +37,7 @@ use crate::contents::Contents;
 use crate::differences::{are_same_rows, differ_at};
 use crate::files::{commit_with, count_path_bytes, has_path, may_put, put_file, take_out};
 use crate::limits::{MOST_COMMITS, MOST_CONTENT_BYTES};
-use crate::look_ups::{file_at, shown_at};
+use crate::look_ups::{bytes_at, file_at, fixed_at, shown_at};
 use crate::shared::{SharedCommit, SharedFile, SharedFix};
 use crate::shared_answer::SharedAnswer;
 use crate::trees::{changes_of, log_of, tree_of};
@@ -433,8 +433,22 @@ impl Lists {
     pub(crate) fn staged_bytes(&self, path: &RepoPath) -> Option<&[u8]>
         ensures { option_copied result ≡ option_map (λ (entry : FileEntry). entry.bytes) (entry_of path.now self.now.kept.repo.staged) }
     {
-        match file_at(self.staged.as_slice(), path) {
-            Some(file) => Some(file.content().as_slice()),
+        bytes_at(self.staged.as_slice(), path)
+    }
+
+    /// The new contents that the fixes give to a path, or none where they give it none.
+    pub(crate) fn fixed_bytes(&self, path: &RepoPath) -> Option<&[u8]>
+        ensures { option_copied result ≡ fixed_bytes path.now self.now.kept.repo.fixes }
+    {
+        fixed_at(self.fixes.as_slice(), path)
+    }
+
+    /// The contents of a commit's file, or none where no commit has the number and where the commit has no file at the path.
+    pub(crate) fn committed_bytes(&self, number: u32, path: &RepoPath) -> Option<&[u8]>
+        ensures { option_copied result ≡ option_map (λ (entry : FileEntry). entry.bytes) (entry_of path.now (tree_at number self.now.kept.repo.history)) }
+    {
+        match self.commit_at(number) {
+            Some(commit) => bytes_at(commit.files.as_slice(), path),
             None => None,
         }
     }
@@ -525,6 +539,7 @@ impl Lists {
     ) -> Result<Option<StoredAnswer>, StoreFault>
         requires { IsComplete self.now.kept }
         ensures found { IfOk result (λ found. found ≡ option_map stored_answer (answer_for words.now seen.now self.now.kept.answers)) }
+        ensures apart { OnOk result (HasPlacedKey self.now.kept.contents words.now seen.now → ¬ AnyCollides (contents_of_key words.now seen.now) self.now.kept.contents) }
         ensures why { IfErr result (IsRefusal ⊥ ⊥ (AnyCollides (contents_of_key words.now seen.now) self.now.kept.contents)) }
     {
         let alloc = *self.staged.allocator();
@@ -562,6 +577,13 @@ impl Lists {
         ensures { result ≡ length self.now.kept.repo.fixes }
     {
         self.fixes.len() as u32
+    }
+
+    /// Whether there are no fixes.
+    pub(crate) fn has_no_fixes(&self) -> bool
+        ensures { IsTrue result ↔ (self.now.kept.repo.fixes ≡ []) }
+    {
+        self.fixes.is_empty()
     }
 
     /// The fixes as they are kept.

@@ -2,14 +2,16 @@
 
 ghost use Rattle.std.specs.Prelude.{◌≡◌, map, option_map, slice_get};
 ghost use Rattle.std.specs.Option.{option_copied};
+ghost use Rattle.hook_base.specs.declared.file.FileEntry.{FileEntry};
 ghost use Rattle.sha2.specs.Sha256.{sha256};
 ghost use Rattle.hook_base.specs.Trees.{IsRising, entry_of};
 ghost use Rattle.repo_store.specs.FileRefs.{copied_file};
-ghost use Rattle.repo_store.specs.Lists.{entry_in, file_of};
+ghost use Rattle.repo_store.specs.Lists.{entry_in, file_of, fix_of};
+ghost use Rattle.repo_store.specs.Repository.{fixed_bytes};
 
 use crate::FileRef;
 use crate::files::place_of;
-use crate::shared::SharedFile;
+use crate::shared::{SharedFile, SharedFix};
 use hook_base::RepoPath;
 use sha2::{Digest as _, Sha256};
 
@@ -21,6 +23,39 @@ pub(crate) fn file_at<'a>(files: &'a [SharedFile], path: &RepoPath) -> Option<&'
     match place_of(files, path) {
         Ok(index) => files.get(index),
         Err(_) => None,
+    }
+}
+
+/// The contents of the file of a path, if it has one.
+pub(crate) fn bytes_at<'a>(files: &'a [SharedFile], path: &RepoPath) -> Option<&'a [u8]>
+    requires { IsRising (map file_of files.now) }
+    ensures { option_copied result ≡ option_map (λ (entry : FileEntry). entry.bytes) (entry_of path.now (map file_of files.now)) }
+{
+    match file_at(files, path) {
+        Some(file) => Some(file.content().as_slice()),
+        None => None,
+    }
+}
+
+/// The new contents that the fixes give to a path, if one does.
+pub(crate) fn fixed_at<'a>(fixes: &'a [SharedFix], path: &RepoPath) -> Option<&'a [u8]>
+    ensures { option_copied result ≡ fixed_bytes path.now (map fix_of fixes.now) }
+{
+    'fixes: for fix in fixes {
+        if path.as_str() == fix.path.as_str() {
+            return new_bytes(fix);
+        }
+    }
+    None
+}
+
+// The new contents of a fix, if its file isn't gone.
+fn new_bytes(fix: &SharedFix) -> Option<&[u8]>
+    ensures { option_copied result ≡ fix.entry.now.now }
+{
+    match &fix.now {
+        None => None,
+        Some(content) => Some(content.as_slice()),
     }
 }
 

@@ -22,8 +22,8 @@ ghost use Rattle.repo_store.specs.FileRefs.{copied_file};
 ghost use Rattle.repo_store.specs.Kept.{FixCollides, HasLarge, Kept, accepting, committing, forgetting, keeping, nothing_kept, setting, staging, unstaging};
 ghost use Rattle.repo_store.specs.Limits.{Fits, IsSmall, most_commits};
 ghost use Rattle.repo_store.specs.Log.{log_from};
-ghost use Rattle.repo_store.specs.Remembering.{AnyCollides, AreSmall, SomeCollides, remembering};
-ghost use Rattle.repo_store.specs.Repository.{Commit, commit_at, last_tree, staged_changes, tree_at};
+ghost use Rattle.repo_store.specs.Remembering.{AnyCollides, AreSmall, HasPlacedKey, SomeCollides, remembering};
+ghost use Rattle.repo_store.specs.Repository.{Commit, commit_at, fixed_bytes, last_tree, staged_changes, tree_at};
 ghost use Rattle.repo_store.specs.Rows.{tables_of};
 ghost use Rattle.repo_store.specs.Shown.{IsOneTransaction, Leaves, LeavesOnly, Stands};
 ghost use Rattle.repo_store.specs.SoundAnswers.{KeepToSeen};
@@ -188,8 +188,10 @@ impl<S: Alter> Store<S> {
         ensures why { IfErr result (IsRefusal (HasLarge (staged_changes changes.now self.old.kept.repo.staged)) ⊥ (FixCollides (staged_changes changes.now self.old.kept.repo.staged) self.old.kept.contents)) }
     {
         let before = self.lists.count();
+        let were_none = self.lists.has_no_fixes();
         let fixes = self.lists.prepare_fixes(changes)?;
-        if let Err(error) = set_rows(&mut self.conn, self.lists.since(before), fixes.as_slice()) {
+        let news = self.lists.since(before);
+        if let Err(error) = set_rows(&mut self.conn, news, fixes.as_slice(), were_none) {
             self.lists.forget_since(before);
             return Err(fault_of(error));
         }
@@ -285,14 +287,16 @@ impl<S: Alter> Store<S> {
 
     /// What is remembered for the words of a command and the files that its child saw, with their modes and bytes, as a copy,
     /// or `None` where nothing is. Bytes are compared, not digests alone, and contents that a staged file has at the same path
-    /// aren't hashed anew. It is refused as `Collision` only where other bytes stand under the digest of a seen file's contents
-    /// or of what is written down of the key, and otherwise for want of memory alone.
+    /// aren't hashed anew. Where other bytes stand under a digest of the key (that of a seen file's contents, or of what is written
+    /// down of the words or of the seen files), it is refused as `Collision`; under such a digest nothing may stand instead, and then
+    /// nothing is remembered, whatever stands under the others. Else it is refused for want of memory alone.
     pub fn answer_find(
         &self,
         words: &[Text],
         seen: &Tree,
     ) -> Result<Option<StoredAnswer>, StoreFault>
         ensures found { IfOk result (λ found. found ≡ option_map stored_answer (answer_for words.now seen.now self.now.kept.answers)) }
+        ensures apart { OnOk result (HasPlacedKey self.now.kept.contents words.now seen.now → ¬ AnyCollides (contents_of_key words.now seen.now) self.now.kept.contents) }
         ensures why { IfErr result (IsRefusal ⊥ ⊥ (AnyCollides (contents_of_key words.now seen.now) self.now.kept.contents)) }
         ensures keys { HaveOwnKeys self.now.kept.answers }
     {
@@ -388,6 +392,22 @@ impl<S: Alter> Store<S> {
         ensures { option_copied result ≡ option_map (λ (entry : FileEntry). entry.bytes) (entry_of path.now self.now.kept.repo.staged) }
     {
         self.lists.staged_bytes(path)
+    }
+
+    /// The new contents that the fixes give to a path, or `None` where no fix is of it and where its fix takes the file away. It
+    /// takes no memory.
+    pub fn fixed_bytes(&self, path: &RepoPath) -> Option<&[u8]>
+        ensures { option_copied result ≡ fixed_bytes path.now self.now.kept.repo.fixes }
+    {
+        self.lists.fixed_bytes(path)
+    }
+
+    /// The contents of a commit's file at a path, or `None` where the commit has no file there and where no commit has the number.
+    /// It takes no memory.
+    pub fn committed_bytes(&self, number: u32, path: &RepoPath) -> Option<&[u8]>
+        ensures { option_copied result ≡ option_map (λ (entry : FileEntry). entry.bytes) (entry_of path.now (tree_at number self.now.kept.repo.history)) }
+    {
+        self.lists.committed_bytes(number, path)
     }
 
     /// Whether a path can't stand beside the staged files: one of them is at a folder of the path, or the path is a folder of

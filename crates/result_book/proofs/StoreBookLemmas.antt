@@ -1,5 +1,5 @@
 -- What the calls of a store make of it as a book.
-use Rattle.std.specs.Prelude.{◌≡◌, ◌⊎◌, ℕ, zero, suc, ◌<◌, true, false, not, ◌||◌, List, [], ◌∷◌, map, length, is_some, Option, None, Some, Result, Ok, Err, IsPermutation, if◌then◌else◌, option_map, refl}
+use Rattle.std.specs.Prelude.{◌≡◌, ◌⊎◌, ℕ, zero, suc, ◌<◌, true, false, not, ◌||◌, List, [], ◌∷◌, map, length, is_some, Option, None, Some, Result, Ok, Err, IsTrue, IsPermutation, if◌then◌else◌, option_map, refl}
 use Rattle.std.proofs.Common.{ap, sym, ◌∙◌, inl, inr, subst, get_or, arith}
 use Rattle.std.proofs.lemmas.List.Sorted.{Contains-permutation, IsPermutation-map, IsPermutation-refl, IsPermutation-sym, length_permutation}
 use Rattle.std.specs.List.{AllByRecursion, Contains, list_any}
@@ -10,6 +10,7 @@ use Rattle.hook_base.specs.declared.change.Change.{Change}
 use Rattle.hook_base.specs.Trees.{entry_of}
 use Rattle.sqlite_trees.specs.declared.store.Store.{Ghosts}
 use Rattle.sqlite.specs.Held.{state}
+use Rattle.sqlite.specs.State.{HasCleanDisk}
 use Rattle.sqlite.proofs.StateLemmas.{survives_weaker}
 use Rattle.repo_store.specs.declared.fault.StoreFault.{StoreFault}
 use Rattle.repo_store.specs.declared.stored_answer.StoredAnswer.{StoredAnswer}
@@ -17,16 +18,22 @@ use Rattle.repo_store.specs.AllOrNothing.{IsAllOrNothing}
 use Rattle.repo_store.specs.AnswerLemmas.{is_for_decides}
 use Rattle.repo_store.specs.AnswerRefs.{stored_answer}
 use Rattle.repo_store.specs.Answers.{HaveOwnKeys, KeptAnswer, answer_for, have_one_key, is_for}
+use Rattle.repo_store.specs.Complete.{IsAmong}
 use Rattle.repo_store.specs.Kept.{Kept, forgetting}
 use Rattle.repo_store.specs.Remembering.{remembering, with_answer}
-use Rattle.repo_store.specs.Shown.{IsOneTransaction, Leaves, Shown}
+use Rattle.repo_store.specs.Repository.{Repository}
+use Rattle.repo_store.specs.Rows.{tables_of}
+use Rattle.repo_store.specs.Shown.{IsOneTransaction, Leaves, Shown, Stands}
+use Rattle.repo_store.specs.WrittenAnswers.{contents_for}
+use Rattle.repo_store.proofs.CallLemmas.{leaves_commit}
+use Rattle.repo_store.proofs.RememberLemmas.{still_there}
 use Rattle.repo_store.specs.SoundAnswers.{KeepToSeen}
 use Rattle.repo_store.proofs.OneLemmas.{left_alike}
 use Rattle.result_book.specs.declared.book_row.BookRow.{BookRow}
 use Rattle.result_book.specs.Calls.{AfterFind, AfterForget, AfterPut, IsSameKey}
 use Rattle.result_book.specs.Contents.{Contents, Finds, HasKey, HaveDistinctKeys, HaveRow, LackRow, with_rows}
 use Rattle.result_book.specs.KeyLemmas.{HaveRow-one}
-use Rattle.result_book.specs.StoreBooks.{IsAtRest, LeavesRepository, MayRemember, answer_in, given_answer, remembered_by, row_of}
+use Rattle.result_book.specs.StoreBooks.{IsAtRest, LeavesRepository, MayLeave, MayRemember, answer_in, given_answer, remembered_by, row_of}
 
 -- ---- keys
 
@@ -170,18 +177,57 @@ keeps_from seen answer = go answer.changes
         ] none
 
 -- ---- what a crash leaves, and what rests
+
+-- while the connection is open, what is committed may be left
+abbrev Stays : {S : Type 0} → Ghosts S → Shown S → Type 0
+Stays g shown = IsTrue (state g shown.conn).is_open → (state g shown.conn).may_leave (state g shown.conn).committed.trees
+
 module _ {S A : Type 0} (g : Ghosts S) (old new : Shown S) (result : Result A StoreFault) (after : Kept) (change : IsAllOrNothing old.kept new.kept result after) (it : IsOneTransaction g old new result after) where
+  -- the repository that stood in the tables may have been left before
+  shown_left : Stays g old → Stands g old.conn old.kept → IsTrue (state g old.conn).is_open → MayLeave g old old.kept.repo
+  shown_left stays stands is_open = record {
+    trees = (state g old.conn).committed.trees;
+    may = stays is_open;
+    left = record {
+      kept = old.kept;
+      leaves = record {
+        holds = leaves_commit (state g old.conn).committed (state g old.conn).committed.trees (tables_of old.kept) (stands.committed is_open) refl;
+        complete = stands.complete;
+        obeys = stands.obeys;
+      };
+      same = refl;
+    };
+  }
+
+  left_before : Stays g old → after.repo ≡ old.kept.repo → HasCleanDisk (state g new.conn) → Stands g old.conn old.kept → (repo : Repository) → MayLeave g new repo → MayLeave g old repo
+  left_before stays same clean stands repo may =
+      elim (it.crash.crash clean may.trees may.may) [
+        | inl earlier ↦ record { trees = may.trees; may = earlier; left = may.left }
+        | inr made ↦
+            let is : old.kept.repo ≡ repo = sym same ∙ sym (left_alike may.trees may.left.kept after may.left.leaves made).repo ∙ may.left.same in
+            elim (state g old.conn).is_open as (λ b. (state g old.conn).is_open ≡ b → MayLeave g old repo) [
+              | true ↦ λ is_open. subst (MayLeave g old) is (shown_left stays stands is_open)
+              | false ↦ λ shut. elim ((it.shut shut).crash clean may.trees may.may) [ inl earlier ↦ record { trees = may.trees; may = earlier; left = may.left } | inr none ↦ absurd none ]
+            ] refl
+      ]
+
   -- what changes the answers and the contents alone leaves the repository at rest
-  pub rests_over : after.repo ≡ old.kept.repo → IsAtRest g old new
-  rests_over repo = record {
+  pub rests_over : Stays g old → after.repo ≡ old.kept.repo → ((bytes : List ℕ) → IsAmong old.kept.contents bytes → IsAmong after.contents bytes) → IsAtRest g old new
+  rests_over stays repo grows = record {
     repo = repo_after result change;
+    contents = contents_after result change;
     stands = λ _. it.stands;
     survives = survives_weaker (state g old.conn) (state g new.conn) (Leaves after) (LeavesRepository old.kept.repo) (λ _ trees left. record { kept = after; leaves = left; same = repo }) it.crash;
+    left = left_before stays repo;
   }
     where
       repo_after : (r : Result A StoreFault) → IsAllOrNothing old.kept new.kept r after → new.kept.repo ≡ old.kept.repo
       repo_after (Ok x) done = ap (λ (kept : Kept). kept.repo) done.done ∙ repo
       repo_after (Err fault) done = ap (λ (kept : Kept). kept.repo) done.same
+
+      contents_after : (r : Result A StoreFault) → IsAllOrNothing old.kept new.kept r after → (bytes : List ℕ) → IsAmong old.kept.contents bytes → IsAmong new.kept.contents bytes
+      contents_after (Ok x) done bytes among = subst (λ (kept : Kept). IsAmong kept.contents bytes) (sym done.done) (grows bytes among)
+      contents_after (Err fault) done bytes among = subst (λ (kept : Kept). IsAmong kept.contents bytes) (sym done.same) among
 
   -- a crash leaves what it could leave before, or answers that are those of the call in some order
   pub left_over : (left : Contents) → MayRemember g new left
@@ -205,8 +251,8 @@ module _ {S A : Type 0} (g : Ghosts S) (old new : Shown S) (result : Result A St
         | inr later ↦ inr (subst (AfterPut kept.words kept.seen answer (remembered_by old.kept)) (sym later.1) (put_in later.0 later.2 later.3))
       ]
 
-  pub rest_put : IsAtRest g old new
-  rest_put = rests_over g old new result (remembering kept old.kept) change it refl
+  pub rest_put : Stays g old → IsAtRest g old new
+  rest_put stays = rests_over g old new result (remembering kept old.kept) change it stays refl (λ bytes among. still_there bytes (contents_for kept) old.kept.contents among)
 
   pub after_put : new.kept ≡ remembering kept old.kept → AfterPut kept.words kept.seen answer (remembered_by old.kept) (remembered_by new.kept)
   after_put done =
@@ -221,5 +267,5 @@ module _ {S A : Type 0} (g : Ghosts S) (old new : Shown S) (result : Result A St
         | inr later ↦ inr (subst (AfterForget (remembered_by old.kept)) (sym later.1) (none_from old.kept.answers later.0.answers later.3))
       ]
 
-  pub rest_forgotten : IsAtRest g old new
-  rest_forgotten = rests_over g old new result (forgetting old.kept) change it refl
+  pub rest_forgotten : Stays g old → IsAtRest g old new
+  rest_forgotten stays = rests_over g old new result (forgetting old.kept) change it stays refl (λ bytes among. among)

@@ -1,5 +1,5 @@
 -- A store as a book: what it remembers, what rests over a call, what a crash leaves, and by what it refuses.
-use Rattle.std.specs.Prelude.{◌≡◌, map}
+use Rattle.std.specs.Prelude.{◌≡◌, ℕ, List, map}
 use Rattle.child_port.specs.declared.answer.Answer.{Answer}
 use Rattle.sqlite_trees.specs.declared.store.Store.{Ghosts}
 use Rattle.sqlite_trees.specs.Tree.{Trees}
@@ -10,6 +10,7 @@ use Rattle.repo_store.specs.declared.fault.StoreFault.TheVariants as store
 use Rattle.repo_store.specs.declared.answer_ref.AnswerRef.{AnswerRef}
 use Rattle.repo_store.specs.declared.stored_answer.StoredAnswer.{StoredAnswer}
 use Rattle.repo_store.specs.Answers.{KeptAnswer}
+use Rattle.repo_store.specs.Complete.{IsAmong}
 use Rattle.repo_store.specs.Kept.{Kept}
 use Rattle.repo_store.specs.Repository.{Repository}
 use Rattle.repo_store.specs.Shown.{Leaves, Shown, Stands}
@@ -47,6 +48,12 @@ pub record LeavesRepository (repo : Repository) (trees : Trees) : Type 0 where
   pub leaves : Leaves kept trees
   pub same : kept.repo ≡ repo
 
+-- a crash may leave a store of this repository, whatever it remembers
+pub record MayLeave {S : Type 0} (g : Ghosts S) (shown : Shown S) (repo : Repository) : Type 0 where
+  pub trees : Trees
+  pub may : (state g shown.conn).may_leave trees
+  pub left : LeavesRepository repo trees
+
 -- a store that a crash may leave remembers this, once it is opened again
 pub record MayRemember {S : Type 0} (g : Ghosts S) (shown : Shown S) (left : Contents) : Type 0 where
   pub clean : HasCleanDisk (state g shown.conn)
@@ -58,12 +65,15 @@ pub record MayRemember {S : Type 0} (g : Ghosts S) (shown : Shown S) (left : Con
 
 -- ---- what rests
 
--- The repository is the same, and stands in the tables if it did. A crash leaves what it could leave before, or a store of this
--- repository.
+-- The repository is the same, and stands in the tables if it did, and no contents are gone. A crash leaves what it could leave
+-- before, or a store of this repository; and where the repository stood in the tables, of no repository that it couldn't leave
+-- before.
 pub record IsAtRest {S : Type 0} (g : Ghosts S) (before after : Shown S) : Type 0 where
   pub repo : after.kept.repo ≡ before.kept.repo
+  pub contents : (bytes : List ℕ) → IsAmong before.kept.contents bytes → IsAmong after.kept.contents bytes
   pub stands : Stands g before.conn before.kept → Stands g after.conn after.kept
   pub survives : Survives (state g before.conn) (state g after.conn) (LeavesRepository before.kept.repo)
+  pub left : HasCleanDisk (state g after.conn) → Stands g before.conn before.kept → (repo : Repository) → MayLeave g after repo → MayLeave g before repo
 
 -- ---- by what it refuses
 

@@ -5,7 +5,7 @@ use Rattle.result_book.specs.StoreBooks.{RefusesAnswers, remembered_by}
 use Rattle.hook_run.specs.Moments.{moment}
 use Rattle.commit_flow.specs.CommitStages.{ask_in}
 use Rattle.commit_flow.proofs.StagesLemmas.{stopped_for_memory}
-use Rattle.commit_flow.proofs.HookCommandLemmas.{rests_at_once}
+use Rattle.result_book.specs.RestLemmas.{rests_itself}
 use Rattle.commit_flow.proofs.commit_ending.run_on_staged.Goals as goal
 
 pub returns-in_err-staged-clause-stopped : goal.returns-in_err-staged-clause-stopped
@@ -16,4 +16,4 @@ returns-in_err-staged-clause-stopped g c =
     c.args.config.now (ask_in [] c.args.skip.now PostCommit) c.args.store.now.kept.repo.staged)
 
 pub returns-in_err-staged-clause-rest : goal.returns-in_err-staged-clause-rest
-returns-in_err-staged-clause-rest g c = rests_at_once g.S.Store c.args.store.now
+returns-in_err-staged-clause-rest g c = rests_itself g.S.Store c.args.store.now

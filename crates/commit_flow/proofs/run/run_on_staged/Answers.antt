@@ -3,7 +3,7 @@ use Rattle.std.proofs.lemmas.Result.{err_from_is_err_and}
 use Rattle.result_book.specs.StoreBooks.{remembered_by}
 use Rattle.hook_run.specs.Moments.{moment}
 use Rattle.commit_flow.proofs.RunLemmas.{run_refused_if, staged_if, unready}
-use Rattle.commit_flow.proofs.HookCommandLemmas.{rests_at_once}
+use Rattle.result_book.specs.RestLemmas.{rests_itself}
 use Rattle.commit_flow.proofs.run.run_on_staged.Goals as goal
 
 pub returns-in_err-prepared-clause-stopped : goal.returns-in_err-prepared-clause-stopped
@@ -14,7 +14,7 @@ returns-in_err-prepared-clause-stopped g c =
     rw (p.1, p.2) (unready (children.tells c.args.children.now) at c.args.store.now.kept.repo c.args.ask.now c.args.store.now.kept c.in_err-prepared.field-0.0 refl c.in_err-prepared.ensures.refused)
 
 pub returns-in_err-prepared-clause-rest : goal.returns-in_err-prepared-clause-rest
-returns-in_err-prepared-clause-rest g c = rests_at_once g.S.Store c.args.store.now
+returns-in_err-prepared-clause-rest g c = rests_itself g.S.Store c.args.store.now
 
 pub returns-clause-run : goal.returns-clause-run
 returns-clause-run g c =

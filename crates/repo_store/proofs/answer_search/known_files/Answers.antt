@@ -1,8 +1,8 @@
-use Rattle.std.proofs.Common.{◌<◌, length, arith}
+use Rattle.std.proofs.Common.{◌≡◌, ◌∙◌, ◌<◌, true, false, length, sym, arith}
 use Rattle.std.proofs.lemmas.Option.{get_or_from_slice_get}
 use Rattle.std.proofs.lemmas.Result.{err_from_is_err_and}
 use Rattle.repo_store.proofs.FixLemmas.{refusal_weaker}
-use Rattle.repo_store.proofs.SearchLemmas.{collides_at, have_at, have_more, named_more}
+use Rattle.repo_store.proofs.SearchLemmas.{collides_at, have_more, named_more, places_at}
 use Rattle.repo_store.proofs.answer_search.known_files.Goals as goal
 
 pub returns-in_err-file-clause-why : goal.returns-in_err-file-clause-why
@@ -15,14 +15,15 @@ returns-in_err-file-clause-why c =
     let p = err_from_is_err_and c.from_residual.result c.from_residual.ensures.1 in
     rw (p.1, p.2) (refusal_weaker (λ h. h) (λ h. h) (λ collides. collides_at c.args.contents.now all i file within is collides) c.in_err-file.field-0.0 (c.in_err-file.ensures).why)
 
-pub returns-in_default-clause-unknown : goal.returns-in_default-clause-unknown
-returns-in_default-clause-unknown c have =
+pub returns-in_default-clause-absent : goal.returns-in_default-clause-absent
+returns-in_default-clause-absent c placed =
     let all = c.args.seen.now in
     let i = c.files.index in
     let file = c.entry.result.now in
     let within : i < length all = omega arith in
-    let unknown = rw c.in_default.is at (c.in_ok-file.ensures).unknown in
-    unknown (have_at c.args.contents.now all i file within (get_or_from_slice_get all i file file c.entry.ensures.row) have)
+    let absent = rw c.in_default.is at (c.in_ok-file.ensures).absent in
+    let there = places_at c.args.contents.now all i file within (get_or_from_slice_get all i file file c.entry.ensures.row) placed in
+    absurd (let never : true ≡ false = sym there ∙ absent in cc)
 
 pub files-preserved : goal.files-preserved
 files-preserved c =

@@ -1,9 +1,18 @@
-use Rattle.std.proofs.Common.{rules}
-use Rattle.repo_store.proofs.CallLemmas.{step_as_made, whole_call}
+use Rattle.std.proofs.Common.{◌∙◌, List, map, ap, subst, sym}
+use Rattle.store_tables.specs.Tables.{Tables, Holds}
+use Rattle.repo_store.specs.declared.shared.SharedFix.{SharedFix}
+use Rattle.repo_store.specs.Lists.{fix_of}
+use Rattle.repo_store.specs.Rows.{fix_row, with_blobs}
+use Rattle.repo_store.specs.Transactions.{IsCall}
+use Rattle.repo_store.proofs.FixLemmas.{none_of, none_set}
 use Rattle.repo_store.proofs.fixes.set_rows.Goals as goal
 
-pub returns-in_err-set_in : goal.returns-in_err-set_in
-returns-in_err-set_in g c t = whole_call g.S.Store c.args.conn.now _ c.from_residual.result _ _ (g.met.S.Store.shut_if_dirty _) (search rules)
+pub returns-then-is_empty : goal.returns-then-is_empty
+returns-then-is_empty g c t none =
+    let no_fixes = none_of c.args.fixes.now (sym c.is_empty.ensures ∙ c.if-is_empty.true) in
+    let no_rows = ap (λ (l : List SharedFix). map fix_row (map fix_of l)) no_fixes in
+    let same = none_set (map fix_row (map fix_of c.args.fixes.now)) c.args.news.now t no_rows (none c.if-were_none.true) in
+    subst (λ (u : Tables). IsCall g.S.Store c.args.conn.now c.keep_rows.new.conn c.keep_rows.result (λ db. Holds db t) (λ db. Holds db u)) (sym same) (c.keep_rows.ensures t)
 
 pub returns : goal.returns
-returns g c t = whole_call g.S.Store c.args.conn.now _ c.commit.result _ _ (g.met.S.Store.shut_if_dirty _) (search (rules, step_as_made g.S.Store _ _ _ t _ c.in_ok-set_in.ensures.step))
+returns g c t none = c.replace_rows.ensures t

@@ -1,4 +1,4 @@
-use Rattle.std.proofs.Common.{◌≡◌, true, List, ℕ, sym, ap, ◌∙◌}
+use Rattle.std.proofs.Common.{◌≡◌, true, false, List, ℕ, sym, ap, ◌∙◌}
 use Rattle.std.specs.Cmp.Lexicographic.{bytes_decides}
 use Rattle.std.specs.Str.{bytes_eq}
 use Rattle.std.proofs.lemmas.Bool.{not-false}
@@ -14,3 +14,9 @@ returns-in-Some-2-clause-known c =
 
 pub returns-in-None-clause-known : goal.returns-in-None-clause-known
 returns-in-None-clause-known c = sym (unknown c.args.bytes.now c.args.self.now (ap (λ (d : List ℕ). has_digest d c.args.self.now) (sym c.requires) ∙ (c.in-None.ensures).absent))
+
+pub returns-in-Some-2-clause-absent : goal.returns-in-Some-2-clause-absent
+returns-in-Some-2-clause-absent c none = absurd (let never : true ≡ false = none in cc)
+
+pub returns-in-None-clause-absent : goal.returns-in-None-clause-absent
+returns-in-None-clause-absent c _ = (c.in-None.ensures).absent

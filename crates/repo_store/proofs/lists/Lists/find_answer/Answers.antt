@@ -8,11 +8,11 @@ use Rattle.repo_store.specs.Answers.{KeptAnswer}
 use Rattle.repo_store.specs.Faults.{IsRefusal}
 use Rattle.repo_store.specs.Index.{Key, key_of}
 use Rattle.repo_store.specs.Kept.{Mirror}
-use Rattle.repo_store.specs.KeptContents.{AreKnownFiles, IsKnownRecord}
+use Rattle.repo_store.specs.KeptContents.{AreKnownFiles, ArePlacedFiles, IsKnownRecord, IsPlacedRecord}
 use Rattle.repo_store.specs.Remembering.{AnyCollides}
 use Rattle.repo_store.specs.WrittenAnswers.{contents_of_key}
 use Rattle.repo_store.proofs.FixLemmas.{refusal_weaker}
-use Rattle.repo_store.proofs.SearchLemmas.{found_by_key, none_by_key, none_by_seen, none_by_words, seen_collide, words_collide}
+use Rattle.repo_store.proofs.SearchLemmas.{found_by_key, known_apart, none_by_key, none_by_seen, none_by_words, seen_collide, seen_placed, words_collide, words_placed}
 use Rattle.repo_store.proofs.lists.Lists.find_answer.Goals as goal
 
 pub returns-in_err-words-clause-why : goal.returns-in_err-words-clause-why
@@ -25,8 +25,8 @@ returns-in_err-words-clause-why c =
 pub returns-in_default-clause-found : goal.returns-in_default-clause-found
 returns-in_default-clause-found c =
     let kept = c.args.self.now.kept in
-    let unknown = rw c.in_default.is at (c.in_ok-words.ensures).unknown in
-    let here = subst (λ (m : Mirror). ¬ IsKnownRecord m.kept.contents (words_record c.args.words.now)) c.self.view_is unknown in
+    let absent = rw c.in_default.is at (c.in_ok-words.ensures).absent in
+    let here = subst (λ (m : Mirror). ¬ IsPlacedRecord m.kept.contents (words_record c.args.words.now)) c.self.view_is absent in
     sym (ap (option_map stored_answer) (none_by_words kept c.requires c.args.words.now c.args.seen.now here))
 
 pub returns-in_err-seen-clause-why : goal.returns-in_err-seen-clause-why
@@ -39,8 +39,8 @@ returns-in_err-seen-clause-why c =
 pub returns-in_default-2-clause-found : goal.returns-in_default-2-clause-found
 returns-in_default-2-clause-found c =
     let kept = c.args.self.now.kept in
-    let unknown = rw c.in_default-2.is at (c.in_ok-seen.ensures).unknown in
-    let here = subst (λ (m : Mirror). ¬ AreKnownFiles m.kept.contents c.args.seen.now) c.self.view_is unknown in
+    let absent = rw c.in_default-2.is at (c.in_ok-seen.ensures).absent in
+    let here = subst (λ (m : Mirror). ¬ ArePlacedFiles m.kept.contents c.args.seen.now) c.self.view_is absent in
     sym (ap (option_map stored_answer) (none_by_seen kept c.requires c.args.words.now c.args.seen.now here))
 
 pub returns-in_ok-stored-in-Some-find-clause-found : goal.returns-in_ok-stored-in-Some-find-clause-found
@@ -64,3 +64,29 @@ returns-in-None-clause-found c =
     let absent = subst (λ (m : Mirror). AllByRecursion (λ (a : KeptAnswer). ¬ (key_of a ≡ (c.in-Some.words, c.in-Some-2.seen))) m.kept.answers) c.self.view_is (c.in-None.ensures).absent in
     let none = subst (λ (q : Key). AllByRecursion (λ (a : KeptAnswer). ¬ (key_of a ≡ q)) kept.answers) same absent in
     sym (ap (option_map stored_answer) (none_by_key kept c.requires c.args.words.now c.args.seen.now none))
+
+pub returns-in_default-clause-apart : goal.returns-in_default-clause-apart
+returns-in_default-clause-apart c placed =
+    let kept = c.args.self.now.kept in
+    let absent = rw c.in_default.is at (c.in_ok-words.ensures).absent in
+    let here = subst (λ (m : Mirror). ¬ IsPlacedRecord m.kept.contents (words_record c.args.words.now)) c.self.view_is absent in
+    absurd (here (words_placed kept.contents c.args.words.now c.args.seen.now placed))
+
+pub returns-in_default-2-clause-apart : goal.returns-in_default-2-clause-apart
+returns-in_default-2-clause-apart c placed =
+    let kept = c.args.self.now.kept in
+    let absent = rw c.in_default-2.is at (c.in_ok-seen.ensures).absent in
+    let here = subst (λ (m : Mirror). ¬ ArePlacedFiles m.kept.contents c.args.seen.now) c.self.view_is absent in
+    absurd (here (seen_placed kept.contents c.args.words.now c.args.seen.now placed))
+
+pub returns-in_ok-stored-in-Some-find-clause-apart : goal.returns-in_ok-stored-in-Some-find-clause-apart
+returns-in_ok-stored-in-Some-find-clause-apart c placed =
+    let words_known = subst (λ (m : Mirror). IsKnownRecord m.kept.contents (words_record c.args.words.now)) c.self.view_is (rw c.in-Some.is at (c.in_ok-words.ensures).known) in
+    let seen_known = subst (λ (m : Mirror). AreKnownFiles m.kept.contents c.args.seen.now) c.self.view_is (rw c.in-Some-2.is at (c.in_ok-seen.ensures).known) in
+    known_apart c.args.self.now.kept.contents c.args.words.now c.args.seen.now c.requires.apart words_known seen_known
+
+pub returns-in-None-clause-apart : goal.returns-in-None-clause-apart
+returns-in-None-clause-apart c placed =
+    let words_known = subst (λ (m : Mirror). IsKnownRecord m.kept.contents (words_record c.args.words.now)) c.self.view_is (rw c.in-Some.is at (c.in_ok-words.ensures).known) in
+    let seen_known = subst (λ (m : Mirror). AreKnownFiles m.kept.contents c.args.seen.now) c.self.view_is (rw c.in-Some-2.is at (c.in_ok-seen.ensures).known) in
+    known_apart c.args.self.now.kept.contents c.args.words.now c.args.seen.now c.requires.apart words_known seen_known
