@@ -311,6 +311,37 @@ CAT = [
     (*stage("a/b", "x"), *line("cat", "a"), refused("4 NotStaged")),
 ]
 
+
+def missing(path, what):
+    """What `cat` ends with where there is no such file."""
+    return ended(3, err=f"hookhost: no {what.replace('PATH', path)}\n")
+
+
+# The bytes that a fix gives to a file, and those of a commit.
+HALF_FIXED = (*stage("a", "x"), *stage("b", "y"), "fixes", "a\tfixed\nb")
+VERSIONS = [
+    (*HALF_FIXED, *line("cat_fixed", "a"), *line("cat", "a"), *STORE, done("fixed") + done("x") + kept(A_AND_B, fixes=2)),
+    # A fix that takes the file out gives it no bytes, and nor does any to a file that is staged without one.
+    (*HALF_FIXED, *line("cat_fixed", "b"), *STORE, missing("b", "fixed bytes of PATH") + kept(A_AND_B, fixes=2)),
+    (*stage("a", "x"), *line("cat_fixed", "a"), missing("a", "fixed bytes of PATH")),
+    (*line("cat_fixed", "a"), missing("a", "fixed bytes of PATH")),
+    (*HALF_FIXED, *line("accept"), *line("cat_fixed", "a"), *line("cat", "a"), done("accepted: 2\n") + missing("a", "fixed bytes of PATH") + done("fixed")),
+    (*line("cat_fixed", "a//b"), refused("3 BadPath 4")),
+    (*line("cat_commit", "1", "a//b"), refused("3 BadPath 4")),
+    # A commit keeps its bytes, whatever is staged later.
+    (
+        *stage("a", "1"), *stage("b", "x"), "commit", "m", *stage("a", "2"), "unstage", "b", "commit", "n", *stage("a", "3"),
+        *line("cat_commit", "1", "a"), *line("cat_commit", "2", "a"), *line("cat", "a"), *line("cat_commit", "1", "b"), *line("cat_commit", "2", "b"),
+        done("1") + done("2") + done("3") + done("x") + missing("b", "PATH in commit 2"),
+    ),
+    (*stage("a", b"\x00\xff\r\n"), "commit", "m", *line("cat_commit", "1", "a"), done(b"\x00\xff\r\n")),
+    (*stage("a", ""), "commit", "m", *line("cat_commit", "1", "a"), done()),
+    *((*stage("a", "1"), "commit", "m", *line("cat_commit", number, "a"), missing("a", f"commit {number}")) for number in ("0", "2", "4294967295")),
+    (*line("cat_commit", "1", "a"), missing("a", "commit 1")),
+    # A folder of a file is none.
+    (*stage("a/b", "x"), "commit", "m", *line("cat_commit", "1", "a"), missing("a", "PATH in commit 1")),
+]
+
 # Messages, and what `log` says of a first commit with each.
 FIRST_LINES = [
     ("one\n", "1 one\n"),
@@ -802,4 +833,4 @@ MEMORY = [
     ),
 ]
 
-ROWS = [("command_over", *row) for row in [*RUNS, *COMMITS, *REMEMBERED, *STEADY, *COMMITTED, *MEMORY, *EMPTY, *ADDED, *REMOVED, *BAD_PATHS, *GOOD_PATHS, *CLASHES, *TOO_LARGE, *FIXES, *STATUS, *CAT, *LOG, *SHOW, *WRITERS]]
+ROWS = [("command_over", *row) for row in [*RUNS, *COMMITS, *REMEMBERED, *STEADY, *COMMITTED, *MEMORY, *EMPTY, *ADDED, *REMOVED, *BAD_PATHS, *GOOD_PATHS, *CLASHES, *TOO_LARGE, *FIXES, *STATUS, *CAT, *VERSIONS, *LOG, *SHOW, *WRITERS]]

@@ -239,7 +239,7 @@ LINES = [
         "  add        Stages a file of the current folder\n"
         "  rm         Takes a path out of the staged files\n"
         "  status     Prints which staged files differ from those of the last commit\n"
-        "  cat        Prints the bytes of a staged file\n"
+        "  cat        Prints the bytes of a staged file, of its fix or of a commit's file\n"
         "  run        Runs the hooks of the staged configuration on staged files, and prints the report\n"
         "  run-files  Runs the hooks of the staged configuration on the named staged files\n"
         "  fixes      Prints the fixes, which accept applies to the staged files\n"
@@ -277,7 +277,7 @@ USAGES = {
     "status": "status",
     "fixes": "fixes",
     "accept": "accept",
-    "cat": "cat <PATH>",
+    "cat": "cat [--fixed | --commit=<N>] <PATH>",
     "log": "log",
     "show": "show <N>",
     "memory": "memory",
@@ -306,8 +306,12 @@ def no_mode(value):
     return f"invalid value '{value}' for '--chmod <MODE>': only +x is allowed"
 
 
-def no_number(value):
-    return f"invalid value '{value}' for '<N>': it has to be a number up to 4294967295"
+def no_number(value, name="<N>"):
+    return f"invalid value '{value}' for '{name}': it has to be a number up to 4294967295"
+
+
+def both_versions(value):
+    return f"invalid value '{value}' for '--commit <N>': it can't stand beside --fixed"
 
 
 # Words of the commands on a repository, and what they ask for.
@@ -325,6 +329,16 @@ REPOSITORY_LINES = [
     (["fixes"], "fixes\n"),
     (["accept"], "accept\n"),
     (["cat", "a"], "cat\na\n"),
+    (["cat", "--fixed", "a"], "cat fixed\na\n"),
+    (["cat", "a", "--fixed"], "cat fixed\na\n"),
+    (["cat", "--", "--fixed"], "cat\n--fixed\n"),
+    (["cat", "--commit=1", "a"], "cat commit 1\na\n"),
+    (["cat", "--commit", "0", "a"], "cat commit 0\na\n"),
+    (["cat", "a", "--commit=+4294967295"], "cat commit 4294967295\na\n"),
+    (["cat", "--commit=4294967296", "a"], refused("cat", "InvalidValue", no_number("4294967296", "--commit <N>"))),
+    (["cat", "--commit=", "a"], refused("cat", "InvalidValue", no_number("", "--commit <N>"))),
+    (["cat", "--commit=x", "--fixed", "a"], refused("cat", "InvalidValue", both_versions("x"))),
+    (["cat", "--fixed", "--commit=1", "a"], refused("cat", "InvalidValue", both_versions("1"))),
     (["log"], "log\n"),
     (["show", "0"], "show\n0\n"),
     (["show", "007"], "show\n7\n"),

@@ -1,5 +1,5 @@
 -- From what `clap` answers to the values of a command.
-use Rattle.std.proofs.Common.{◌≡◌, ◌≢◌, ◌∙◌, ap, codes, refl, subst, sym, false, true, ◌-◌, ◌^◌, ℕ, List, [], ◌∷◌, Option, None, Some, Ok, Err, Result, Bor, option_map, arith}
+use Rattle.std.proofs.Common.{◌≡◌, ◌≢◌, ◌∙◌, ap, ap₂, codes, refl, subst, sym, Bool, false, true, ◌-◌, ◌^◌, ℕ, List, [], ◌∷◌, Option, None, Some, Ok, Err, Result, Bor, option_map, arith}
 use Rattle.std.proofs.lemmas.Bool.{false_from_ne_true}
 use Rattle.std.proofs.lemmas.Slice.Eq.{bytes_eq-Decides}
 use Rattle.std.specs.Prelude.{unwrap_or}
@@ -12,8 +12,10 @@ use Rattle.clap.specs.declared.error.Error.{Error}
 use Rattle.clap.specs.declared.error.kind.ErrorKind.TheVariants.{InvalidValue}
 use Rattle.clap.proofs.ValueTestLemmas.{Accepts-accepts, accepts-Accepts}
 use Rattle.hook_base.specs.declared.file.Mode.TheVariants.{Executable}
+use Rattle.command_line.specs.declared.line.FileVersion.{FileVersion}
+use Rattle.command_line.specs.declared.line.FileVersion.TheVariants.{Staged, Fixed, Committed}
 use Rattle.command_line.specs.declared.line.StageChoice.TheVariants.{PreCommit, Manual}
-use Rattle.command_line.specs.CommandLine.{mode_in, number_in, stage_in, value_fault}
+use Rattle.command_line.specs.CommandLine.{IsValueOf, mode_in, number_in, stage_in, value_fault, version_in}
 
 pub text_or : (found : Option (Bor (List ℕ))) (empty : Bor (List ℕ)) (text : List ℕ) (rows : Option (List ℕ))
     → empty.now ≡ [] → option_map (λ s. s.now) found ≡ rows → text ≡ (unwrap_or found empty).now → text ≡ unwrap_or rows []
@@ -65,6 +67,41 @@ number-refused text {E} parsed refused error reads is kind =
     let most = accepted.3 in
     none (accepted.0, omega (arith, most))) in
     rw fails kind
+
+-- ---- which bytes are asked for
+
+number-none : (text : Text) {E : Type 0} (parsed : Result ℕ E) (refused : E) → ParsesUnsigned 32 10 text parsed → parsed ≡ Err refused → number_in text ≡ None
+number-none text {E} parsed refused reads is =
+    let none : ParsesUnsigned {E = E} 32 10 text (Err refused) = subst (ParsesUnsigned {E = E} 32 10 text) is reads in
+    let fails : is_unsigned_in 0 (2 ^ 32 - 1) text ≡ false = false_from_ne_true _ (λ e.
+    let accepted = accepts-Accepts false (Unsigned 0 (2 ^ 32 - 1)) text e in
+    let most = accepted.3 in
+    none (accepted.0, omega (arith, most))) in
+    rw fails refl
+
+pub commit-read : (text : Text) {E : Type 0} (parsed : Result ℕ E) (number : ℕ) → ParsesUnsigned 32 10 text parsed → parsed ≡ Ok number
+    → version_in false (Some text) ≡ Some (Committed number)
+commit-read text {E} parsed number reads is = ap (option_map Committed) (number-read text parsed number reads is)
+
+pub commit-refused : (text : Text) {E : Type 0} (parsed : Result ℕ E) (refused : E) (error : Error) → ParsesUnsigned 32 10 text parsed → parsed ≡ Err refused
+    → HasKind (InvalidValue ∷ []) error → HasKind (value_fault (version_in false (Some text))) error
+commit-refused text {E} parsed refused error reads is kind = rw (number-none text parsed refused reads is) kind
+
+module _ (flag fixed : Bool) (found given : Option Text) (held : Option (Bor Text)) (asked : fixed ≡ flag) (known : option_map (λ s. s.now) held ≡ found) (same : found ≡ given) where
+  asked-is : (wanted : Bool) (value : Option (Bor Text)) → fixed ≡ wanted → held ≡ value → version_in flag given ≡ version_in wanted (option_map (λ s. s.now) value)
+  asked-is wanted value is_so is = ap₂ version_in (sym asked ∙ is_so) (given-is found given held value known same is)
+
+  pub version-fixed : fixed ≡ true → held ≡ None → version_in flag given ≡ Some Fixed
+  version-fixed asked_so is = asked-is true None asked_so is
+
+  pub version-staged : fixed ≡ false → held ≡ None → version_in flag given ≡ Some Staged
+  version-staged unasked is = asked-is false None unasked is
+
+  pub versions-refused : (value : Bor Text) (error : Error) → fixed ≡ true → held ≡ Some value → HasKind (InvalidValue ∷ []) error → HasKind (value_fault (version_in flag given)) error
+  versions-refused value error asked_so is kind = subst (λ (v : Option FileVersion). HasKind (value_fault v) error) (sym (asked-is true (Some value) asked_so is)) kind
+
+  pub version-committed : (value : Bor Text) (result : Result FileVersion Error) → fixed ≡ false → held ≡ Some value → IsValueOf (version_in false (Some value.now)) result → IsValueOf (version_in flag given) result
+  version-committed value result unasked is of = subst (λ (v : Option FileVersion). IsValueOf v result) (sym (asked-is false (Some value) unasked is)) of
 
 -- ---- the stage
 

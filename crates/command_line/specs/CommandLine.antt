@@ -1,5 +1,5 @@
 -- The command line of the program, as `clap` sees it, and what a line of words asks for.
-use Rattle.std.specs.Prelude.{◌≡◌, Bool, ◌-◌, ◌^◌, ℕ, List, [], ◌∷◌, Option, Some, None, Result, MatchResult, true, codes, fold, option_and_then, option_map, unwrap_or, if◌then◌else◌}
+use Rattle.std.specs.Prelude.{◌≡◌, Bool, ◌-◌, ◌^◌, ℕ, List, [], ◌∷◌, Option, Some, None, Result, MatchResult, true, false, codes, fold, option_and_then, option_map, unwrap_or, if◌then◌else◌}
 use Rattle.std.specs.List.{list_any}
 use Rattle.std.specs.Str.{bytes_eq}
 use Rattle.std.specs.Str.Parse.{digits_value, without_leading_plus}
@@ -15,6 +15,8 @@ use Rattle.hook_base.specs.declared.file.Mode.{Mode}
 use Rattle.hook_base.specs.declared.file.Mode.TheVariants.{Executable}
 use Rattle.command_line.specs.declared.line.FileChoice.{FileChoice}
 use Rattle.command_line.specs.declared.line.FileChoice.TheVariants.{Changed, All, Named}
+use Rattle.command_line.specs.declared.line.FileVersion.{FileVersion}
+use Rattle.command_line.specs.declared.line.FileVersion.TheVariants.{Staged, Fixed, Committed}
 use Rattle.command_line.specs.declared.line.Line.{Line}
 use Rattle.command_line.specs.declared.line.StageChoice.{StageChoice}
 use Rattle.command_line.specs.declared.line.StageChoice.TheVariants.{PreCommit, Manual}
@@ -43,6 +45,10 @@ flag_rule name = record (new_rule name) { long = Some name; action = Some SetTru
 -- `--hook-stage=STAGE`, which may be left out
 abbrev pub stage_rule : Rule
 stage_rule = record (new_rule (codes "hook-stage")) { long = Some (codes "hook-stage"); value_names = 1 }
+
+-- `--commit=N`, which may be left out
+abbrev pub commit_rule : Rule
+commit_rule = record (new_rule (codes "commit")) { long = Some (codes "commit"); value_names = 1 }
 
 -- `-m TEXT`: 109 is the character `m`
 abbrev pub message_rule : Rule
@@ -93,9 +99,9 @@ accept_app = new_app (codes "accept")
 abbrev pub commit_app : App
 commit_app = with_rule (with_rule (new_app (codes "commit")) (flag_rule (codes "no-verify"))) message_rule
 
--- `cat PATH`
+-- `cat [--fixed] [--commit=N] PATH`
 abbrev pub cat_app : App
-cat_app = with_rule (new_app (codes "cat")) (word_rule (codes "PATH"))
+cat_app = with_rule (with_rule (with_rule (new_app (codes "cat")) (flag_rule (codes "fixed"))) commit_rule) (word_rule (codes "PATH"))
 
 abbrev pub log_app : App
 log_app = new_app (codes "log")
@@ -167,6 +173,13 @@ abbrev pub number_in : Text → Option ℕ
 number_in text =
     if is_unsigned_in 0 (2 ^ 32 - 1) text then Some (digits_value 10 (without_leading_plus text)) else None
 
+-- the bytes that `--fixed` or `--commit` asks for: those of a commit by its number, and not both beside one another
+abbrev pub version_in : Bool → Option Text → Option FileVersion
+version_in true None = Some Fixed
+version_in false None = Some Staged
+version_in true (Some text) = None
+version_in false (Some text) = option_map Committed (number_in text)
+
 -- ---- what a line of words asks for
 
 abbrev pub try_line : List Row → Line
@@ -188,6 +201,9 @@ run_files_line rows =
 abbrev pub commit_line : List Row → Line
 commit_line rows = Commit (word_in (codes "message") rows) (flag_in (codes "no-verify") rows)
 
+abbrev pub cat_line : List Row → Option Line
+cat_line rows = option_map (Cat (word_in (codes "PATH") rows)) (version_in (flag_in (codes "fixed") rows) (first_of (codes "commit") rows))
+
 abbrev pub show_line : List Row → Option Line
 show_line rows = option_map Show (number_in (word_in (codes "N") rows))
 
@@ -205,7 +221,7 @@ line_by name rows =
     else (if bytes_eq name (codes "fixes") then Some Fixes
     else (if bytes_eq name (codes "accept") then Some Accept
     else (if bytes_eq name (codes "commit") then Some (commit_line rows)
-    else (if bytes_eq name (codes "cat") then Some (Cat (word_in (codes "PATH") rows))
+    else (if bytes_eq name (codes "cat") then cat_line rows
     else (if bytes_eq name (codes "log") then Some Log
     else (if bytes_eq name (codes "show") then show_line rows
     else (if bytes_eq name (codes "memory") then Some Memory

@@ -4,10 +4,12 @@
 
 ghost use Rattle.std.specs.Prelude.{◌≡◌, IfOk, Some, is_some, map, option_map, true};
 ghost use Rattle.clap.specs.Words.{FailsBy, fault_of, found_of, rows_of, subcommand_of, subcommand_rows_of};
-ghost use Rattle.command_line.specs.CommandLine.{IsValueOf, add_line, commit_line, hookhost_app, is_command, line_asked, line_by, line_fault, run_files_line, run_line, show_line, try_line, files_in};
+ghost use Rattle.command_line.specs.CommandLine.{IsValueOf, add_line, cat_line, commit_line, hookhost_app, is_command, line_asked, line_by, line_fault, run_files_line, run_line, show_line, try_line, files_in};
 
 use crate::commands::hookhost;
-use crate::values::{flag_of, maybe_text_of, mode_of, number_of, stage_of, text_of, texts_of};
+use crate::values::{
+    flag_of, maybe_text_of, mode_of, number_of, stage_of, text_of, texts_of, version_of,
+};
 use crate::{FileChoice, Line};
 use clap::{ArgMatches, Error};
 use std::alloc::{AllocError, Global};
@@ -16,8 +18,8 @@ use std::alloc::{AllocError, Global};
 ///
 /// An error's text says what the words lack, or which value can't be taken, or is the help that they ask for. Its kind
 /// is `OutOfMemory` where memory was refused, the one that `clap` states for these words, or else `InvalidValue`: for
-/// another `--chmod` than `+x` or another `--hook-stage` than `pre-commit` and `manual`, or where the number of `show` isn't
-/// one of 32 bits.
+/// another `--chmod` than `+x` or another `--hook-stage` than `pre-commit` and `manual`, for `--commit` beside `--fixed`, or where
+/// the number of `show` or of `--commit` isn't one of 32 bits.
 pub fn line_of<'a>(alloc: Global, words: &'a [&'a str]) -> Result<Line, Error>
     ensures line { IfOk result (λ line. line_asked (map (λ s. s.now) words.entry.now) ≡ Some line) }
     ensures fault { FailsBy (line_fault (map (λ s. s.now) words.entry.now)) result }
@@ -64,9 +66,7 @@ fn line_by(alloc: Global, name: &str, values: &ArgMatches<'_>) -> Result<Line, E
         "fixes" => Ok(Line::Fixes),
         "accept" => Ok(Line::Accept),
         "commit" => Ok(commit_line(alloc, values)?),
-        "cat" => Ok(Line::Cat {
-            path: text_of(alloc, values, "PATH")?,
-        }),
+        "cat" => cat_line(alloc, values),
         "log" => Ok(Line::Log),
         "show" => show_line(alloc, values),
         "memory" => Ok(Line::Memory),
@@ -133,6 +133,15 @@ fn commit_line(alloc: Global, values: &ArgMatches<'_>) -> Result<Line, AllocErro
     Ok(Line::Commit {
         message: text_of(alloc, values, "message")?,
         no_verify: flag_of(values, "no-verify"),
+    })
+}
+
+fn cat_line(alloc: Global, values: &ArgMatches<'_>) -> Result<Line, Error>
+    ensures { IsValueOf (cat_line (rows_of (found_of values.now))) result }
+{
+    Ok(Line::Cat {
+        path: text_of(alloc, values, "PATH")?,
+        version: version_of(alloc, values)?,
     })
 }
 

@@ -5,7 +5,7 @@
 ghost use Rattle.std.specs.Prelude.{◌≡◌, ◌∷◌, IfOk, [], false};
 ghost use Rattle.clap.specs.Words.{app_of, new_rule, rule_of};
 ghost use Rattle.clap.specs.declared.builder.Command.TheViews.{out-Command as fields_of};
-ghost use Rattle.command_line.specs.CommandLine.{accept_app, add_app, cat_app, check_app, chmod_rule, commit_app, fixes_app, flag_rule, forget_app, hookhost_app, hookhost_base, init_app, log_app, memory_app, message_rule, remove_app, run_app, run_files_app, run_with_options_app, show_app, stage_rule, status_app, try_app, with_commands, word_rule, words_rule};
+ghost use Rattle.command_line.specs.CommandLine.{accept_app, add_app, cat_app, check_app, chmod_rule, commit_app, commit_rule, fixes_app, flag_rule, forget_app, hookhost_app, hookhost_base, init_app, log_app, memory_app, message_rule, remove_app, run_app, run_files_app, run_with_options_app, show_app, stage_rule, status_app, try_app, with_commands, word_rule, words_rule};
 
 use crate::help::{CHECK_HELP, PROGRAM_HELP, TRY_HELP};
 use crate::repository_help::{
@@ -255,15 +255,22 @@ fn commit_command<'a>(alloc: Global) -> Result<Command<'a>, AllocError>
         .arg(message(alloc))
 }
 
-fn cat_command<'a>(alloc: Global) -> Result<Command<'a>, AllocError>
+/// `cat [--fixed] [--commit=N] PATH`.
+pub(crate) fn cat_command<'a>(alloc: Global) -> Result<Command<'a>, AllocError>
     ensures app { IfOk result (λ command. app_of command ≡ cat_app) }
     ensures local { IfOk result (λ command. (fields_of command).has_globals ≡ false) }
 {
     Command::new(alloc, "cat")
-        .about("Prints the bytes of a staged file")
-        .override_usage("hookhost cat <PATH>")
+        .about("Prints the bytes of a staged file, of its fix or of a commit's file")
+        .override_usage("hookhost cat [--fixed | --commit=<N>] <PATH>")
         .after_help(CAT_HELP)
-        .arg(word(alloc, "PATH", "The path of a staged file"))
+        .arg(flag(
+            alloc,
+            "fixed",
+            "Prints the bytes that accept would stage in place of them",
+        ))?
+        .arg(commit_number(alloc))?
+        .arg(word(alloc, "PATH", "The path of the file"))
 }
 
 fn log_command<'a>(alloc: Global) -> Command<'a>
@@ -340,6 +347,16 @@ fn chmod<'a>(alloc: Global) -> Arg<'a>
         .long("chmod")
         .value_name("MODE")
         .help("The file's mode: +x makes it executable")
+}
+
+fn commit_number<'a>(alloc: Global) -> Arg<'a>
+    ensures rule { rule_of result ≡ commit_rule }
+    ensures local { result.global ≡ false }
+{
+    Arg::new(alloc, "commit")
+        .long("commit")
+        .value_name("N")
+        .help("Prints the bytes in the commit with this number")
 }
 
 fn flag<'a>(alloc: Global, id: &'a str, help: &'a str) -> Arg<'a>

@@ -11,4 +11,4 @@ mod repository_help;
 mod values;
 
 pub use command_line::line_of;
-pub use line::{FileChoice, Line, StageChoice};
+pub use line::{FileChoice, FileVersion, Line, StageChoice};

@@ -52,10 +52,12 @@ pub enum Line {
         /// Whether the hooks of `pre-commit` and `commit-msg` are left out.
         no_verify: bool,
     },
-    /// The bytes of a staged file.
+    /// The bytes of a file of the repository.
     Cat {
         /// The path, as a text that needn't be one.
         path: Text,
+        /// Which of the path's bytes.
+        version: FileVersion,
     },
     /// The commits, the newest first.
     Log,
@@ -79,6 +81,17 @@ pub enum FileChoice {
     All,
     /// These, as texts that needn't be paths.
     Named(Items<Text>),
+}
+
+/// Which bytes of a path are looked up.
+#[derive(Clone, Copy, Debug)]
+pub enum FileVersion {
+    /// Those that are staged.
+    Staged,
+    /// Those that the fixes give to it.
+    Fixed,
+    /// Those of the commit with this number.
+    Committed(u32),
 }
 
 /// A stage that a line may ask for.

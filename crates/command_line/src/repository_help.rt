@@ -249,15 +249,23 @@ Example:
 pub(crate) const CAT_HELP: &str = opening_help!(
     "\
 Nothing is added to the bytes. They are those that were staged, and the file in the
-folder may have others by now.
+folder may have others by now. With --fixed they are those that a hook gave to the
+file, which accept would stage, and with --commit those of a commit.
 
-Example:
-  hookhost cat README.md",
+Examples:
+  hookhost cat README.md
+  hookhost cat --fixed README.md > README.md    take a fix over into the folder
+  hookhost cat --commit=1 README.md",
     "
    3 BadPath N    PATH isn't allowed; docs/REFERENCE.md has the number N
                   name a path inside the folder, and none below .git
    4 NotStaged    nothing is staged at PATH
-                  stage it first, by hookhost add"
+                  stage it first, by hookhost add
+
+'hookhost: no fixed bytes of PATH' says that no fix gives bytes to it: see hookhost
+fixes. 'hookhost: no commit N' says that no commit has that number, and
+'hookhost: no PATH in commit N' that the commit has no such file: hookhost show N
+lists its files."
 );
 
 /// Behind the help of `log`.

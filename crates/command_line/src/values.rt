@@ -2,13 +2,13 @@
 //!
 //! The contracts cite `specs/CommandLine.antt`.
 
-ghost use Rattle.std.specs.Prelude.{◌≡◌, ◌∷◌, IfOk, [], codes, map};
+ghost use Rattle.std.specs.Prelude.{◌≡◌, ◌∷◌, IfOk, Some, [], codes, false, map};
 ghost use Rattle.clap.specs.Words.{HasKind, first_of, found_of, rows_of};
 ghost use Rattle.clap.specs.declared.error.kind.ErrorKind.TheVariants.{InvalidValue};
-ghost use Rattle.command_line.specs.CommandLine.{IsValueOf, flag_in, mode_in, number_in, stage_in, word_in, words_in};
+ghost use Rattle.command_line.specs.CommandLine.{IsValueOf, flag_in, mode_in, number_in, stage_in, version_in, word_in, words_in};
 
-use crate::StageChoice;
-use crate::commands::{add_command, run_command, run_files_command, show_command};
+use crate::commands::{add_command, cat_command, run_command, run_files_command, show_command};
+use crate::{FileVersion, StageChoice};
 use clap::error::ErrorKind;
 use clap::{ArgMatches, Command, Error};
 use hook_base::{Items, Mode, Text};
@@ -111,6 +111,29 @@ pub(crate) fn number_of(alloc: Global, values: &ArgMatches<'_>) -> Result<u32, E
     }
 }
 
+/// The bytes that `--fixed` or `--commit` asks for. Both beside one another are an error, and so is a commit that is no number.
+pub(crate) fn version_of(alloc: Global, values: &ArgMatches<'_>) -> Result<FileVersion, Error>
+    ensures { IsValueOf (version_in (flag_in (codes "fixed") (rows_of (found_of values.now))) (first_of (codes "commit") (rows_of (found_of values.now)))) result }
+{
+    let is_fixed = flag_of(values, "fixed");
+    match values.get_str("commit") {
+        None if is_fixed => Ok(FileVersion::Fixed),
+        None => Ok(FileVersion::Staged),
+        Some(text) if is_fixed => Err(versions_error(alloc, text)),
+        Some(text) => commit_of(alloc, text),
+    }
+}
+
+// The commit of this number.
+fn commit_of(alloc: Global, text: &str) -> Result<FileVersion, Error>
+    ensures { IsValueOf (version_in false (Some text.now)) result }
+{
+    match text.parse::<u32>() {
+        Ok(number) => Ok(FileVersion::Committed(number)),
+        Err(_) => Err(commit_error(alloc, text)),
+    }
+}
+
 fn chmod_error(alloc: Global, text: &str) -> Error
     ensures { HasKind (InvalidValue ∷ []) result }
 {
@@ -149,17 +172,39 @@ fn command_of_runs<'a>(alloc: Global, name: &str) -> Result<Command<'a>, AllocEr
 fn number_error(alloc: Global, text: &str) -> Error
     ensures { HasKind (InvalidValue ∷ []) result }
 {
-    match number_message(alloc, text) {
+    match number_message(alloc, text, "<N>") {
         Ok(message) => error_of(show_command(alloc), message.as_str()),
         Err(refused) => Error::from(refused),
     }
 }
 
-fn number_message(alloc: Global, text: &str) -> Result<String, AllocError> {
+fn commit_error(alloc: Global, text: &str) -> Error
+    ensures { HasKind (InvalidValue ∷ []) result }
+{
+    match number_message(alloc, text, "--commit <N>") {
+        Ok(message) => error_of(cat_command(alloc), message.as_str()),
+        Err(refused) => Error::from(refused),
+    }
+}
+
+fn number_message(alloc: Global, text: &str, name: &str) -> Result<String, AllocError> {
     format!(in alloc;
-        "invalid value '{text}' for '<N>': it has to be a number up to {}",
+        "invalid value '{text}' for '{name}': it has to be a number up to {}",
         u32::MAX
     )
+}
+
+fn versions_error(alloc: Global, text: &str) -> Error
+    ensures { HasKind (InvalidValue ∷ []) result }
+{
+    match versions_message(alloc, text) {
+        Ok(message) => error_of(cat_command(alloc), message.as_str()),
+        Err(refused) => Error::from(refused),
+    }
+}
+
+fn versions_message(alloc: Global, text: &str) -> Result<String, AllocError> {
+    format!(in alloc; "invalid value '{text}' for '--commit <N>': it can't stand beside --fixed")
 }
 
 // The error of a value that the command doesn't take, with its usage.

@@ -10,7 +10,7 @@ use Rattle.hook_cli.specs.declared.command_ending.CommandEnding.{CommandEnding}
 use Rattle.hook_cli.specs.declared.command_ending.CommandEnding.TheVariants.{CutOff}
 use Rattle.text_output.specs.Outputs.{Has, HasBeginning, IsSilent, Output}
 use Rattle.hook_cli.specs.Printing.{IsSaid, IsTold, untaken_line}
-use Rattle.hook_cli.specs.RefusalText.{inner_text, no_commit_text, refusal_text}
+use Rattle.hook_cli.specs.RefusalText.{inner_text, no_commit_text, no_file_text, no_fixed_text, refusal_text}
 
 plain_pieces : (head number name : List ℕ) → head ++ (number ++ (32 ∷ (name ++ (10 ∷ [])))) ≡ line (head ++ number ++ codes " " ++ name ++ [])
 plain_pieces head number name = simp (append_assoc, append-nil)
@@ -49,6 +49,26 @@ pub told-no-commit : (wanted : CommandEnding) (err : Output) (ending : CommandEn
 told-no-commit wanted err ending digits number is told =
     subst (λ (text : List ℕ). IsTold wanted err text ending)
     (sym (append_assoc no_commit_head digits (10 ∷ [])) ∙ ap (λ digits. line (no_commit_head ++ digits)) is) told
+
+abbrev no_fixed_head : List ℕ
+no_fixed_head = codes "hookhost: no fixed bytes of "
+
+pub told-no-fixed : (wanted : CommandEnding) (err : Output) (ending : CommandEnding) (path : List ℕ)
+    → IsTold wanted err (no_fixed_head ++ (path ++ (10 ∷ []))) ending → IsTold wanted err (no_fixed_text path) ending
+told-no-fixed wanted err ending path told =
+    subst (λ (text : List ℕ). IsTold wanted err text ending) (sym (append_assoc no_fixed_head path (10 ∷ []))) told
+
+abbrev no_file_head : List ℕ
+no_file_head = codes "hookhost: no "
+
+file_pieces : (head path behind digits : List ℕ) → head ++ (path ++ (behind ++ (digits ++ (10 ∷ [])))) ≡ line (head ++ path ++ behind ++ digits)
+file_pieces head path behind digits = simp append_assoc
+
+pub told-no-file : (wanted : CommandEnding) (err : Output) (ending : CommandEnding) (path digits : List ℕ) (number : ℕ) → digits ≡ decimal number
+    → IsTold wanted err (no_file_head ++ (path ++ (codes " in commit " ++ (digits ++ (10 ∷ []))))) ending → IsTold wanted err (no_file_text number path) ending
+told-no-file wanted err ending path digits number is told =
+    subst (λ (text : List ℕ). IsTold wanted err text ending)
+    (file_pieces no_file_head path (codes " in commit ") digits ∙ ap (λ digits. line (no_file_head ++ path ++ codes " in commit " ++ digits)) is) told
 
 -- ---- the text of what is done
 

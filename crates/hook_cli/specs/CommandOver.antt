@@ -11,7 +11,7 @@ use Rattle.hook_run.specs.Moments.{Moment, moment}
 use Rattle.repo_store.specs.AllOrNothing.{IsAllOrNothing}
 use Rattle.repo_store.specs.Contents.{Collides}
 use Rattle.repo_store.specs.Kept.{Kept, accepting, forgetting, staging, unstaging}
-use Rattle.repo_store.specs.Repository.{Repository, commit_at, last_tree}
+use Rattle.repo_store.specs.Repository.{Repository, commit_at, fixed_bytes, last_tree, tree_at}
 use Rattle.result_book.specs.Contents.{count_of}
 use Rattle.result_book.specs.StoreBooks.{remembered_by}
 use Rattle.commit_flow.specs.declared.command.Command.{Command}
@@ -33,11 +33,14 @@ use Rattle.commit_flow.specs.KeptByHooks.{KeepsForCommit, KeepsForRun}
 use Rattle.commit_flow.specs.declared.host.Host.{Host}
 use Rattle.commit_flow.specs.Plays.{HasForgotten}
 use Rattle.commit_flow.specs.RunSteps.{IsRunStep, IsStoppedStep, reply_of_run}
-use Rattle.commit_flow.specs.StagedPaths.{IsLegal, IsStaged}
+use Rattle.commit_flow.specs.StagedPaths.{IsLegal}
 use Rattle.commit_flow.specs.Steps.{Step, entry_to_add}
 use Rattle.commit_flow.specs.CommitSteps.{IsCommitStep}
 use Rattle.command_line.specs.declared.line.FileChoice.{FileChoice}
 use Rattle.command_line.specs.declared.line.FileChoice.TheVariants.{Changed, All, Named}
+use Rattle.command_line.specs.declared.line.FileVersion.{FileVersion}
+use Rattle.command_line.specs.declared.line.FileVersion.TheVariants.{Staged, Fixed}
+use Rattle.command_line.specs.declared.line.FileVersion.TheVariants as versions
 use Rattle.command_line.specs.declared.line.StageChoice.{StageChoice}
 use Rattle.command_line.specs.declared.line.StageChoice.TheVariants.{PreCommit, Manual}
 use Rattle.command_line.specs.declared.line.Line.{Line}
@@ -49,7 +52,7 @@ use Rattle.hook_cli.specs.MemoryText.{forgotten_text, remembered_text}
 use Rattle.hook_cli.specs.Printing.{IsSaid, IsTold, ending_of, status_of, untaken_line}
 use Rattle.repository_text.specs.FixesText.{accepted_text, fixes_text}
 use Rattle.repository_text.specs.LogText.{log_text}
-use Rattle.hook_cli.specs.RefusalText.{no_commit_text, refusal_text}
+use Rattle.hook_cli.specs.RefusalText.{no_commit_text, no_file_text, no_fixed_text, refusal_text}
 use Rattle.hook_cli.specs.RunText.{IsCommitSaid, failure_text, run_text}
 use Rattle.repository_text.specs.ShowText.{show_text}
 use Rattle.repository_text.specs.StatusText.{status_text}
@@ -67,7 +70,7 @@ IsOverHost (Remove path) = Unit {0}
 IsOverHost Status = Unit {0}
 IsOverHost Fixes = Unit {0}
 IsOverHost Accept = Unit {0}
-IsOverHost (Cat path) = Unit {0}
+IsOverHost (Cat path version) = Unit {0}
 IsOverHost Log = Unit {0}
 IsOverHost (Show number) = Unit {0}
 IsOverHost Memory = Unit {0}
@@ -183,11 +186,17 @@ pub record IsCommitOverHost {S : Type 0} (g : Ghosts S) (tells : List (List ℕ)
 
 -- ---- the commands that look something up in the repository
 
+-- the bytes that a version of a path has, if it has any
+abbrev pub bytes_in : Repository → FileVersion → List ℕ → Option (List ℕ)
+bytes_in repo Staged path = option_map (λ (entry : FileEntry). entry.bytes) (entry_of path repo.staged)
+bytes_in repo Fixed path = fixed_bytes path repo.fixes
+bytes_in repo (versions.Committed number) path = option_map (λ (entry : FileEntry). entry.bytes) (entry_of path (tree_at number repo.history))
+
 -- the text that a look-up prints
 abbrev pub IsAnswer : Repository → Line → List ℕ → Type 0
 IsAnswer repo Status text = text ≡ status_text repo.staged (last_tree repo.history)
 IsAnswer repo Fixes text = text ≡ fixes_text repo.fixes
-IsAnswer repo (Cat path) text = IsLegal path × (option_map (λ (entry : FileEntry). entry.bytes) (entry_of path repo.staged) ≡ Some text)
+IsAnswer repo (Cat path version) text = IsLegal path × (bytes_in repo version path ≡ Some text)
 IsAnswer repo Log text = text ≡ log_text repo.history
 IsAnswer repo (Show number) text = option_map show_text (commit_at number repo.history) ≡ Some text
 IsAnswer repo Init text = ⊥
@@ -201,19 +210,32 @@ IsAnswer repo Accept text = ⊥
 IsAnswer repo Memory text = ⊥
 IsAnswer repo Forget text = ⊥
 
--- why a staged file's bytes aren't given, in this order: the path is none, or it isn't staged. Want of memory comes after a
--- fault of the path.
-abbrev pub IsCatRefusal : Repository → List ℕ → HostRefusal → Type 0
-IsCatRefusal repo path (BadPath fault) = path_fault path ≡ Some fault
-IsCatRefusal repo path NotStaged = IsLegal path × (¬ IsStaged path repo)
-IsCatRefusal repo path OutOfMemory = IsLegal path
-IsCatRefusal repo path refusal = ⊥
+-- why a text is no path, or memory was refused, which comes after a fault of the path
+abbrev pub IsPathRefusal : List ℕ → HostRefusal → Type 0
+IsPathRefusal path (BadPath fault) = path_fault path ≡ Some fault
+IsPathRefusal path OutOfMemory = IsLegal path
+IsPathRefusal path refusal = ⊥
+
+-- what is told where a version has no bytes of a path: it isn't staged, no fix gives it bytes, there is no such commit, or that has
+-- no such file
+abbrev pub IsMissingText : Repository → FileVersion → List ℕ → List ℕ → Type 0
+IsMissingText repo Staged path text = text ≡ refusal_text NotStaged
+IsMissingText repo Fixed path text = text ≡ no_fixed_text path
+IsMissingText repo (versions.Committed number) path text =
+    ((commit_at number repo.history ≡ None) × (text ≡ no_commit_text number))
+    ⊎ (IsSome (commit_at number repo.history) × (text ≡ no_file_text number path))
+
+-- what is told where bytes aren't given, in this order: the path is none, or the version has no bytes of it
+abbrev pub IsCatText : Repository → FileVersion → List ℕ → List ℕ → Type 0
+IsCatText repo version path text =
+    ((refusal : HostRefusal) × IsPathRefusal path refusal × (text ≡ refusal_text refusal))
+    ⊎ (IsLegal path × (bytes_in repo version path ≡ None) × IsMissingText repo version path text)
 
 -- the text that a refused look-up tells
 abbrev pub IsRefusalText : Repository → Line → List ℕ → Type 0
 IsRefusalText repo Status text = text ≡ refusal_text OutOfMemory
 IsRefusalText repo Fixes text = text ≡ refusal_text OutOfMemory
-IsRefusalText repo (Cat path) text = (refusal : HostRefusal) × IsCatRefusal repo path refusal × (text ≡ refusal_text refusal)
+IsRefusalText repo (Cat path version) text = IsCatText repo version path text
 IsRefusalText repo Log text = text ≡ refusal_text OutOfMemory
 IsRefusalText repo (Show number) text =
     ((commit_at number repo.history ≡ None) × (text ≡ no_commit_text number))
@@ -259,7 +281,7 @@ IsEnded g tells counts old new (Remove path) bytes skip out err ending = IsRemov
 IsEnded g tells counts old new Status bytes skip out err ending = IsLookedUp old new Status out err ending
 IsEnded g tells counts old new Fixes bytes skip out err ending = IsLookedUp old new Fixes out err ending
 IsEnded g tells counts old new Accept bytes skip out err ending = IsAcceptOver g old new out err ending
-IsEnded g tells counts old new (Cat path) bytes skip out err ending = IsLookedUp old new (Cat path) out err ending
+IsEnded g tells counts old new (Cat path version) bytes skip out err ending = IsLookedUp old new (Cat path version) out err ending
 IsEnded g tells counts old new Log bytes skip out err ending = IsLookedUp old new Log out err ending
 IsEnded g tells counts old new (Show number) bytes skip out err ending = IsLookedUp old new (Show number) out err ending
 IsEnded g tells counts old new Memory bytes skip out err ending = IsMemoryOver old new out err ending

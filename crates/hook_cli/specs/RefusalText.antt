@@ -17,3 +17,11 @@ refusal_text refusal =
 -- no commit has the number
 abbrev pub no_commit_text : ℕ → List ℕ
 no_commit_text number = line (codes "hookhost: no commit " ++ decimal number)
+
+-- no fix gives bytes to the path
+abbrev pub no_fixed_text : List ℕ → List ℕ
+no_fixed_text path = line (codes "hookhost: no fixed bytes of " ++ path)
+
+-- the commit has no file at the path
+abbrev pub no_file_text : ℕ → List ℕ → List ℕ
+no_file_text number path = line (codes "hookhost: no " ++ path ++ codes " in commit " ++ decimal number)

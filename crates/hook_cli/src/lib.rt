@@ -17,7 +17,7 @@ mod printing;
 mod run_printing;
 
 pub use command_ending::CommandEnding;
-pub use command_line::{FileChoice, Line, StageChoice, line_of};
+pub use command_line::{FileChoice, FileVersion, Line, StageChoice, line_of};
 pub use configuration_run::{
     MOST_CONFIGURATION_BYTES, TryFault, check_text, skip_list_of, try_over,
 };

@@ -2,15 +2,17 @@
 //!
 //! The contracts cite `specs/CommandOver.antt`.
 
-ghost use Rattle.std.specs.Prelude.{◌≡◌, IfOk, IfErr, Some, option_map};
-ghost use Rattle.hook_base.specs.declared.file.FileEntry.{FileEntry};
-ghost use Rattle.hook_base.specs.Trees.{entry_of};
+ghost use Rattle.std.specs.Prelude.{◌≡◌, ℕ, List, IfOk, IfErr, OnOk};
+ghost use Rattle.std.specs.Option.{option_copied};
 ghost use Rattle.commit_flow.specs.StagedPaths.{IsLegal};
 ghost use Rattle.command_line.specs.declared.line.Line.TheVariants as line;
-ghost use Rattle.hook_cli.specs.CommandOver.{IsCatRefusal, IsLookUp};
+ghost use Rattle.hook_cli.specs.declared.command_ending.CommandEnding.TheVariants as ends;
+ghost use Rattle.hook_cli.specs.CommandOver.{IsLookUp, IsMissingText, IsPathRefusal, bytes_in};
+ghost use Rattle.hook_cli.specs.Printing.{IsTold};
 
 use crate::CommandEnding;
-use crate::printing::{say, tell, tell_no_commit};
+use crate::printing::{say, tell, tell_no_commit, tell_no_file, tell_no_fixed};
+use command_line::FileVersion;
 use commit_flow::HostRefusal;
 use hook_base::{OutOfMemory, RepoPath};
 use repo_store::Store;
@@ -49,18 +51,19 @@ pub(crate) fn fixes<S: Alter, O: Write, E: Write>(
     }
 }
 
-/// `cat`: the bytes of a staged file.
+/// `cat`: the bytes that a version of a path has.
 pub(crate) fn cat<S: Alter, O: Write, E: Write>(
     alloc: Global,
     path: &str,
+    version: FileVersion,
     store: &Store<S>,
     out: &mut O,
     err: &mut E,
 ) -> CommandEnding
-    ensures { IsLookUp store.now.kept.repo (line.Cat path.now) (record { held = O.contents out.old; holds = O.contents out.new }) (record { held = E.contents err.old; holds = E.contents err.new }) result }
+    ensures { IsLookUp store.now.kept.repo (line.Cat path.now version) (record { held = O.contents out.old; holds = O.contents out.new }) (record { held = E.contents err.old; holds = E.contents err.new }) result }
 {
-    match staged_bytes(alloc, path, store) {
-        Ok(bytes) => say(out, err, bytes),
+    match legal_path(alloc, path) {
+        Ok(path) => cat_at(&path, version, store, out, err),
         Err(refusal) => tell(err, &refusal),
     }
 }
@@ -97,19 +100,62 @@ pub(crate) fn show<S: Alter, O: Write, E: Write>(
     }
 }
 
-// The bytes of a staged file. Refused are, in this order, a text that is no path and a path that isn't staged.
-fn staged_bytes<'a, S: Alter>(
-    alloc: Global,
-    path: &str,
-    store: &'a Store<S>,
-) -> Result<&'a [u8], HostRefusal>
-    ensures legal { IfOk result (λ bytes. IsLegal path.now) }
-    ensures bytes { IfOk result (λ bytes. option_map (λ (entry : FileEntry). entry.bytes) (entry_of path.now store.now.kept.repo.staged) ≡ Some bytes.now) }
-    ensures refused { IfErr result (IsCatRefusal store.now.kept.repo path.now) }
+// The path that a text is.
+fn legal_path(alloc: Global, text: &str) -> Result<RepoPath, HostRefusal>
+    ensures same { IfOk result (λ path. path ≡ text.now) }
+    ensures legal { OnOk result (IsLegal text.now) }
+    ensures refused { IfErr result (IsPathRefusal text.now) }
 {
-    let path = RepoPath::read(alloc, path)?;
-    match store.staged_bytes(&path) {
-        Some(bytes) => Ok(bytes),
-        None => Err(HostRefusal::NotStaged),
+    let path = RepoPath::read(alloc, text)?;
+    Ok(path)
+}
+
+// The bytes that a version of the path has.
+fn cat_at<S: Alter, O: Write, E: Write>(
+    path: &RepoPath,
+    version: FileVersion,
+    store: &Store<S>,
+    out: &mut O,
+    err: &mut E,
+) -> CommandEnding
+    requires { IsLegal path.now }
+    ensures { IsLookUp store.now.kept.repo (line.Cat path.now version) (record { held = O.contents out.old; holds = O.contents out.new }) (record { held = E.contents err.old; holds = E.contents err.new }) result }
+{
+    match bytes_of(path, version, store) {
+        Some(bytes) => say(out, err, bytes),
+        None => tell_missing(path, version, store, err),
+    }
+}
+
+fn bytes_of<'a, S: Alter>(
+    path: &RepoPath,
+    version: FileVersion,
+    store: &'a Store<S>,
+) -> Option<&'a [u8]>
+    ensures { option_copied result ≡ bytes_in store.now.kept.repo version path.now }
+{
+    match version {
+        FileVersion::Staged => store.staged_bytes(path),
+        FileVersion::Fixed => store.fixed_bytes(path),
+        FileVersion::Committed(number) => store.committed_bytes(number, path),
+    }
+}
+
+// Tells why a version has no bytes of the path.
+fn tell_missing<S: Alter, E: Write>(
+    path: &RepoPath,
+    version: FileVersion,
+    store: &Store<S>,
+    err: &mut E,
+) -> CommandEnding
+    ensures { (text : List ℕ) × IsMissingText store.now.kept.repo version path.now text × IsTold ends.Refused (record { held = E.contents err.old; holds = E.contents err.new }) text result }
+{
+    match version {
+        FileVersion::Staged => tell(err, &HostRefusal::NotStaged),
+        FileVersion::Fixed => tell_no_fixed(err, path.as_str()),
+        FileVersion::Committed(number) if store.message_of(number).is_none() => {
+            tell_no_commit(err, number)
+        }
+        FileVersion::Committed(number) => tell_no_file(err, number, path.as_str()),
     }
 }

@@ -97,7 +97,9 @@ fn end_of<S: Alter, C: Children, O: Write, E: Write>(
         Line::Status => status(alloc, host.store(), out, err),
         Line::Fixes => fixes(alloc, host.store(), out, err),
         Line::Accept => accept(host, out, err),
-        Line::Cat { path } => cat(alloc, path.as_str(), host.store(), out, err),
+        Line::Cat { path, version } => {
+            cat(alloc, path.as_str(), *version, host.store(), out, err)
+        }
         Line::Log => log(alloc, host.store(), out, err),
         Line::Show { number } => show(alloc, *number, host.store(), out, err),
         Line::Memory => memory(host, out, err),

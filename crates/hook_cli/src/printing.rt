@@ -13,7 +13,7 @@ ghost use Rattle.text_output.specs.Outputs.{IsSilent};
 ghost use Rattle.hook_cli.specs.declared.command_ending.CommandEnding.TheVariants as ends;
 ghost use Rattle.hook_cli.specs.MemoryText.{forgotten_text, remembered_text};
 ghost use Rattle.hook_cli.specs.Printing.{IsSaid, IsTold, untaken_line};
-ghost use Rattle.hook_cli.specs.RefusalText.{inner_text, no_commit_text, refusal_text};
+ghost use Rattle.hook_cli.specs.RefusalText.{inner_text, no_commit_text, no_file_text, no_fixed_text, refusal_text};
 
 use crate::CommandEnding;
 use commit_flow::HostRefusal;
@@ -130,6 +130,35 @@ pub(crate) fn tell_no_commit<E: Write>(err: &mut E, number: u32) -> CommandEndin
     tell_pieces(
         err,
         &["hookhost: no commit ", digits.format(number), "\n"],
+        CommandEnding::Refused,
+    )
+}
+
+/// Tells that no fix gives bytes to the path.
+pub(crate) fn tell_no_fixed<E: Write>(err: &mut E, path: &str) -> CommandEnding
+    ensures { IsTold ends.Refused (record { held = E.contents err.old; holds = E.contents err.new }) (no_fixed_text path.now) result }
+{
+    tell_pieces(
+        err,
+        &["hookhost: no fixed bytes of ", path, "\n"],
+        CommandEnding::Refused,
+    )
+}
+
+/// Tells that the commit has no file at the path.
+pub(crate) fn tell_no_file<E: Write>(err: &mut E, number: u32, path: &str) -> CommandEnding
+    ensures { IsTold ends.Refused (record { held = E.contents err.old; holds = E.contents err.new }) (no_file_text number path.now) result }
+{
+    let mut digits = Buffer::new();
+    tell_pieces(
+        err,
+        &[
+            "hookhost: no ",
+            path,
+            " in commit ",
+            digits.format(number),
+            "\n",
+        ],
         CommandEnding::Refused,
     )
 }

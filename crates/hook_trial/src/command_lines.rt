@@ -1,7 +1,7 @@
 //! What a line of words asks for.
 
 use hook_base::{Mode, Text};
-use hook_cli::{FileChoice, Line, StageChoice, line_of};
+use hook_cli::{FileChoice, FileVersion, Line, StageChoice, line_of};
 use std::alloc::Global;
 use trial_rows::{Answer, Stop, texts_of};
 
@@ -30,7 +30,7 @@ fn told(answer: Answer, line: &Line) -> Answer {
             answer.text(word_of_commit(*no_verify)),
             message,
         ),
-        Line::Cat { path } => with_line(answer.text("cat\n"), path),
+        Line::Cat { path, version } => with_line(with_version(answer, *version), path),
         Line::Show { number } => answer.text("show\n").shown(*number).text("\n"),
         Line::Run {
             files,
@@ -39,6 +39,14 @@ fn told(answer: Answer, line: &Line) -> Answer {
             fresh,
         } => with_run(answer, files, only, *stage, *fresh),
         _ => answer.text(word_alone(line)),
+    }
+}
+
+fn with_version(answer: Answer, version: FileVersion) -> Answer {
+    match version {
+        FileVersion::Staged => answer.text("cat\n"),
+        FileVersion::Fixed => answer.text("cat fixed\n"),
+        FileVersion::Committed(number) => answer.text("cat commit ").shown(number).text("\n"),
     }
 }
 

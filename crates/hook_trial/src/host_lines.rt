@@ -1,6 +1,6 @@
 //! Commands over a repository, from the words of a row: `add MODE PATH CONTENTS`, `add_zeros MODE PATH COUNT`, `rm PATH`,
-//! `status`, `fixes`, `accept`, `cat PATH`, `log`, `show NUMBER`, `memory`, `forget`, `run STAGE FILES ONLY HOW SKIP` or
-//! `commit MESSAGE HOW SKIP`.
+//! `status`, `fixes`, `accept`, `cat PATH`, `cat_fixed PATH`, `cat_commit NUMBER PATH`, `log`, `show NUMBER`, `memory`, `forget`,
+//! `run STAGE FILES ONLY HOW SKIP` or `commit MESSAGE HOW SKIP`.
 //! MODE is `plain`, `executable` or `none`; SKIP is a list of the hooks that are skipped, with commas between them; the others are
 //! those of `host_asks.rt`.
 
@@ -15,7 +15,7 @@ use crate::host_words::{Words, mode_of};
 use crate::host_writers::HabitWriter;
 use crate::turn_children::TurnChildren;
 use hook_base::{Items, Text};
-use hook_cli::{Line, command_over, skip_list_of};
+use hook_cli::{FileVersion, Line, command_over, skip_list_of};
 use std::alloc::Global;
 use std::mem;
 use trial_rows::{Answer, Stop};
@@ -71,13 +71,22 @@ fn line_of(alloc: Global, command: &str, words: &mut Words<'_>) -> Result<Line, 
             message: Text::copy_of(alloc, words.text()?)?,
             no_verify: is_unverified(words)?,
         }),
-        "cat" => Ok(Line::Cat {
+        "cat" | "cat_fixed" | "cat_commit" => Ok(Line::Cat {
+            version: version_of(command, words)?,
             path: asked_path(alloc, words)?,
         }),
         "show" => Ok(Line::Show {
             number: words.number()?,
         }),
         _ => line_alone(command),
+    }
+}
+
+fn version_of(command: &str, words: &mut Words<'_>) -> Result<FileVersion, Stop> {
+    match command {
+        "cat_fixed" => Ok(FileVersion::Fixed),
+        "cat_commit" => Ok(FileVersion::Committed(words.number()?)),
+        _ => Ok(FileVersion::Staged),
     }
 }
 

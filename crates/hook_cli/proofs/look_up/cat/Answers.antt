@@ -1,20 +1,14 @@
-use Rattle.std.proofs.Common.{refl}
+use Rattle.std.proofs.Common.{inl, refl, subst}
+use Rattle.hook_cli.specs.CommandOver.{IsLookUp}
 use Rattle.command_line.specs.declared.line.Line.TheVariants.{Cat}
 use Rattle.hook_cli.specs.RefusalText.{refusal_text}
-use Rattle.hook_cli.proofs.OverHostLemmas.{look-up-refused, looked-up, silent-itself}
+use Rattle.hook_cli.proofs.OverHostLemmas.{look-up-refused, silent-itself}
 use Rattle.hook_cli.proofs.look_up.cat.Goals as goal
-
-pub returns-in-Ok : goal.returns-in-Ok
-returns-in-Ok g c =
-    looked-up c.args.store.now.kept.repo (Cat c.args.path.now)
-    (record { held = g.O.Write.contents c.args.out.now; holds = g.O.Write.contents c.say.new.out })
-    (record { held = g.E.Write.contents c.args.err.now; holds = g.E.Write.contents c.say.new.err })
-    c.say.result c.in-Ok.bytes.now (c.in-Ok.ensures.legal, c.in-Ok.ensures.bytes) c.say.ensures
 
 pub returns-in-Err : goal.returns-in-Err
 returns-in-Err g c =
-    look-up-refused c.args.store.now.kept.repo (Cat c.args.path.now)
+    look-up-refused c.args.store.now.kept.repo (Cat c.args.path.now c.args.version)
     (record { held = g.O.Write.contents c.args.out.now; holds = g.O.Write.contents c.args.out.now })
     (record { held = g.E.Write.contents c.args.err.now; holds = g.E.Write.contents c.tell.new.err })
-    c.tell.result (refusal_text c.in-Err.refusal) (c.in-Err.refusal, c.in-Err.ensures.refused, refl) c.tell.ensures
+    c.tell.result (refusal_text c.in-Err.refusal) (inl (c.in-Err.refusal, c.in-Err.ensures.refused, refl)) c.tell.ensures
     (silent-itself (g.O.Write.contents c.args.out.now))
