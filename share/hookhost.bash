@@ -1,0 +1,123 @@
+# Completion of hookhost in bash, made by share/make.py from what the program's help prints. To use it, in ~/.bashrc:
+#   source FOLDER/hookhost.bash
+
+# Puts what may stand at the cursor into COMPREPLY.
+_hookhost() {
+  local IFS=$' \t\n' at piece parted='' is_joined=''
+  local -a words=()
+  COMPREPLY=()
+  # Bash parts words at = and at :, and here they are whole again. What it has parted from the word at the cursor is `parted`.
+  for ((at = 1; at <= COMP_CWORD; at++)); do
+    piece=${COMP_WORDS[at]}
+    if [[ $is_joined || ( ${#words[@]} -gt 0 && $piece =~ ^[=:]+$ ) ]]; then
+      parted=${words[-1]} words[-1]+=$piece is_joined=''
+    else
+      parted='' words+=("$piece")
+    fi
+    if [[ ${#words[@]} -gt 1 && $piece =~ ^[=:]+$ ]]; then
+      parted=${words[-1]} is_joined=1
+    fi
+  done
+  case ${#words[@]},${words[0]} in
+    1,-*) _hookhost_propose "${words[0]}" -h --help ;;
+    1,*) _hookhost_propose "${words[0]}" init try check add rm status cat run run-files fixes accept commit log show memory forget ;;
+    *) _hookhost_command ;;
+  esac
+}
+
+# Proposes what may follow a command.
+_hookhost_command() {
+  # Its options, those of them that take a value, and how many paths it takes.
+  local -a options valued taken=()
+  local most
+  case ${words[0]} in
+    init) options=(-h --help) valued=() most=0 ;;
+    try) options=(-h --help) valued=() most=any ;;
+    check) options=(-h --help) valued=() most=0 ;;
+    add) options=(--chmod= -h --help) valued=(--chmod) most=1 ;;
+    rm) options=(-h --help) valued=() most=1 ;;
+    status) options=(-h --help) valued=() most=0 ;;
+    cat) options=(--fixed --commit= -h --help) valued=(--commit) most=1 ;;
+    run) options=(--all-files --hook-stage= --fresh -h --help) valued=(--hook-stage) most=0 ;;
+    run-files) options=(--hook-stage= --fresh -h --help) valued=(--hook-stage) most=any ;;
+    fixes) options=(-h --help) valued=() most=0 ;;
+    accept) options=(-h --help) valued=() most=0 ;;
+    commit) options=(--no-verify -m -h --help) valued=(-m) most=0 ;;
+    log) options=(-h --help) valued=() most=0 ;;
+    show) options=(-h --help) valued=() most=0 ;;
+    memory) options=(-h --help) valued=() most=0 ;;
+    forget) options=(-h --help) valued=() most=0 ;;
+    *) return ;;
+  esac
+  # An option is proposed once, and behind -- each word is a value.
+  local given=0 is_ended='' pending='' word
+  for word in "${words[@]:1:${#words[@]}-2}"; do
+    if [[ $pending ]]; then
+      pending=''
+    elif [[ $is_ended || $word != -?* ]]; then
+      ((given += 1))
+    elif [[ $word == -- ]]; then
+      is_ended=1
+    else
+      [[ " ${valued[*]} " != *" $word "* ]] || pending=$word
+      _hookhost_leave_out "${word%%=*}"
+    fi
+  done
+  word=${words[-1]}
+  if [[ $pending ]]; then
+    _hookhost_words "$pending"
+    _hookhost_propose "$word" "${taken[@]}"
+  elif [[ ! $is_ended && $word == --*=* ]]; then
+    _hookhost_words "${word%%=*}"
+    _hookhost_propose "$word" "${taken[@]/#/${word%%=*}=}"
+  elif [[ ! $is_ended && $word == -* ]]; then
+    _hookhost_propose "$word" "${options[@]}"
+  elif [[ $most == any ]] || ((given < most)); then
+    _hookhost_propose_paths "$word"
+  elif [[ ! $is_ended ]]; then
+    _hookhost_propose "$word" "${options[@]}"
+  fi
+}
+
+# Puts the words that an option takes into `taken`.
+_hookhost_words() {
+  case $1 in
+    --chmod) taken=(+x) ;;
+    --hook-stage) taken=(pre-commit manual) ;;
+  esac
+}
+
+# Leaves an option out of those that are proposed.
+_hookhost_leave_out() {
+  local option
+  local -a left=()
+  for option in "${options[@]}"; do
+    [[ ${option%=} == "$1" ]] || left+=("$option")
+  done
+  options=("${left[@]}")
+}
+
+# Proposes those of the words that begin with the first, without what bash has parted from it.
+_hookhost_propose() {
+  local word
+  for word in "${@:2}"; do
+    [[ $word != "$1"* ]] || COMPREPLY+=("${word#"$parted"}")
+  done
+  # No blank follows an option whose value is still to come.
+  [[ ${#COMPREPLY[@]} != 1 || ${COMPREPLY[0]} != *= ]] || compopt -o nospace 2> /dev/null
+}
+
+# Proposes the files whose paths begin so. Readline puts quotes around a path that needs them.
+_hookhost_propose_paths() {
+  local path=$1
+  case $path in
+    [\'\"]*) path=${path:1} ;;
+    *) path=${path//\\/} ;;
+  esac
+  while IFS= read -r path; do
+    COMPREPLY+=("${path#"$parted"}")
+  done < <(compgen -f -- "$path")
+  compopt -o filenames 2> /dev/null
+}
+
+complete -F _hookhost hookhost
