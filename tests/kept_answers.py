@@ -55,6 +55,11 @@ def contents_of(answer):
     return seen + [contents for _, contents in answer.changes if contents is not None] + records_of(answer)
 
 
+# All rows, as `row_of` writes each.
+SELECT_ROWS = ("SELECT lower(hex(words)), lower(hex(seen)), lower(hex(output)), lower(hex(changes)), status FROM answers "
+               "ORDER BY words, seen")
+
+
 def row_of(answer):
     """The row, as sqlite3 prints the columns in hexadecimal."""
     return "|".join([*(digest(record).hex() for record in records_of(answer)), str(answer.status)])
@@ -64,3 +69,12 @@ def planting(contents, records, status):
     """SQL that puts contents and the row of four records into a store."""
     blobs = "".join(f"INSERT OR IGNORE INTO blobs VALUES (x'{digest(each).hex()}', x'{each.hex()}'); " for each in [*contents, *records])
     return blobs + f"INSERT INTO answers VALUES ({', '.join(f'''x'{digest(record).hex()}' ''' for record in records)}, {status})"
+
+
+def planting_all(answers):
+    """SQL that puts answers with all that they name into a store, in one transaction. Contents that many name are put once."""
+    kept = sorted({each for answer in answers for each in contents_of(answer)})
+    blobs = "".join(f"INSERT OR IGNORE INTO blobs VALUES (x'{digest(each).hex()}', x'{each.hex()}');\n" for each in kept)
+    columns = (row_of(answer).split("|") for answer in answers)
+    rows = "".join("INSERT INTO answers VALUES (x'{}', x'{}', x'{}', x'{}', {});\n".format(*each) for each in columns)
+    return f"BEGIN;\n{blobs}{rows}COMMIT;\n"

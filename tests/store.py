@@ -19,10 +19,12 @@ import tempfile
 import time
 from concurrent.futures import ThreadPoolExecutor
 
-from kept_answers import contents_of, digest, planting, records_of, row_of
-from store_cases import (ANSWER_ROWS, ANSWER_ROWS_LEFT, ANSWERS_LEFT, ANSWERS_STORY, BAD_LINES, CHILDREN, COMMITTED_ROWS, CONFIG, DAMAGED, FACTS, FAULTS, FILLING, FIXES_AFTER, HOOKS_STORY,
-                         HOST_STORY, KEPT_ROWS, META_ROWS, NOT_A_STORE, ONE, ONE_STAGED, OTHER_SCHEMAS, OTHER_TABLES, PLANTED_ANSWERS, PLANTS, RECALLED, REFUSED_ROWS, REPLACED_META_ROWS,
-                         SCHEMA, SHOWN, SQL, STOPPED_CALLS, STOPPED_COMMANDS, STORY, TAKEN_ROWS, TOO_LARGE, TOO_MANY, UNSTAGED_STORY, damaged_answers)
+from kept_answers import SELECT_ROWS, contents_of, digest, planting, records_of, row_of
+from store_cases import (ANSWER_ROWS, ANSWER_ROWS_LEFT, ANSWERS_LEFT, ANSWERS_STORY, BAD_LINES, CHILDREN, COMMITTED_ROWS, CONFIG,
+                         DAMAGED, FACTS, FAULTS, FILLING, FIXES_AFTER, HOOKS_STORY, HOST_STORY, KEPT_ROWS, LARGE_CHILDREN,
+                         LARGE_STORY, META_ROWS, NOT_A_STORE, ONE, ONE_STAGED, OTHER_SCHEMAS, OTHER_TABLES, PLANTED_ANSWERS,
+                         PLANTS, RECALLED, REFUSED_ROWS, REPLACED_META_ROWS, SCHEMA, SHOWN, SQL, STOPPED_CALLS, STOPPED_COMMANDS,
+                         STORY, TAKEN_ROWS, TOO_LARGE, TOO_MANY, UNSTAGED_STORY, damaged_answers, largest_answers)
 from store_model import Model, random_play, unescaped
 
 HERE = os.path.dirname(os.path.abspath(__file__))
@@ -84,7 +86,7 @@ def rows_of(path):
         "fixes": ask(path, "SELECT path, gone, lower(hex(digest)) FROM fixes ORDER BY path"),
         "commits": ask(path, "SELECT n, hex(message) FROM commits ORDER BY n"),
         "entries": ask(path, "SELECT n, path, mode, lower(hex(digest)) FROM entries ORDER BY n, path"),
-        "answers": ask(path, "SELECT lower(hex(words)), lower(hex(seen)), lower(hex(output)), lower(hex(changes)), status FROM answers ORDER BY words, seen"),
+        "answers": ask(path, SELECT_ROWS),
     }
 
 
@@ -373,6 +375,35 @@ def refuses_what_is_too_large(folder):
     check(answers(path, ["open", "weigh"]) == ["ok", "ok\t2\t16777217"], "16 MiB aren't there when it is opened again")
 
 
+def key_of(line):
+    """The words and the seen files of an answer's line."""
+    return "|".join(line.split("|")[:2])
+
+
+def refuses_answers_that_are_too_large(folder):
+    """An answer of which something is as large as contents may be is kept, and found when the store is opened again. One of which
+    it is a byte larger is refused and found nowhere. Changes have no larger record than the files that were seen."""
+    first = ["create", "remember d | | | 1"]
+    for at, (name, largest, larger) in enumerate(largest_answers()):
+        path, model = os.path.join(folder, f"{at}.db"), model_of(first)
+        given = answers(path, [*first, f"remember {larger}", f"recall {key_of(larger)}", "answers", *SHOWN, "close"])
+        wanted = ["ok", "ok", TOO_LARGE, "ok\tnone", "ok\t1", *model.shown(), "ok"]
+        check(given == wanted, f"{name}: a byte more is answered {given!r:.1000}")
+        check_file(path, model.store)
+        lines = [f"remember {largest}", "close", "open", f"recall {key_of(largest)}", "recall d |", "answers"]
+        given, wanted = answers(path, ["open", *lines]), [model.play(line) for line in lines]
+        check(given[1:] == wanted, f"{name}: the largest is answered {given!r:.1000}")
+        check(ask(path, SELECT_ROWS) == rows_of_model(model.store)["answers"], f"{name}: the largest has another row")
+        os.remove(path)
+
+
+def stops_at_an_answer_that_is_too_large(folder):
+    path = os.path.join(folder, "store.db")
+    given = answers(path, [*LARGE_CHILDREN, *(line for line, _ in LARGE_STORY)])[len(LARGE_CHILDREN):]
+    for (line, wanted), answer in zip(LARGE_STORY, given):
+        check(answer == wanted, f"{line!r} is answered {answer[:200]!r}, wanted {wanted!r}")
+
+
 def refuses_more_files_than_a_tree_may_have(folder):
     """At each limit of a staged tree one more file is refused, and another content of a file is not."""
     limits = [("2048", "printf('%04096d', n)", f"{2:04096d}", "a"), ("100000", "'d/' || n", "d/2", "d/x")]
@@ -626,6 +657,7 @@ CASES = [plays_the_story, plays_the_story_of_an_unstaged_file, plays_the_story_o
          numbers_and_says_each_refusal, reads_rows_in_the_order_of_their_keys, keeps_each_content_once, plays_as_the_model,
          refuses_bad_lines, refuses_a_second_store, refuses_planted_files, remembers_answers, finds_answers_that_another_program_wrote, refuses_planted_answers, refuses_rows_of_contents_and_commits_that_are_not_there,
          refuses_files_that_hold_no_store, refuses_files_with_other_tables, refuses_what_is_too_large,
+         refuses_answers_that_are_too_large, stops_at_an_answer_that_is_too_large,
          refuses_more_files_than_a_tree_may_have, refuses_more_commits_than_a_store_may_have, is_left_whole_by_a_kill,
          is_left_before_or_after_a_call_by_a_stop, is_left_before_or_after_a_command_by_a_stop, refuses_for_want_of_memory]
 

@@ -354,6 +354,65 @@ PLANTED_ANSWERS = [
 ]
 
 
+LARGE = "1" * 16777217
+# Children whose answers are too large to be kept, since of a host's children nothing says how much they may answer.
+LARGE_CHILDREN = [
+    f"child tidy b.txt | b.txt=0 | b.txt={LARGE} | 0",
+    "child tidy b.txt | b.txt=1 | | 0",
+    f"child sign {MESSAGE} | {MESSAGE}=m\\n | {MESSAGE}={LARGE} | 0",
+    f"child sign {MESSAGE} | {MESSAGE}=n\\n | | 0",
+    f"child tell | | | 0 | {LARGE}",
+]
+# Such an answer stops a run and the hooks before a commit, and leaves what was put before and the rest as it was. Hooks behind a
+# commit are stopped, and the commit is made.
+LARGE_STORY = [
+    ("create", "ok"),
+    (f"stage plain {CONFIG}", "ok"),
+    ("add - b.txt 0", "ok"),
+    ("fix b.txt 7", "ok"),
+    ("set", "ok"),
+    ("run-hooks all", "refused\t2\tStore\t6"),
+    ("commit-verified m", "refused\t2\tStore\t6"),
+    ("answers", "ok\t0"),
+    ("fixes", "ok\tb.txt\tnow\t7"),
+    ("add - b.txt 1", "ok"),
+    ("fix b.txt 7", "ok"),
+    ("set", "ok"),
+    ("commit-verified m", "refused\t2\tStore\t6"),
+    ("answers", "ok\t1"),
+    ("recall tidy b.txt | b.txt=1", "ok\t0\t"),
+    ("log", "ok"),
+    ("fixes", "ok\tb.txt\tnow\t7"),
+    ("commit-verified n", "ok\tcommitted\t1\tstopped"),
+    ("answers", "ok\t2"),
+    (f"recall sign {MESSAGE} | {MESSAGE}=n\\n", "ok\t0\t"),
+    ("recall tell |", "ok\tnone"),
+    ("log", "ok\t1\tn\\n"),
+    ("close", "ok"),
+    ("open", "ok"),
+    ("answers", "ok\t2"),
+]
+
+
+def seen_of_size(size):
+    """Seen files whose record has this size, where that is large: paths of 4,096 bytes, and a shorter one behind them."""
+    count, rest = divmod(size - 4, 4096 + 37)
+    return [*(f"{at:04096d}" for at in range(count)), "1" * (rest - 37)]
+
+
+def largest_answers():
+    """What of an answer is as large as may be, by a byte, or a byte larger: its name, and the line for a size."""
+    most = 16777216
+    for name, line in [
+        ("words", lambda size: f"{'c' * (size - 8)} | | | 0"),
+        ("seen files", lambda size: f"c | {' '.join(f'{path}=' for path in seen_of_size(size))} | | 0"),
+        ("contents of a seen file", lambda size: f"c a | a={'1' * size} | | 0"),
+        ("contents of a changed file", lambda size: f"c a | a=1 | a={'1' * size} | 0"),
+        ("output", lambda size: f"c | | | 0 | {'1' * size}"),
+    ]:
+        yield name, line(most), line(most + 1)
+
+
 def damaged_answers():
     """Answers that break one rule of a store each: its name, the contents that are planted, the four records and the status."""
     whole = KeptAnswer([b"c", b"a"], [("a", 0, b"1"), ("b", 1, b"2")], [("a", b"3"), ("b", None)], 0)
