@@ -6,9 +6,11 @@ Usage: tests/host.py [KILLS [PROGRAM [STORE_TRIAL]]]   (default: 30 kills of eac
 
 What one program alone prints stands in tests/sessions/. Here stands what no session can make: names that no text file
 keeps, another user, fifos, programs side by side. Each kill is a SIGKILL at a random moment of a command on a copy of a
-repository, which then has to be the one before the command or the one after it. The commits are made by store_trial. The
-cases of runs whose children outlive them, and of runs side by side, stand in tests/host_runs.py.
+repository, which then has to be the one before the command or the one after it, and what its hooks had answered by then is
+remembered. The commits are made by store_trial. The cases of runs whose children outlive them, and of runs side by side, stand
+in tests/host_runs.py.
 """
+import collections
 import os
 import random
 import resource
@@ -23,6 +25,9 @@ from pathlib import Path
 
 import host_runs
 from host_program import LOCK, PROGRAM, STORE, STORE_TRIAL, Wrong, check, do, paths_in, play, refuses, rows, run, staged_rows, write
+from host_runs import PUT_FILES, RUN_ANSWERS
+from kept_answers import SELECT_ROWS, KeptAnswer, contents_of, digest, row_of
+from store_cases import MESSAGE
 
 KILLS = int(sys.argv[1]) if len(sys.argv) > 1 else 30
 NOBODY = 65534
@@ -330,11 +335,19 @@ class Killed:
 
 def state(folder):
     """All that a repository shows, to the program and then to sqlite3."""
-    shown, files = [do(folder, word) for word in ("status", "fixes", "log")], staged_rows(folder)
-    check(rows(folder, "PRAGMA integrity_check; PRAGMA foreign_key_check") == ["ok"], "sqlite3 finds the file broken")
+    shown_first = shown(folder)
+    files, *others = state_of_rows(folder)
     for path, (_, held) in files.items():
         check(do(folder, "cat", "--", path) == held, f"cat of {path!r} gives other bytes than sqlite3")
-    return shown, files, rows(folder, "SELECT n, hex(message) FROM commits"), rows(folder, "SELECT n, path, mode, hex(digest) FROM entries")
+    return shown_first, files, *others
+
+
+def state_of_rows(folder):
+    """What sqlite3 reads of a repository, in a file that has to be sound: staged files, commits, their files, and fixes."""
+    check(rows(folder, "PRAGMA integrity_check; PRAGMA foreign_key_check") == ["ok"], "sqlite3 finds the file broken")
+    commits, entries = "SELECT n, hex(message) FROM commits", "SELECT n, path, mode, hex(digest) FROM entries"
+    others = (commits, entries, "SELECT hex(path), gone, hex(digest) FROM fixes")
+    return staged_rows(folder), *(rows(folder, text) for text in others)
 
 
 def filled(folder):
@@ -415,6 +428,150 @@ def is_left_whole_by_kills_of_forget(folder):
         check(b"forgotten: 1\n".startswith(out) and state(work) == before, f"a killed forget says {out!r}, and leaves {state(work)!r:.1000}")
         is_kept = found == b"remembered: 1\n" and not is_ended and out == b""
         check(found == b"remembered: 0\n" or is_kept, f"after a kill it says {found!r}")
+
+
+# ---- kills of commands whose hooks put answers
+
+# The staged files of a commit, and what the children of `HOOKS` answer in it: of the files, of the message twice, and behind it.
+COMMITTED = [(".pre-commit-config.yaml", 0, HOOKS), ("x", 0, b"x" * 100)]
+WRITE = [b"sh", b"-c", b"echo a line >> $1", b"--", MESSAGE.encode()]
+COMMIT_ANSWERS = [
+    KeptAnswer([b"cat", b".pre-commit-config.yaml", b"x"], COMMITTED, [], 0, HOOKS + b"x" * 100),
+    KeptAnswer(WRITE, [(MESSAGE, 0, b"text\n")], [(MESSAGE, b"text\na line\n")], 0),
+    KeptAnswer(WRITE, [(MESSAGE, 0, b"text\na line\n")], [(MESSAGE, b"text\na line\na line\n")], 0),
+    KeptAnswer([b"true"], [], [], 0),
+]
+
+
+def remembered(folder, told):
+    """How many answers are remembered, by sqlite3: the first of those that are told, and no others."""
+    found, wanted = rows(folder, SELECT_ROWS), [row_of(answer) for answer in told]
+    places = [wanted.index(row) if row in wanted else row for row in found]
+    check(sorted(found) == sorted(wanted[:len(found)]), f"of {len(told)} answers these are remembered: {places!r}")
+    return len(found)
+
+
+def kept_contents(folder):
+    """All contents that sqlite3 finds, each of which has to stand under its digest."""
+    found = [line.split("|") for line in rows(folder, "SELECT lower(hex(digest)), hex(bytes) FROM blobs")]
+    kept = {bytes.fromhex(held): named for named, held in found}
+    check(all(digest(held).hex() == named for held, named in kept.items()), "contents stand under another digest")
+    return set(kept)
+
+
+def found_first(work, look):
+    """What a look finds in a copy of the repository that no program has opened since it was left."""
+    with tempfile.TemporaryDirectory() as copy:
+        at_work = shutil.ignore_patterns("scratch*")
+        shutil.copytree(os.path.join(work, ".hookhost"), os.path.join(copy, ".hookhost"), ignore=at_work)
+        return look(copy)
+
+
+def counted_programs(folder):
+    """The environment in which each program that hooks name puts a line into the file STARTED, and then does what it does."""
+    programs = os.path.join(folder, "programs")
+    for name in ("cat", "rm", "sed", "sh", "true"):
+        write(programs, name, f'#!/bin/sh\necho {name} >> "$STARTED"\nexec {shutil.which(name)} "$@"\n'.encode())
+        os.chmod(os.path.join(programs, name), 0o755)
+    return {**os.environ, "PATH": f"{programs}:{os.environ['PATH']}"}
+
+
+class Putting:
+    """A command whose hooks put answers, on copies of a folder in which none is remembered, and what it leaves where nothing
+    stops it. Of the answers that are told to it, in their order, so many are put before it changes the repository."""
+
+    def __init__(self, folder, base, words, told, puts_first):
+        self.killed, self.words, self.told, self.puts_first = Killed(folder, base), words, told, puts_first
+        self.programs = counted_programs(folder)
+        work = self.killed.copy()
+        self.before, self.kept_before = state(work), kept_contents(work)
+        check(self.remembered(work) == 0, "something is remembered before")
+        self.said, self.starts = self.started(work)
+        self.after = state(work)
+        check(self.before != self.after and self.remembered(work) == len(told), f"{words!r} says {self.said!r:.1000}")
+
+    def started(self, work):
+        """What the command ends with and prints, and how many children it starts."""
+        write(work, "started", b"")
+        said = run(work, *self.words, env={**self.programs, "STARTED": os.path.join(work, "started")})
+        check(said[2] == b"", f"{self.words!r} says {said[2]!r}")
+        return said, len(Path(work, "started").read_bytes().splitlines())
+
+    def remembered(self, work):
+        """How many answers are remembered, as `memory` says too. Kept are what was before, what they name, and nothing else."""
+        count = remembered(work, self.told)
+        check(do(work, "memory") == b"remembered: %d\n" % count, f"memory says {do(work, 'memory')!r} of {count} answers")
+        named = {each for answer in self.told[:count] for each in contents_of(answer)}
+        check(kept_contents(work) == self.kept_before | named, f"beside {count} answers other contents are kept")
+        return count
+
+    def left(self, work, is_ended, out):
+        """How many answers a killed command left, and whether it changed the repository, as it does behind those put first."""
+        read_first = found_first(work, lambda copy: (*state_of_rows(copy), remembered(copy, self.told)))
+        found, count = state(work), self.remembered(work)
+        check(read_first == (*found[1:], count), f"before the program sqlite3 reads something else: {read_first!r:.1000}")
+        is_done = found == self.after
+        check(is_done or found == self.before and not is_ended, f"after a kill of {self.words!r} it shows {found!r:.1000}")
+        in_order = count >= self.puts_first if is_done else count <= self.puts_first
+        check(in_order, f"beside {count} answers the repository is changed, or isn't")
+        is_told = self.said[1] == out if is_ended else self.said[1].startswith(out) and (is_done or out == b"")
+        check(is_told, f"a killed {self.words!r} prints {out!r:.1000}")
+        return count, is_done
+
+    def check_next(self, work, count):
+        """The command behind a killed one starts just the children whose answers aren't there, and says and leaves what one does
+        that nothing stops."""
+        said, starts = self.started(work)
+        check(said == self.said, f"behind {count} answers it says {said!r:.1000}")
+        check(starts == self.starts - count, f"behind {count} answers it starts {starts} children")
+        check(state(work) == self.after, f"behind {count} answers it leaves {state(work)!r:.1000}")
+        check(self.remembered(work) == len(self.told), f"behind {count} answers not all are remembered")
+
+    def each(self):
+        """For each kill the copy, how many answers it left, and whether the repository was changed."""
+        left = collections.Counter()
+        for work, is_ended, out in self.killed.each([PROGRAM, *self.words]):
+            count, is_done = self.left(work, is_ended, out)
+            left[count] += 1
+            yield work, count, is_done
+        check(any(0 < count < len(self.told) for count in left), f"kills of {self.words!r} left all answers or none")
+        print(f"answers that they left: {', '.join(f'{count} ({left[count]} times)' for count in sorted(left))}")
+
+
+def with_files(folder, files):
+    """A repository with these staged files, each a path, a mode and contents."""
+    base = os.path.join(folder, "base")
+    os.mkdir(base)
+    do(base, "init")
+    for path, mode, held in files:
+        write(base, path, held)
+        do(base, "add", *["--chmod=+x"] * mode, path)
+    return base
+
+
+def keeps_what_was_answered_before_a_kill_of_a_run(folder):
+    """A killed run leaves the first of the answers that a whole one puts, each as the reference writes it down."""
+    base = with_files(folder, PUT_FILES)
+    play(base, ["commit first\\n", "fix a1 2", "set"])
+    putting = Putting(folder, base, ["run", "--all-files"], RUN_ANSWERS, len(RUN_ANSWERS))
+    # One more child ends by a signal.
+    check((putting.said[0], putting.starts) == (1, len(RUN_ANSWERS) + 1), f"a run starts {putting.starts} children")
+    for work, count, _ in putting.each():
+        putting.check_next(work, count)
+
+
+def keeps_what_was_answered_before_a_kill_of_a_commit(folder):
+    """A killed commit is made or isn't, and leaves the first of the answers, those of hooks behind it only where it's made."""
+    base = with_files(folder, COMMITTED)
+    play(base, ["fix x 2", "set"])
+    putting = Putting(folder, base, ["commit", "-m", "text"], COMMIT_ANSWERS, len(COMMIT_ANSWERS) - 1)
+    check((putting.said[0], putting.starts) == (0, len(COMMIT_ANSWERS)), f"a commit starts {putting.starts} children")
+    for work, count, is_made in putting.each():
+        if is_made:
+            refuses(work, putting.words, "refused: 10 NothingStaged")
+            check(state(work) == putting.after and putting.remembered(work) == count, "a refused commit changes something")
+        else:
+            putting.check_next(work, count)
 
 
 def is_left_whole_by_kills_of_init(folder):
@@ -571,6 +728,7 @@ CASES = [keeps_files_of_hard_names, keeps_the_longest_path_that_the_system_opens
          keeps_a_change_whose_text_was_not_taken, lets_one_init_make_the_store, lets_one_program_work_at_a_time,
          loses_nothing_of_programs_at_once, is_left_whole_by_kills_of_init, is_left_whole_by_kills_of_add_rm_and_accept,
          is_left_whole_by_kills_of_commits, is_left_whole_by_kills_of_runs_and_commits, is_left_whole_by_kills_of_forget,
+         keeps_what_was_answered_before_a_kill_of_a_run, keeps_what_was_answered_before_a_kill_of_a_commit,
          waits_for_the_disk_only_where_something_is_written, takes_a_store_with_pages_of_another_size,
          leaves_a_log_without_a_change, cuts_the_long_log_of_a_change_that_was_not_made, *host_runs.CASES]
 

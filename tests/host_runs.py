@@ -1,4 +1,5 @@
-"""Cases of tests/host.py: runs of hooks that a signal ends while their child goes on, and runs side by side in one folder.
+"""Cases of tests/host.py: runs of hooks that a signal ends while their child goes on, and runs side by side in one folder. And
+the hooks of those runs whose answers a kill must not lose.
 
 A child waits until the script or a child of a later run tells it to go on, so each case is the same each time. Whoever it
 outlives, the script ends it.
@@ -13,6 +14,7 @@ from contextlib import suppress
 from pathlib import Path
 
 from host_program import LOCK, PROGRAM, STORE, Wrong, check, do, paths_in, run, write
+from kept_answers import KeptAnswer
 
 MARK = "scratch.run"
 
@@ -243,6 +245,53 @@ def touches_nothing_outside_its_folder(folder):
             if is_refused:
                 shutil.rmtree(path) if kind == "folder" else os.remove(path)
                 says(work, RUN, wanted["run"], f"after {text}")
+
+
+# ---- runs that put answers
+
+# A word beside which a command has room for one name of two letters, so that each of three names is a part of its own.
+LONG = b"c" * (131_072 - len(b'sh -c echo "$2" --  c1'))
+# Hooks that pass, fail, change a file or take one out, with several parts, all files or none; one ends by a signal, and the
+# last is answered by what the first has put.
+PUTTING = b"""repos:
+- repo: local
+  hooks:
+  - {id: look, name: Look, language: system, entry: cat, files: ^a, verbose: true}
+  - {id: told, name: Told, language: system, entry: 'true', args: [--one, two words], files: ^a}
+  - {id: mend, name: Mend, language: system, entry: sed -i s/x/y/, files: ^b}
+  - {id: fails, name: Fails, language: system, entry: "sh -c 'echo no; exit 3' --", files: ^b}
+  - {id: parts, name: Parts, language: system, entry: sh -c 'echo "$2"' --, args: [%s], files: ^c, require_serial: true}
+  - {id: away, name: Away, language: system, entry: rm, files: ^d}
+  - {id: all, name: All, language: system, entry: sh -c 'echo all', pass_filenames: false}
+  - {id: ends, name: Ends, language: system, entry: sh -c 'kill -9 $$', files: ^a}
+  - {id: more, name: More, language: system, entry: sed -i s/y/z/, files: ^b}
+  - {id: again, name: Again, language: system, entry: cat, files: ^a, verbose: true}
+""" % LONG
+# The staged files of that: a path, a mode and contents.
+PUT_FILES = [
+    (".pre-commit-config.yaml", 0, PUTTING), ("a1", 0, b"one\n"), ("a2", 1, b"two"), ("b1", 0, b"x\n"), ("b2", 0, b"none\n"),
+    ("c1", 0, b"1" * 1000), ("c2", 0, b"2" * 1000), ("c3", 0, b"3" * 1000), ("d1", 0, b"gone\n"),
+]
+
+
+def put_files(*begins, **now):
+    """Those of the files whose paths begin so, some of them with other contents by now."""
+    return [(path, mode, now.get(path, held)) for path, mode, held in PUT_FILES if path.startswith(begins)]
+
+
+# What the children of those hooks answer, in their order.
+RUN_ANSWERS = [
+    KeptAnswer([b"cat", b"a1", b"a2"], put_files("a"), [], 0, b"one\ntwo"),
+    KeptAnswer([b"true", b"--one", b"two words", b"a1", b"a2"], put_files("a"), [], 0),
+    KeptAnswer([b"sed", b"-i", b"s/x/y/", b"b1", b"b2"], put_files("b"), [("b1", b"y\n")], 0),
+    KeptAnswer([b"sh", b"-c", b"echo no; exit 3", b"--", b"b1", b"b2"], put_files("b", b1=b"y\n"), [], 3, b"no\n"),
+    KeptAnswer([b"sh", b"-c", b'echo "$2"', b"--", LONG, b"c1"], put_files("c1"), [], 0, b"c1\n"),
+    KeptAnswer([b"sh", b"-c", b'echo "$2"', b"--", LONG, b"c2"], put_files("c2"), [], 0, b"c2\n"),
+    KeptAnswer([b"sh", b"-c", b'echo "$2"', b"--", LONG, b"c3"], put_files("c3"), [], 0, b"c3\n"),
+    KeptAnswer([b"rm", b"d1"], put_files("d"), [("d1", None)], 0),
+    KeptAnswer([b"sh", b"-c", b"echo all"], put_files(".", "a", "b", "c", b1=b"y\n"), [], 0, b"all\n"),
+    KeptAnswer([b"sed", b"-i", b"s/y/z/", b"b1", b"b2"], put_files("b", b1=b"y\n"), [("b1", b"z\n")], 0),
+]
 
 
 CASES = [tells_nothing_of_a_child_that_outlived_its_run, outlasts_a_child_that_goes_on_writing, leaves_no_mark_where_it_ended_by_itself,
