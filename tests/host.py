@@ -7,8 +7,8 @@ Usage: tests/host.py [KILLS [PROGRAM [STORE_TRIAL]]]   (default: 30 kills of eac
 What one program alone prints stands in tests/sessions/. Here stands what no session can make: names that no text file
 keeps, another user, fifos, programs side by side. Each kill is a SIGKILL at a random moment of a command on a copy of a
 repository, which then has to be the one before the command or the one after it, and what its hooks had answered by then is
-remembered. The commits are made by store_trial. The cases of runs whose children outlive them, and of runs side by side, stand
-in tests/host_runs.py.
+remembered. The commits are made by store_trial. The cases of runs whose children outlive them, of runs side by side, and of
+many and large answers stand in tests/host_runs.py.
 """
 import collections
 import os
