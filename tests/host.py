@@ -499,8 +499,8 @@ class Putting:
 
     def remembered(self, work):
         """How many answers are remembered, as `memory` says too. Kept are what was before, what they name, and nothing else."""
-        count = remembered(work, self.told)
-        check(do(work, "memory") == b"remembered: %d\n" % count, f"memory says {do(work, 'memory')!r} of {count} answers")
+        count, said = remembered(work, self.told), do(work, "memory")
+        check(said == b"remembered: %d\n" % count, f"of {count} answers memory says {said!r}")
         named = {each for answer in self.told[:count] for each in contents_of(answer)}
         check(kept_contents(work) == self.kept_before | named, f"beside {count} answers other contents are kept")
         return count
@@ -521,10 +521,10 @@ class Putting:
     def check_next(self, work, count):
         """The command behind a killed one starts just the children whose answers aren't there, and says and leaves what one does
         that nothing stops."""
-        said, starts = self.started(work)
+        (said, starts), found = self.started(work), state(work)
         check(said == self.said, f"behind {count} answers it says {said!r:.1000}")
         check(starts == self.starts - count, f"behind {count} answers it starts {starts} children")
-        check(state(work) == self.after, f"behind {count} answers it leaves {state(work)!r:.1000}")
+        check(found == self.after, f"behind {count} answers it leaves {found!r:.1000}")
         check(self.remembered(work) == len(self.told), f"behind {count} answers not all are remembered")
 
     def each(self):
