@@ -1,0 +1,392 @@
+#!/usr/bin/env python3
+"""Plays random commands on repositories in real files by two hosts, each command in a process of its own, so that the store is
+closed and opened between any two. One host remembers what children answered; the other is told `forget` before each command
+that can run hooks, so that it runs them from scratch.
+
+Usage: tests/process_plays.py [PLAYS [COMMANDS [SEED]]]   (default: 40 plays of 60 commands each, of the seeds from 1 on)
+
+Both have to print the same, to end with the same status, and to leave the same repository, which SQLite reads in the file of
+the store alone. The children are tests/play_child.c: what they answer follows from their words and from the files that they
+have seen, and each says in a log of its host that it was started. From the log of the host that forgets follows what the
+other has to start: in the same order the children that its book lacks, and in a fresh run all of them. The model of a book
+knows the words of a child and the files that it has seen by a digest that the child says, and their modes, which the child
+can't see, from the store. What ended as an answer and changed its seen files alone is put into it, and so it says how many
+answers are remembered.
+
+With an even seed some children print a clock, which moves between commands. The host that remembers reports what it said when
+the answer was remembered, and behind a fresh run it names the hooks of which the clock says otherwise now.
+
+What a command prints and leaves beside that isn't the model's: tests/plays.py says it of hosts in memory.
+"""
+import collections
+import json
+import multiprocessing
+import os
+import random
+import re
+import shlex
+import sqlite3
+import subprocess
+import sys
+import tempfile
+from concurrent.futures import ProcessPoolExecutor
+from contextlib import suppress
+from pathlib import Path
+
+from host_program import CRATES, STORE, Wrong, check, run, write
+
+PROGRAM = CRATES / "hookhost/out/hookhost"
+GIVEN = [int(word) for word in sys.argv[1:]]
+PLAYS, COMMANDS, SEED = [*GIVEN, *(40, 60, 1)[len(GIVEN):]]
+# After so many commands, and at the end, both hosts print what they show.
+LOOK_AFTER = 20
+CONFIGURATION, NO_CONFIGURATION = ".pre-commit-config.yaml", b"repos: 1\n"
+# A file that is always staged, so that a child may change it without having seen it.
+ANCHOR = "anchor"
+SCRIPTS = ["s.sh", "dir/s.sh"]
+# One path is the word by which each child is started.
+PATHS = [ANCHOR, "a.txt", "b.txt", "c", "dir/a.txt", "dir/é x.md", "play_child", *SCRIPTS]
+CONTENTS = [b"x\n"] * 3 + [b"y\n"] * 3 + [b"1\n\nx 2\n", b"\xff\0\r\n", b"no end", b""]
+SCRIPT_CONTENTS = [b"#!play_child c\n", b"#! play_child\tcd it \r\nx\n", b"#!play_child -\nno end"]
+MESSAGES = ["", "\n", "first", "first", "second\n", "  first \n\n\n\nbody\t\n\n", "# kept\r\n\nbody"]
+# What a child may do, as the head of tests/play_child.c says.
+LETTERS = ["-", "c", "c", "c", "cd", "cn", "cdn", "s", "cs", "cf", "cdnsf", "co"]
+# Scripts, which may not be staged, a program that isn't there, and hooks without children.
+OTHER_HOOKS = [
+    {"language": "script", "entry": "s.sh"},
+    {"language": "script", "entry": "./dir/s.sh it"},
+    {"language": "system", "entry": "./s.sh"},
+    {"language": "system", "entry": "nowhere it"},
+    {"language": "fail", "entry": "Not these.", "files": "^c"},
+    {"language": "pygrep", "entry": "more|y"},
+]
+ARGUMENTS = [[], [], [], ["--x"], ["two words", ""], ["a.txt"], ["./b.txt", "dir"]]
+PATTERNS = [""] * 5 + [r"\.txt$", "^[ac]", "^dir/"]
+TYPES = [[]] * 6 + [["text"], ["executable"], ["non-executable", "binary"]]
+OF_MESSAGES = ["prepare-commit-msg", "commit-msg"]
+STAGES = [[]] * 4 + [["pre-commit"], ["pre-commit", "manual"], OF_MESSAGES, ["commit-msg"], ["post-commit"]]
+# The most bytes of a command, with one byte between words, and how often a hook has one that is nearly so long.
+MOST_COMMAND, LONG = 131_072, 0.06
+# How often each kind of command is drawn, those at the beginning of a play, and how often what hinders hooks is mended.
+KINDS = {
+    "add": 16, "configuration": 5, "executable": 4, "rm": 3, "run": 30, "again": 20, "commit": 24, "accept": 2,
+    "forget": 2, "memory": 2, "status": 1, "fixes": 1, "log": 1, "show": 1,
+}
+BEGINNING = ["anchor", "configuration", "add", "add", "add"]
+MENDED = 0.4
+RUNNING = ("run", "run-files", "commit")
+SHOWN = {
+    "staged files": "SELECT path, mode, bytes FROM staged JOIN blobs USING (digest) ORDER BY path",
+    "fixes": "SELECT path, gone, bytes FROM fixes LEFT JOIN blobs USING (digest) ORDER BY path",
+    "commits": "SELECT n, message FROM commits ORDER BY n",
+    "files of the commits": "SELECT n, path, mode, digest FROM entries ORDER BY n, path",
+}
+
+# The words, the contents of the file that is to be staged, the value of SKIP, and whether the clock moves before it.
+Command = collections.namedtuple("Command", "words held skip ticks", defaults=[None, None, False])
+File = collections.namedtuple("File", "mode held")
+# How a child ends, the letters that say what it may do, a digest of its words and of the files that it has seen, and these
+# files' paths with their modes.
+Child = collections.namedtuple("Child", "ending letters digest modes")
+# The children that are started, the ids of the unsteady hooks, and what the clock said when each child answered, by its digest.
+Starts = collections.namedtuple("Starts", "children unsteady said")
+
+
+# ---- what is drawn by chance
+
+def random_hook(rng, number, has_clock):
+    """The keys of a hook. Where its children see all files, a word tells them so."""
+    chance = lambda part: rng.random() < part
+    hook = {"id": f"h{number}", "name": rng.choice(["Hook", "A name"]), **rng.choice(OTHER_HOOKS)}
+    if chance(0.85):
+        letters = rng.choice(LETTERS) + (f"t{number}" if has_clock and chance(0.7) else "")
+        hook |= {"language": "system", "entry": f"play_child {letters}"}
+    if hook["language"] in ("system", "script"):
+        is_whole = chance(0.2)
+        hook |= {"args": rng.choice(ARGUMENTS) + ["--whole"] * is_whole, "pass_filenames": not is_whole}
+    keys = {
+        "alias": rng.choice(["", "", "other"]), "files": rng.choice(PATTERNS), "exclude": rng.choice(["", "", "", "b"]),
+        "types": rng.choice(TYPES), "stages": rng.choice(STAGES), "always_run": chance(0.4), "verbose": chance(0.4),
+        "fail_fast": chance(0.1), "require_serial": chance(0.2),
+    }
+    hook |= {key: value for key, value in keys.items() if value}
+    return with_long_argument(rng, hook) if chance(LONG) else hook
+
+
+def with_long_argument(rng, hook):
+    """The hook with an argument that leaves so few bytes to names that it needs several children, or some name doesn't fit."""
+    argument = "n" * (MOST_COMMAND - len("play_child c ") - rng.choice([8, 12, 16, 20, 24]))
+    keys = {"language": "system", "entry": "play_child c", "args": [argument], "pass_filenames": True}
+    return hook | keys | {"files": "^[a-z]", "types": [], "stages": []}
+
+
+def random_configuration(rng, has_clock):
+    """A configuration's text, which at times can't be read."""
+    if rng.random() < 0.03:
+        return NO_CONFIGURATION
+    hooks = [random_hook(rng, number, has_clock) for number in range(rng.choice([0, 1, 2, 2, 3, 3, 4]))]
+    # A hook whose children print the clock has them for itself, so that they tell which hook is unsteady.
+    shared = [hook for hook in hooks if not re.search(r"t\d$", hook["entry"])]
+    if shared and rng.random() < 0.3:
+        # Two hooks that start the same children, at times with one id.
+        hook = rng.choice(shared)
+        hooks.append(hook | {"name": "Twin", "id": rng.choice([hook["id"], "twin"])})
+    keys = {"fail_fast": True, "exclude": "^c$", "files": "[a-c.]", "default_stages": ["pre-commit", "commit-msg"]}
+    top = {key: value for key, value in keys.items() if rng.random() < 0.04}
+    return f"{json.dumps(top | {'repos': [{'repo': 'local', 'hooks': hooks}]})}\n".encode()
+
+
+def random_command(rng, kind, has_clock, staged, last):
+    """A command of this kind, where these files are staged, and this was the last command that ran hooks."""
+    skip = rng.choice(["h0", " h1 , ,other", "nope", ""]) if rng.random() < 0.2 else None
+    ticks = has_clock and rng.random() < 0.5
+    if kind == "again":
+        return random_again(rng, last)._replace(ticks=ticks)
+    if kind == "anchor":
+        return Command(("add", ANCHOR), b"x\n")
+    if kind == "configuration":
+        return Command(("add", CONFIGURATION), random_configuration(rng, has_clock))
+    if kind == "executable":
+        path = rng.choice(sorted(staged))
+        return Command(("add", "--chmod=+x", path), staged[path].held)
+    if kind == "add":
+        return random_add(rng)
+    if kind == "rm":
+        others = [path for path in sorted(staged) if path not in (ANCHOR, CONFIGURATION)]
+        return Command(("rm", rng.choice([*others * 3, CONFIGURATION, "nowhere"])))
+    if kind == "run":
+        return Command(random_run(rng, sorted(staged)), None, skip, ticks)
+    if kind == "commit":
+        return Command(("commit", *rng.choice([[], [], [], ["--no-verify"]]), "-m", rng.choice(MESSAGES)), None, skip, ticks)
+    return Command((kind, str(rng.randint(1, 9))) if kind == "show" else (kind,))
+
+
+def random_add(rng):
+    mode, path = rng.choice([[], [], [], ["--chmod=+x"]]), rng.choice([*PATHS * 3, "dir", "c/x"])
+    return Command(("add", *mode, path), rng.choice(SCRIPT_CONTENTS if path in SCRIPTS else CONTENTS))
+
+
+def random_run(rng, staged):
+    """The words of a run: of changed files or all, of all hooks or those of a name, or of named files."""
+    options = ["--fresh"] * (rng.random() < 0.2) + rng.choice([[]] * 5 + [["--hook-stage", "manual"]])
+    if rng.random() < 0.2:
+        return "run-files", *options, *rng.choices([*staged * 9, *PATHS], k=rng.choice([1, 1, 2, 3]))
+    only = rng.choice([[]] * 14 + [["h0"], ["h0"], ["h1"], ["other"], ["nope"]])
+    return "run", *options, *rng.choice([[], ["--all-files"]]), *only
+
+
+def random_again(rng, last):
+    """A command that ran hooks once more, or if there was none a run. What was a run may be a fresh one now."""
+    if last is None or last.words[0] == "commit":
+        return last or Command(("run",))
+    word, *others = last.words
+    others = [other for other in others if other != "--fresh"]
+    return last._replace(words=(word, *["--fresh"] * (rng.random() < 0.4), *others))
+
+
+# ---- the hosts
+
+class Host:
+    """A repository in a folder of its own, and what the model says that is remembered in it."""
+
+    def __init__(self, top, name):
+        self.folder, self.log, self.known, self.book = os.path.join(top, name), os.path.join(top, f"{name}.log"), 0, {}
+        self.environment = {variable: value for variable, value in os.environ.items() if variable != "SKIP"}
+        self.environment |= {"PLAY_LOG": self.log, "PLAY_CLOCK": os.path.join(top, "clock")}
+        os.mkdir(self.folder)
+        write(top, f"{name}.log", b"")
+        self.does("init", b"")
+
+    def play(self, command):
+        """The status and what is printed. A file lies in the folder only while it is staged."""
+        path = command.words[-1]
+        if command.held is not None:
+            write(self.folder, path, command.held)
+        skip = {} if command.skip is None else {"SKIP": command.skip}
+        answer = run(self.folder, *command.words, program=PROGRAM, env=self.environment | skip)
+        if command.held is not None:
+            os.remove(os.path.join(self.folder, path))
+            with suppress(OSError):
+                os.removedirs(os.path.dirname(os.path.join(self.folder, path)))
+        return answer
+
+    def does(self, word, wanted):
+        answer = self.play(Command((word,)))
+        check(answer == (0, wanted, b""), f"{word} is answered {answer!r}, wanted {wanted!r}")
+
+    def counts(self, word):
+        """That `memory` or `forget` prints how many answers the model remembers."""
+        self.does(word, f"{'remembered' if word == 'memory' else 'forgotten'}: {len(self.book)}\n".encode())
+        self.book = {} if word == "forget" else self.book
+
+    def children(self, staged):
+        """The children that were started since this was asked last, in their order, where these files were staged."""
+        with open(self.log, "rb") as file:
+            file.seek(self.known)
+            text = file.read()
+        self.known += len(text)
+        return [child_of(line, staged) for line in text.decode().split("\n")[:-1]]
+
+    def starts(self, children, is_fresh, clock):
+        """Which of the children that a command needs are started. What is remembered of these is put into the book, with what
+        the clock says."""
+        starts = Starts([], [], {})
+        for child in children:
+            key = child.digest, child.modes
+            found = self.book.get(key)
+            if found is not None and not is_fresh:
+                starts.said[child.digest] = found
+                continue
+            starts.children.append(child)
+            starts.said[child.digest] = clock
+            if child.ending == "answers":
+                self.book[key] = clock
+                _, has_clock, number = child.letters.partition("t")
+                starts.unsteady.extend([f"h{number}"] if has_clock and found not in (None, clock) else [])
+        return starts
+
+    def shown(self):
+        """The repository that the store's file alone shows, how many answers it remembers, and whether it is whole."""
+        held = Path(self.folder, STORE).read_bytes()
+        database = sqlite3.connect(":memory:")
+        # The database in memory has no log, so the bytes must not ask for one.
+        database.deserialize(held[:18] + b"\1\1" + held[20:])
+        ask = lambda text: database.execute(text).fetchall()
+        found = {name: ask(text) for name, text in SHOWN.items()}, ask("SELECT count(*) FROM answers")[0][0]
+        broken = ask("PRAGMA foreign_key_check"), ask("PRAGMA integrity_check")
+        database.close()
+        check(broken == ([], [("ok",)]), f"SQLite finds the store's file broken: {broken!r}")
+        return found
+
+
+def child_of(line, staged):
+    """The child that a line of the log tells. Of the files that it may have seen only the message isn't staged, and is plain."""
+    check(line != "broken", "a child finds what can't be, or can't do what it has to")
+    ending, letters, digest, *paths = line.split("\t")
+    return Child(ending, letters, digest, tuple((path, staged[path].mode if path in staged else 0) for path in paths))
+
+
+# ---- a play
+
+class Play:
+    """The two hosts side by side."""
+
+    def __init__(self, top, seed):
+        self.top, self.rng, self.has_clock, self.clock = top, random.Random(seed), seed % 2 == 0, 0
+        self.remembering, self.forgetting = self.hosts = [Host(top, name) for name in ("remembering", "forgetting")]
+        self.commands, self.staged, self.has_fixes, self.ends = [], {}, False, collections.Counter()
+
+    def run(self):
+        for at in range(COMMANDS):
+            kind = BEGINNING[at] if at < len(BEGINNING) else self.random_kind()
+            last = next((command for command in reversed(self.commands) if command.words[0] in RUNNING), None)
+            self.step(random_command(self.rng, kind, self.has_clock, self.staged, last))
+            if (at + 1) % LOOK_AFTER == 0 or at + 1 == COMMANDS:
+                self.look()
+
+    def random_kind(self):
+        """A kind of command. What keeps hooks from being run, or from passing again, is often mended at once."""
+        if self.rng.random() < MENDED:
+            if self.has_fixes:
+                return "accept"
+            if CONFIGURATION not in self.staged or self.staged[CONFIGURATION].held == NO_CONFIGURATION:
+                return "configuration"
+        return self.rng.choices(list(KINDS), KINDS.values())[0]
+
+    def step(self, command):
+        """Plays a command by both hosts, and looks at what they say and leave."""
+        self.commands.append(command)
+        self.clock += command.ticks
+        write(self.top, "clock", str(self.clock).encode())
+        word, is_fresh = command.words[0], "--fresh" in command.words
+        if word in ("memory", "forget"):
+            for host in self.hosts:
+                host.counts(word)
+            return self.check_shown()
+        if word in RUNNING:
+            self.forgetting.counts("forget")
+        remembering, forgetting = (host.play(command) for host in self.hosts)
+        self.ends[f"{word} {remembering[0]}"] += 1
+        check_answers(remembering, forgetting, self.check_children(is_fresh))
+        self.check_shown()
+
+    def check_children(self, is_fresh):
+        """That both hosts started what they had to. What the one that remembers has started."""
+        remembering, forgetting = (host.children(self.staged) for host in self.hosts)
+        # Within one command the other host remembers too.
+        wanted = self.forgetting.starts(forgetting, is_fresh, self.clock).children
+        check(forgetting == wanted, f"from scratch it starts {forgetting!r}, of which it remembers some")
+        starts = self.remembering.starts(forgetting, is_fresh, self.clock)
+        check(remembering == starts.children, f"it starts {remembering!r}, wanted {starts!r}; from scratch {forgetting!r}")
+        self.ends.update(child.ending for child in remembering)
+        replayed = len(forgetting) - len(remembering)
+        self.ends.update(started=len(remembering), replayed=replayed, unsteady=len(starts.unsteady))
+        return starts
+
+    def check_shown(self):
+        """That both stores show the same repository, and remember as many answers as the model."""
+        (remembering, count), (forgetting, other) = (host.shown() for host in self.hosts)
+        for name in SHOWN:
+            found, wanted = remembering[name], forgetting[name]
+            check(found == wanted, f"the {name} are {found!r:.2000}, and from scratch {wanted!r:.2000}")
+        books = [len(host.book) for host in self.hosts]
+        check([count, other] == books, f"{[count, other]} answers are remembered, wanted {books}")
+        self.has_fixes = bool(forgetting["fixes"])
+        self.staged = {path: File(mode, held) for path, mode, held in forgetting["staged files"]}
+
+    def look(self):
+        """That both hosts print the same of what they show, and how many answers they remember."""
+        commands = [Command((word,)) for word in ("status", "fixes", "log")]
+        found, wanted = ([host.play(command) for command in commands] for host in self.hosts)
+        check(found == wanted, f"it shows {found!r:.2000}, and from scratch {wanted!r:.2000}")
+        for host in self.hosts:
+            host.counts("memory")
+
+
+def check_answers(remembering, forgetting, starts):
+    """That both hosts say the same, but for unsteady hooks, and for what the clock said when a child answered."""
+    status, out, err = forgetting
+    out = re.sub(rb"clock (\w+) \d+", lambda found: b"clock %s %d" % (found[1], starts.said[found[1].decode()]), out)
+    wanted = status, out + b"".join(f"unsteady: {name}\n".encode() for name in dict.fromkeys(starts.unsteady)), err
+    check(remembering == wanted, f"it says {remembering!r:.3000}, wanted {wanted!r:.3000}")
+
+
+def line_of(command):
+    """A line that tells a command, with the contents of the file that it stages."""
+    clock = "(the clock moves) " if command.ticks else ""
+    skip = "" if command.skip is None else f"SKIP={shlex.quote(command.skip)} "
+    words = " ".join(shlex.quote(word) if word.isprintable() else f"${word!r}" for word in command.words)
+    held = "" if command.held is None else "   # " + re.sub("n{99,}", lambda found: f"<{len(found[0])} n>", repr(command.held))
+    return f"  {clock}{skip}hookhost {words}{held}\n"
+
+
+def played(seed):
+    """What is wrong with the play of a seed, or None, and what happened in it."""
+    with tempfile.TemporaryDirectory() as top:
+        play = Play(top, seed)
+        try:
+            play.run()
+        except (Wrong, subprocess.TimeoutExpired) as wrong:
+            commands = "".join(map(line_of, play.commands))
+            again = f"tests/process_plays.py 1 {COMMANDS} {seed}"
+            return f"{again} differs at its command {len(play.commands)}: {wrong}\n{commands}", play.ends
+    return None, play.ends
+
+
+def main():
+    with tempfile.TemporaryDirectory() as folder:
+        source = Path(__file__).resolve().parent / "play_child.c"
+        subprocess.run(["cc", "-O1", "-o", os.path.join(folder, "play_child"), str(source)], check=True)
+        os.environ["PATH"] = folder + os.pathsep + os.environ["PATH"]
+        with ProcessPoolExecutor(len(os.sched_getaffinity(0)), multiprocessing.get_context("fork")) as pool:
+            plays = list(pool.map(played, range(SEED, SEED + PLAYS)))
+    ends, differing = sum((ends for _, ends in plays), collections.Counter()), [text for text, _ in plays if text]
+    for text in differing[:3]:
+        print(f"process plays: {text}", end="")
+    print("process plays: " + ", ".join(f"{name}: {count}" for name, count in sorted(ends.items())))
+    said = f"{ends['started']} children started, {ends['replayed']} replayed, {len(differing)} differ"
+    print(f"process plays: {PLAYS} plays of {COMMANDS} commands by two hosts, {said}")
+    sys.exit(1 if differing or not ends["started"] or not ends["replayed"] else 0)
+
+
+main()
