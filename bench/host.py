@@ -5,8 +5,9 @@ Usage: bench/host.py [PROGRAM [STORE_TRIAL]]   (default: the built programs)
 
 The repositories are empty, or hold staged files of 400 bytes after some commits, each of which changes one file. Those of
 hookhost are made by store_trial. Each command is timed beside git's, and beside what opening the store takes, by
-store_trial, which opens it and does nothing else (its input is one line). Each time is wall time in milliseconds, the least of several runs in
-which the programs take turns. The peak memory is of the whole process.
+store_trial, which opens it and does nothing else (its input is one line). `memory` and `forget` are timed with 100 answers in
+the store; git has nothing to stand beside them. Each time is wall time in milliseconds, the least of several runs in which the
+programs take turns. The peak memory is of the whole process.
 """
 import os
 import shutil
@@ -16,7 +17,7 @@ import tempfile
 from collections import namedtuple
 
 sys.path.insert(0, os.path.dirname(os.path.abspath(__file__)))
-from timing import HERE, once, program, show
+from timing import HERE, in_folder, once, program, show
 
 PROGRAM = program()
 STORE_TRIAL = os.path.abspath(sys.argv[2] if len(sys.argv) > 2 else os.path.join(HERE, "..", "crates/store_trial/out/store_trial"))
@@ -25,7 +26,8 @@ STORE = ".hookhost/store.db"
 SIZE, RUNS = 400, 15
 # The files and the commits of each repository.
 HISTORIES = [(0, 0), (1000, 1), (1000, 100), (10000, 1), (10000, 10)]
-# What is timed: our words and git's. The file NEW gets other bytes before each round, and is staged only between its add and its rm.
+# What is timed: our words and git's. The file NEW gets other bytes before each round, and is staged only between its add and its
+# rm.
 NEW, OLD = "new.txt", "many/000000"
 Pair = namedtuple("Pair", "ours git")
 CHANGES = {"add": Pair(["add", NEW], ["add", NEW]), "rm": Pair(["rm", NEW], ["rm", "--cached", "--quiet", NEW])}
@@ -35,6 +37,10 @@ OF_HISTORY = {
     "log": Pair(["log"], ["log", "--oneline"]),
     "show": Pair(["show", "1"], ["show", "--name-only", "--format=%B", "first"]),
 }
+
+# The commands on remembered answers, and lines by which store_trial puts some.
+OF_ANSWERS = ["memory", "forget"]
+ANSWERS = [f"remember tool{at} {NEW} | {NEW}={at} | | 0" for at in range(100)]
 
 
 def git(*words):
@@ -78,11 +84,6 @@ def make_git(files, commits):
             git("tag", "first")
 
 
-def in_folder(folder, words, given="/dev/null"):
-    os.chdir(folder)
-    return once(words, given)
-
-
 def time_commands(ours, other, opening, has_history):
     """The least milliseconds of each command, of git's, and of opening the store."""
     pairs = {**CHANGES, **LOOK_UPS, **(OF_HISTORY if has_history else {})}
@@ -98,6 +99,25 @@ def time_commands(ours, other, opening, has_history):
     return {what: (min(mine), min(theirs)) for what, (mine, theirs) in times.items()}, min(opened)
 
 
+def put_answers():
+    """Puts answers into the folder's store. The commands behind that leave its log as commands do: with what store_trial leaves
+    the next one would wait longer for the disk."""
+    play(ANSWERS)
+    for pair in CHANGES.values():
+        once([PROGRAM, *pair.ours])
+
+
+def time_on_answers(folder, opening):
+    """The least milliseconds of each command on remembered answers, and of opening the store with them."""
+    os.chdir(folder)
+    rounds = []
+    for _ in range(RUNS):
+        put_answers()
+        rounds.append([once([STORE_TRIAL, STORE], opening), *(once([PROGRAM, what]) for what in OF_ANSWERS)])
+    opened, *times = map(min, zip(*rounds))
+    return dict(zip(OF_ANSWERS, times)), opened
+
+
 def peak(helper, words, given="/dev/null"):
     """The peak memory of the command in MB."""
     with open(given, "rb") as stdin:
@@ -107,10 +127,13 @@ def peak(helper, words, given="/dev/null"):
 
 def tell_peaks(helper, folder, opening, has_history):
     os.chdir(folder)
+    put_answers()
     alone = peak(helper, [STORE_TRIAL, STORE], opening)
-    words = [pair.ours for pair in {**CHANGES, **LOOK_UPS, **(OF_HISTORY if has_history else {})}.values()]
+    pairs = {**CHANGES, **LOOK_UPS, **(OF_HISTORY if has_history else {})}
+    words = [*(pair.ours for pair in pairs.values()), *([what] for what in OF_ANSWERS)]
     peaks = [(each[0], peak(helper, [PROGRAM, *each])) for each in words]
-    print(f"{'':44} peak memory of opening alone {alone:.1f} MB; " + ", ".join(f"{what} {most:.1f} MB, {most / alone:.2f} times" for what, most in peaks))
+    told = ", ".join(f"{what} {most:.1f} MB, {most / alone:.2f} times" for what, most in peaks)
+    print(f"{'':44} peak memory of opening alone {alone:.1f} MB; {told}")
 
 
 def time_init(folder):
@@ -135,6 +158,9 @@ def time_history(folder, helper, files, commits):
     for what, (mine, theirs) in times.items():
         show(f"{what}: {files} files, {commits} commits", mine, theirs, "git")
         print(f"{'':44} beside opening the store, {opened:.2f} ms: ratio {mine / opened:.2f}")
+    times, opened = time_on_answers(ours, opening)
+    for what, took in times.items():
+        show(f"{what} of {len(ANSWERS)} answers: {files} files, {commits} commits", took, opened, "opening")
     tell_peaks(helper, ours, opening, commits > 0)
 
 

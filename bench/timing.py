@@ -24,6 +24,12 @@ def once(words, given="/dev/null"):
     return took
 
 
+def in_folder(folder, words, given="/dev/null"):
+    """The wall time of the command in that folder, where this process is then too."""
+    os.chdir(folder)
+    return once(words, given)
+
+
 def least(words, runs=15):
     """The least wall time of the command."""
     return min(once(words) for _ in range(runs))
@@ -34,11 +40,16 @@ def least_in_turn(commands, runs=40):
     times = [[] for _ in commands]
     for _ in range(runs):
         for which, (folder, words) in enumerate(commands):
-            os.chdir(folder)
-            times[which].append(once(words))
+            times[which].append(in_folder(folder, words))
     return [min(each) for each in times]
 
 
-def show(what, ours, other, beside):
-    """One line: our time, the other program's, and their ratio."""
-    print(f"{what:44} {ours:9.2f} ms  {beside} {other:8.2f} ms  ratio {ours / other:6.2f}")
+def beside_aim(ratio, aim):
+    """The most that a ratio should be, and whether it is; nothing where there is no aim."""
+    return "" if aim is None else f"  aim {aim}: {'met' if ratio <= aim else 'missed'}"
+
+
+def show(what, ours, other, beside, aim=None):
+    """One line: our time, the other program's, and their ratio, beside its aim if it has one."""
+    ratio = ours / other
+    print(f"{what:44} {ours:9.2f} ms  {beside} {other:8.2f} ms  ratio {ratio:6.2f}{beside_aim(ratio, aim)}", flush=True)

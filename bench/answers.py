@@ -1,0 +1,339 @@
+#!/usr/bin/env python3
+"""Times remembered answers in real files: runs, commits, puts and the opening of a store that has them, and prints ratios.
+
+Usage: bench/answers.py [PROGRAM [STORE_TRIAL]]   (default: the built programs)
+
+Ten hooks run `true` over all files, in a repository after one commit: where nothing is remembered, with the scratch folder still
+to be written and as an earlier run left it, and where all is. Beside them stand opening the store, by `log`, which for one commit
+does nothing else; `cat` of the same files; and pre-commit with the same hooks in a repository of Git, which has to report the
+same. A put is timed beside a staging, as calls on a store that is open and as what each adds to a command of its own. Opening
+10,000 answers is timed beside reading the same rows with the kit's database and hashing their contents, by store_trial. A commit
+whose hooks' answers are remembered is timed beside one without hooks.
+
+Each time is wall time in milliseconds, the least of several runs in which all that is compared takes turns. The load of the last
+minute is told before each part.
+"""
+import os
+import shutil
+import sqlite3
+import subprocess
+import sys
+import tempfile
+from collections import defaultdict
+
+HERE = os.path.dirname(os.path.abspath(__file__))
+sys.path[:1] = [HERE, os.path.join(HERE, "..", "tests")]
+from timing import in_folder, program, show
+
+PROGRAM = program()
+# What is left of the words names store_trial, which store.py reads.
+del sys.argv[1:2]
+from kept_answers import KeptAnswer, contents_of as contents_kept, digest, records_of
+from store import FILES, SIZE, Play, contents_of, make_history, played
+
+FOLDER, CONFIGURATION, NEW = ".hookhost", ".pre-commit-config.yaml", "new.txt"
+STORE, LOG = f"{FOLDER}/store.db", f"{FOLDER}/store.db-wal"
+OPENING, RUN, RUN_ON_ALL = [PROGRAM, "log"], [PROGRAM, "run"], [PROGRAM, "run", "--all-files"]
+COMMIT = [PROGRAM, "commit", "-m", "m"]
+RUNS, COMMANDS, CALLS, OPENINGS = 9, 40, 200, 9
+HOOKS, PUTS = 10, 20
+# The most that a remembered run should take of opening the store and once `cat` of the files, and of pre-commit's time, by how
+# many files there are.
+AIM_BESIDE_CAT, AIM_BESIDE_PRE_COMMIT = 1, {1000: 0.2, 10000: 0.6}
+AIM_PUT, AIM_OPENING, AIM_COMMIT = 1.5, 1.3, 1.5
+# The commands and the states of the files in a store whose answers saw all of them.
+WIDE_COMMANDS, WIDE_STATES = 10, 10
+
+
+# ---- repositories
+
+def hook(at, entry, *arguments):
+    """A hook of the stage `pre-commit`, which pre-commit starts once over all files, as hookhost does."""
+    words = ", ".join(f'"{word}"' for word in arguments)
+    command = f"language: system, entry: {entry}, args: [{words}], require_serial: true"
+    return f"  - {{id: hook{at}, name: Hook {at}, {command}, stages: [commit]}}\n"
+
+
+def hooks_of_true(count):
+    """Hooks that each have a word of their own: of those with the same words only the first would start a child."""
+    return [hook(at, '"true"', f"hook{at}") for at in range(count)]
+
+
+def configuration(hooks):
+    return "repos:\n- repo: local\n  hooks:" + ("\n" + "".join(hooks) if hooks else " []\n")
+
+
+def write(path, text):
+    os.makedirs(os.path.dirname(path) or ".", exist_ok=True)
+    with open(path, "w", encoding="utf-8") as file:
+        file.write(text)
+
+
+def do(*words):
+    done = subprocess.run(words, stdin=subprocess.DEVNULL, stdout=subprocess.PIPE, stderr=subprocess.PIPE, text=True)
+    if done.returncode:
+        sys.exit(f"bench/answers.py: {words!r}: {done.stdout}{done.stderr}")
+    return done.stdout
+
+
+class Repository:
+    """A repository of hookhost with so many staged files after one commit, which can be put back to how it was made."""
+
+    def __init__(self, folder, files, hooks):
+        self.folder, self.kept = folder, folder + ".kept"
+        os.mkdir(folder)
+        os.chdir(folder)
+        write(CONFIGURATION, configuration(hooks))
+        do(PROGRAM, "init")
+        do(PROGRAM, "add", CONFIGURATION)
+        played(STORE, ["open", f"stage-many {files} {SIZE} 0", "close"])
+        # The last command is the program's own, which leaves its log as those find it that are timed.
+        do(PROGRAM, "commit", "--no-verify", "-m", "m")
+        shutil.copytree(FOLDER, self.kept)
+
+    def restore(self):
+        """The store as it was made, which the disk has: what waits to be written would be waited for by what is timed."""
+        for path in (STORE, LOG):
+            to = os.path.join(self.folder, path)
+            shutil.copyfile(os.path.join(self.kept, os.path.basename(path)), to)
+            with open(to, "rb") as file:
+                os.fsync(file.fileno())
+
+    def drop_scratch(self):
+        shutil.rmtree(os.path.join(self.folder, FOLDER, "scratch"), ignore_errors=True)
+
+    def time(self, words):
+        return in_folder(self.folder, words)
+
+    def look_for_answers(self, wanted):
+        """Looks that so many answers are remembered, else something else was timed than is said."""
+        os.chdir(self.folder)
+        said = do(PROGRAM, "memory")
+        if said != f"remembered: {wanted}\n":
+            sys.exit(f"bench/answers.py: {said!r}, wanted are {wanted}")
+
+    def add_new(self, number):
+        """Stages a file that no round before had so, and answers what that takes."""
+        write(os.path.join(self.folder, NEW), f"other {number} ".ljust(SIZE, "."))
+        return self.time([PROGRAM, "add", NEW])
+
+
+def make_git(folder, files, hooks):
+    """The same files in a repository of Git, after one commit."""
+    os.mkdir(folder)
+    os.chdir(folder)
+    do("git", "init", "--quiet", ".")
+    write(CONFIGURATION, configuration(hooks))
+    for at in range(files):
+        write(f"many/{at:06}", contents_of(SIZE, 0, at).decode())
+    do("git", "add", "--all")
+    do("git", "commit", "--quiet", "--message", "m")
+
+
+def least_of(rounds):
+    """The least of what each round took, by what was timed."""
+    times = defaultdict(list)
+    for each in rounds:
+        for what, took in each.items():
+            times[what].append(took)
+    return {what: min(each) for what, each in times.items()}
+
+
+def tell_load(what):
+    print(f"{what}, at a load of {os.getloadavg()[0]:.1f}", flush=True)
+
+
+# ---- runs on all files
+
+def one_round_of_runs(ours, git, names):
+    """What the runs of one round take, from a store without answers on, and what stands beside them."""
+    times = {}
+    ours.restore()
+    times["opening without answers"] = ours.time(OPENING)
+    ours.drop_scratch()
+    times["first of all"] = ours.time(RUN_ON_ALL)
+    ours.restore()
+    times["first"] = ours.time(RUN_ON_ALL)
+    times["remembered"] = ours.time(RUN_ON_ALL)
+    times["opening"] = ours.time(OPENING)
+    times["cat"] = in_folder(git, ["xargs", "-0", "/bin/cat"], names)
+    times["pre-commit"] = in_folder(git, ["pre-commit", "run", "--all-files"])
+    return times
+
+
+def compare_reports(ours, git):
+    """Both programs have to say the same of the same files, else they didn't do the same."""
+    os.chdir(git)
+    theirs = do("pre-commit", "run", "--all-files", "--color", "never")
+    os.chdir(ours.folder)
+    if do(*RUN_ON_ALL) != theirs:
+        sys.exit("bench/answers.py: pre-commit reports something else")
+
+
+def time_runs(folder, files):
+    tell_load(f"{HOOKS} hooks over {files} files of {SIZE} bytes")
+    hooks = hooks_of_true(HOOKS)
+    ours = Repository(os.path.join(folder, f"runs{files}"), files, hooks)
+    git, names = os.path.join(folder, f"git{files}"), os.path.join(folder, f"names{files}")
+    make_git(git, files, hooks)
+    write(names, "\0".join([CONFIGURATION, *(f"many/{at:06}" for at in range(files))]))
+    compare_reports(ours, git)
+    times = least_of(one_round_of_runs(ours, git, names) for _ in range(RUNS))
+    ours.look_for_answers(HOOKS)
+    for what, run in (("the first run, which writes the folder", "first of all"), ("a first run, the folder written", "first")):
+        show(f"{what}, {files} files", times[run], times["pre-commit"], "pre-commit")
+    show(f"a remembered run, {files} files", times["remembered"], times["pre-commit"], "pre-commit", AIM_BESIDE_PRE_COMMIT[files])
+    show("", times["remembered"], times["opening"] + times["cat"], "opening and cat", AIM_BESIDE_CAT)
+    more = times["remembered"] - times["opening"]
+    print(f"{'':44} opening {times['opening']:.2f} ms, without answers {times['opening without answers']:.2f} ms; "
+          f"beside it {more:.2f} ms, cat {times['cat']:.2f} ms", flush=True)
+
+
+# ---- one put
+
+def calls_of_put(at):
+    """A staging, the put of what a child answered that saw that file, and that of one which changed it and wrote something."""
+    contents, changed = (f"{at}".ljust(SIZE, letter) for letter in "xy")
+    return {
+        "staging": f"stage plain {NEW} {contents}",
+        "put": f"remember true {NEW} | {NEW}={contents} | | 0",
+        "put of a change": f"remember sed {NEW} | {NEW}={contents} | {NEW}={changed} | 1 | changed.{at}",
+    }
+
+
+def time_calls(folder, count):
+    """Calls on a store that is open, with so many files staged."""
+    path = os.path.join(folder, f"calls{count}.db")
+    played(path, ["create", f"stage-many {count} {SIZE} 0", "close"])
+    play = Play(path)
+    play.ask("open")
+    times = least_of({what: play.ask(line) for what, line in calls_of_put(at).items()} for at in range(CALLS))
+    play.end()
+    show(f"a put, {count} files staged", times["put"], times["staging"], "a staging", AIM_PUT)
+    show("one with a change and an output", times["put of a change"], times["staging"], "a staging", AIM_PUT)
+
+
+def one_round_of_commands(answered, faulted, number):
+    """A run that puts what its children answer, and one whose children are ended by a signal, which is never remembered."""
+    times = {"add": answered.add_new(number)}
+    faulted.add_new(number)
+    times["opening"] = answered.time(OPENING)
+    times["putting run"] = answered.time(RUN)
+    times["faulted run"] = faulted.time(RUN)
+    return times
+
+
+def hooks_of_signal(signal):
+    """Hooks whose children send themselves a signal, of which 0 does nothing."""
+    return [hook(at, "sh -c 'kill -$0 $$'", signal, f"hook{at}") for at in range(PUTS)]
+
+
+def time_commands(folder):
+    """What a put adds to a run, beside what a staging adds to opening the store. There are few files, since those of a child that
+    a signal ended aren't read back."""
+    answered, faulted = (Repository(os.path.join(folder, f"signal{signal}"), 1, hooks_of_signal(signal)) for signal in "09")
+    times = least_of(one_round_of_commands(answered, faulted, number) for number in range(COMMANDS))
+    answered.look_for_answers(COMMANDS * PUTS)
+    faulted.look_for_answers(0)
+    put, staging = (times["putting run"] - times["faulted run"]) / PUTS, times["add"] - times["opening"]
+    show(f"each of the {PUTS} puts of a run", put, staging, "what `add` adds to opening", AIM_PUT)
+    print(f"{'':44} " + ", ".join(f"{what} {took:.2f} ms" for what, took in times.items()), flush=True)
+
+
+def time_puts(folder):
+    tell_load("puts")
+    for count in (10, 1000, 10000):
+        time_calls(folder, count)
+    time_commands(folder)
+
+
+# ---- opening a store with answers
+
+def answer_of(which, files):
+    """What a command answered that got these files, found nothing and wrote nothing."""
+    return KeptAnswer([f"tool{which}".encode(), *(path.encode() for path, _, _ in files)], files, [], 0)
+
+
+def answers_of_each(commands):
+    """An answer of each command to each file of a history, which it saw alone."""
+    files = [(f"many/{at:06}", 0, contents_of(SIZE, 1, at)) for at in range(FILES)]
+    return [answer_of(which, [file]) for which in range(commands) for file in files]
+
+
+def files_of_state(state):
+    """The files of a history, of which one has other contents than in other states."""
+    return [(f"many/{at:06}", 0, contents_of(SIZE, 2 if at == state else 1, at)) for at in range(FILES)]
+
+
+def answers_of_all():
+    """The answers of some commands that saw all files of a history, in some of its states."""
+    states = [files_of_state(state) for state in range(WIDE_STATES)]
+    return [answer_of(which, files) for which in range(WIDE_COMMANDS) for files in states]
+
+
+def plant(path, answers):
+    """Puts answers into a closed store as rows, which takes less time than to play them."""
+    blobs = {digest(each): each for answer in answers for each in contents_kept(answer)}
+    rows = [(*map(digest, records_of(answer)), answer.status) for answer in answers]
+    with sqlite3.connect(path) as held:
+        held.executemany("INSERT OR IGNORE INTO blobs VALUES (?, ?)", blobs.items())
+        held.executemany("INSERT INTO answers VALUES (?, ?, ?, ?, ?)", rows)
+    held.close()
+
+
+def time_opening(folder, what, answers, aim=None):
+    path = os.path.join(folder, f"opening{len(answers)}.db")
+    make_history(path, 1, True)
+    plant(path, answers)
+    times = least_of({line: played(path, [line])[0][0] for line in ("open", "connect", "read-tables")} for _ in range(OPENINGS))
+    show(f"opening {what}", times["open"], times["read-tables"], "opened, read and hashed", aim)
+    size = os.path.getsize(path) / 1e6
+    print(f"{'':44} {times['connect']:9.2f} ms of it to open the database alone; {size:.1f} MB of file", flush=True)
+
+
+def time_openings(folder):
+    tell_load(f"opening a store of one commit with {FILES} files")
+    time_opening(folder, "no answers", [])
+    time_opening(folder, f"{5 * FILES} answers to a file each", answers_of_each(5))
+    time_opening(folder, f"{10 * FILES} answers to a file each", answers_of_each(10), AIM_OPENING)
+    time_opening(folder, f"{WIDE_COMMANDS * WIDE_STATES} answers to {FILES} files each", answers_of_all())
+
+
+# ---- commits
+
+def time_commit(repository, hooks, runs_before, number):
+    """A commit of one changed file, whose hooks have run on it before or not."""
+    repository.restore()
+    repository.add_new(number)
+    if runs_before:
+        repository.time(RUN)
+        repository.look_for_answers(hooks)
+    took = repository.time(COMMIT)
+    repository.look_for_answers(hooks)
+    return took
+
+
+def time_commits(folder, files):
+    tell_load(f"commits of one file, {files} files staged after one commit")
+    made = [Repository(os.path.join(folder, f"commits{hooks}.{files}"), files, hooks_of_true(hooks)) for hooks in (0, 2)]
+    ways = {"none": (made[0], 0, False), "remembered": (made[1], 2, True), "anew": (made[1], 2, False)}
+    times = least_of({what: time_commit(*way, number) for what, way in ways.items()} for number in range(RUNS))
+    show(f"two remembered hooks, {files} files", times["remembered"], times["none"], "no hooks", AIM_COMMIT)
+    show("two hooks of which nothing is remembered", times["anew"], times["none"], "no hooks")
+
+
+def main():
+    for who in ("AUTHOR", "COMMITTER"):
+        os.environ.update({f"GIT_{who}_NAME": "bench", f"GIT_{who}_EMAIL": "bench@localhost"})
+    with tempfile.TemporaryDirectory() as folder:
+        os.environ["PRE_COMMIT_HOME"] = os.path.join(folder, "pre-commit")
+        for files in AIM_BESIDE_PRE_COMMIT:
+            time_runs(folder, files)
+        time_puts(folder)
+        time_openings(folder)
+        for files in (10, 1000, 10000):
+            time_commits(folder, files)
+        os.chdir("/")
+
+
+main()
