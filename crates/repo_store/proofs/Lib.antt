@@ -6,6 +6,7 @@ pub mod ChangeLemmas
 pub mod ClashLemmas
 pub mod CompleteLemmas
 pub mod DigestLemmas
+pub mod EditLemmas
 pub mod FewLemmas
 pub mod FitLemmas
 pub mod FixLemmas
@@ -18,6 +19,7 @@ pub mod ListLemmas
 pub mod ListedLemmas
 pub mod ManyLemmas
 pub mod OneLemmas
+pub mod PathLemmas
 pub mod PlaceLemmas
 pub mod PutLemmas
 pub mod ReadingLemmas

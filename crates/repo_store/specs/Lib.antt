@@ -7,6 +7,7 @@ pub mod Calls
 pub mod Clashes
 pub mod Complete
 pub mod Contents
+pub mod Edits
 pub mod Faults
 pub mod FileRefs
 pub mod FromRows
@@ -24,6 +25,7 @@ pub mod RowRules
 pub mod Rows
 pub mod Shared
 pub mod SharedAnswers
+pub mod SharedEdits
 pub mod Shown
 pub mod Sound
 pub mod SoundAnswers

@@ -18,8 +18,8 @@ ghost use Rattle.repo_store.specs.WrittenAnswers.{contents_for, contents_in_chan
 
 use crate::content::Content;
 use crate::contents::Contents;
+use crate::known::Known;
 use crate::limits::MOST_CONTENT_BYTES;
-use crate::look_ups::digest_at;
 use crate::shared::{SharedFile, SharedFix};
 use crate::shared_answer::{AnswerRecords, SharedAnswer};
 use crate::{AnswerRef, StoreFault};
@@ -37,11 +37,10 @@ struct Written {
 // Keeps contents that stand at a path.
 fn keep_at(
     contents: &mut Contents,
-    staged: &[SharedFile],
+    known: Known<'_>,
     path: &RepoPath,
     bytes: &[u8],
 ) -> Result<Content, StoreFault>
-    requires { IsRising (map file_of staged.now) }
     ensures content { IfOk result (λ content. content ≡ bytes.now) }
     ensures kept { OnOk result (AreAllKept (bytes.now ∷ []) contents.old contents.new) }
     ensures stopped { IfErr result (IsStopped (bytes.now ∷ []) contents.old contents.new) }
@@ -49,23 +48,22 @@ fn keep_at(
     if bytes.len() > MOST_CONTENT_BYTES {
         return Err(StoreFault::TooLarge);
     }
-    contents.keep_under(digest_at(staged, path, bytes), bytes)
+    contents.keep_under(known.digest_of(path, bytes), bytes)
 }
 
 // Keeps the contents of a file.
 fn keep_file(
     alloc: Global,
     contents: &mut Contents,
-    staged: &[SharedFile],
+    known: Known<'_>,
     file: &File,
 ) -> Result<SharedFile, StoreFault>
-    requires { IsRising (map file_of staged.now) }
     ensures file { IfOk result (λ made. file_of made ≡ file.now) }
     ensures kept { OnOk result (AreAllKept (file.now.entry.bytes ∷ []) contents.old contents.new) }
     ensures stopped { IfErr result (IsStopped (file.now.entry.bytes ∷ []) contents.old contents.new) }
 {
     let path = file.path.clone()?;
-    let content = keep_at(contents, staged, &file.path, file.entry.bytes.as_slice())?;
+    let content = keep_at(contents, known, &file.path, file.entry.bytes.as_slice())?;
     let file = SharedFile::of(alloc, path, file.entry.mode, content)?;
     Ok(file)
 }
@@ -74,10 +72,9 @@ fn keep_file(
 fn keep_files(
     alloc: Global,
     contents: &mut Contents,
-    staged: &[SharedFile],
+    known: Known<'_>,
     seen: &Tree,
 ) -> Result<Vec<SharedFile>, StoreFault>
-    requires { IsRising (map file_of staged.now) }
     ensures files { IfOk result (λ files. map file_of files.items ≡ seen.now) }
     ensures rising { IsRising seen.now }
     ensures kept { OnOk result (AreAllKept (contents_in_files seen.now) contents.old contents.new) }
@@ -85,7 +82,7 @@ fn keep_files(
 {
     let mut files = Vec::new(alloc);
     'files: for index in 0..seen.len() {
-        let file = keep_file(alloc, contents, staged, seen.entry(index))?;
+        let file = keep_file(alloc, contents, known, seen.entry(index))?;
         files.push(file)?;
     }
     Ok(files)
@@ -94,10 +91,9 @@ fn keep_files(
 // Keeps the new contents of a change.
 fn keep_change(
     contents: &mut Contents,
-    staged: &[SharedFile],
+    known: Known<'_>,
     change: &Change,
 ) -> Result<SharedFix, StoreFault>
-    requires { IsRising (map file_of staged.now) }
     ensures change { IfOk result (λ made. fix_of made ≡ change.entry.now) }
     ensures kept { OnOk result (AreAllKept (option_to_list change.entry.now.now) contents.old contents.new) }
     ensures stopped { IfErr result (IsStopped (option_to_list change.entry.now.now) contents.old contents.new) }
@@ -106,7 +102,7 @@ fn keep_change(
     match &change.now {
         None => Ok(SharedFix { path, now: None }),
         Some(bytes) => {
-            let content = keep_at(contents, staged, &change.path, bytes.as_slice())?;
+            let content = keep_at(contents, known, &change.path, bytes.as_slice())?;
             Ok(SharedFix {
                 path,
                 now: Some(content),
@@ -119,17 +115,16 @@ fn keep_change(
 fn keep_changes(
     alloc: Global,
     contents: &mut Contents,
-    staged: &[SharedFile],
+    known: Known<'_>,
     changes: &[Change],
 ) -> Result<Vec<SharedFix>, StoreFault>
-    requires { IsRising (map file_of staged.now) }
     ensures changes { IfOk result (λ made. map fix_of made.items ≡ changes.now) }
     ensures kept { OnOk result (AreAllKept (contents_in_changes changes.now) contents.old contents.new) }
     ensures stopped { IfErr result (IsStopped (contents_in_changes changes.now) contents.old contents.new) }
 {
     let mut made = Vec::new(alloc);
     'changes: for change in changes {
-        let change = keep_change(contents, staged, change)?;
+        let change = keep_change(contents, known, change)?;
         made.push(change)?;
     }
     Ok(made)
@@ -250,21 +245,20 @@ fn keep_written(
 fn keep_parts(
     alloc: Global,
     contents: &mut Contents,
-    staged: &[SharedFile],
+    known: Known<'_>,
     words: &[Text],
     seen: &Tree,
     answer: AnswerRef<'_>,
 ) -> Result<SharedAnswer, StoreFault>
-    requires staged_rise { IsRising (map file_of staged.now) }
-    requires keeps_to_seen { KeepToSeen answer.changes.now seen.now }
+    requires { KeepToSeen answer.changes.now seen.now }
     ensures answer { IfOk result (λ made. made ≡ copied_answer words.now seen.now answer.entry) }
     ensures sound { OnOk result (IsSoundAnswer (copied_answer words.now seen.now answer.entry)) }
     ensures kept { OnOk result (AreAllKept (contents_for (copied_answer words.now seen.now answer.entry)) contents.old contents.new) }
     ensures stopped { IfErr result (IsStopped (contents_for (copied_answer words.now seen.now answer.entry)) contents.old contents.new) }
 {
     let copy = copy_texts(alloc, words)?;
-    let files = keep_files(alloc, contents, staged, seen)?;
-    let changes = keep_changes(alloc, contents, staged, answer.changes.as_slice())?;
+    let files = keep_files(alloc, contents, known, seen)?;
+    let changes = keep_changes(alloc, contents, known, answer.changes.as_slice())?;
     let written = keep_written(
         alloc,
         contents,
@@ -283,18 +277,18 @@ fn keep_parts(
     ))
 }
 
-/// An answer to be remembered, whose contents are kept. Contents that a staged file has at the same path aren't hashed anew. A
+/// An answer to be remembered, whose contents are kept. Contents that are found at
+/// the same path aren't hashed anew. A
 /// refusal leaves all as it was.
 pub(crate) fn keep_answer(
     alloc: Global,
     contents: &mut Contents,
-    staged: &[SharedFile],
+    known: Known<'_>,
     words: &[Text],
     seen: &Tree,
     answer: AnswerRef<'_>,
 ) -> Result<SharedAnswer, StoreFault>
-    requires staged_rise { IsRising (map file_of staged.now) }
-    requires keeps_to_seen { KeepToSeen answer.changes.now seen.now }
+    requires { KeepToSeen answer.changes.now seen.now }
     ensures answer { IfOk result (λ made. made ≡ copied_answer words.now seen.now answer.entry) }
     ensures sound { OnOk result (IsSoundAnswer (copied_answer words.now seen.now answer.entry)) }
     ensures kept { OnOk result (AreAllKept (contents_for (copied_answer words.now seen.now answer.entry)) contents.old contents.new) }
@@ -302,7 +296,7 @@ pub(crate) fn keep_answer(
     ensures why { IfErr result (IsRefusal (¬ AreSmall (contents_for (copied_answer words.now seen.now answer.entry))) ⊥ (SomeCollides (contents_for (copied_answer words.now seen.now answer.entry)) contents.old)) }
 {
     let before = contents.len();
-    match keep_parts(alloc, contents, staged, words, seen, answer) {
+    match keep_parts(alloc, contents, known, words, seen, answer) {
         Ok(answer) => Ok(answer),
         Err(fault) => {
             contents.truncate(before);

@@ -14,8 +14,7 @@ ghost use Rattle.repo_store.specs.Remembering.{AnyCollides};
 ghost use Rattle.repo_store.specs.WrittenAnswers.{contents_in_files};
 
 use crate::contents::Contents;
-use crate::look_ups::digest_at;
-use crate::shared::SharedFile;
+use crate::known::Known;
 use crate::shared_answer::SharedAnswer;
 use crate::trees::changes_of;
 use crate::{StoreFault, StoredAnswer};
@@ -60,17 +59,16 @@ pub(crate) fn known_words(
 // The file as a record names it, if its contents are kept.
 fn known_file(
     contents: &Contents,
-    staged: &[SharedFile],
+    known: Known<'_>,
     file: &File,
 ) -> Result<Option<SeenFile>, StoreFault>
-    requires { IsRising (map file_of staged.now) }
     ensures named { IfOk result (λ found. IfSome found (λ named. named ≡ seen_file file.now)) }
     ensures known { IfOk result (λ found. IfSome found (λ _. IsAmong contents.now file.now.entry.bytes)) }
     ensures absent { IfOk result (λ found. IfNone found (has_digest (sha256 file.now.entry.bytes) contents.now ≡ false)) }
     ensures why { IfErr result (IsRefusal ⊥ ⊥ (Collides file.now.entry.bytes contents.now)) }
 {
     let bytes = file.entry.bytes.as_slice();
-    let digest = digest_at(staged, &file.path, bytes);
+    let digest = known.digest_of(&file.path, bytes);
     if !contents.has(&digest, bytes)? {
         return Ok(None);
     }
@@ -86,10 +84,9 @@ fn known_file(
 fn known_files(
     alloc: Global,
     contents: &Contents,
-    staged: &[SharedFile],
+    known: Known<'_>,
     seen: &Tree,
 ) -> Result<Option<Vec<SeenFile>>, StoreFault>
-    requires { IsRising (map file_of staged.now) }
     ensures named { IfOk result (λ found. IfSome found (λ named. named.items ≡ seen_of_files seen.now)) }
     ensures known { IfOk result (λ found. IfSome found (λ _. HaveContents contents.now seen.now)) }
     ensures absent { IfOk result (λ found. IfNone found (¬ HavePlaces contents.now seen.now)) }
@@ -97,7 +94,7 @@ fn known_files(
 {
     let mut named = Vec::new(alloc);
     'files: for index in 0..seen.len() {
-        let Some(file) = known_file(contents, staged, seen.entry(index))? else {
+        let Some(file) = known_file(contents, known, seen.entry(index))? else {
             return Ok(None);
         };
         named.push(file)?;
@@ -105,21 +102,20 @@ fn known_files(
     Ok(Some(named))
 }
 
-/// The digest of the record of these files, if it is kept, and so are the contents of all of them. Contents that a staged file
-/// has at the same path aren't hashed anew.
+/// The digest of the record of these files, if it is kept, and so are the contents of all of them. Contents that are found
+/// at the same path aren't hashed anew.
 pub(crate) fn known_seen(
     alloc: Global,
     contents: &Contents,
-    staged: &[SharedFile],
+    known: Known<'_>,
     seen: &Tree,
 ) -> Result<Option<[u8; 32]>, StoreFault>
-    requires { IsRising (map file_of staged.now) }
     ensures digest { IfOk result (λ found. IfSome found (λ digest. digest ≡ sha256 (seen_record (seen_of_files seen.now)))) }
     ensures known { IfOk result (λ found. IfSome found (λ _. AreKnownFiles contents.now seen.now)) }
     ensures absent { IfOk result (λ found. IfNone found (¬ ArePlacedFiles contents.now seen.now)) }
     ensures why { IfErr result (IsRefusal ⊥ ⊥ (AnyCollides (seen_record (seen_of_files seen.now) ∷ contents_in_files seen.now) contents.now)) }
 {
-    let Some(named) = known_files(alloc, contents, staged, seen)? else {
+    let Some(named) = known_files(alloc, contents, known, seen)? else {
         return Ok(None);
     };
     match seen_record(alloc, named.as_slice()) {

@@ -36,6 +36,7 @@ use crate::content::Content;
 use crate::contents::Contents;
 use crate::differences::{are_same_rows, differ_at};
 use crate::files::{commit_with, count_path_bytes, has_path, may_put, put_file, take_out};
+use crate::known::Known;
 use crate::limits::{MOST_COMMITS, MOST_CONTENT_BYTES};
 use crate::look_ups::{bytes_at, file_at, fixed_at, shown_at};
 use crate::shared::{SharedCommit, SharedFile, SharedFix};
@@ -45,6 +46,10 @@ use crate::{AnswerRef, FileRef, LogEntry, StoreFault, StoredAnswer};
 use hook_base::{Change, Mode, OutOfMemory, RepoPath, Text, Tree};
 use std::alloc::Global;
 use std::marker::Model;
+
+mod staging;
+
+pub(crate) use staging::Edited;
 
 /// A repository in memory, with the contents that are kept and the answers that are remembered.
 #[derive(Drop)]
@@ -154,6 +159,31 @@ impl Lists {
         self.contents.keep(bytes)
     }
 
+    // Where contents are looked for whose digests are known.
+    fn known(&self) -> Known<'_> {
+        Known {
+            staged: self.staged.as_slice(),
+            fixes: self.fixes.as_slice(),
+            answer: self.answers.last(),
+        }
+    }
+
+    // The bytes as contents, as `keep` gives them. They stand at a path, where their digest may be known.
+    fn keep_at(&mut self, path: &RepoPath, bytes: &[u8]) -> Result<Content, StoreFault>
+        ensures content { IfOk result (λ content. content ≡ bytes.now) }
+        ensures kept { OnOk result (self.new ≡ record self.old { kept = keeping bytes.now self.old.kept }) }
+        ensures same { OnErr result (self.new ≡ self.old) }
+        ensures why { IfErr result (IsRefusal (¬ IsSmall bytes.now) ⊥ (IsSmall bytes.now × Collides bytes.now self.old.kept.contents)) }
+        ensures small { OnOk result (IsSmall bytes.now) }
+        ensures apart { OnOk result (¬ Collides bytes.now self.old.kept.contents) }
+    {
+        if bytes.len() > MOST_CONTENT_BYTES {
+            return Err(StoreFault::TooLarge);
+        }
+        let digest = self.known().digest_of(path, bytes);
+        self.contents.keep_under(digest, bytes)
+    }
+
     /// Forgets the contents from a place on.
     pub(crate) fn forget_since(&mut self, place: usize)
         ensures { self.new ≡ record self.old { kept = record self.old.kept { contents = take place self.old.kept.contents } } }
@@ -261,7 +291,7 @@ impl Lists {
         match &change.now {
             None => Ok(SharedFix { path, now: None }),
             Some(bytes) => {
-                let content = self.keep(bytes.as_slice())?;
+                let content = self.keep_at(&change.path, bytes.as_slice())?;
                 Ok(SharedFix {
                     path,
                     now: Some(content),
@@ -527,8 +557,12 @@ impl Lists {
     {
         self.reserve()?;
         let alloc = *self.staged.allocator();
-        let staged = self.staged.as_slice();
-        keep_answer(alloc, &mut self.contents, staged, words, seen, answer)
+        let known = Known {
+            staged: self.staged.as_slice(),
+            fixes: self.fixes.as_slice(),
+            answer: self.answers.last(),
+        };
+        keep_answer(alloc, &mut self.contents, known, words, seen, answer)
     }
 
     /// What is remembered for the words and the seen files, as a copy, or none where nothing is.
@@ -546,8 +580,7 @@ impl Lists {
         let Some(words) = known_words(alloc, &self.contents, words)? else {
             return Ok(None);
         };
-        let staged = self.staged.as_slice();
-        let Some(seen) = known_seen(alloc, &self.contents, staged, seen)? else {
+        let Some(seen) = known_seen(alloc, &self.contents, self.known(), seen)? else {
             return Ok(None);
         };
         match self.answers.find(words, seen) {

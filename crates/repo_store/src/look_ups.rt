@@ -3,7 +3,6 @@
 ghost use Rattle.std.specs.Prelude.{◌≡◌, map, option_map, slice_get};
 ghost use Rattle.std.specs.Option.{option_copied};
 ghost use Rattle.hook_base.specs.declared.file.FileEntry.{FileEntry};
-ghost use Rattle.sha2.specs.Sha256.{sha256};
 ghost use Rattle.hook_base.specs.Trees.{IsRising, entry_of};
 ghost use Rattle.repo_store.specs.FileRefs.{copied_file};
 ghost use Rattle.repo_store.specs.Lists.{entry_in, file_of, fix_of};
@@ -13,7 +12,6 @@ use crate::FileRef;
 use crate::files::place_of;
 use crate::shared::{SharedFile, SharedFix};
 use hook_base::RepoPath;
-use sha2::{Digest as _, Sha256};
 
 /// The file of a path, if it has one.
 pub(crate) fn file_at<'a>(files: &'a [SharedFile], path: &RepoPath) -> Option<&'a SharedFile>
@@ -77,16 +75,5 @@ pub(crate) fn shown_at(files: &[SharedFile], index: usize) -> Option<FileRef<'_>
     match files.get(index) {
         Some(file) => Some(shown(file)),
         None => None,
-    }
-}
-
-/// The SHA-256 of contents at a path. Where the file that is staged there has the same, it is known.
-pub(crate) fn digest_at(staged: &[SharedFile], path: &RepoPath, bytes: &[u8]) -> [u8; 32]
-    requires { IsRising (map file_of staged.now) }
-    ensures { result ≡ sha256 bytes.now }
-{
-    match file_at(staged, path) {
-        Some(file) if file.content().as_slice() == bytes => *file.content().digest(),
-        _ => Sha256::digest(bytes),
     }
 }

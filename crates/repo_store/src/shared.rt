@@ -92,6 +92,19 @@ pub(crate) struct SharedFix {
     pub(crate) now: Option<Content>,
 }
 
+impl Clone for SharedFix {
+    ghost use Rattle.std.specs.Prelude.{◌≡◌};
+
+    ghost is_clone = { λ source made. made ≡ source };
+
+    fn clone(&self) -> Result<Self, AllocError> {
+        Ok(SharedFix {
+            path: self.path.clone()?,
+            now: self.now.clone()?,
+        })
+    }
+}
+
 #[derive(Drop)]
 pub(crate) struct SharedCommit {
     pub(crate) message: Bytes,

@@ -97,6 +97,11 @@ impl SharedAnswer {
         &self.output
     }
 
+    /// The files that its child saw.
+    pub(crate) fn seen(&self) -> &[SharedFile] {
+        self.seen.as_slice()
+    }
+
     /// What became of its files.
     pub(crate) fn changes(&self) -> &[SharedFix]
         ensures { map fix_of result.now ≡ self.now.changes }

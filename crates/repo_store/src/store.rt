@@ -1,6 +1,6 @@
 //! The calls on a store. Each prepares in memory what can be refused there, then changes the tables, then the memory.
 
-ghost use Rattle.std.specs.Prelude.{◌≡◌, ◌≢◌, ◌↔◌, ◌+◌, ◌<◌, ◌≤◌, [], false, length, is_some, option_map, slice_get, IfOk, IfErr, IfSome, OnOk, MatchResult, IsTrue};
+ghost use Rattle.std.specs.Prelude.{◌≡◌, ◌≢◌, ◌↔◌, ◌⊎◌, ◌+◌, ◌<◌, ◌≤◌, [], false, length, is_some, option_map, slice_get, IfOk, IfErr, IfSome, OnOk, MatchResult, IsTrue};
 ghost use Rattle.std.specs.Option.{option_copied};
 ghost use Rattle.sha2.specs.Sha256.{sha256};
 ghost use Rattle.hook_base.specs.declared.file.FileEntry.{FileEntry};
@@ -17,6 +17,7 @@ ghost use Rattle.repo_store.specs.Answers.{HaveOwnKeys, answer_for};
 ghost use Rattle.repo_store.specs.Clashes.{Clashes};
 ghost use Rattle.repo_store.specs.Complete.{AreAlike};
 ghost use Rattle.repo_store.specs.Contents.{Collides};
+ghost use Rattle.repo_store.specs.Edits.{AreEditable, IsStagingRefusal, all_edited};
 ghost use Rattle.repo_store.specs.Faults.{IsRefusal};
 ghost use Rattle.repo_store.specs.FileRefs.{copied_file};
 ghost use Rattle.repo_store.specs.Kept.{FixCollides, HasLarge, Kept, accepting, committing, forgetting, keeping, nothing_kept, setting, staging, unstaging};
@@ -34,15 +35,19 @@ use crate::accept::accept_rows;
 use crate::blobs::keep_rows;
 use crate::commit::commit_rows;
 use crate::create::{has_no_tables, make};
+use crate::edits::edit_rows;
 use crate::fault::fault_of;
 use crate::fixes::set_rows;
 use crate::forget::forget_rows;
-use crate::lists::Lists;
+use crate::lists::{Edited, Lists};
 use crate::opening::{has_tables, read_store};
 use crate::remember::remember_rows;
 use crate::stage::stage_rows;
 use crate::unstage::unstage_rows;
-use crate::{AnswerRef, Digest, FileRef, LogEntry, StoreFault, StoredAnswer};
+use crate::{
+    AnswerRef, Digest, FileRef, LogEntry, StagingEdit, StagingFault, StagingRefusal, StoreFault,
+    StoredAnswer,
+};
 use hook_base::{Change, Mode, OutOfMemory, RepoPath, Text, Tree};
 use sqlite::{Alter, Connection, Error, ErrorCode};
 use std::alloc::Global;
@@ -173,6 +178,34 @@ impl<S: Alter> Store<S> {
             return Err(fault_of(error));
         }
         self.lists.unstage(path);
+        Ok(())
+    }
+
+    /// Makes several changes of the staged files, each of what those before it left, and forgets the fixes: all of them in one
+    /// transaction, or none. There must be one at least. A file without a mode keeps that of the one that is staged at its path, and
+    /// is plain where none is. The refusal is that of the first change that is refused. Of a file that is added they are, in this
+    /// order, a text that is no path (`BadPath`), contents of more than 16 MiB (`TooLarge`), a path and a staged one of which one is
+    /// a folder of the other (`Clash`), a staged tree of more than 100,000 files or 8 MiB of paths (`TooMany`), and contents whose
+    /// digest is that of others (`Collision`); of a path that is taken out, a text that is no path and a path that isn't staged
+    /// (`NotStaged`). Memory may refuse at one of them or all together, and the database all together. A refusal leaves what the store
+    /// shows as it was.
+    pub fn stage_all(&mut self, edits: &[StagingEdit]) -> Result<(), StagingRefusal>
+        requires { edits.now ≢ [] }
+        ensures change { IsAllOrNothing self.old.kept self.new.kept result (all_edited edits.now self.old.kept) }
+        ensures transaction { IsOneTransaction S.Store self.old self.new result (all_edited edits.now self.old.kept) }
+        ensures editable { OnOk result (AreEditable edits.now self.old.kept) }
+        ensures refused { IfErr result (IsStagingRefusal edits.now self.old.kept) }
+        ensures asked { IfErr result (λ _. (self.new.conn ≡ self.old.conn) ⊎ AreEditable edits.now self.old.kept) }
+    {
+        let Edited { made, before } = self.lists.edit_all(edits)?;
+        let news = self.lists.since(before.count);
+        if let Err(error) = edit_rows(&mut self.conn, news, made.as_slice()) {
+            self.lists.restore(before);
+            return Err(StagingRefusal {
+                at: None,
+                fault: StagingFault::Store(fault_of(error)),
+            });
+        }
         Ok(())
     }
 

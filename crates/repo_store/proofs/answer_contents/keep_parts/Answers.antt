@@ -70,7 +70,7 @@ returns-clause-sound c =
       words_told = told.words;
       seen_told = subst (λ (l : List File). IsSeenRecord (seen_of_files l) written.records.seen) files told.seen;
       changes_told = subst (λ (l : List Change). IsChangesRecord (changed_of_changes l) written.records.changes) changes told.changes;
-    }) c.requires.keeps_to_seen status
+    }) c.requires status
 
 pub returns-clause-kept : goal.returns-clause-kept
 returns-clause-kept c =

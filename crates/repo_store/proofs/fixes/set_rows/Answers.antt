@@ -2,7 +2,7 @@ use Rattle.std.proofs.Common.{◌∙◌, List, map, ap, subst, sym}
 use Rattle.store_tables.specs.Tables.{Tables, Holds}
 use Rattle.repo_store.specs.declared.shared.SharedFix.{SharedFix}
 use Rattle.repo_store.specs.Lists.{fix_of}
-use Rattle.repo_store.specs.Rows.{fix_row, with_blobs}
+use Rattle.repo_store.specs.Rows.{fix_row}
 use Rattle.repo_store.specs.Transactions.{IsCall}
 use Rattle.repo_store.proofs.FixLemmas.{none_of, none_set}
 use Rattle.repo_store.proofs.fixes.set_rows.Goals as goal
