@@ -20,11 +20,13 @@ import time
 from concurrent.futures import ThreadPoolExecutor
 
 from kept_answers import SELECT_ROWS, contents_of, digest, planting, records_of, row_of
-from store_cases import (ANSWER_ROWS, ANSWER_ROWS_LEFT, ANSWERS_LEFT, ANSWERS_STORY, BAD_LINES, CHILDREN, COMMITTED_ROWS, CONFIG,
-                         DAMAGED, FACTS, FAULTS, FILLING, FIXES_AFTER, HOOKS_STORY, HOST_STORY, KEPT_ROWS, LARGE_CHILDREN,
-                         LARGE_STORY, META_ROWS, NOT_A_STORE, ONE, ONE_STAGED, OTHER_SCHEMAS, OTHER_TABLES, PLANTED_ANSWERS,
-                         PLANTS, RECALLED, REFUSED_ROWS, REPLACED_META_ROWS, SCHEMA, SHOWN, SQL, STOPPED_CALLS, STOPPED_COMMANDS,
-                         STORY, TAKEN_ROWS, TOO_LARGE, TOO_MANY, UNSTAGED_STORY, damaged_answers, largest_answers)
+from store_cases import (ANSWER_ROWS, ANSWER_ROWS_LEFT, ANSWERS_LEFT, ANSWERS_STORY, BAD_LINES, CHILDREN, COMMITTED_ROWS,
+                         CONFIG, DAMAGED, EDITABLE, EDITABLE_COUNTS, EDITED, EDITED_COUNTS, EDITS, FACTS, FAULTS, FILLING,
+                         FIXES_AFTER, HOOKS_STORY, HOST_STORY, KEPT_ROWS, LARGE_CHILDREN, LARGE_EDITS, LARGE_STORY,
+                         LATER_REFUSED_EDITS, META_ROWS, NOT_A_STORE, ONE, ONE_STAGED, OTHER_SCHEMAS, OTHER_TABLES,
+                         PLANTED_ANSWERS, PLANTS, RECALLED, REFUSED_EDITS, REFUSED_ROWS, REPLACED_META_ROWS, SCHEMA, SHOWN, SQL,
+                         STOPPED_CALLS, STOPPED_COMMANDS, STORY, TAKEN_ROWS, TOO_LARGE, TOO_MANY, UNSTAGED_STORY,
+                         damaged_answers, largest_answers)
 from store_model import Model, random_play, unescaped
 
 HERE = os.path.dirname(os.path.abspath(__file__))
@@ -160,6 +162,41 @@ def plays_the_story_of_a_host(folder):
     given = answers(path, [line for line, _ in story])
     for (line, wanted), answer in zip(story, given):
         check(answer == wanted, f"{line[:80]!r} is answered {answer[:200]!r}, wanted {wanted!r}")
+
+
+# How many contents, staged files and fixes a file has.
+COUNTS = "SELECT (SELECT count(*) FROM blobs), (SELECT count(*) FROM staged), (SELECT count(*) FROM fixes)"
+
+
+def makes_several_changes_at_once(folder):
+    for word in ("edit-all", "stage-all"):
+        path = os.path.join(folder, f"{word}.db")
+        lines = ["create", *(line for edits, _ in EDITS for line in (f"{word} {edits}", "staged"))]
+        given = answers(path, [*lines, "close"])
+        for line, answer, wanted in zip(lines, given, ["ok", *(answer for _, staged in EDITS for answer in ("ok", staged))]):
+            check(answer == wanted, f"{line!r} is answered {answer!r}, wanted {wanted!r}")
+        check(ask(path, COUNTS) == [EDITED_COUNTS], f"{word}: sqlite3 counts {ask(path, COUNTS)!r}")
+        check_file(path, model_of(lines).store)
+
+
+def makes_none_of_several_changes_where_one_is_refused(folder):
+    """Wherever it stands among them, and whatever refuses it: the file, the fixes and the contents are as they were."""
+    each = [(" | ".join([*EDITABLE[:at], edit, *EDITABLE[at:]]), *refusals, at) for edit, *refusals in [*REFUSED_EDITS, *LARGE_EDITS]
+            for at in range(len(EDITABLE) + 1)]
+    for by_store, word in enumerate(["edit-all", "stage-all"]):
+        path, model = os.path.join(folder, f"{word}.db"), model_of(EDITED)
+        refused = [(f"{word} {edits}", f"refused\t{refusals[by_store]}\tat\t{at}") for edits, *refusals, at in [*each, *LATER_REFUSED_EDITS]]
+        given = answers(path, [*EDITED, *(line for line, _ in refused), *SHOWN, "close"])[len(EDITED):]
+        for (line, wanted), answer in zip(refused, given):
+            check(answer == wanted, f"{line[:200]!r} is answered {answer[:200]!r}, wanted {wanted!r}")
+            check(model.play(line) == wanted, f"the model answers {line[:200]!r} otherwise")
+        check(given[len(refused):-1] == model.shown(), f"{word}: a refusal leaves {given[len(refused):]!r}")
+        check(ask(path, COUNTS) == EDITABLE_COUNTS[:1], f"{word}: sqlite3 counts {ask(path, COUNTS)!r} after refusals")
+        check_file(path, model_of(EDITED).store)
+        made = f"{word} {' | '.join(EDITABLE)}"
+        check(answers(path, ["open", made, "close"]) == ["ok"] * 3 and model.play(made) == "ok", f"{word}: the changes alone are refused")
+        check(ask(path, COUNTS) == EDITABLE_COUNTS[1:], f"{word}: sqlite3 counts {ask(path, COUNTS)!r} after the changes")
+        check_file(path, model.store)
 
 
 def plays_the_story_of_hooks(folder):
@@ -413,11 +450,13 @@ def refuses_more_files_than_a_tree_may_have(folder):
         ask(path, f"WITH RECURSIVE c(n) AS (SELECT 1 UNION ALL SELECT n + 1 FROM c WHERE n < {count}) "
             f"INSERT INTO staged SELECT {path_of}, 0, x'{ONE}' FROM c")
         given = answers(path, ["open", f"stage plain {there} 2", f"stage plain {new} 2", "stage-many 1 16777217 0", "weigh", f"add - {new} 2",
-                               f"add - {there} 3", f"unstage {there}", f"stage plain {new} 2", "close"])
+                               f"add - {there} 3", f"edit-all add - {there} 4 | add - {new} 2", f"stage-all add - {there} 4 | remove {there} | add - {there} 2 | add - {new} 2",
+                               f"edit-all remove {there} | add - {new} 2", f"stage-all remove {new} | add - {there} 2", f"unstage {there}", f"stage plain {new} 2", "close"])
         check(given[2].startswith(TOO_MANY), f"{count} files: answered {given[2]!r}")
         check(given[3] == TOO_LARGE, f"{count} files, and contents too large: answered {given[3]!r}")
         check(given[5] == "refused\t6\tTooMany\tnone", f"{count} files: one more is answered {given[5]!r} by a host")
-        check(given[:2] + given[4:5] + given[6:] == ["ok", "ok", f"ok\t{count}\t{count}", *["ok"] * 4], f"{count} files: answered {given!r}")
+        check(given[7:9] == ["refused\t6\tTooMany\tnone\tat\t1", "refused\tStore\t7\tat\t3"], f"{count} files: one more among several changes is answered {given[7:9]!r}")
+        check(given[:2] + given[4:5] + given[6:7] + given[9:] == ["ok", "ok", f"ok\t{count}\t{count}", *["ok"] * 6], f"{count} files: answered {given!r}")
 
 
 def refuses_more_commits_than_a_store_may_have(folder):
@@ -478,7 +517,8 @@ def is_left_whole_by_a_kill(folder):
 
 # ---- memory that is refused
 
-REFUSED_PLAY = [*CHILDREN, "create", "stage plain a.txt 1", "fix a.txt 2", "set", "accept", "commit m\\n", "blob abc", "remember c a | a=1 | a=2 | 3 | one", "recall c a | a=1", "forget", "add - h 1", "remove h", "unstage a.txt",
+REFUSED_PLAY = [*CHILDREN, "create", "stage plain a.txt 1", "fix a.txt 2", "set", "accept", "commit m\\n", "blob abc", "remember c a | a=1 | a=2 | 3 | one", "recall c a | a=1", "forget", "add - h 1", "remove h",
+                "fix a.txt 3", "set", "stage-all add - h 1 | add executable h 2 | remove h | add - i 3", "edit-all add - i 4 | add - j/k 5 | remove i | remove j/k", "unstage a.txt",
                 f"stage plain {CONFIG}", "add - b.txt 1", "run-hooks all", "accept-fixes", "commit-verified m", "close", "open", *SHOWN, "tree 1"]
 
 
@@ -490,7 +530,7 @@ def refusing_library(folder):
 
 def is_want(answer):
     """The call, or the command of a host, was refused for want of memory, as which the database's own want comes too."""
-    return answer.startswith(("refused\t4\tOutOfMemory\t", "refused\t1\tOutOfMemory\t"))
+    return answer.startswith(("refused\t4\tOutOfMemory\t", "refused\t1\tOutOfMemory\t", "refused\tStore\t4\t"))
 
 
 def is_stopped_behind(answer, right):
@@ -557,8 +597,8 @@ def refuses_for_want_of_memory(folder):
 
 # ---- a disk that stops
 
-# What a call answers where the disk stops, and what a command of a host does.
-STOPPED = (SQL, "refused\t2\tStore\t3")
+# What a call answers where the disk stops, and what a command of a host does. Of several changes none is named then.
+STOPPED = (SQL, "refused\t2\tStore\t3", "refused\tStore\t3\tat\tnone")
 
 
 def model_before_the_stop(play, which, number, given):
@@ -653,7 +693,8 @@ def is_left_before_or_after_a_command_by_a_stop(_folder):
     is_left_before_or_after_a_line_by_a_stop(STOPPED_COMMANDS)
 
 
-CASES = [plays_the_story, plays_the_story_of_an_unstaged_file, plays_the_story_of_a_host, plays_the_story_of_hooks, keeps_fixes_of_staged_files_until_the_next_stage,
+CASES = [plays_the_story, plays_the_story_of_an_unstaged_file, plays_the_story_of_a_host, makes_several_changes_at_once,
+         makes_none_of_several_changes_where_one_is_refused, plays_the_story_of_hooks, keeps_fixes_of_staged_files_until_the_next_stage,
          numbers_and_says_each_refusal, reads_rows_in_the_order_of_their_keys, keeps_each_content_once, plays_as_the_model,
          refuses_bad_lines, refuses_a_second_store, refuses_planted_files, remembers_answers, finds_answers_that_another_program_wrote, refuses_planted_answers, refuses_rows_of_contents_and_commits_that_are_not_there,
          refuses_files_that_hold_no_store, refuses_files_with_other_tables, refuses_what_is_too_large,

@@ -115,6 +115,43 @@ HOST_STORY = [
     ("count", "ok\t0\t1\tfalse"),
     ("add - a.txt 1", "ok"),
 ]
+# Several changes at once, each list on what those above it left, and what is staged then.
+EDITS = [
+    ("add - a.txt 1 | add executable dir/run 2 | add - empty ", "ok\tplain\ta.txt\t1\texecutable\tdir/run\t2\tplain\tempty\t"),
+    # A path twice: the last stands there, with the mode that the one before it gave.
+    ("add executable a.txt 3 | add - a.txt 4", "ok\texecutable\ta.txt\t4\texecutable\tdir/run\t2\tplain\tempty\t"),
+    # One that is taken out again is staged no more, and the mode that it had isn't remembered.
+    ("add - b.txt 5 | remove b.txt | remove a.txt | add - a.txt 4", "ok\tplain\ta.txt\t4\texecutable\tdir/run\t2\tplain\tempty\t"),
+    # A file makes room for a folder, and a folder for a file.
+    ("remove a.txt | add - a.txt/b 6 | remove dir/run | add plain dir 1", "ok\tplain\ta.txt/b\t6\tplain\tdir\t1\tplain\tempty\t"),
+    ("remove empty", "ok\tplain\ta.txt/b\t6\tplain\tdir\t1"),
+]
+# How many contents, staged files and fixes the file has then.
+EDITED_COUNTS = "7|2|0"
+# A store, changes that can be made of it, and how many contents, staged files and fixes it has before and after them.
+EDITED = ["create", "stage plain a.txt 1", "stage executable kept 2", "fix kept 3", "set"]
+EDITABLE = ["add - one 4", "add plain two/x 5", "remove a.txt"]
+EDITABLE_COUNTS = ["3|2|1", "5|3|0"]
+# What is refused wherever it stands among these: the refusal as a host answers it, and as the store itself does.
+REFUSED_EDITS = [
+    ("add -  6", "3\tBadPath\t1", "BadPath\t1"),
+    ("add plain /one 6", "3\tBadPath\t2", "BadPath\t2"),
+    ("remove two/../x", "3\tBadPath\t3", "BadPath\t3"),
+    ("remove ", "3\tBadPath\t1", "BadPath\t1"),
+    ("add - .git/COMMIT_EDITMSG 6", "3\tBadPath\t7", "BadPath\t7"),
+    ("remove missing", "4\tNotStaged\tnone", "NotStaged\tnone"),
+    ("remove two", "4\tNotStaged\tnone", "NotStaged\tnone"),
+    ("add - kept/x 6", "15\tClash\tnone", "Clash\tnone"),
+]
+# What those before it make of it: the changes, the refusal, and the index of the change that is refused.
+LATER_REFUSED_EDITS = [
+    ("add - one 4 | add - one/x 5", "15\tClash\tnone", "Clash\tnone", 1),
+    ("add - two/x/y 4 | add - one 5 | add executable two/x 6", "15\tClash\tnone", "Clash\tnone", 2),
+    ("remove a.txt | remove a.txt", "4\tNotStaged\tnone", "NotStaged\tnone", 1),
+    ("add - one 4 | remove one | add - one/x 5 | remove one", "4\tNotStaged\tnone", "NotStaged\tnone", 3),
+    # Of two that are refused it is the first.
+    ("add - one 4 | remove missing | add - /x 5", "4\tNotStaged\tnone", "NotStaged\tnone", 1),
+]
 # A configuration with a hook of each stage that counts, and by the stages before a commit the word of its hook and how the
 # paths end that this gets. What the hook behind a commit does is told and no more.
 CONFIG_PATH, MESSAGE = ".pre-commit-config.yaml", ".git/COMMIT_EDITMSG"
@@ -195,9 +232,11 @@ HOOKS_STORY = [
 # Plays in which a disk stops: of the store's calls, and of a host's commands.
 STOPPED_CALLS = ["create", "stage plain a.txt 1", "stage executable tools/run 2", "blob 3", "fix a.txt 4", "set", "accept", "commit m\\n",
                  "remember c a.txt | a.txt=6 | a.txt=7 | 0 | one", "remember c a.txt | a.txt=6 | | 1", "unstage a.txt", "fix-gone tools/run", "set",
-                 "stage plain tools/run 5", "commit n\\n", "forget", "remember d | | | 0"]
+                 "stage plain tools/run 5", "commit n\\n", "forget", "remember d | | | 0",
+                 "fix tools/run 8", "set", "stage-all add - b.txt 9 | add executable b.txt 10 | remove tools/run | add - dir/c 2 | add - dir/d "]
 STOPPED_COMMANDS = [*CHILDREN, "create", f"stage plain {CONFIG}", "add - b.txt 1", "commit-verified m", "commit-unverified n", "run-hooks all",
-                    "run-hooks changed", "run-hooks all", "accept-fixes", "commit-verified m"]
+                    "run-hooks changed", "run-hooks all", "edit-all add - a 8 | remove a | add executable dir/c 9 | add - dir/c 10", "run-hooks all",
+                    "accept-fixes", "commit-verified m"]
 # Paths that clash with those of the random plays, and texts that are none.
 OTHER_PATHS = ["a/b", "dir", "dir/c/x", "b.txt.old", "", "/a", "a/", "./a", ".git/a", "e\x7f"]
 # Calls on a store that has a.txt staged, and the fixes that it has then.
@@ -209,6 +248,8 @@ FIXES_AFTER = [
     (["fix a.txt 2", "set", "stage plain b.txt 2"], "ok"),
     (["fix a.txt 2", "set", "stage plain a.txt 1"], "ok"),
     (["fix a.txt 2", "set", "unstage b.txt"], "ok"),
+    (["fix a.txt 2", "set", "stage-all add - b.txt 2 | remove b.txt"], "ok"),
+    (["fix a.txt 2", "set", "edit-all add - a.txt 1"], "ok"),
     (["fix a.txt 2", "set", "fix b.txt 2", "set"], "ok"),
     (["fix a.txt 2", "set", "fix a.txt 3", "set"], "ok\ta.txt\tnow\t3"),
 ]
@@ -261,7 +302,8 @@ ANSWER_ROWS_LEFT = ANSWER_ROWS[1:]
 # Lines that end the program with status 2, on an open store.
 BAD_LINES = ["", "stag", "stage", "staged ", "staged a.txt", "create a", "set a", "execute", "faults a", "stage plain a.txt", "stage odd a.txt 1", "stage plain ../a.txt 1", "stage plain .git/COMMIT_EDITMSG 1",
              "stage plain a.txt \\x", "stage plain a.txt \\", "unstage /a", "tree x", "create", "open", "stage-many 1 1",
-             "accept-fixes ", "run-hooks", "run-hooks b.txt", "commit-verified", "commit-unverified", "commit-verified \\x", "child", "child tidy | |", "child tidy | | | ",
+             "stage-all", "stage-all add", "stage-all add - b.txt", "stage-all remove a.txt | move a.txt", "stage-all add odd b.txt 1", "edit-all", "edit-all remove",
+             "edit-all add - b.txt \\x", "edit-all remove a.txt | ", "accept-fixes ", "run-hooks", "run-hooks b.txt", "commit-verified", "commit-unverified", "commit-verified \\x", "child", "child tidy | |", "child tidy | | | ",
              "child tidy | | | 256", "child tidy | a.txt | | 0", "child tidy | ../a=1 | | 0", "child tidy | a=\\x | | 0", "child tidy | | b a | 0", "child tidy | | .git/a | 0"]
 FILLING = ["create", "stage plain a.txt 1", "stage plain b.txt 2", "commit m\\n", "commit n\\n", "fix a.txt 2", "set", "close"]
 # The digests of the contents 1 and 2.
@@ -355,6 +397,8 @@ PLANTED_ANSWERS = [
 
 
 LARGE = "1" * 16777217
+# A file that has a byte too many is refused before it clashes.
+LARGE_EDITS = [(f"add - {path} {LARGE}", "5\tTooLarge\tnone", "Store\t6") for path in ("one", "kept/x")]
 # Children whose answers are too large to be kept, since of a host's children nothing says how much they may answer.
 LARGE_CHILDREN = [
     f"child tidy b.txt | b.txt=0 | b.txt={LARGE} | 0",

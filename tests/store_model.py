@@ -110,6 +110,24 @@ class Model:
             return f"refused\t3\tBadPath\t{number}"
         return self.unstage(path) if path in self.store["staged"] else "refused\t4\tNotStaged\tnone"
 
+    def edit_all(self, text):
+        """Makes each change as the command that makes it alone. Where one is refused, none is made."""
+        before = copy.deepcopy(self.store)
+        for at, (word, _, rest) in enumerate(edit.partition(" ") for edit in text.split(" | ")):
+            answer = self.add(*rest.split(" ", 2)) if word == "add" else self.remove(rest)
+            if answer != "ok":
+                self.store = before
+                return f"{answer}\tat\t{at}"
+        return "ok"
+
+    def stage_all(self, text):
+        """The same by the store itself, which answers a refusal by its name and the number that it hands on."""
+        answer = self.edit_all(text)
+        if answer == "ok":
+            return answer
+        _, _, name, inner, *place = answer.split("\t")
+        return "\t".join(["refused", *{"TooLarge": ("Store", "6"), "TooMany": ("Store", "7")}.get(name, (name, inner)), *place])
+
     def clashes(self, path):
         return any(path.startswith(each + "/") or each.startswith(path + "/") for each in self.store["staged"])
 
@@ -328,6 +346,16 @@ def random_answer(chance, paths, contents):
     return key, f"{changes} | {chance.choice([0, 1, 255])} | {chance.choice(['', 'one', chr(92) + 'n'])}"
 
 
+def random_edits(chance, paths, contents):
+    """A few changes at once, of which one may be refused."""
+    edits = []
+    for _ in range(chance.randrange(1, 5)):
+        path = chance.choice(paths if chance.random() < 0.9 else OTHER_PATHS)
+        added = f"add {chance.choice(['-', 'plain', 'executable'])} {path} {chance.choice(contents)}"
+        edits.append(added if chance.random() < 0.75 else f"remove {path}")
+    return " | ".join(edits)
+
+
 def random_play(seed, length):
     """A play of every call and command, over few paths and contents so that they meet."""
     chance = random.Random(seed)
@@ -335,7 +363,7 @@ def random_play(seed, length):
     lines = ["create", *CHILDREN, f"stage plain {CONFIG}"]
     while len(lines) < length:
         path, content = chance.choice(paths), chance.choice(contents)
-        kind = chance.randrange(21)
+        kind = chance.randrange(23)
         if kind < 4:
             lines.append(f"stage {chance.choice(['plain', 'executable'])} {path} {content}")
         elif kind == 4:
@@ -360,6 +388,8 @@ def random_play(seed, length):
             lines += [f"remember {key} | {rest}", f"recall {key}"][chance.randrange(2):]
         elif kind == 18:
             lines.append(chance.choice(["answers", "answers", "answers", "forget"]))
+        elif kind < 21:
+            lines.append(f"{chance.choice(['edit-all', 'stage-all'])} {random_edits(chance, paths, contents)}")
         else:
             lines.append(f"{chance.choice(['commit-verified', 'commit-unverified'])} {chance.choice(['m', 'm', content])}")
     return lines

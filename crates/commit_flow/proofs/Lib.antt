@@ -5,6 +5,7 @@ pub mod CommitEnds
 pub mod CommitLemmas
 pub mod CommitStoreLemmas
 pub mod ConfigLemmas
+pub mod EditStepLemmas
 pub mod FixLemmas
 pub mod HookCommandLemmas
 pub mod MessageLemmas

@@ -5,6 +5,7 @@ pub mod CommitSteps
 pub mod Commits
 pub mod Configured
 pub mod Crashes
+pub mod EditSteps
 pub mod KeptByHooks
 pub mod MachineRuns
 pub mod Messages

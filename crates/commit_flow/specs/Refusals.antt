@@ -6,6 +6,9 @@ use Rattle.hook_base.specs.declared.path_fault.PathFault.TheVariants as path
 use Rattle.hook_base.specs.PathFaults.{number_of as path_number_of}
 use Rattle.repo_store.specs.declared.fault.StoreFault.{StoreFault}
 use Rattle.repo_store.specs.declared.fault.StoreFault.TheVariants as store
+use Rattle.repo_store.specs.declared.staging_refusal.StagingFault.{StagingFault}
+use Rattle.repo_store.specs.declared.staging_refusal.StagingFault.TheVariants as staging
+use Rattle.repo_store.specs.declared.staging_refusal.StagingRefusal.{StagingRefusal}
 use Rattle.repo_store.specs.Faults.{number_of as store_number_of}
 use Rattle.result_book.specs.declared.book_fault.BookFault.{BookFault}
 use Rattle.result_book.specs.declared.book_fault.BookFault.TheVariants as book
@@ -17,6 +20,7 @@ use Rattle.hook_config.specs.declared.config_fault.ConfigKind.TheVariants as kin
 use Rattle.hook_config.specs.Refusals.{number_of as config_number_of}
 use Rattle.commit_flow.specs.declared.host_refusal.HostRefusal.{HostRefusal}
 use Rattle.commit_flow.specs.declared.host_refusal.HostRefusal.TheVariants.{OutOfMemory, Store, BadPath, NotStaged, TooLarge, TooMany, NoConfig, BadConfig, NoSuchHook, NothingStaged, NoFixes, EmptyMessage, Collision, Spent, Clash}
+use Rattle.commit_flow.specs.declared.staging_stop.StagingStop.{StagingStop}
 
 abbrev pub number_of : HostRefusal → ℕ
 number_of OutOfMemory = 1
@@ -82,6 +86,17 @@ of_store store.OutOfMemory = OutOfMemory
 of_store store.Collision = Collision
 of_store store.TooMany = TooMany
 of_store fault = Store fault
+
+-- a change of the staged files is refused as the command is that makes it alone
+abbrev pub of_staging : StagingFault → HostRefusal
+of_staging (staging.BadPath fault) = BadPath fault
+of_staging staging.NotStaged = NotStaged
+of_staging staging.Clash = Clash
+of_staging (staging.Store store.TooLarge) = TooLarge
+of_staging (staging.Store fault) = of_store fault
+
+abbrev pub stop_of : StagingRefusal → StagingStop
+stop_of refused = record { at = refused.at; refusal = of_staging refused.fault }
 
 abbrev pub of_config_kind : ConfigKind → ConfigFault → HostRefusal
 of_config_kind kind.OutOfMemory fault = OutOfMemory

@@ -1,10 +1,11 @@
 //! The commands of a host that run no hooks. Each looks for what the host itself refuses, in a fixed order, and then makes at most
 //! one call that changes the store.
 
-ghost use Rattle.std.specs.Prelude.{◌≡◌, ◌↔◌, [], IsTrue, IfOk, IfErr, IfSome, OnOk, OnErr, option_map};
+ghost use Rattle.std.specs.Prelude.{◌≡◌, ◌≢◌, ◌↔◌, [], IsTrue, IfOk, IfErr, IfSome, MatchOption, OnOk, OnErr, option_map};
 ghost use Rattle.hook_base.specs.Trees.{IsRising, IsRisingChanges, entry_of};
 ghost use Rattle.repo_store.specs.AllOrNothing.{IsAllOrNothing};
 ghost use Rattle.repo_store.specs.Contents.{Collides};
+ghost use Rattle.repo_store.specs.Edits.{all_edited};
 ghost use Rattle.repo_store.specs.Kept.{accepting, forgetting, staging, unstaging};
 ghost use Rattle.repo_store.specs.Log.{log_from};
 ghost use Rattle.repo_store.specs.Repository.{Commit, commit_at, last_tree};
@@ -15,12 +16,13 @@ ghost use Rattle.commit_flow.specs.declared.command.Command.TheVariants.{Add, Re
 ghost use Rattle.commit_flow.specs.declared.reply.Reply.TheVariants.{Added, Removed, Accepted, Forgot};
 ghost use Rattle.commit_flow.specs.Commands.{reply_of};
 ghost use Rattle.commit_flow.specs.Crashes.{IsOneCommand};
+ghost use Rattle.commit_flow.specs.EditSteps.{AreOneCommand, AreSteps, CollidesAt, IsStagingStop, NoEditCollides};
 ghost use Rattle.commit_flow.specs.StagedPaths.{IsLegal, IsStaged};
 ghost use Rattle.commit_flow.specs.Steps.{IsAddable, IsRemoveRefusal, IsUnaddable, Step, entry_to_add, mode_to_add};
 
-use crate::HostRefusal;
+use crate::{HostRefusal, StagingStop};
 use hook_base::{Change, Mode, OutOfMemory, RepoPath, Tree};
-use repo_store::{LogEntry, MOST_CONTENT_BYTES, Store};
+use repo_store::{LogEntry, MOST_CONTENT_BYTES, StagingEdit, Store};
 use result_book::Book;
 use sqlite::Alter;
 use std::alloc::Global;
@@ -95,6 +97,23 @@ impl<S: Alter> Host<S> {
     {
         let path = self.removable(alloc, path)?;
         self.store.unstage(&path)?;
+        Ok(())
+    }
+
+    /// Makes several changes of the staged files, each of what those before it left, and forgets the fixes: all of them, or none.
+    /// There must be one at least. The refusal is that of the first change that is refused, as [`Host::add`] or [`Host::remove`]
+    /// would give it, with the change's index; `OutOfMemory` may come at a change too, and it and `Store` without an index where
+    /// memory or the database refuses all together. A refusal leaves the repository as it was.
+    pub fn stage_all(&mut self, edits: &[StagingEdit]) -> Result<(), StagingStop>
+        requires { edits.now ≢ [] }
+        ensures change { IsAllOrNothing self.old.store.kept self.new.store.kept result (all_edited edits.now self.old.store.kept) }
+        ensures steps { OnOk result (AreSteps edits.now self.old.store.kept.repo self.new.store.kept.repo) }
+        ensures refused { IfErr result (IsStagingStop edits.now self.old.store.kept.repo) }
+        ensures command { AreOneCommand S.Store self.old.store self.new.store edits.now result }
+        ensures apart { OnOk result (NoEditCollides edits.now self.old.store.kept) }
+        ensures collides { IfErr result (λ stop. stop.refusal ≡ HostRefusal.Collision → MatchOption stop.at ⊥ (CollidesAt edits.now self.old.store.kept)) }
+    {
+        self.store.stage_all(edits)?;
         Ok(())
     }
 

@@ -7,7 +7,7 @@ ghost use Rattle.commit_flow.specs.declared.host_refusal.HostRefusal.TheVariants
 use hook_base::{OutOfMemory, PathFault};
 use hook_config::{ConfigFault, ConfigKind};
 use hook_run::RunRefusal;
-use repo_store::StoreFault;
+use repo_store::{StagingFault, StoreFault};
 use result_book::BookFault;
 use std::alloc::AllocFailed;
 use thiserror::Error;
@@ -169,6 +169,24 @@ impl From<StoreFault> for HostRefusal {
             StoreFault::Collision => HostRefusal::Collision,
             StoreFault::TooMany => HostRefusal::TooMany,
             other => HostRefusal::Store(other),
+        }
+    }
+}
+
+impl From<StagingFault> for HostRefusal {
+    ghost use Rattle.std.specs.Prelude.{◌≡◌};
+    ghost use Rattle.commit_flow.specs.Refusals.{of_staging};
+
+    ghost from_gives = { λ fault refusal. refusal ≡ of_staging fault };
+
+    /// A change of the staged files is refused as the command is that makes it alone.
+    fn from(fault: StagingFault) -> Self {
+        match fault {
+            StagingFault::BadPath(fault) => HostRefusal::BadPath(fault),
+            StagingFault::NotStaged => HostRefusal::NotStaged,
+            StagingFault::Clash => HostRefusal::Clash,
+            StagingFault::Store(StoreFault::TooLarge) => HostRefusal::TooLarge,
+            StagingFault::Store(fault) => HostRefusal::from(fault),
         }
     }
 }

@@ -3,6 +3,7 @@
 
 use crate::stop::Stop;
 use crate::text::write_text;
+use commit_flow::HostRefusal;
 use hook_base::{Change, Mode, RepoPath, Tree};
 use repo_store::{LogEntry, StoreFault};
 use std::alloc::Global;
@@ -64,6 +65,17 @@ impl Answer {
     pub(crate) fn refused(&mut self, fault: &StoreFault) {
         self.begin("refused");
         self.add_fault(fault)
+    }
+
+    /// The refusal of a host's command: its number, its name, and the number of the fault that it hands on or `none`.
+    pub(crate) fn refused_command(&mut self, refusal: &HostRefusal) {
+        self.begin("refused");
+        self.show(refusal.number());
+        self.add(refusal.name().as_bytes());
+        match refusal.inner_number() {
+            Some(number) => self.show(number),
+            None => self.add(b"none"),
+        }
     }
 
     /// Adds a refusal's number, its name and what it says.

@@ -3,6 +3,7 @@
 use crate::answer::Answer;
 use crate::answers::{recall, remember};
 use crate::bulk::{contents_of, number, stage_many, staged_path};
+use crate::edits::stage_all;
 use crate::look_ups::{add_files, add_message, count, look, walk};
 use crate::stop::Stop;
 use crate::text::read_text;
@@ -20,6 +21,7 @@ pub(crate) const CALLS: &[&str] = &[
 pub(crate) const CALLS_OF: &[&str] = &[
     "stage",
     "unstage",
+    "stage-all",
     "fix",
     "fix-gone",
     "commit",
@@ -43,6 +45,7 @@ pub(crate) fn play_call<S: Alter>(
 ) -> Result<(), Stop> {
     match word {
         "stage" => stage(store, rest, answer),
+        "stage-all" => stage_all(store, rest, answer),
         "stage-many" => stage_many(store, rest, answer),
         "unstage" => unstage(store, rest, answer),
         "accept" => {

@@ -1,8 +1,8 @@
 //! Plays the commands of a host over the store.
 
 use crate::answer::Answer;
-use crate::calls::read_mode;
 use crate::children::children_of;
+use crate::edits::{edit_all, read_asked_mode};
 use crate::stop::Stop;
 use crate::text::read_text;
 use commit_flow::{
@@ -20,6 +20,7 @@ pub(crate) const COMMANDS: &[&str] = &["accept-fixes"];
 pub(crate) const COMMANDS_OF: &[&str] = &[
     "add",
     "remove",
+    "edit-all",
     "run-hooks",
     "commit-verified",
     "commit-unverified",
@@ -40,6 +41,7 @@ pub(crate) fn play_command<S: Alter>(
             done(host.remove(answer.alloc(), rest), answer);
             Ok(())
         }
+        "edit-all" => edit_all(host, rest, answer),
         "accept-fixes" => {
             accept(host, answer);
             Ok(())
@@ -54,10 +56,7 @@ pub(crate) fn play_command<S: Alter>(
 fn add<S: Alter>(host: &mut Host<S>, rest: &str, answer: &mut Answer) -> Result<(), Stop> {
     let (mode, rest) = rest.split_once(' ').ok_or(Stop::BadLine)?;
     let (path, text) = rest.split_once(' ').ok_or(Stop::BadLine)?;
-    let mode = match mode {
-        "-" => None,
-        word => Some(read_mode(word)?),
-    };
+    let mode = read_asked_mode(mode)?;
     let bytes = read_text(answer.alloc(), text)?;
     let added = host.add(answer.alloc(), path, bytes.as_slice(), mode);
     done(added, answer);
@@ -67,7 +66,7 @@ fn add<S: Alter>(host: &mut Host<S>, rest: &str, answer: &mut Answer) -> Result<
 fn done(given: Result<(), HostRefusal>, answer: &mut Answer) {
     match given {
         Ok(()) => answer.begin("ok"),
-        Err(refusal) => refused(&refusal, answer),
+        Err(refusal) => answer.refused_command(&refusal),
     }
 }
 
@@ -77,7 +76,7 @@ fn accept<S: Alter>(host: &mut Host<S>, answer: &mut Answer) {
             answer.begin("ok");
             answer.show(number)
         }
-        Err(refusal) => refused(&refusal, answer),
+        Err(refusal) => answer.refused_command(&refusal),
     }
 }
 
@@ -92,7 +91,7 @@ fn run<S: Alter>(
     let mut children = children_of(answer.alloc(), rows)?;
     match host.run(answer.alloc(), &mut children, &ask) {
         Ok(ran) => add_run(&ran, answer),
-        Err(refusal) => refused(&refusal, answer),
+        Err(refusal) => answer.refused_command(&refusal),
     }
     Ok(())
 }
@@ -136,7 +135,7 @@ fn commit<S: Alter>(
         &[],
     ) {
         Ok(ending) => add_ending(&ending, answer),
-        Err(refusal) => refused(&refusal, answer),
+        Err(refusal) => answer.refused_command(&refusal),
     }
     Ok(())
 }
@@ -171,15 +170,5 @@ fn word_of_stage(stage: Stage) -> &'static str {
         Stage::PrepareCommitMsg => "prepare-commit-msg",
         Stage::CommitMsg => "commit-msg",
         _ => "another stage",
-    }
-}
-
-fn refused(refusal: &HostRefusal, answer: &mut Answer) {
-    answer.begin("refused");
-    answer.show(refusal.number());
-    answer.add(refusal.name().as_bytes());
-    match refusal.inner_number() {
-        Some(number) => answer.show(number),
-        None => answer.add(b"none"),
     }
 }

@@ -9,6 +9,7 @@ mod ask;
 mod bulk;
 mod calls;
 mod children;
+mod edits;
 mod fixes;
 mod host;
 mod look_ups;
