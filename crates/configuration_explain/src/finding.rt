@@ -1,0 +1,472 @@
+//! What a fault of the configuration is about: the first value, in the order in which a configuration is read, that is wrong
+//! as the fault's kind says.
+//!
+//! A fault says its kind and the hook's number. Everything that is read before it was taken, so the first value that is wrong
+//! in this way is the one that was refused.
+
+use crate::edits::nearest;
+use crate::known_words::{argument_words, is_among, keys_of, local_words, truth_words};
+use crate::marks::Owner;
+use crate::patterns::{is_refused_entry, is_refused_pattern};
+use crate::tables::{hook_at, items_at, items_in, rows_in, text_at, text_in, value_at};
+use hook_config::{ConfigFault, ConfigKind, Stage};
+use std::alloc::{AllocError, Global};
+use yaml_profile::Node;
+
+/// What a place wants.
+#[derive(Clone, Copy, Debug, PartialEq, Eq)]
+pub(crate) enum Wanted {
+    Table,
+    List,
+    Text,
+    Texts,
+    Truth,
+    /// A key that isn't there.
+    Key,
+    Stage,
+    Language,
+    Local,
+    Pattern,
+    Command,
+    Argument,
+    NoLog,
+    NothingInstalled,
+    /// No further hook.
+    Fewer,
+}
+
+/// A value that was refused, and where it stands in the configuration's tables.
+#[derive(Clone, Copy)]
+pub(crate) struct Finding<'n> {
+    /// The table in which it stands, or which it is.
+    pub(crate) owner: Owner,
+    /// The number of its repository, or 0 at the top.
+    pub(crate) repository: usize,
+    /// Its table.
+    pub(crate) table: &'n Node,
+    /// Its key, or the empty text where it is the table itself.
+    pub(crate) key: &'static str,
+    /// Its number in the list at the key, from 1, or 0 where it is the key's value.
+    pub(crate) item: usize,
+    /// Where a key is missing, one of the table that isn't known and may have been meant; else empty.
+    pub(crate) instead: &'n str,
+    /// The value, where there is one.
+    pub(crate) value: Option<&'n Node>,
+    /// What it has to be.
+    pub(crate) wanted: Wanted,
+}
+
+// A key and what its value has to be.
+#[derive(Clone, Copy)]
+struct Field {
+    key: &'static str,
+    wanted: Wanted,
+}
+
+// In the order in which they are read.
+const TOP_FIELDS: [Field; 5] = [
+    Field {
+        key: "default_stages",
+        wanted: Wanted::Texts,
+    },
+    Field {
+        key: "files",
+        wanted: Wanted::Text,
+    },
+    Field {
+        key: "exclude",
+        wanted: Wanted::Text,
+    },
+    Field {
+        key: "fail_fast",
+        wanted: Wanted::Truth,
+    },
+    Field {
+        key: "repos",
+        wanted: Wanted::List,
+    },
+];
+
+const REPOSITORY_FIELDS: [Field; 2] = [
+    Field {
+        key: "repo",
+        wanted: Wanted::Text,
+    },
+    Field {
+        key: "hooks",
+        wanted: Wanted::List,
+    },
+];
+
+const HOOK_FIELDS: [Field; 18] = [
+    Field {
+        key: "log_file",
+        wanted: Wanted::Text,
+    },
+    Field {
+        key: "additional_dependencies",
+        wanted: Wanted::Texts,
+    },
+    Field {
+        key: "id",
+        wanted: Wanted::Text,
+    },
+    Field {
+        key: "name",
+        wanted: Wanted::Text,
+    },
+    Field {
+        key: "alias",
+        wanted: Wanted::Text,
+    },
+    Field {
+        key: "language",
+        wanted: Wanted::Text,
+    },
+    Field {
+        key: "entry",
+        wanted: Wanted::Text,
+    },
+    Field {
+        key: "args",
+        wanted: Wanted::Texts,
+    },
+    Field {
+        key: "files",
+        wanted: Wanted::Text,
+    },
+    Field {
+        key: "exclude",
+        wanted: Wanted::Text,
+    },
+    Field {
+        key: "types",
+        wanted: Wanted::Texts,
+    },
+    Field {
+        key: "types_or",
+        wanted: Wanted::Texts,
+    },
+    Field {
+        key: "exclude_types",
+        wanted: Wanted::Texts,
+    },
+    Field {
+        key: "stages",
+        wanted: Wanted::Texts,
+    },
+    Field {
+        key: "always_run",
+        wanted: Wanted::Truth,
+    },
+    Field {
+        key: "verbose",
+        wanted: Wanted::Truth,
+    },
+    Field {
+        key: "pass_filenames",
+        wanted: Wanted::Truth,
+    },
+    Field {
+        key: "fail_fast",
+        wanted: Wanted::Truth,
+    },
+];
+
+// The keys that a table has to have, in the order in which they are read.
+const TOP_KEYS: [&str; 1] = ["repos"];
+
+const REPOSITORY_KEYS: [&str; 2] = ["repo", "hooks"];
+
+const HOOK_KEYS: [&str; 4] = ["id", "name", "language", "entry"];
+
+impl<'n> Finding<'n> {
+    // A table.
+    fn of_table(owner: Owner, repository: usize, table: &'n Node) -> Self {
+        Finding {
+            owner,
+            repository,
+            table,
+            key: "",
+            item: 0,
+            instead: "",
+            value: Some(table),
+            wanted: Wanted::Table,
+        }
+    }
+
+    // What stands at a key of the table.
+    fn at_key(self, key: &'static str, wanted: Wanted) -> Self {
+        Finding {
+            owner: self.owner,
+            repository: self.repository,
+            table: self.table,
+            key,
+            item: 0,
+            instead: "",
+            value: value_at(rows_in(self.table), key),
+            wanted,
+        }
+    }
+
+    // An item of the list that it is.
+    fn at_item(self, item: usize, value: &'n Node, wanted: Wanted) -> Self {
+        Finding {
+            owner: self.owner,
+            repository: self.repository,
+            table: self.table,
+            key: self.key,
+            item,
+            instead: "",
+            value: Some(value),
+            wanted,
+        }
+    }
+
+    /// The text that it is, empty where it is none.
+    pub(crate) fn text(self) -> &'n str {
+        match self.value {
+            Some(value) => text_in(value).unwrap_or(""),
+            None => "",
+        }
+    }
+}
+
+/// What the fault of the text with this node is about. The fault is neither one of the YAML nor want of memory. `AllocError`
+/// where memory is refused.
+pub(crate) fn finding_of<'n>(
+    alloc: Global,
+    top: &'n Node,
+    fault: ConfigFault,
+) -> Result<Finding<'n>, AllocError> {
+    let finding = value_of(alloc, top, fault)?;
+    if finding.wanted == Wanted::Key {
+        return with_instead(alloc, finding);
+    }
+    Ok(finding)
+}
+
+fn value_of<'n>(
+    alloc: Global,
+    top: &'n Node,
+    fault: ConfigFault,
+) -> Result<Finding<'n>, AllocError> {
+    match hook_at(top, fault.at as usize) {
+        Some(hook) if fault.at > 0 => {
+            let owner = Owner::Hook(fault.at as usize);
+            finding_in_hook(
+                alloc,
+                Finding::of_table(owner, hook.repository, hook.node),
+                fault.kind,
+            )
+        }
+        _ => finding_outside(alloc, Finding::of_table(Owner::Top, 0, top), fault.kind),
+    }
+}
+
+fn finding_outside<'n>(
+    alloc: Global,
+    top: Finding<'n>,
+    kind: ConfigKind,
+) -> Result<Finding<'n>, AllocError> {
+    match kind {
+        ConfigKind::Shape => Ok(misfit_outside(top)),
+        ConfigKind::MissingKey => Ok(missing_outside(top)),
+        ConfigKind::RemoteRepo => Ok(remote(top)),
+        ConfigKind::BadPattern => pattern_in(alloc, top),
+        _ => Ok(first_item(top.at_key("default_stages", Wanted::Texts), Wanted::Stage)),
+    }
+}
+
+fn finding_in_hook<'n>(
+    alloc: Global,
+    hook: Finding<'n>,
+    kind: ConfigKind,
+) -> Result<Finding<'n>, AllocError> {
+    match kind {
+        ConfigKind::BadPattern => pattern_or_entry(alloc, hook),
+        ConfigKind::Shape => Ok(first_misfit(hook, &HOOK_FIELDS).unwrap_or(hook)),
+        ConfigKind::MissingKey => Ok(first_missing(hook, &HOOK_KEYS).unwrap_or(hook)),
+        ConfigKind::Unsupported => Ok(unsupported(hook)),
+        _ => Ok(word_in_hook(hook, kind)),
+    }
+}
+
+fn word_in_hook<'n>(hook: Finding<'n>, kind: ConfigKind) -> Finding<'n> {
+    match kind {
+        ConfigKind::BadStage => first_item(hook.at_key("stages", Wanted::Texts), Wanted::Stage),
+        ConfigKind::BadArgs => first_item(hook.at_key("args", Wanted::Texts), Wanted::Argument),
+        ConfigKind::BadLanguage => hook.at_key("language", Wanted::Language),
+        ConfigKind::BadEntry => hook.at_key("entry", Wanted::Command),
+        _ => Finding {
+            owner: hook.owner,
+            repository: hook.repository,
+            table: hook.table,
+            key: "",
+            item: 0,
+            instead: "",
+            value: None,
+            wanted: Wanted::Fewer,
+        },
+    }
+}
+
+// The first value of a table that is of another kind than its field wants, or the table itself where it is none.
+fn first_misfit<'n>(table: Finding<'n>, fields: &[Field]) -> Option<Finding<'n>> {
+    if !matches!(table.table, Node::Table(_)) {
+        return Some(table);
+    }
+    for field in fields {
+        if let Some(found) = misfit(table.at_key(field.key, field.wanted)) {
+            return Some(found);
+        }
+    }
+    None
+}
+
+// The value, or the first item of its list, that is of another kind than is wanted.
+fn misfit<'n>(at: Finding<'n>) -> Option<Finding<'n>> {
+    match at.value {
+        None => None,
+        Some(value) if !is_of_kind(value, at.wanted) => Some(at),
+        Some(_) if at.wanted == Wanted::Texts => unknown_item(at, Wanted::Text),
+        Some(_) => None,
+    }
+}
+
+fn is_of_kind(value: &Node, wanted: Wanted) -> bool {
+    match wanted {
+        Wanted::Text => text_in(value).is_some(),
+        Wanted::Truth => is_truth(value),
+        _ => matches!(value, Node::List(_)),
+    }
+}
+
+fn is_truth(value: &Node) -> bool {
+    match value {
+        Node::Text {
+            text,
+            quoted: false,
+        } => is_among(truth_words(), text.as_str()),
+        _ => false,
+    }
+}
+
+// The first item of the list that isn't what is wanted, else the list itself.
+fn first_item<'n>(list: Finding<'n>, wanted: Wanted) -> Finding<'n> {
+    unknown_item(list, wanted).unwrap_or(list)
+}
+
+fn unknown_item<'n>(list: Finding<'n>, wanted: Wanted) -> Option<Finding<'n>> {
+    let Some(value) = list.value else {
+        return None;
+    };
+    for (i, item) in items_in(value).iter().enumerate() {
+        if !is_known(item, wanted) {
+            return Some(list.at_item(i.saturating_add(1), item, wanted));
+        }
+    }
+    None
+}
+
+fn is_known(item: &Node, wanted: Wanted) -> bool {
+    match text_in(item) {
+        None => false,
+        Some(word) if wanted == Wanted::Stage => Stage::of_word(word).is_some(),
+        Some(word) if wanted == Wanted::Argument => is_among(argument_words(), word),
+        Some(_) => true,
+    }
+}
+
+// The first key that a table has to have and hasn't.
+fn first_missing<'n>(table: Finding<'n>, keys: &[&'static str]) -> Option<Finding<'n>> {
+    for key in keys {
+        let at = table.at_key(key, Wanted::Key);
+        if at.value.is_none() {
+            return Some(at);
+        }
+    }
+    None
+}
+
+fn misfit_outside<'n>(top: Finding<'n>) -> Finding<'n> {
+    if let Some(found) = first_misfit(top, &TOP_FIELDS) {
+        return found;
+    }
+    for (i, node) in items_at(top.table, "repos").iter().enumerate() {
+        if let Some(found) = first_misfit(repository(i, node), &REPOSITORY_FIELDS) {
+            return found;
+        }
+    }
+    top
+}
+
+fn missing_outside<'n>(top: Finding<'n>) -> Finding<'n> {
+    if let Some(found) = first_missing(top, &TOP_KEYS) {
+        return found;
+    }
+    for (i, node) in items_at(top.table, "repos").iter().enumerate() {
+        if let Some(found) = first_missing(repository(i, node), &REPOSITORY_KEYS) {
+            return found;
+        }
+    }
+    top
+}
+
+// The first repository that isn't the one that is served.
+fn remote<'n>(top: Finding<'n>) -> Finding<'n> {
+    for (i, node) in items_at(top.table, "repos").iter().enumerate() {
+        if !is_among(local_words(), text_at(node, "repo")) {
+            return repository(i, node).at_key("repo", Wanted::Local);
+        }
+    }
+    top
+}
+
+fn repository<'n>(index: usize, node: &'n Node) -> Finding<'n> {
+    let number = index.saturating_add(1);
+    Finding::of_table(Owner::Repository(number), number, node)
+}
+
+// Of a table's two patterns the first that `regex` doesn't take.
+fn pattern_in<'n>(alloc: Global, table: Finding<'n>) -> Result<Finding<'n>, AllocError> {
+    let files = table.at_key("files", Wanted::Pattern);
+    if is_refused_pattern(alloc, files.text())? {
+        return Ok(files);
+    }
+    Ok(table.at_key("exclude", Wanted::Pattern))
+}
+
+// The entry of a `pygrep` hook that `regex` doesn't take, else one of its patterns.
+fn pattern_or_entry<'n>(alloc: Global, hook: Finding<'n>) -> Result<Finding<'n>, AllocError> {
+    if text_at(hook.table, "language") == "pygrep" {
+        let entry = hook.at_key("entry", Wanted::Pattern);
+        if is_refused_entry(alloc, entry.text(), items_at(hook.table, "args"))? {
+            return Ok(entry);
+        }
+    }
+    pattern_in(alloc, hook)
+}
+
+// What isn't empty of that which is served where it is empty alone.
+fn unsupported<'n>(hook: Finding<'n>) -> Finding<'n> {
+    let log = hook.at_key("log_file", Wanted::NoLog);
+    if log.text().is_empty() {
+        return hook.at_key("additional_dependencies", Wanted::NothingInstalled);
+    }
+    log
+}
+
+// The missing key with the first unknown one of its table that is near to it.
+fn with_instead<'n>(alloc: Global, missing: Finding<'n>) -> Result<Finding<'n>, AllocError> {
+    for (key, _) in rows_in(missing.table) {
+        if !is_among(keys_of(missing.owner), key.as_str())
+            && nearest(alloc, key.as_str(), &[missing.key])?.is_some()
+        {
+            let mut found = missing;
+            found.instead = key.as_str();
+            return Ok(found);
+        }
+    }
+    Ok(missing)
+}

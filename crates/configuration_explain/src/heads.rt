@@ -1,0 +1,28 @@
+//! What one content line begins: the items of its dashes, and the key behind them.
+
+/// What stands behind the dash of an item, without the spaces before it.
+pub(crate) fn behind_dash(content: &[char]) -> &[char] {
+    match content {
+        ['-', behind @ ..] => without_blanks(behind),
+        _ => content,
+    }
+}
+
+fn without_blanks(text: &[char]) -> &[char] {
+    for (i, c) in text.iter().enumerate() {
+        if *c != ' ' {
+            return &text[i..];
+        }
+    }
+    &[]
+}
+
+/// The column behind so many characters fewer.
+pub(crate) fn column_behind(column: usize, before: &[char], behind: &[char]) -> usize {
+    column.saturating_add(before.len().saturating_sub(behind.len()))
+}
+
+/// Whether the content is the end of a flow alone, which may stand as deep as the line that the flow belongs to.
+pub(crate) fn closes_flow(content: &[char]) -> bool {
+    matches!(content, [']' | '}', ..])
+}

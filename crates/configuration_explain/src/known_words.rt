@@ -1,0 +1,135 @@
+//! The words that a configuration knows, as they are told to who writes another one: each list is proved to be that of
+//! `hook_config`, or that of `specs/KnownWords.antt`, which takes its words from there.
+
+ghost use Rattle.std.specs.Prelude.{◌≡◌};
+ghost use Rattle.hook_config.specs.KnownKeys as known;
+ghost use Rattle.hook_config.specs.Rows.{texts};
+ghost use Rattle.configuration_explain.specs.KnownWords.{argument_words, language_words, local_words, stage_words, truth_words};
+
+use crate::marks::Owner;
+
+/// The keys of the table at the top.
+pub(crate) fn top_keys() -> &'static [&'static str]
+    ensures { texts result.now ≡ known.top_keys }
+{
+    &[
+        "repos",
+        "default_stages",
+        "files",
+        "exclude",
+        "fail_fast",
+        "ci",
+        "default_install_hook_types",
+        "default_language_version",
+        "minimum_pre_commit_version",
+    ]
+}
+
+/// The keys of a repository's table.
+pub(crate) fn repository_keys() -> &'static [&'static str]
+    ensures { texts result.now ≡ known.repository_keys }
+{
+    &["repo", "hooks"]
+}
+
+/// The keys of a hook's table.
+pub(crate) fn hook_keys() -> &'static [&'static str]
+    ensures { texts result.now ≡ known.hook_keys }
+{
+    &[
+        "id",
+        "name",
+        "alias",
+        "language",
+        "entry",
+        "args",
+        "files",
+        "exclude",
+        "types",
+        "types_or",
+        "exclude_types",
+        "stages",
+        "always_run",
+        "verbose",
+        "pass_filenames",
+        "fail_fast",
+        "log_file",
+        "additional_dependencies",
+        "language_version",
+        "minimum_pre_commit_version",
+        "require_serial",
+        "description",
+    ]
+}
+
+/// The names of the stages, the older ones too.
+pub(crate) fn stage_words() -> &'static [&'static str]
+    ensures { texts result.now ≡ stage_words }
+{
+    &[
+        "pre-commit",
+        "commit",
+        "pre-merge-commit",
+        "merge-commit",
+        "pre-push",
+        "push",
+        "prepare-commit-msg",
+        "commit-msg",
+        "post-checkout",
+        "post-commit",
+        "post-merge",
+        "post-rewrite",
+        "pre-rebase",
+        "manual",
+    ]
+}
+
+/// The languages.
+pub(crate) fn language_words() -> &'static [&'static str]
+    ensures { texts result.now ≡ language_words }
+{
+    &["system", "script", "fail", "pygrep"]
+}
+
+/// The one repository that is served.
+pub(crate) fn local_words() -> &'static [&'static str]
+    ensures { texts result.now ≡ local_words }
+{
+    &["local"]
+}
+
+/// The arguments of `pygrep`.
+pub(crate) fn argument_words() -> &'static [&'static str]
+    ensures { texts result.now ≡ argument_words }
+{
+    &["-i", "--ignore-case", "--multiline", "--negate"]
+}
+
+/// The words for true and false.
+pub(crate) fn truth_words() -> &'static [&'static str]
+    ensures { texts result.now ≡ truth_words }
+{
+    &[
+        "true", "True", "TRUE", "yes", "Yes", "YES", "on", "On", "ON", "false", "False", "FALSE",
+        "no", "No", "NO", "off", "Off", "OFF",
+    ]
+}
+
+/// The keys of a table.
+pub(crate) fn keys_of(owner: Owner) -> &'static [&'static str] {
+    match owner {
+        Owner::Top => top_keys(),
+        Owner::Repository(_) => repository_keys(),
+        Owner::Hook(_) => hook_keys(),
+    }
+}
+
+/// Whether the word is one of these.
+pub(crate) fn is_among(words: &[&str], word: &str) -> bool {
+    for known in words {
+        if *known == word {
+            return true;
+        }
+    }
+    false
+}

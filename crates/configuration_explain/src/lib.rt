@@ -1,0 +1,37 @@
+//! What `explain` says of a configuration: [`explain`] answers an [`Explanation`], the text and whether the configuration is
+//! taken.
+//!
+//! A refused configuration is told by its line, the hook, the key, the value and what is wanted, with the line of the text
+//! beneath. What a fault of `hook_config` means is looked for in the text's node (`finding.rt`), and where that stands among
+//! the text's content lines (`marks.rt`): nothing here reads YAML once more. Of a taken one the hooks of each stage are told,
+//! the keys that are ignored, and the hooks that never run or run oftener than one may think.
+//!
+//! The contract cites `Explains` of `specs/Explains.antt`, and those of the known words `specs/KnownWords.antt`: what is
+//! printed is shown by tests alone.
+#![tactic(auto)]
+
+mod doubled;
+mod edits;
+mod explained_file;
+mod finding;
+mod flow_words;
+mod heads;
+mod hook_names;
+mod ignored;
+mod known_words;
+mod marks;
+mod never;
+mod own_line;
+mod patterns;
+mod places;
+mod refused;
+mod sentence;
+mod shown;
+mod stages;
+mod tables;
+mod taken;
+#[cfg(test)]
+mod tests;
+mod yaml_sentence;
+
+pub use explained_file::{Explanation, explain};

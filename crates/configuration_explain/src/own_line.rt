@@ -1,0 +1,64 @@
+//! The line of the file itself, and the mark under it.
+
+use crate::places::Place;
+use crate::shown::{columns_before, push_shown};
+use bstr::ByteSlice;
+use std::alloc::{AllocError, Global};
+
+/// The line with this number, from 1, without its end and without a byte order mark, as a text: each piece that isn't UTF-8
+/// stands there as U+FFFD. It is empty where there is no such line. `AllocError` where memory is refused.
+pub(crate) fn line_at(alloc: Global, bytes: &[u8], number: usize) -> Result<String, AllocError> {
+    String::from_utf8_lossy(alloc, without_mark(bytes_at(bytes, number)))
+}
+
+fn bytes_at(bytes: &[u8], number: usize) -> &[u8] {
+    for (i, line) in bytes.lines().enumerate() {
+        if i.saturating_add(1) == number {
+            return line;
+        }
+    }
+    &[]
+}
+
+fn without_mark(bytes: &[u8]) -> &[u8] {
+    match bytes {
+        [0xef, 0xbb, 0xbf, rest @ ..] => rest,
+        _ => bytes,
+    }
+}
+
+/// Where the character stands first in the line, in characters from 0.
+pub(crate) fn column_of(line: &str, wanted: char) -> Option<usize> {
+    for (i, c) in line.chars().enumerate() {
+        if c == wanted {
+            return Some(i);
+        }
+    }
+    None
+}
+
+/// Puts the line, two columns in, and under it a mark at the place, where its column is known and shown. Nothing is put for
+/// an empty line. `AllocError` where memory is refused.
+pub(crate) fn push_own_line(text: &mut String, line: &str, place: Place) -> Result<(), AllocError> {
+    if line.is_empty() {
+        return Ok(());
+    }
+    text.push_str("  ")?;
+    push_shown(text, line)?;
+    text.push('\n')?;
+    match place.column {
+        Some(column) => push_mark(text, columns_before(line, column)),
+        None => Ok(()),
+    }
+}
+
+fn push_mark(text: &mut String, columns: Option<usize>) -> Result<(), AllocError> {
+    let Some(columns) = columns else {
+        return Ok(());
+    };
+    text.push_str("  ")?;
+    for _ in 0..columns {
+        text.push(' ')?;
+    }
+    text.push_str("^\n")
+}

@@ -1,0 +1,48 @@
+//! What is said of a configuration that is taken.
+
+use crate::ignored::push_ignored;
+use crate::marks::marks_in;
+use crate::never::push_never;
+use crate::refused::NamedBytes;
+use crate::shown::{push_number, push_shown};
+use crate::stages::{push_each_time, push_stages};
+use hook_base::{OutOfMemory, Text};
+use hook_config::ConfigWithNode;
+use std::alloc::{AllocError, Global};
+
+/// Puts how many hooks there are, those of each stage, the keys that are ignored, and what is to be said of when hooks run.
+pub(crate) fn push_taken(
+    alloc: Global,
+    text: &mut String,
+    file: NamedBytes<'_>,
+    read: &ConfigWithNode,
+    paths: &[Text],
+) -> Result<(), OutOfMemory> {
+    let hooks = read.config.hooks.as_slice();
+    push_head(alloc, text, file.name, hooks.len())?;
+    push_stages(alloc, text, hooks)?;
+    push_ignored_of(alloc, text, file.bytes, read)?;
+    push_never(alloc, text, &read.config, paths)?;
+    push_each_time(alloc, text, hooks)?;
+    Ok(())
+}
+
+fn push_head(alloc: Global, text: &mut String, name: &str, hooks: usize) -> Result<(), AllocError> {
+    push_shown(text, name)?;
+    text.push_str(": taken, hooks: ")?;
+    push_number(alloc, text, hooks)?;
+    text.push('\n')
+}
+
+fn push_ignored_of(
+    alloc: Global,
+    text: &mut String,
+    bytes: &[u8],
+    read: &ConfigWithNode,
+) -> Result<(), AllocError> {
+    if read.config.unknown.is_empty() {
+        return Ok(());
+    }
+    let marks = marks_in(alloc, bytes)?;
+    push_ignored(alloc, text, &read.node, marks.as_slice())
+}
