@@ -6,7 +6,8 @@ Usage: bench/host.py [PROGRAM [STORE_TRIAL]]   (default: the built programs)
 The repositories are empty, or hold staged files of 400 bytes after some commits, each of which changes one file. Those of
 hookhost are made by store_trial. Each command is timed beside git's, and beside what opening the store takes, by
 store_trial, which opens it and does nothing else (its input is one line). `memory` and `forget` are timed with 100 answers in
-the store; git has nothing to stand beside them. Each time is wall time in milliseconds, the least of several runs in which the
+the store; git has nothing to stand beside them. Of many files of 400 bytes that one `add` stages, in a new repository, neither program
+has any content yet. Each time is wall time in milliseconds, the least of several runs in which the
 programs take turns. The peak memory is of the whole process.
 """
 import os
@@ -24,6 +25,8 @@ STORE_TRIAL = os.path.abspath(sys.argv[2] if len(sys.argv) > 2 else os.path.join
 GIT = shutil.which("git") or sys.exit("bench/host.py: there is no git to compare with")
 STORE = ".hookhost/store.db"
 SIZE, RUNS = 400, 15
+# How many files one `add` stages, and how often.
+MANY, MANY_RUNS = 10_000, 5
 # The files and the commits of each repository.
 HISTORIES = [(0, 0), (1000, 1), (1000, 100), (10000, 1), (10000, 10)]
 # What is timed: our words and git's. The file NEW gets other bytes before each round, and is staged only between its add and its
@@ -146,6 +149,27 @@ def time_init(folder):
     show("init", min(times[0]), min(times[1]), "git")
 
 
+def time_many(folder, helper):
+    """One `add` of a folder of files, each time in a new repository, and its peak memory."""
+    times = ([], [])
+    for number in range(MANY_RUNS):
+        for which, (made, words) in enumerate((([PROGRAM, "init"], [PROGRAM, "add", "many"]), ([GIT, "init", "--quiet", "."], [GIT, "add", "many"]))):
+            work = os.path.join(folder, f"many{number}.{which}")
+            os.mkdir(work)
+            os.chdir(work)
+            for at in range(MANY):
+                write(f"many/{at:06}", contents_of(number, at))
+            subprocess.run(made, check=True)
+            times[which].append(once(words))
+            if number == MANY_RUNS - 1 and which == 0:
+                once([PROGRAM, "rm", "many"])
+                most = peak(helper, words)
+            os.chdir(folder)
+            shutil.rmtree(work)
+    show(f"add: {MANY} new files", min(times[0]), min(times[1]), "git")
+    print(f"{'':44} peak memory {most:.1f} MB")
+
+
 def time_history(folder, helper, files, commits):
     ours, other = os.path.join(folder, "ours"), os.path.join(folder, "git")
     for work, make in ((ours, make_ours), (other, make_git)):
@@ -169,6 +193,7 @@ def main():
         helper = os.path.join(folder, "peak")
         subprocess.run(["cc", "-O1", "-o", helper, os.path.join(HERE, "peak.c")], check=True)
         time_init(folder)
+        time_many(folder, helper)
         for number, (files, commits) in enumerate(HISTORIES):
             work = os.path.join(folder, f"history{number}")
             os.mkdir(work)

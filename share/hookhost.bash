@@ -19,34 +19,35 @@ _hookhost() {
     fi
   done
   case ${#words[@]},${words[0]} in
-    1,-*) _hookhost_propose "${words[0]}" -h --help ;;
-    1,*) _hookhost_propose "${words[0]}" init try check add rm status cat run run-files fixes accept commit log show memory forget ;;
+    1,-*) _hookhost_propose "${words[0]}" -h --help -V --version ;;
+    1,*) _hookhost_propose "${words[0]}" init try check explain add rm status cat run run-files fixes accept commit log show memory forget ;;
     *) _hookhost_command ;;
   esac
 }
 
 # Proposes what may follow a command.
 _hookhost_command() {
-  # Its options, those of them that take a value, and how many paths it takes.
-  local -a options valued taken=()
+  # Its options, those of them that take a value, those whose value is a file, and how many paths it takes.
+  local -a options valued filed taken=()
   local most
   case ${words[0]} in
-    init) options=(-h --help) valued=() most=0 ;;
-    try) options=(-h --help) valued=() most=any ;;
-    check) options=(-h --help) valued=() most=0 ;;
-    add) options=(--chmod= -h --help) valued=(--chmod) most=1 ;;
-    rm) options=(-h --help) valued=() most=1 ;;
-    status) options=(-h --help) valued=() most=0 ;;
-    cat) options=(--fixed --commit= -h --help) valued=(--commit) most=1 ;;
-    run) options=(--all-files --hook-stage= --fresh -h --help) valued=(--hook-stage) most=0 ;;
-    run-files) options=(--hook-stage= --fresh -h --help) valued=(--hook-stage) most=any ;;
-    fixes) options=(-h --help) valued=() most=0 ;;
-    accept) options=(-h --help) valued=() most=0 ;;
-    commit) options=(--no-verify -m -h --help) valued=(-m) most=0 ;;
-    log) options=(-h --help) valued=() most=0 ;;
-    show) options=(-h --help) valued=() most=0 ;;
-    memory) options=(-h --help) valued=() most=0 ;;
-    forget) options=(-h --help) valued=() most=0 ;;
+    init) options=(-h --help) valued=() filed=() most=0 ;;
+    try) options=(-h --help) valued=() filed=() most=any ;;
+    check) options=(-h --help) valued=() filed=() most=0 ;;
+    explain) options=(-h --help) valued=() filed=() most=1 ;;
+    add) options=(--chmod= --paths-from= -h --help) valued=(--chmod --paths-from) filed=(--paths-from) most=any ;;
+    rm) options=(--paths-from= -h --help) valued=(--paths-from) filed=(--paths-from) most=any ;;
+    status) options=(-h --help) valued=() filed=() most=0 ;;
+    cat) options=(--fixed --commit= -h --help) valued=(--commit) filed=() most=1 ;;
+    run) options=(--all-files --hook-stage= --fresh -h --help) valued=(--hook-stage) filed=() most=0 ;;
+    run-files) options=(--hook-stage= --fresh --paths-from= -h --help) valued=(--hook-stage --paths-from) filed=(--paths-from) most=any ;;
+    fixes) options=(-h --help) valued=() filed=() most=0 ;;
+    accept) options=(-h --help) valued=() filed=() most=0 ;;
+    commit) options=(--no-verify -m -h --help) valued=(-m) filed=() most=0 ;;
+    log) options=(-h --help) valued=() filed=() most=0 ;;
+    show) options=(-h --help) valued=() filed=() most=0 ;;
+    memory) options=(-h --help) valued=() filed=() most=0 ;;
+    forget) options=(-h --help) valued=() filed=() most=0 ;;
     *) return ;;
   esac
   # An option is proposed once, and behind -- each word is a value.
@@ -64,9 +65,13 @@ _hookhost_command() {
     fi
   done
   word=${words[-1]}
-  if [[ $pending ]]; then
+  if [[ $pending && " ${filed[*]} " == *" $pending "* ]]; then
+    _hookhost_propose_paths "$word"
+  elif [[ $pending ]]; then
     _hookhost_words "$pending"
     _hookhost_propose "$word" "${taken[@]}"
+  elif [[ ! $is_ended && $word == --*=* && " ${filed[*]} " == *" ${word%%=*} "* ]]; then
+    _hookhost_propose_paths "${word#*=}" "${word%%=*}="
   elif [[ ! $is_ended && $word == --*=* ]]; then
     _hookhost_words "${word%%=*}"
     _hookhost_propose "$word" "${taken[@]/#/${word%%=*}=}"
@@ -107,14 +112,15 @@ _hookhost_propose() {
   [[ ${#COMPREPLY[@]} != 1 || ${COMPREPLY[0]} != *= ]] || compopt -o nospace 2> /dev/null
 }
 
-# Proposes the files whose paths begin so. Readline puts quotes around a path that needs them.
+# Proposes the files whose paths begin so, behind the second word. Readline puts quotes around a path that needs them.
 _hookhost_propose_paths() {
-  local path=$1
+  local path=$1 head=$2
   case $path in
     [\'\"]*) path=${path:1} ;;
     *) path=${path//\\/} ;;
   esac
   while IFS= read -r path; do
+    path=$head$path
     COMPREPLY+=("${path#"$parted"}")
   done < <(compgen -f -- "$path")
   compopt -o filenames 2> /dev/null

@@ -21,7 +21,7 @@ function __hookhost_takes
             set given (math $given + 1)
         else if test $word = --
             set is_ended 1
-        else if contains -- $word --chmod --commit --hook-stage -m
+        else if contains -- $word --chmod --paths-from --commit --hook-stage -m
             set is_pending 1
         end
     end
@@ -32,8 +32,9 @@ complete -c hookhost -f
 complete -c hookhost -n __fish_is_first_token -a init -d 'Makes a new repository in the current folder'
 complete -c hookhost -n __fish_is_first_token -a try -d 'Runs the hooks of a configuration on files, and prints the report'
 complete -c hookhost -n __fish_is_first_token -a check -d 'Prints how many hooks .pre-commit-config.yaml has, and its ignored keys'
-complete -c hookhost -n __fish_is_first_token -a add -d 'Stages a file of the current folder'
-complete -c hookhost -n __fish_is_first_token -a rm -d 'Takes a path out of the staged files'
+complete -c hookhost -n __fish_is_first_token -a explain -d 'Says why a configuration is refused, or what its hooks will do'
+complete -c hookhost -n __fish_is_first_token -a add -d 'Stages files of the current folder'
+complete -c hookhost -n __fish_is_first_token -a rm -d 'Takes paths out of the staged files'
 complete -c hookhost -n __fish_is_first_token -a status -d 'Prints which staged files differ from those of the last commit'
 complete -c hookhost -n __fish_is_first_token -a cat -d 'Prints the bytes of a staged file, of its fix or of a commit\'s file'
 complete -c hookhost -n __fish_is_first_token -a run -d 'Runs the hooks of the staged configuration on staged files, and prints the report'
@@ -46,15 +47,20 @@ complete -c hookhost -n __fish_is_first_token -a show -d 'Prints a commit\'s mes
 complete -c hookhost -n __fish_is_first_token -a memory -d 'Prints how many answers of hooks\' commands are remembered'
 complete -c hookhost -n __fish_is_first_token -a forget -d 'Forgets the remembered answers, and prints how many there were'
 complete -c hookhost -n '__fish_is_first_token; and not __fish_contains_opt -s h help' -s h -l help -d 'Print help'
+complete -c hookhost -n '__fish_is_first_token; and not __fish_contains_opt -s V version' -s V -l version -d 'Print version'
 complete -c hookhost -n '__hookhost_is init; and not __fish_contains_opt -s h help' -s h -l help -d 'Print help'
 complete -c hookhost -n '__hookhost_is try; and not __fish_contains_opt -s h help' -s h -l help -d 'Print help'
 complete -c hookhost -n '__hookhost_takes try any' -F
 complete -c hookhost -n '__hookhost_is check; and not __fish_contains_opt -s h help' -s h -l help -d 'Print help'
-complete -c hookhost -n '__hookhost_is add' -l chmod -x -a '+x' -d 'The file\'s mode: +x makes it executable'
+complete -c hookhost -n '__hookhost_is explain; and not __fish_contains_opt -s h help' -s h -l help -d 'Print help'
+complete -c hookhost -n '__hookhost_takes explain 1' -F
+complete -c hookhost -n '__hookhost_is add' -l chmod -x -a '+x' -d 'The mode of the files: +x makes each executable'
+complete -c hookhost -n '__hookhost_is add' -l paths-from -r -F -d 'A file of paths, each ended by a NUL byte; - is standard input'
 complete -c hookhost -n '__hookhost_is add; and not __fish_contains_opt -s h help' -s h -l help -d 'Print help'
-complete -c hookhost -n '__hookhost_takes add 1' -F
+complete -c hookhost -n '__hookhost_takes add any' -F
+complete -c hookhost -n '__hookhost_is rm' -l paths-from -r -F -d 'A file of paths, each ended by a NUL byte; - is standard input'
 complete -c hookhost -n '__hookhost_is rm; and not __fish_contains_opt -s h help' -s h -l help -d 'Print help'
-complete -c hookhost -n '__hookhost_takes rm 1' -F
+complete -c hookhost -n '__hookhost_takes rm any' -F
 complete -c hookhost -n '__hookhost_is status; and not __fish_contains_opt -s h help' -s h -l help -d 'Print help'
 complete -c hookhost -n '__hookhost_is cat; and not __fish_contains_opt fixed' -l fixed -d 'Prints the bytes that accept would stage in place of them'
 complete -c hookhost -n '__hookhost_is cat' -l commit -x -d 'Prints the bytes in the commit with this number'
@@ -66,6 +72,7 @@ complete -c hookhost -n '__hookhost_is run; and not __fish_contains_opt fresh' -
 complete -c hookhost -n '__hookhost_is run; and not __fish_contains_opt -s h help' -s h -l help -d 'Print help'
 complete -c hookhost -n '__hookhost_is run-files' -l hook-stage -x -a 'pre-commit manual' -d 'The stage whose hooks are run, pre-commit or manual; without it pre-commit'
 complete -c hookhost -n '__hookhost_is run-files; and not __fish_contains_opt fresh' -l fresh -d 'Starts every command, also where its answer is remembered'
+complete -c hookhost -n '__hookhost_is run-files' -l paths-from -r -F -d 'A file of paths, each ended by a NUL byte; - is standard input'
 complete -c hookhost -n '__hookhost_is run-files; and not __fish_contains_opt -s h help' -s h -l help -d 'Print help'
 complete -c hookhost -n '__hookhost_takes run-files any' -F
 complete -c hookhost -n '__hookhost_is fixes; and not __fish_contains_opt -s h help' -s h -l help -d 'Print help'

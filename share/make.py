@@ -20,8 +20,8 @@ HERE = os.path.dirname(os.path.abspath(__file__))
 TOP = os.path.dirname(HERE)
 # The day on which the page's own texts were last looked over.
 DATE = "2026-11-27"
-# The arguments that name files of the folder; for every other one nothing can be proposed.
-PATHS = ["CONFIG", "PATH"]
+# The arguments and the values that name files of the folder; for every other one nothing can be proposed.
+PATHS = ["CONFIG", "PATH", "FILE"]
 # What the page says of files and of the environment: how the sentences begin that say it, or words of its own.
 FILES = [
     (".pre-commit-config.yaml", "The configuration. try reads the file that it is given and check the one of the current folder; \
@@ -29,6 +29,7 @@ run, run-files and commit read the staged one."),
     (".hookhost/store.db", ["The commands on a repository keep it ", "`store.db` is a store or ", "What a killed `init` "]),
     (".hookhost/store.db-wal", ["SQLite's log lies beside it, "]),
     (".hookhost/lock", ["'hookhost: cannot use .hookhost/lock' says "]),
+    (".hookhost/.gitignore", ["Git ignores all of "]),
     (".hookhost/scratch", ["Each command runs in ", "None of the copies is ", "The folder is made for the first command"]),
     (".hookhost/scratch.run", ["While a run has commands under way, "]),
     (".hookhost/scratch.1", ["A run that finds it in use, "]),
@@ -103,7 +104,7 @@ def help_of(program, *command):
     arguments = [Argument(re.search(r"\w+", shown)[0], "..." in shown, text) for shown, text in tables["Arguments:"]]
     options = []
     for shown, text in tables["Options:"]:
-        names, value = re.findall(r"--?[a-z][a-z-]*", shown), re.search(r"<(\w+)>", shown)
+        names, value = re.findall(r"--?[A-Za-z][a-z-]*", shown), re.search(r"<(\w+)>", shown)
         words = words_of(program, command, names[-1], len(arguments)) if value else []
         options.append(Option(names, value[1] if value else "", text, words))
     return Help(about, usage.removeprefix("Usage: "), tables["Commands:"], arguments, options, blocks)
@@ -160,8 +161,8 @@ _hookhost() {
 
 # Proposes what may follow a command.
 _hookhost_command() {
-  # Its options, those of them that take a value, and how many paths it takes.
-  local -a options valued taken=()
+  # Its options, those of them that take a value, those whose value is a file, and how many paths it takes.
+  local -a options valued filed taken=()
   local most
   case ${words[0]} in
 %CASES%
@@ -182,9 +183,13 @@ _hookhost_command() {
     fi
   done
   word=${words[-1]}
-  if [[ $pending ]]; then
+  if [[ $pending && " ${filed[*]} " == *" $pending "* ]]; then
+    _hookhost_propose_paths "$word"
+  elif [[ $pending ]]; then
     _hookhost_words "$pending"
     _hookhost_propose "$word" "${taken[@]}"
+  elif [[ ! $is_ended && $word == --*=* && " ${filed[*]} " == *" ${word%%=*} "* ]]; then
+    _hookhost_propose_paths "${word#*=}" "${word%%=*}="
   elif [[ ! $is_ended && $word == --*=* ]]; then
     _hookhost_words "${word%%=*}"
     _hookhost_propose "$word" "${taken[@]/#/${word%%=*}=}"
@@ -224,14 +229,15 @@ _hookhost_propose() {
   [[ ${#COMPREPLY[@]} != 1 || ${COMPREPLY[0]} != *= ]] || compopt -o nospace 2> /dev/null
 }
 
-# Proposes the files whose paths begin so. Readline puts quotes around a path that needs them.
+# Proposes the files whose paths begin so, behind the second word. Readline puts quotes around a path that needs them.
 _hookhost_propose_paths() {
-  local path=$1
+  local path=$1 head=$2
   case $path in
     [\'\"]*) path=${path:1} ;;
     *) path=${path//\\/} ;;
   esac
   while IFS= read -r path; do
+    path=$head$path
     COMPREPLY+=("${path#"$parted"}")
   done < <(compgen -f -- "$path")
   compopt -o filenames 2> /dev/null
@@ -247,8 +253,9 @@ def bash_of(program, commands):
         options = commands[name].options
         proposed = " ".join(it for option in options for it in completed(option))
         valued = " ".join(it for option in options if option.value for it in option.names)
+        filed = " ".join(it for option in options if option.value in PATHS for it in option.names)
         most = most_of(commands[name].arguments) if takes_paths(commands[name].arguments) else 0
-        cases.append(f"    {name}) options=({proposed}) valued=({valued}) most={most} ;;")
+        cases.append(f"    {name}) options=({proposed}) valued=({valued}) filed=({filed}) most={most} ;;")
         words |= {it: " ".join(option.words) for option in options for it in option.names if option.words}
     return filled(BASH, {
         "COMMANDS": " ".join(name for name, _ in program.commands),
@@ -301,11 +308,12 @@ def zsh_quoted(text):
 
 
 def zsh_option(option):
-    """An option as _arguments of zsh takes it. With --help nothing else stands."""
+    """An option as _arguments of zsh takes it. With --help or --version nothing else stands."""
     told = "[" + re.sub(r"([\[\]:\\])", r"\\\1", option.text) + "]"
-    if "--help" in option.names:
+    if {"--help", "--version"} & {*option.names}:
         return "'(- : *)'{" + ",".join(option.names) + "}" + zsh_quoted(told)
-    value = f":{option.value}:({' '.join(option.words)})" if option.words else f":{option.value}: " if option.value else ""
+    files = "_files" if option.value in PATHS else " "
+    value = f":{option.value}:({' '.join(option.words)})" if option.words else f":{option.value}:{files}" if option.value else ""
     name = option.names[-1] + ("" if not option.value else "=" if option.names[-1].startswith("--") else "+")
     return zsh_quoted(name + told + value)
 
@@ -376,7 +384,8 @@ def fish_option(condition, option):
     bare = [name.lstrip("-") for name in option.names]
     given = " ".join(("-s " if len(name) == 1 else "") + name for name in bare)
     names = " ".join(("-s " if len(name) == 1 else "-l ") + name for name in bare)
-    words = f" -x -a {fish_quoted(' '.join(option.words))}" if option.words else " -x" if option.value else ""
+    bare_value = " -r -F" if option.value in PATHS else " -x" if option.value else ""
+    words = f" -x -a {fish_quoted(' '.join(option.words))}" if option.words else bare_value
     once = "" if option.value else f"; and not __fish_contains_opt {given}"
     return f"complete -c hookhost -n '{condition}{once}' {names}{words} -d {fish_quoted(option.text)}"
 

@@ -8,7 +8,7 @@ What one program alone prints stands in tests/sessions/. Here stands what no ses
 keeps, another user, fifos, programs side by side. Each kill is a SIGKILL at a random moment of a command on a copy of a
 repository, which then has to be the one before the command or the one after it, and what its hooks had answered by then is
 remembered. The commits are made by store_trial. The cases of runs whose children outlive them, of runs side by side, and of
-many and large answers stand in tests/host_runs.py.
+many and large answers stand in tests/host_runs.py, those of hard names in tests/host_names.py.
 """
 import collections
 import os
@@ -23,83 +23,15 @@ import time
 from concurrent.futures import ThreadPoolExecutor
 from pathlib import Path
 
+import host_names
 import host_runs
-from host_program import LOCK, PROGRAM, STORE, STORE_TRIAL, Wrong, check, do, paths_in, play, refuses, rows, run, staged_rows, write
+from host_program import IGNORE_FILE, LOCK, PROGRAM, STORE, STORE_TRIAL, Wrong, check, do, paths_in, play, refuses, rows, run, staged_rows, write
 from host_runs import PUT_FILES, RUN_ANSWERS
 from kept_answers import SELECT_ROWS, KeptAnswer, contents_of, digest, row_of
 from store_cases import MESSAGE
 
 KILLS = int(sys.argv[1]) if len(sys.argv) > 1 else 30
 NOBODY = 65534
-HARD_NAMES = [
-    "a b", " a", "a ", "a'b", 'a"b', "a\\b", "a\\nb", "-x", "--chmod=+x", "--help", "--", "-", "é", "e\u0301", "日本語", "🙂", "\u0085", "\u2028x", "\ufeffx",
-    "*", "[a]", "$HOME", "`x`", "%s%n", "'); DROP TABLE staged; --", "~", "#", "...", "..a", "a..", "a:b", "A b/é'/\"x\"", ".gitx/a", "sub/.git/a", "x" * 255,
-]
-
-
-# ---- names
-
-def keeps_files_of_hard_names(folder):
-    do(folder, "init")
-    files = {name.encode(): (0, b"the contents of " + name.encode() + b"\r\n\0\xff" * at) for at, name in enumerate(HARD_NAMES)}
-    for name, (_, held) in files.items():
-        write(os.fsencode(folder), name, held)
-        check(do(folder, "add", "--", name) == b"", f"add of {name!r} prints something")
-    for name, (_, held) in files.items():
-        check(do(folder, "cat", "--", name) == held, f"{name!r} has other bytes")
-    check(do(folder, "status") == b"".join(b"A " + name + b"\n" for name in sorted(files)), "status has other names")
-    check(staged_rows(folder) == files, "sqlite3 reads other files")
-    for name in files:
-        do(folder, "rm", "--", name)
-    check(do(folder, "status") == b"" and staged_rows(folder) == {}, "not all names are taken out")
-
-
-def write_deep(folder, path, held):
-    """Writes a file that is too deep to be named in one piece."""
-    *folders, name = path.split("/")
-    at = os.open(folder, os.O_RDONLY)
-    for part in folders:
-        os.mkdir(part, dir_fd=at)
-        at, above = os.open(part, os.O_RDONLY, dir_fd=at), at
-        os.close(above)
-    with open(os.open(name, os.O_WRONLY | os.O_CREAT, dir_fd=at), "wb") as file:
-        file.write(held)
-    os.close(at)
-
-
-def keeps_the_longest_path_that_the_system_opens(folder):
-    do(folder, "init")
-    longest = ("a" * 255 + "/") * 15 + "b" * 255
-    longer = ("c" * 251 + "/") * 16 + "d" * 64
-    check((len(longest), len(longer)) == (4095, 4096), "the paths have other lengths")
-    write_deep(folder, longest, b"deep")
-    write_deep(folder, longer, b"deeper")
-    do(folder, "add", longest)
-    check(do(folder, "cat", longest) == b"deep" and do(folder, "status") == b"A " + longest.encode() + b"\n", "the longest path is another")
-    refuses(folder, ["add", longer], f"cannot use {longer}")
-    refuses(folder, ["cat", longer], "refused: 4 NotStaged")
-    refuses(folder, ["rm", longer + "d"], "refused: 3 BadPath 5")
-    check(list(staged_rows(folder)) == [longest.encode()], "sqlite3 reads another path")
-
-
-def refuses_control_bytes(folder):
-    do(folder, "init")
-    for byte in ("\n", "\t", "\x01", "\x1f", "\x7f"):
-        name = f"a{byte}b"
-        refuses(folder, ["add", name], f"cannot use {name}")
-        write(folder, name, b"1")
-        for word in ("add", "rm", "cat"):
-            refuses(folder, [word, name], "refused: 3 BadPath 6")
-    check(do(folder, "status") == b"", "something is staged")
-
-
-def takes_no_mode_from_the_working_file(folder):
-    do(folder, "init")
-    for name, mode in (("run", 0o755), ("text", 0o644)):
-        write(folder, name, b"1")
-        os.chmod(os.path.join(folder, name), mode)
-        do(folder, "add", name)
-    check(staged_rows(folder) == {b"run": (0, b"1"), b"text": (0, b"1")}, "a file is executable that wasn't asked for")
 
 
 # ---- what can't be used
@@ -127,6 +59,12 @@ def refuses_what_may_not_be_read_or_written(folder):
     os.chmod(work, 0o777)
     check(run(work, "init", **how) == (0, b"", b"") and run(work, "add", "a.txt", **how) == (0, b"", b""), "nobody has no repository")
     refuses(work, ["add", "secret.txt"], "cannot use secret.txt", **how)
+    refuses(work, ["add", "a.txt", "secret.txt", "nowhere"], "cannot use secret.txt", **how)
+    write(os.path.join(work, "shut"), "b", b"3")
+    os.chmod(os.path.join(work, "shut"), 0)
+    refuses(work, ["add", "."], "cannot use shut", **how)
+    os.chmod(os.path.join(work, "shut"), 0o755)
+    shutil.rmtree(os.path.join(work, "shut"))
     for path, mode, named in ((LOCK, 0o444, LOCK), (STORE, 0, STORE), (".hookhost", 0, STORE)):
         path = os.path.join(work, path)
         before = os.stat(path).st_mode
@@ -150,6 +88,14 @@ def refuses_fifos_and_waits_for_none(folder):
         for words in (["status"], ["add", "a.txt"]):
             refuses(work, words, f"cannot use {named}")
         refuses(work, ["init"], f"cannot use {STORE}")
+    work = os.path.join(folder, "below")
+    os.makedirs(os.path.join(work, "dir"))
+    os.mkfifo(os.path.join(work, "dir", "fifo"))
+    write(work, "dir/a", b"1")
+    do(work, "init")
+    refuses(work, ["add", "dir/fifo", "dir/a"], "cannot use dir/fifo")
+    do(work, "add", "dir")
+    check(do(work, "status") == b"A dir/a\n", "a fifo below a folder is staged")
     work = os.path.join(folder, "new")
     os.makedirs(os.path.join(work, ".hookhost"))
     os.mkfifo(os.path.join(work, LOCK))
@@ -208,6 +154,27 @@ def keeps_a_change_whose_text_was_not_taken(folder):
     check(do(folder, "log") == b"2 second\n1 first\n", "there are other commits")
 
 
+def has_git_ignore_its_folder(folder):
+    """A new repository does, and one without the file as soon as a command changes it. Who takes the file's name keeps it."""
+    path = os.path.join(folder, IGNORE_FILE)
+    write(folder, "a", b"1")
+    do(folder, "init")
+    check(Path(path).read_bytes() == b"*\n", "init writes another file")
+    os.remove(path)
+    do(folder, "status")
+    check(not os.path.exists(path), "status writes the file")
+    check(run(folder, "rm", "a")[0] == 3 and not os.path.exists(path), "a refused command writes the file")
+    do(folder, "add", "a")
+    check(Path(path).read_bytes() == b"*\n", "add writes another file")
+    Path(path).write_bytes(b"own\n")
+    do(folder, "rm", "a")
+    check(Path(path).read_bytes() == b"own\n", "rm overwrites the file")
+    os.remove(path)
+    os.mkdir(path)
+    do(folder, "add", ".")
+    check(os.listdir(path) == [] and do(folder, "status") == b"A a\n", "a folder at the file's name is in the way")
+
+
 def shown(folder):
     """What the repository shows."""
     return [do(folder, word) for word in ("status", "fixes", "log")]
@@ -233,7 +200,7 @@ def lets_one_init_make_the_store(folder):
             ends = list(pool.map(lambda _: run(work, "init"), range(4)))
         others = [end for end in ends if end != (0, b"", b"")]
         check(len(others) == 3 and all((status, out) == (3, b"") and err in refused for status, out, err in others), f"four inits at once end with {ends!r}")
-        check(paths_in(work) == [".hookhost", LOCK, STORE, STORE + "-wal"] and do(work, "status") == b"", f"four inits at once leave {paths_in(work)!r}")
+        check(paths_in(work) == [".hookhost", IGNORE_FILE, LOCK, STORE, STORE + "-wal"] and do(work, "status") == b"", f"four inits at once leave {paths_in(work)!r}")
 
 
 def with_added(text, name):
@@ -383,6 +350,19 @@ def is_left_whole_by_kills_of_add_rm_and_accept(folder):
     killed = Killed(folder, filled(folder))
     for words in (["add", "b"], ["add", "new"], ["rm", "a"], ["accept"]):
         check_kills(killed, words, 0)
+
+
+def is_left_whole_by_kills_of_many_files_at_once(folder):
+    """All of them, or none, wherever the kill comes."""
+    base, chance = filled(folder), random.Random(5)
+    for at in range(300):
+        write(os.path.join(base, "many", str(at % 10)), f"{at:03}", chance.randbytes(2000))
+    killed = Killed(folder, base)
+    check_kills(killed, ["add", "many", "b", "a"], 0)
+    do(base, "add", "many")
+    apart = os.path.join(folder, "apart")
+    os.mkdir(apart)
+    check_kills(Killed(apart, base), ["rm", "many", "a"], 0)
 
 
 # Hooks of each stage of a commit. That of the stage `manual` modifies files, and so does one before a commit, of the file `bad`.
@@ -591,7 +571,7 @@ def is_left_whole_by_kills_of_init(folder):
         else:
             refuses(work, ["status"], f"cannot use {STORE}")
             do(work, "init")
-            check(paths_in(work) == [".hookhost", LOCK, STORE, STORE + "-wal"], f"an init behind a killed one leaves {paths_in(work)!r}")
+            check(paths_in(work) == [".hookhost", IGNORE_FILE, LOCK, STORE, STORE + "-wal"], f"an init behind a killed one leaves {paths_in(work)!r}")
         check(do(work, "status") == b"" and rows(work, "SELECT name, value FROM meta") == ["version|1"], "it is no new store")
     check(found[False] > 0, "no kill came before the store was there")
 
@@ -726,11 +706,10 @@ def cuts_the_long_log_of_a_change_that_was_not_made(folder):
     check(do(folder, "cat", "a") == b"1", "the staged file is another")
 
 
-CASES = [keeps_files_of_hard_names, keeps_the_longest_path_that_the_system_opens, refuses_control_bytes, takes_no_mode_from_the_working_file,
-         refuses_what_may_not_be_read_or_written, refuses_fifos_and_waits_for_none, leaves_nothing_of_an_init_that_fails,
-         keeps_a_change_whose_text_was_not_taken, lets_one_init_make_the_store, lets_one_program_work_at_a_time,
+CASES = [*host_names.CASES, refuses_what_may_not_be_read_or_written, refuses_fifos_and_waits_for_none, leaves_nothing_of_an_init_that_fails,
+         keeps_a_change_whose_text_was_not_taken, has_git_ignore_its_folder, lets_one_init_make_the_store, lets_one_program_work_at_a_time,
          loses_nothing_of_programs_at_once, is_left_whole_by_kills_of_init, is_left_whole_by_kills_of_add_rm_and_accept,
-         is_left_whole_by_kills_of_commits, is_left_whole_by_kills_of_runs_and_commits, is_left_whole_by_kills_of_forget,
+         is_left_whole_by_kills_of_many_files_at_once, is_left_whole_by_kills_of_commits, is_left_whole_by_kills_of_runs_and_commits, is_left_whole_by_kills_of_forget,
          keeps_what_was_answered_before_a_kill_of_a_run, keeps_what_was_answered_before_a_kill_of_a_commit,
          waits_for_the_disk_only_where_something_is_written, takes_a_store_with_pages_of_another_size,
          leaves_a_log_without_a_change, cuts_the_long_log_of_a_change_that_was_not_made, *host_runs.CASES]

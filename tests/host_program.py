@@ -7,7 +7,7 @@ from pathlib import Path
 CRATES = Path(__file__).resolve().parent.parent / "crates"
 PROGRAM = os.path.abspath(sys.argv[2] if len(sys.argv) > 2 else CRATES / "hookhost/out/hookhost")
 STORE_TRIAL = os.path.abspath(sys.argv[3] if len(sys.argv) > 3 else CRATES / "store_trial/out/store_trial")
-STORE, LOCK = ".hookhost/store.db", ".hookhost/lock"
+STORE, LOCK, IGNORE_FILE = ".hookhost/store.db", ".hookhost/lock", ".hookhost/.gitignore"
 
 
 class Wrong(Exception):

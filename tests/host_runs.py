@@ -13,7 +13,7 @@ from concurrent.futures import ThreadPoolExecutor
 from contextlib import suppress
 from pathlib import Path
 
-from host_program import LOCK, PROGRAM, STORE, Wrong, check, do, paths_in, play, rows, run, staged_rows, write
+from host_program import IGNORE_FILE, LOCK, PROGRAM, STORE, Wrong, check, do, paths_in, play, rows, run, staged_rows, write
 from kept_answers import SELECT_ROWS, KeptAnswer, digest, planting_all, row_of
 
 MARK = "scratch.run"
@@ -101,7 +101,7 @@ def end(child):
 
 def scratch_names(work):
     """What lies in the repository's folder beside its own files."""
-    return sorted(set(os.listdir(os.path.join(work, ".hookhost"))) - {os.path.basename(name) for name in (STORE, STORE + "-wal", LOCK)})
+    return sorted(set(os.listdir(os.path.join(work, ".hookhost"))) - {os.path.basename(name) for name in (STORE, STORE + "-wal", LOCK, IGNORE_FILE)})
 
 
 def says(work, words, wanted, text, left=("scratch",)):

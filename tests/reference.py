@@ -44,6 +44,8 @@ LIMITS = [
 ]
 # The constants of command_line with what the help of a command says, and the enum whose refusals the command prints.
 HELP = {"TRY_HELP": "TryFault", "CHECK_HELP": "ConfigKind"}
+# The documents that name the logic in which the program is proved, as `--version` prints it.
+OF_THE_LOGIC = [("README.md",), ("docs", "PROMISES.md")]
 # The refusals of which the reference says what to do for a library's caller; the help says it in the words of the commands.
 LIBRARIES = ["StoreFault", "HostRefusal"]
 # The constants of command_line with the help of the commands on a repository, and the enums of what these refuse: those of the
@@ -362,6 +364,14 @@ def wrong_definitions(text):
             yield f"{path} stands in no table of its crate's sections"
 
 
+def wrong_version():
+    """Which documents don't name the logic that `--version` prints."""
+    logic = re.search(r"logic (\w+)", read("crates", "command_line", "src", "version.rt"))[1]
+    for path in OF_THE_LOGIC:
+        if logic not in read(*path):
+            yield f"{'/'.join(path)} doesn't name the logic {logic}"
+
+
 def main():
     reference, definitions = read("docs", "REFERENCE.md"), read("docs", "DEFINITIONS.md")
     wrong = [f"docs/REFERENCE.md: {each}" for each in [
@@ -369,6 +379,7 @@ def main():
         *wrong_configuration(reference), *wrong_tags(reference),
     ]]
     wrong += [f"docs/DEFINITIONS.md: {each}" for each in wrong_definitions(definitions)]
+    wrong += wrong_version()
     for each in wrong:
         print(f"FAILED {each}")
     kinds = refusals_of_code()

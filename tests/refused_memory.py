@@ -184,6 +184,10 @@ PLAYS = [
     Play("a new repository", ["init"], OF_INIT, status=0, repository="made"),
     Play("the add of a new file", ["add", "dir/c.txt"], OF_PREPARED, status=0, repository="there"),
     Play("the add of a staged file", ["add", "--chmod=+x", "a.txt"], OF_PREPARED, status=0, repository="there"),
+    Play("the add of several files", ["add", "dir/c.txt", "a.txt", "b.txt"], OF_PREPARED, status=0, repository="there"),
+    Play("the add of a folder and of listed files", ["add", "--paths-from=-"], OF_PREPARED, stdin=b"dir\0b.txt\0run.sh", status=0, repository="there"),
+    Play("a refused file among several", ["add", "b.txt", "dir", "./a.txt"], OF_PREPARED, status=3, repository="there"),
+    Play("the removal of several files", ["rm", "a.txt", ".pre-commit-config.yaml"], OF_COMMAND, status=0, repository="there"),
     Play("the removal of a staged file", ["rm", "a.txt"], OF_COMMAND, status=0, repository="there"),
     Play("the status", ["status"], OF_COMMAND, status=0, repository="there"),
     Play("the fixes", ["fixes"], OF_COMMAND, status=0, repository="there"),
@@ -275,7 +279,9 @@ def shown_in(work, looks):
 def number_of(said):
     """The number of the want of memory that a run told, or None."""
     for number in (1, *OF_CHECK):
-        if said == (3, b"", f"hookhost: refused: {number} OutOfMemory\n".encode()):
+        told = f"hookhost: refused: {number} OutOfMemory\n".encode()
+        # Of several files the one that memory was refused for is told behind it.
+        if said[:2] == (3, b"") and said[2].startswith(told) and re.fullmatch(rb"(hookhost: at .*\n)?", said[2][len(told):]):
             return number
     return None
 

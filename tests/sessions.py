@@ -9,6 +9,7 @@ A session file holds cases. `== NAME` begins a case, in an empty folder. Within 
   -- fill PATH N    `#` after `#` is put at the file's end, until it has N bytes
   -- repeat N PATH  the lines that follow are put at the file's end N times
   -- folder PATH    an empty folder
+  -- link PATH TARGET   a symbolic link
   -- remove PATH    the file is removed, or the folder with all that lies in it
   -- demo           the files of demo/
   -- stdin          the lines that follow are the next command's standard input
@@ -49,7 +50,7 @@ CASE = sys.argv[2] if len(sys.argv) > 2 else ""
 STORE_TRIAL = os.path.join(TOP, "crates/store_trial/out/store_trial")
 STORE, LOCK = ".hookhost/store.db", ".hookhost/lock"
 FOLDER, SCRATCH = "./.hookhost", "./.hookhost/scratch"
-LAID = ("file", "bytes", "fill", "repeat", "folder", "remove", "demo")
+LAID = ("file", "bytes", "fill", "repeat", "folder", "link", "remove", "demo")
 LOOKED_AT = ("play", "sql", "files")
 RUNNING = ("run", "run-files", "commit")
 REPOSITORY = ("meta", "staged", "fixes", "commits", "entries")
@@ -119,13 +120,18 @@ def content(path):
         return file.read()
 
 
+def held_at(path):
+    """What a file holds, or where a link leads."""
+    return os.readlink(path) if os.path.islink(path) else content(path)
+
+
 def files_that_stay():
     """The folders and the files below this folder with their contents, but for those that commands may change."""
     found = {}
     for folder, folders, names in os.walk("."):
         folders[:] = [name for name in folders if os.path.join(folder, name) != SCRATCH]
         found.update((os.path.join(folder, name), None) for name in folders)
-        found.update((os.path.join(folder, name), content(os.path.join(folder, name))) for name in names)
+        found.update((os.path.join(folder, name), held_at(os.path.join(folder, name))) for name in names)
     return {path: held for path, held in found.items() if path not in (FOLDER, "./" + LOCK, "./" + STORE + "-wal")}
 
 
@@ -206,6 +212,9 @@ def lay(kind, what, body):
     """Lays the files of a step."""
     if kind == "folder":
         os.makedirs(what)
+    elif kind == "link":
+        path, target = what.split(" ")
+        os.symlink(target, path)
     elif kind == "remove":
         shutil.rmtree(what) if os.path.isdir(what) else os.remove(what)
     elif kind == "demo":

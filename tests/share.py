@@ -28,7 +28,7 @@ CASES = [
     ("hookhost st", ["status"]),
     ("hookhost run", ["run", "run-files"]),
     ("hookhost help", []),
-    ("hookhost -", ["--help", "-h"]),
+    ("hookhost -", ["--help", "--version", "-V", "-h"]),
     ("hookhost run --hook-stage=", ["--hook-stage=manual", "--hook-stage=pre-commit"]),
     ("hookhost run --hook-stage=m", ["--hook-stage=manual"]),
     ("hookhost run --hook-stage ", ["manual", "pre-commit"]),
@@ -44,7 +44,11 @@ CASES = [
     ("hookhost add --chmod +x R", ["README.md"]),
     ("hookhost add my", ["my file.md"]),
     ("hookhost add src/", ["src/main.c"]),
-    ("hookhost add README.md s", []),
+    ("hookhost add README.md s", ["src"]),
+    ("hookhost rm README.md my", ["my file.md"]),
+    ("hookhost add --paths-from R", ["README.md"]),
+    ("hookhost explain .pre", [".pre-commit-config.yaml"]),
+    ("hookhost explain .pre-commit-config.yaml R", []),
     ("hookhost add commit --no", []),
     ("hookhost try .pre", [".pre-commit-config.yaml"]),
     ("hookhost try .pre-commit-config.yaml README.md s", ["src"]),
@@ -65,7 +69,9 @@ BASH_CASES = [
     ("hookhost add c:d", ["c:d.md"]),
     ("hookhost add -- -", ["-dash.md"]),
     ("hookhost status ", ["--help", "-h"]),
-    ("hookhost add README.md ", ["--chmod=", "--help", "-h"]),
+    ("hookhost cat README.md ", ["--commit=", "--fixed", "--help", "-h"]),
+    ("hookhost add --paths-from=R", ["--paths-from=README.md"]),
+    ("hookhost run-files --paths-from=src/", ["--paths-from=src/main.c"]),
     ("hookhost run --fresh ", ["--all-files", "--help", "--hook-stage=", "-h"]),
     ("hookhost run --hook-stage=manual --h", ["--help"]),
     ("hookhost run --hook-stage manual --h", ["--help"]),
@@ -111,7 +117,7 @@ HELP = {name: help_of(name) for name, _ in rows_of(help_of(), "Commands")}
 def options_of(name):
     """The options of a command, with `=` behind a long one that takes a value."""
     for shown, _ in rows_of(HELP[name], "Options"):
-        for option in re.findall(r"--?[a-z][a-z-]*", shown):
+        for option in re.findall(r"--?[A-Za-z][a-z-]*", shown):
             yield option + "=" if "<" in shown and option.startswith("--") else option
 
 
@@ -215,16 +221,18 @@ def is_usage(*words):
         return played([PROGRAM, *words], folder)[0] == 2
 
 
-def required_of(name):
-    """Words that a command asks for, as its usage tells them outside brackets."""
+def required_of(name, option="no option"):
+    """Words that a command asks for, as its usage tells them outside brackets. Of those in parentheses one is enough: the option
+    itself, and else the first."""
     told = re.sub(r"\[[^]]*\]", "", HELP[name][1].removeprefix("Usage: hookhost "))
+    told = re.sub(r"\(([^)]*)\)", lambda it: "" if f" {option}" in it[1] else it[1].split(" | ")[0], told)
     return ["1" if word.startswith("<") else word for word in told.split()[1:]]
 
 
 def takes_any(name, option):
     """Whether an option takes a value of which the program doesn't say that few words are allowed, as a number."""
     with tempfile.TemporaryDirectory() as folder:
-        return option.endswith("=") and ": only " not in played([PROGRAM, name, option, *required_of(name)], folder)[2]
+        return option.endswith("=") and ": only " not in played([PROGRAM, name, option, *required_of(name, option)], folder)[2]
 
 
 def tried_options(folder):
@@ -233,7 +241,8 @@ def tried_options(folder):
     for (name, option, _), told in zip(lines, told_by_bash([line for *_, line in lines], folder), strict=True):
         yield told or takes_any(name, option), f"nothing is proposed for {option} of {name}"
         for word in told:
-            words = [name, *required_of(name)] if option in required_of(name) else [name, word, *required_of(name)]
+            required = required_of(name, option)
+            words = [name, *required] if option in required else [name, word, *required]
             yield is_usage(*words) == (option in ("-h", "--help")), f"hookhost {name} doesn't take {word}, which is proposed"
 
 

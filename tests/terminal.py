@@ -318,6 +318,33 @@ def a_terminal_that_goes_away_changes_nothing():
     equal(played.printed(), "\n".join([line("A", "Passed"), line("B", "Failed"), "- hook id: b", "- exit code: 7", ""]), "the report")
 
 
+def a_hint_says_what_to_do_next():
+    """Behind what refuses or stops a command, and behind a run that left fixes; without a terminal there is none."""
+    folder, _ = folder_of([hook("sed -i s/x/y/", "A", files="^a", stages="[pre-commit]")], ["a.txt"])
+    os.rename(Path(folder, "c.yaml"), Path(folder, ".pre-commit-config.yaml"))
+    fixes = "hint: hookhost fixes lists what hooks changed, hookhost accept stages it"
+    steps = [
+        (["status"], 3, ["hookhost: cannot use .hookhost/store.db", "hint: hookhost init makes a repository here"]),
+        (["init"], 0, []),
+        (["init"], 3, ["hookhost: cannot use .hookhost/store.db", "hint: a repository is here already: go on with it, as by hookhost status"]),
+        (["add", "nowhere"], 3, ["hookhost: cannot use nowhere"]),
+        (["add", "a.txt", ".pre-commit-config.yaml"], 0, []),
+        (["run"], 1, [fixes]),
+        (["commit", "-m", "first"], 1, [fixes]),
+        (["accept"], 0, []),
+        (["run"], 0, []),
+        (["rm", "a.txt", "b.txt"], 3, ["hookhost: refused: 4 NotStaged", "hookhost: at b.txt"]),
+    ]
+    for words, status, lines in steps:
+        copy = shutil.copytree(folder, tempfile.mkdtemp(dir=BASE), dirs_exist_ok=True)
+        done = subprocess.run([PROGRAM, *words], cwd=copy, stdin=subprocess.DEVNULL, capture_output=True, timeout=LIMIT)
+        told = "".join(text + "\n" for text in lines if not text.startswith("hint: "))
+        equal((done.returncode, done.stderr.decode()), (status, told), f"{words!r} without a terminal")
+        played = Played(folder, words)
+        equal(played.wait(), status, f"the exit status of {words!r}")
+        equal([text for text in played.screen.all() if text], lines, f"what {words!r} says")
+
+
 def a_killed_program_leaves_a_terminal_that_wraps():
     folder, words = folder_of([hook("sleep 2", pass_filenames="false")], ["a.txt"])
     played = Played(folder, words)
@@ -361,7 +388,7 @@ CASES = [
     what_columns_says_amiss_is_80, wide_characters_take_two_columns, control_characters_are_shown_as_question_marks, long_commands_are_one_line,
     parts_are_shown_one_by_one, what_a_child_prints_stays_off_the_terminal, a_report_on_the_same_terminal_stands_alone, nothing_is_shown_without_a_terminal,
     nothing_is_shown_on_a_dumb_terminal, nothing_is_shown_of_hooks_without_children, a_terminal_that_goes_away_changes_nothing,
-    a_killed_program_leaves_a_terminal_that_wraps, want_of_memory_for_the_line_loses_no_child,
+    a_hint_says_what_to_do_next, a_killed_program_leaves_a_terminal_that_wraps, want_of_memory_for_the_line_loses_no_child,
 ]
 
 

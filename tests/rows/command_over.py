@@ -31,6 +31,11 @@ def add(path, contents="", mode="none", out="all", err="all"):
     return line("add", mode, path, contents, out=out, err=err)
 
 
+def several(*edits, err="all"):
+    """Changes of the staged files at once, each `("add", mode, path, contents)` or `("rm", path)`."""
+    return ("several", err, str(len(edits)), *(word for edit in edits for word in edit))
+
+
 def ended(status, out="", err="", flushes=("", "")):
     """What a line is answered by: its status, how many bytes stand on the writers, and these."""
     out, err = as_bytes(out), as_bytes(err)
@@ -392,6 +397,38 @@ SHOW = [
         ("commit", "one\n", "commit", "two\n", *line("show", number), *STORE, ended(3, err=f"hookhost: no commit {number}\n") + kept(commits=2))
         for number in ["0", "3", "10", "4294967295"]
     ),
+]
+
+def refused_at(said, told):
+    """What several changes are answered by, of which the one of this path is refused."""
+    return ended(3, err=f"hookhost: refused: {said}\nhookhost: at {told}\n")
+
+
+# Paths that aren't allowed, as they are told: in quotes where they would end their line or mislead.
+TOLD = [
+    ("a\n", '"a\\n"'), ("\x07\x08\t\n\x0b\x0c\r", '"\\a\\b\\t\\n\\v\\f\\r"'), ("\x01\x0e\x1f\x7f", '"\\001\\016\\037\\177"'), ('\x1b"\\', '"\\033\\"\\\\"'),
+]
+
+# Several changes at once: all of them or none, each made of what those before it led to.
+SEVERAL = [
+    (*several(("add", "none", "b", "x"), ("add", "executable", "a", "y")), *STORE, done() + kept([("a", "y", "executable"), ("b", "x")])),
+    (*several(("add", "none", "a", "x"), ("add", "none", "a", "y"), ("rm", "a")), *STORE, done() + kept()),
+    (*stage("a", "x"), *several(("rm", "a"), ("add", "none", "a/b", "y")), *STORE, done() + kept([("a/b", "y")])),
+    (*stage("a", "x"), *several(("add", "none", "b", "y"), ("add", "none", "a/b", "y"), ("rm", "c")), *STORE, refused_at("15 Clash", "a/b") + kept([("a", "x")])),
+    (*stage("a", "x"), *several(("rm", "a"), ("rm", "a")), *STORE, refused_at("4 NotStaged", "a") + kept([("a", "x")])),
+    (*several(("add", "none", "", "y")), *STORE, refused_at("3 BadPath 1", "") + kept()),
+    (*several(("add", "none", "a", "y"), ("add", "none", "é//b c", "y")), *STORE, refused_at("3 BadPath 4", "é//b c") + kept()),
+    *((*several(("add", "none", "a", "y"), ("rm", path)), *STORE, refused_at("3 BadPath 6", told) + kept()) for path, told in TOLD),
+    (*several(("rm", 'a"b')), *STORE, refused_at("4 NotStaged", '"a\\"b"') + kept()),
+    (*several(("rm", "a\\b")), *STORE, refused_at("4 NotStaged", '"a\\\\b"') + kept()),
+    # A writer that takes little has all of it, and one that fails the beginning.
+    *((*several(("rm", 'a"'), err=habit), refused_at("4 NotStaged", '"a\\""')) for habit in ["one", "interrupted"]),
+    *(
+        (*several(("rm", 'a"'), err=str(count)), ended(3, err='hookhost: refused: 4 NotStaged\nhookhost: at "a\\""\n'[:count]))
+        for count in range(50)
+    ),
+    (*several(("rm", "a"), err="unflushed"), ended(3, err="hookhost: refused: 4 NotStaged\n")),
+    (*several(("add", "none", "a", "x"), err="nothing"), *STORE, done() + kept([("a", "x")])),
 ]
 
 # A store with something to say, and the commands that print on `out`, with what each says.
@@ -833,4 +870,4 @@ MEMORY = [
     ),
 ]
 
-ROWS = [("command_over", *row) for row in [*RUNS, *COMMITS, *REMEMBERED, *STEADY, *COMMITTED, *MEMORY, *EMPTY, *ADDED, *REMOVED, *BAD_PATHS, *GOOD_PATHS, *CLASHES, *TOO_LARGE, *FIXES, *STATUS, *CAT, *VERSIONS, *LOG, *SHOW, *WRITERS]]
+ROWS = [("command_over", *row) for row in [*RUNS, *COMMITS, *REMEMBERED, *STEADY, *COMMITTED, *MEMORY, *EMPTY, *ADDED, *REMOVED, *BAD_PATHS, *GOOD_PATHS, *CLASHES, *TOO_LARGE, *SEVERAL, *FIXES, *STATUS, *CAT, *VERSIONS, *LOG, *SHOW, *WRITERS]]

@@ -185,11 +185,15 @@ LINES = [
     (["try", "--", "-c", "-p"], "try\n-c\n-p\n"),
     (["try", "check", "check"], "try\ncheck\ncheck\n"),
     (["check"], "check\n"),
+    (["explain"], "explain\n"),
+    (["explain", "a b"], "explain\na b\n"),
+    (["explain", ""], "explain\n\n"),
+    *(([flag], "refused DisplayVersion\nhookhost 0.1.0\nrattle logic dac8208d650f15bf\n") for flag in ["--version", "-V"]),
     (
         [],
         "refused MissingSubcommand\n"
         "error: 'hookhost' requires a subcommand but one was not provided\n"
-        "  [subcommands: init, try, check, add, rm, status, cat, run, run-files, fixes, accept, commit, log, show, memory, forget]\n\n"
+        "  [subcommands: init, try, check, explain, add, rm, status, cat, run, run-files, fixes, accept, commit, log, show, memory, forget]\n\n"
         f"Usage: hookhost <COMMAND>\n\n{MORE}",
     ),
     (
@@ -236,8 +240,9 @@ LINES = [
         "  init       Makes a new repository in the current folder\n"
         "  try        Runs the hooks of a configuration on files, and prints the report\n"
         "  check      Prints how many hooks .pre-commit-config.yaml has, and its ignored keys\n"
-        "  add        Stages a file of the current folder\n"
-        "  rm         Takes a path out of the staged files\n"
+        "  explain    Says why a configuration is refused, or what its hooks will do\n"
+        "  add        Stages files of the current folder\n"
+        "  rm         Takes paths out of the staged files\n"
         "  status     Prints which staged files differ from those of the last commit\n"
         "  cat        Prints the bytes of a staged file, of its fix or of a commit's file\n"
         "  run        Runs the hooks of the staged configuration on staged files, and prints the report\n"
@@ -250,11 +255,12 @@ LINES = [
         "  memory     Prints how many answers of hooks' commands are remembered\n"
         "  forget     Forgets the remembered answers, and prints how many there were\n\n"
         "Options:\n"
-        "  -h, --help  Print help\n\n"
+        "  -h, --help     Print help\n"
+        "  -V, --version  Print version\n\n"
         "Without words, the configuration is read from standard input, and its hooks are\n"
         "run on no files. What that refuses, hookhost try --help explains.\n\n"
         "A repository lies in .hookhost of the current folder: init makes it, and all\n"
-        "commands but try and check work on it.\n\n"
+        "commands but try, check and explain work on it.\n\n"
         "Examples:\n"
         "  hookhost try .pre-commit-config.yaml README.md src/main.c\n"
         "  hookhost init\n"
@@ -272,11 +278,13 @@ LINES = [
 # The usage line of each command on a repository.
 USAGES = {
     "init": "init",
-    "add": "add [--chmod=+x] <PATH>",
-    "rm": "rm <PATH>",
+    "explain": "explain [FILE]",
+    "add": "add [--chmod=+x] (<PATH>... | --paths-from=<FILE>)",
+    "rm": "rm (<PATH>... | --paths-from=<FILE>)",
     "status": "status",
     "fixes": "fixes",
     "accept": "accept",
+    "run-files": "run-files [--hook-stage=<STAGE>] [--fresh] (<PATH>... | --paths-from=<FILE>)",
     "cat": "cat [--fixed | --commit=<N>] <PATH>",
     "log": "log",
     "show": "show <N>",
@@ -296,6 +304,11 @@ def no_command(word, tip=""):
 
 def missing(value):
     return f"the following required arguments were not provided:\n  <{value}>"
+
+
+# What `add`, `rm` and `run-files` say where paths stand neither in words nor in a file, and where they stand in both.
+NO_PATHS = missing("PATH") + "..."
+BOTH_PATHS = "the argument '--paths-from <FILE>' cannot be used with '[PATH]...'"
 
 
 def no_flag(word):
@@ -325,6 +338,15 @@ REPOSITORY_LINES = [
     (["add", "--", "-x"], "add\n-x\n"),
     (["add", "--", "--chmod=+x"], "add\n--chmod=+x\n"),
     (["rm", "a"], "remove\na\n"),
+    # Several words, or a file of paths.
+    (["add", "a", "b c", "a"], "add all\na\nb c\na\n"),
+    (["add", "b", "--chmod=+x", "a"], "add all executable\nb\na\n"),
+    (["add", "--", "a", "-x"], "add all\na\n-x\n"),
+    (["add", "--paths-from=-"], "add all listed\n-\n"),
+    (["add", "--paths-from", "list", "--chmod=+x"], "add all executable listed\nlist\n"),
+    (["add", "--paths-from="], "add all listed\n\n"),
+    (["rm", "a", "b"], "remove all\na\nb\n"),
+    (["rm", "--paths-from=list"], "remove all listed\nlist\n"),
     (["status"], "status\n"),
     (["fixes"], "fixes\n"),
     (["accept"], "accept\n"),
@@ -347,12 +369,22 @@ REPOSITORY_LINES = [
     (["memory"], "memory\n"),
     (["forget"], "forget\n"),
     # A value is missing, or there is one too many.
-    *(([command], refused(command, "MissingRequiredArgument", missing("PATH"))) for command in ["add", "rm", "cat"]),
+    (["cat"], refused("cat", "MissingRequiredArgument", missing("PATH"))),
+    *(([command], refused(command, "InvalidValue", NO_PATHS)) for command in ["add", "rm", "run-files"]),
+    *(
+        ([command, "--paths-from=list", "a"], refused(command, "InvalidValue", BOTH_PATHS))
+        for command in ["add", "rm", "run-files"]
+    ),
     (["show"], refused("show", "MissingRequiredArgument", missing("N"))),
-    (["add", "--chmod=+x"], refused("add", "MissingRequiredArgument", missing("PATH"))),
+    (["add", "--chmod=+x"], refused("add", "InvalidValue", NO_PATHS)),
+    (["add", "--chmod=755"], refused("add", "InvalidValue", NO_PATHS)),
     *(
         ([command, "a", "b"], refused(command, "UnknownArgument", "unexpected argument 'b' found"))
-        for command in ["add", "rm", "cat", "show"]
+        for command in ["explain", "cat", "show"]
+    ),
+    (
+        ["rm", "--paths-from=a", "--paths-from=b"],
+        refused("rm", "ArgumentConflict", "the argument '--paths-from <FILE>' cannot be used multiple times"),
     ),
     *(
         ([command, "b"], refused(command, "UnknownArgument", "unexpected argument 'b' found"))
@@ -360,7 +392,7 @@ REPOSITORY_LINES = [
     ),
     # `--chmod` takes `+x` alone, and once.
     *((["add", f"--chmod={mode}", "a"], refused("add", "InvalidValue", no_mode(mode))) for mode in ["-x", "+X", "x", "755", ""]),
-    (["add", "--chmod", "a"], refused("add", "MissingRequiredArgument", missing("PATH"))),
+    (["add", "--chmod", "a"], refused("add", "InvalidValue", NO_PATHS)),
     (["add", "--chmod", "-x", "a"], refused("add", "UnknownArgument", no_flag("-x"))),
     (
         ["add", "--chmod=+x", "--chmod=+x", "a"],
@@ -437,6 +469,7 @@ RUN_LINES = [
     (("commit", "-m", ""), "commit\n\n"),
     (("commit", "--no-verify", "-m", "x\ny"), "commit unverified\nx\ny\n"),
     (("run-files", "a"), "run pre-commit named\na\n"),
+    (("run-files", "--paths-from=list", "--fresh"), "run pre-commit listed fresh\nlist\n"),
     (("run-files", "--fresh", "b", "a", "--hook-stage=manual", "a"), "run manual named fresh\nb\na\na\n"),
 ]
 

@@ -14,13 +14,15 @@ use Rattle.clap.specs.declared.error.kind.ErrorKind.TheVariants.{InvalidValue}
 use Rattle.hook_base.specs.declared.file.Mode.{Mode}
 use Rattle.hook_base.specs.declared.file.Mode.TheVariants.{Executable}
 use Rattle.command_line.specs.declared.line.FileChoice.{FileChoice}
-use Rattle.command_line.specs.declared.line.FileChoice.TheVariants.{Changed, All, Named}
+use Rattle.command_line.specs.declared.line.FileChoice.TheVariants.{Changed, All, Named, Listed as ListedFiles}
 use Rattle.command_line.specs.declared.line.FileVersion.{FileVersion}
 use Rattle.command_line.specs.declared.line.FileVersion.TheVariants.{Staged, Fixed, Committed}
 use Rattle.command_line.specs.declared.line.Line.{Line}
+use Rattle.command_line.specs.declared.line.PathSource.{PathSource}
+use Rattle.command_line.specs.declared.line.PathSource.TheVariants.{Words, Listed}
 use Rattle.command_line.specs.declared.line.StageChoice.{StageChoice}
 use Rattle.command_line.specs.declared.line.StageChoice.TheVariants.{PreCommit, Manual}
-use Rattle.command_line.specs.declared.line.Line.TheVariants.{Init, Try, Check, Add, Remove, Status, Run, Fixes, Accept, Commit, Cat, Log, Show, Memory, Forget}
+use Rattle.command_line.specs.declared.line.Line.TheVariants.{Init, Try, Check, Explain, Add, AddAll, Remove, RemoveAll, Status, Run, Fixes, Accept, Commit, Cat, Log, Show, Memory, Forget}
 
 -- ---- the commands and their values, as `clap` takes them
 
@@ -33,6 +35,16 @@ abbrev pub words_rule : Text → Rule
 words_rule id = record (word_rule id) {
   range = Some (record { start_inclusive = 1; end_inclusive = usize_max });
 }
+
+-- a value of any number of words
+abbrev pub optional_words_rule : Text → Rule
+optional_words_rule id = record (new_rule id) {
+  range = Some (record { start_inclusive = 1; end_inclusive = usize_max });
+}
+
+-- `--paths-from=FILE`, which may be left out
+abbrev pub paths_from_rule : Rule
+paths_from_rule = record (new_rule (codes "paths-from")) { long = Some (codes "paths-from"); value_names = 1 }
 
 -- `--chmod=MODE`, which may be left out
 abbrev pub chmod_rule : Rule
@@ -64,13 +76,17 @@ try_app = with_rule (with_rule (new_app (codes "try")) (word_rule (codes "CONFIG
 abbrev pub check_app : App
 check_app = new_app (codes "check")
 
--- `add [--chmod=MODE] PATH`
-abbrev pub add_app : App
-add_app = with_rule (with_rule (new_app (codes "add")) chmod_rule) (word_rule (codes "PATH"))
+-- `explain [FILE]`
+abbrev pub explain_app : App
+explain_app = with_rule (new_app (codes "explain")) (new_rule (codes "FILE"))
 
--- `rm PATH`
+-- `add [--chmod=MODE] [--paths-from=FILE] [PATH..]`
+abbrev pub add_app : App
+add_app = with_rule (with_rule (with_rule (new_app (codes "add")) chmod_rule) paths_from_rule) (optional_words_rule (codes "PATH"))
+
+-- `rm [--paths-from=FILE] [PATH..]`
 abbrev pub remove_app : App
-remove_app = with_rule (new_app (codes "rm")) (word_rule (codes "PATH"))
+remove_app = with_rule (with_rule (new_app (codes "rm")) paths_from_rule) (optional_words_rule (codes "PATH"))
 
 abbrev pub status_app : App
 status_app = new_app (codes "status")
@@ -84,10 +100,14 @@ run_with_options_app =
 abbrev pub run_app : App
 run_app = with_rule run_with_options_app (new_rule (codes "ID"))
 
--- `run-files [--hook-stage=STAGE] [--fresh] PATH..`
+-- `run-files [--hook-stage=STAGE] [--fresh] [--paths-from=FILE]`
+abbrev pub run_files_with_options_app : App
+run_files_with_options_app =
+    with_rule (with_rule (with_rule (new_app (codes "run-files")) stage_rule) (flag_rule (codes "fresh"))) paths_from_rule
+
+-- behind them `[PATH..]`
 abbrev pub run_files_app : App
-run_files_app =
-    with_rule (with_rule (with_rule (new_app (codes "run-files")) stage_rule) (flag_rule (codes "fresh"))) (words_rule (codes "PATH"))
+run_files_app = with_rule run_files_with_options_app (optional_words_rule (codes "PATH"))
 
 abbrev pub fixes_app : App
 fixes_app = new_app (codes "fixes")
@@ -119,9 +139,10 @@ forget_app = new_app (codes "forget")
 abbrev pub with_commands : App → List App → App
 with_commands = fold (λ app command. with_subcommand app command.top)
 
--- the program without its name, which wants a command
+-- the program without its name, which wants a command, or says its version
 abbrev pub hookhost_base : App
 hookhost_base = on_top (λ s. record s {
+  has_version = true;
   no_binary_name = true;
   disable_help_subcommand = true;
   subcommand_required = true;
@@ -129,7 +150,7 @@ hookhost_base = on_top (λ s. record s {
 
 abbrev pub all_commands : List App
 all_commands =
-    init_app ∷ try_app ∷ check_app ∷ add_app ∷ remove_app ∷ status_app ∷ cat_app ∷ run_app ∷ run_files_app ∷ fixes_app ∷ accept_app
+    init_app ∷ try_app ∷ check_app ∷ explain_app ∷ add_app ∷ remove_app ∷ status_app ∷ cat_app ∷ run_app ∷ run_files_app ∷ fixes_app ∷ accept_app
     ∷ commit_app ∷ log_app ∷ show_app ∷ memory_app ∷ forget_app ∷ []
 
 abbrev pub hookhost_app : App
@@ -180,23 +201,55 @@ version_in false None = Some Staged
 version_in true (Some text) = None
 version_in false (Some text) = option_map Committed (number_in text)
 
+-- where the paths stand: in words, or in the file that `--paths-from` names, and in one of the two
+abbrev pub source_in : List Text → Option Text → Option PathSource
+source_in [] None = None
+source_in (word ∷ words) None = Some (Words (word ∷ words))
+source_in [] (Some from) = Some (Listed from)
+source_in (word ∷ words) (Some from) = None
+
+abbrev pub paths_in : List Row → Option PathSource
+paths_in rows = source_in (words_in (codes "PATH") rows) (first_of (codes "paths-from") rows)
+
 -- ---- what a line of words asks for
 
 abbrev pub try_line : List Row → Line
 try_line rows = Try (word_in (codes "CONFIG") rows) (words_in (codes "PATH") rows)
 
+-- one word is a line of its own
+abbrev pub add_of : PathSource → Option Mode → Line
+add_of (Words (path ∷ [])) mode = Add path mode
+add_of (Words []) mode = AddAll (Words []) mode
+add_of (Words (path ∷ other ∷ paths)) mode = AddAll (Words (path ∷ other ∷ paths)) mode
+add_of (Listed from) mode = AddAll (Listed from) mode
+
+abbrev pub remove_of : PathSource → Line
+remove_of (Words (path ∷ [])) = Remove path
+remove_of (Words []) = RemoveAll (Words [])
+remove_of (Words (path ∷ other ∷ paths)) = RemoveAll (Words (path ∷ other ∷ paths))
+remove_of (Listed from) = RemoveAll (Listed from)
+
 abbrev pub add_line : List Row → Option Line
-add_line rows = option_map (Add (word_in (codes "PATH") rows)) (mode_in (first_of (codes "chmod") rows))
+add_line rows =
+    option_and_then (λ (paths : PathSource). option_map (add_of paths) (mode_in (first_of (codes "chmod") rows))) (paths_in rows)
+
+abbrev pub remove_line : List Row → Option Line
+remove_line rows = option_map remove_of (paths_in rows)
 
 abbrev pub run_line : List Row → Option Line
 run_line rows =
     option_map (λ (stage : StageChoice). Run (files_in rows) (first_of (codes "ID") rows) stage (flag_in (codes "fresh") rows))
     (stage_in (first_of (codes "hook-stage") rows))
 
+-- the files that are named, in words or in a file
+abbrev pub named_in : PathSource → FileChoice
+named_in (Words paths) = Named paths
+named_in (Listed from) = ListedFiles from
+
 abbrev pub run_files_line : List Row → Option Line
 run_files_line rows =
-    option_map (λ (stage : StageChoice). Run (Named (words_in (codes "PATH") rows)) None stage (flag_in (codes "fresh") rows))
-    (stage_in (first_of (codes "hook-stage") rows))
+    option_and_then (λ (paths : PathSource). option_map (λ (stage : StageChoice). Run (named_in paths) None stage (flag_in (codes "fresh") rows))
+    (stage_in (first_of (codes "hook-stage") rows))) (paths_in rows)
 
 abbrev pub commit_line : List Row → Line
 commit_line rows = Commit (word_in (codes "message") rows) (flag_in (codes "no-verify") rows)
@@ -213,8 +266,9 @@ line_by name rows =
     if bytes_eq name (codes "init") then Some Init
     else (if bytes_eq name (codes "try") then Some (try_line rows)
     else (if bytes_eq name (codes "check") then Some Check
+    else (if bytes_eq name (codes "explain") then Some (Explain (first_of (codes "FILE") rows))
     else (if bytes_eq name (codes "add") then add_line rows
-    else (if bytes_eq name (codes "rm") then Some (Remove (word_in (codes "PATH") rows))
+    else (if bytes_eq name (codes "rm") then remove_line rows
     else (if bytes_eq name (codes "status") then Some Status
     else (if bytes_eq name (codes "run") then run_line rows
     else (if bytes_eq name (codes "run-files") then run_files_line rows
@@ -225,7 +279,7 @@ line_by name rows =
     else (if bytes_eq name (codes "log") then Some Log
     else (if bytes_eq name (codes "show") then show_line rows
     else (if bytes_eq name (codes "memory") then Some Memory
-    else (if bytes_eq name (codes "forget") then Some Forget else None)))))))))))))))
+    else (if bytes_eq name (codes "forget") then Some Forget else None))))))))))))))))
 
 -- what the words ask for: a command with its values, as `clap` finds them
 abbrev pub line_asked : List Text → Option Line

@@ -2,24 +2,27 @@
 //!
 //! The contracts cite `specs/CommandLine.antt`, which states the command line as `clap` sees it.
 
-ghost use Rattle.std.specs.Prelude.{◌≡◌, IfOk, Some, is_some, map, option_map, true};
+ghost use Rattle.std.specs.Prelude.{◌≡◌, ◌∷◌, IfOk, Some, [], is_some, length, map, option_map, true};
 ghost use Rattle.clap.specs.Words.{FailsBy, fault_of, found_of, rows_of, subcommand_of, subcommand_rows_of};
-ghost use Rattle.command_line.specs.CommandLine.{IsValueOf, add_line, cat_line, commit_line, hookhost_app, is_command, line_asked, line_by, line_fault, run_files_line, run_line, show_line, try_line, files_in};
+ghost use Rattle.command_line.specs.declared.line.PathSource.TheVariants.{Words};
+ghost use Rattle.command_line.specs.CommandLine.{IsValueOf, add_line, add_of, cat_line, commit_line, files_in, hookhost_app, is_command, line_asked, line_by, line_fault, named_in, remove_line, remove_of, run_files_line, run_line, show_line, try_line};
 
 use crate::commands::hookhost;
+use crate::paths::paths_of;
 use crate::values::{
     flag_of, maybe_text_of, mode_of, number_of, stage_of, text_of, texts_of, version_of,
 };
-use crate::{FileChoice, Line};
+use crate::{FileChoice, Line, PathSource};
 use clap::{ArgMatches, Error};
+use hook_base::{Items, Mode, Text};
 use std::alloc::{AllocError, Global};
 
 /// What the words, without the program's own name, ask for.
 ///
 /// An error's text says what the words lack, or which value can't be taken, or is the help that they ask for. Its kind
 /// is `OutOfMemory` where memory was refused, the one that `clap` states for these words, or else `InvalidValue`: for
-/// another `--chmod` than `+x` or another `--hook-stage` than `pre-commit` and `manual`, for `--commit` beside `--fixed`, or where
-/// the number of `show` or of `--commit` isn't one of 32 bits.
+/// another `--chmod` than `+x` or another `--hook-stage` than `pre-commit` and `manual`, for `--commit` beside `--fixed`, where
+/// the number of `show` or of `--commit` isn't one of 32 bits, or where there is neither a path nor `--paths-from`, or both.
 pub fn line_of<'a>(alloc: Global, words: &'a [&'a str]) -> Result<Line, Error>
     ensures line { IfOk result (λ line. line_asked (map (λ s. s.now) words.entry.now) ≡ Some line) }
     ensures fault { FailsBy (line_fault (map (λ s. s.now) words.entry.now)) result }
@@ -56,10 +59,11 @@ fn line_by(alloc: Global, name: &str, values: &ArgMatches<'_>) -> Result<Line, E
         "init" => Ok(Line::Init),
         "try" => Ok(try_line(alloc, values)?),
         "check" => Ok(Line::Check),
-        "add" => add_line(alloc, values),
-        "rm" => Ok(Line::Remove {
-            path: text_of(alloc, values, "PATH")?,
+        "explain" => Ok(Line::Explain {
+            file: maybe_text_of(alloc, values, "FILE")?,
         }),
+        "add" => add_line(alloc, values),
+        "rm" => remove_line(alloc, values),
         "status" => Ok(Line::Status),
         "run" => run_line(alloc, values),
         "run-files" => run_files_line(alloc, values),
@@ -87,10 +91,80 @@ fn try_line(alloc: Global, values: &ArgMatches<'_>) -> Result<Line, AllocError>
 fn add_line(alloc: Global, values: &ArgMatches<'_>) -> Result<Line, Error>
     ensures { IsValueOf (add_line (rows_of (found_of values.now))) result }
 {
-    Ok(Line::Add {
-        path: text_of(alloc, values, "PATH")?,
-        mode: mode_of(alloc, values)?,
-    })
+    let paths = paths_of(alloc, "add", values)?;
+    let mode = mode_of(alloc, values)?;
+    Ok(add_of(paths, mode))
+}
+
+fn add_of(paths: PathSource, mode: Option<Mode>) -> Line
+    ensures { result ≡ add_of paths mode }
+{
+    match paths {
+        PathSource::Words(words) => add_words(words, mode),
+        PathSource::Listed(from) => Line::AddAll {
+            paths: PathSource::Listed(from),
+            mode,
+        },
+    }
+}
+
+fn add_words(words: Items<Text>, mode: Option<Mode>) -> Line
+    ensures { result ≡ add_of (Words words) mode }
+{
+    if words.len() == 1 {
+        Line::Add {
+            path: only_of(words),
+            mode,
+        }
+    } else {
+        Line::AddAll {
+            paths: PathSource::Words(words),
+            mode,
+        }
+    }
+}
+
+fn remove_line(alloc: Global, values: &ArgMatches<'_>) -> Result<Line, Error>
+    ensures { IsValueOf (remove_line (rows_of (found_of values.now))) result }
+{
+    Ok(remove_of(paths_of(alloc, "rm", values)?))
+}
+
+fn remove_of(paths: PathSource) -> Line
+    ensures { result ≡ remove_of paths }
+{
+    match paths {
+        PathSource::Words(words) => remove_words(words),
+        PathSource::Listed(from) => Line::RemoveAll {
+            paths: PathSource::Listed(from),
+        },
+    }
+}
+
+fn remove_words(words: Items<Text>) -> Line
+    ensures { result ≡ remove_of (Words words) }
+{
+    if words.len() == 1 {
+        Line::Remove {
+            path: only_of(words),
+        }
+    } else {
+        Line::RemoveAll {
+            paths: PathSource::Words(words),
+        }
+    }
+}
+
+// The word of a list that has one.
+fn only_of(words: Items<Text>) -> Text
+    requires { length words ≡ 1 }
+    ensures { words ≡ result ∷ [] }
+{
+    let mut words = words.into_vec();
+    match words.pop() {
+        Some(word) => word,
+        None => unreachable!(),
+    }
 }
 
 fn run_line(alloc: Global, values: &ArgMatches<'_>) -> Result<Line, Error>
@@ -118,13 +192,23 @@ fn files_of(values: &ArgMatches<'_>) -> FileChoice
 fn run_files_line(alloc: Global, values: &ArgMatches<'_>) -> Result<Line, Error>
     ensures { IsValueOf (run_files_line (rows_of (found_of values.now))) result }
 {
+    let paths = paths_of(alloc, "run-files", values)?;
     let stage = stage_of(alloc, "run-files", values)?;
     Ok(Line::Run {
-        files: FileChoice::Named(texts_of(alloc, values, "PATH")?),
+        files: named_by(paths),
         only: None,
         stage,
         fresh: flag_of(values, "fresh"),
     })
+}
+
+fn named_by(paths: PathSource) -> FileChoice
+    ensures { result ≡ named_in paths }
+{
+    match paths {
+        PathSource::Words(words) => FileChoice::Named(words),
+        PathSource::Listed(from) => FileChoice::Listed(from),
+    }
 }
 
 fn commit_line(alloc: Global, values: &ArgMatches<'_>) -> Result<Line, AllocError>

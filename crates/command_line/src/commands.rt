@@ -5,15 +5,19 @@
 ghost use Rattle.std.specs.Prelude.{◌≡◌, ◌∷◌, IfOk, [], false};
 ghost use Rattle.clap.specs.Words.{app_of, new_rule, rule_of};
 ghost use Rattle.clap.specs.declared.builder.Command.TheViews.{out-Command as fields_of};
-ghost use Rattle.command_line.specs.CommandLine.{accept_app, add_app, cat_app, check_app, chmod_rule, commit_app, commit_rule, fixes_app, flag_rule, forget_app, hookhost_app, hookhost_base, init_app, log_app, memory_app, message_rule, remove_app, run_app, run_files_app, run_with_options_app, show_app, stage_rule, status_app, try_app, with_commands, word_rule, words_rule};
+ghost use Rattle.command_line.specs.CommandLine.{accept_app, add_app, cat_app, check_app, chmod_rule, commit_app, commit_rule, explain_app, fixes_app, flag_rule, forget_app, hookhost_app, hookhost_base, init_app, log_app, memory_app, message_rule, optional_words_rule, paths_from_rule, remove_app, run_app, run_files_app, run_files_with_options_app, run_with_options_app, show_app, stage_rule, status_app, try_app, with_commands, word_rule, words_rule};
 
-use crate::help::{CHECK_HELP, PROGRAM_HELP, TRY_HELP};
+use crate::help::{CHECK_HELP, EXPLAIN_HELP, PROGRAM_HELP, TRY_HELP};
 use crate::repository_help::{
     ACCEPT_HELP, ADD_HELP, CAT_HELP, COMMIT_HELP, FIXES_HELP, FORGET_HELP, INIT_HELP, LOG_HELP,
     MEMORY_HELP, REMOVE_HELP, RUN_FILES_HELP, RUN_HELP, SHOW_HELP, STATUS_HELP,
 };
+use crate::version::VERSION;
 use clap::{Arg, ArgAction, Command};
 use std::alloc::{AllocError, Global};
+
+const RUN_FILES_USAGE: &str =
+    "hookhost run-files [--hook-stage=<STAGE>] [--fresh] (<PATH>... | --paths-from=<FILE>)";
 
 /// The program without its name, with all its commands.
 pub(crate) fn hookhost<'a>(alloc: Global) -> Result<Command<'a>, AllocError>
@@ -33,6 +37,7 @@ fn program<'a>(alloc: Global) -> Command<'a>
 {
     Command::new(alloc, "hookhost")
         .about("Runs the hooks of a pre-commit configuration, and keeps a small repository")
+        .version(VERSION)
         .after_help(PROGRAM_HELP)
         .no_binary_name(true)
         .disable_help_subcommand(true)
@@ -40,12 +45,20 @@ fn program<'a>(alloc: Global) -> Command<'a>
 }
 
 fn with_configurations<'a>(alloc: Global, program: Command<'a>) -> Result<Command<'a>, AllocError>
-    ensures { IfOk result (λ command. app_of command ≡ with_commands (app_of program.entry) (init_app ∷ try_app ∷ check_app ∷ [])) }
+    ensures { IfOk result (λ command. app_of command ≡ with_commands (app_of program.entry) (init_app ∷ try_app ∷ check_app ∷ explain_app ∷ [])) }
+{
+    let program = program.subcommand(init_command(alloc))?;
+    with_readings(alloc, program)
+}
+
+// The commands that need no repository.
+fn with_readings<'a>(alloc: Global, program: Command<'a>) -> Result<Command<'a>, AllocError>
+    ensures { IfOk result (λ command. app_of command ≡ with_commands (app_of program.entry) (try_app ∷ check_app ∷ explain_app ∷ [])) }
 {
     program
-        .subcommand(init_command(alloc))?
         .subcommand(try_command(alloc)?)?
-        .subcommand(check_command(alloc))
+        .subcommand(check_command(alloc))?
+        .subcommand(explain_command(alloc)?)
 }
 
 fn with_staging<'a>(alloc: Global, program: Command<'a>) -> Result<Command<'a>, AllocError>
@@ -133,28 +146,54 @@ fn check_command<'a>(alloc: Global) -> Command<'a>
         .after_help(CHECK_HELP)
 }
 
-/// `add [--chmod=MODE] PATH`.
+fn explain_command<'a>(alloc: Global) -> Result<Command<'a>, AllocError>
+    ensures app { IfOk result (λ command. app_of command ≡ explain_app) }
+    ensures local { IfOk result (λ command. (fields_of command).has_globals ≡ false) }
+{
+    Command::new(alloc, "explain")
+        .about("Says why a configuration is refused, or what its hooks will do")
+        .override_usage("hookhost explain [FILE]")
+        .after_help(EXPLAIN_HELP)
+        .arg(optional_word(
+            alloc,
+            "FILE",
+            "The configuration; without it .pre-commit-config.yaml",
+        ))
+}
+
+/// `add [--chmod=MODE] [--paths-from=FILE] [PATH..]`.
 pub(crate) fn add_command<'a>(alloc: Global) -> Result<Command<'a>, AllocError>
     ensures app { IfOk result (λ command. app_of command ≡ add_app) }
     ensures local { IfOk result (λ command. (fields_of command).has_globals ≡ false) }
 {
     Command::new(alloc, "add")
-        .about("Stages a file of the current folder")
-        .override_usage("hookhost add [--chmod=+x] <PATH>")
+        .about("Stages files of the current folder")
+        .override_usage("hookhost add [--chmod=+x] (<PATH>... | --paths-from=<FILE>)")
         .after_help(ADD_HELP)
         .arg(chmod(alloc))?
-        .arg(word(alloc, "PATH", "The file, which is staged at this path"))
+        .arg(paths_from(alloc))?
+        .arg(optional_words(
+            alloc,
+            "PATH",
+            "The files, each of which is staged at this path, and folders of files",
+        ))
 }
 
-fn remove_command<'a>(alloc: Global) -> Result<Command<'a>, AllocError>
+/// `rm [--paths-from=FILE] [PATH..]`.
+pub(crate) fn remove_command<'a>(alloc: Global) -> Result<Command<'a>, AllocError>
     ensures app { IfOk result (λ command. app_of command ≡ remove_app) }
     ensures local { IfOk result (λ command. (fields_of command).has_globals ≡ false) }
 {
     Command::new(alloc, "rm")
-        .about("Takes a path out of the staged files")
-        .override_usage("hookhost rm <PATH>")
+        .about("Takes paths out of the staged files")
+        .override_usage("hookhost rm (<PATH>... | --paths-from=<FILE>)")
         .after_help(REMOVE_HELP)
-        .arg(word(alloc, "PATH", "The path of a staged file"))
+        .arg(paths_from(alloc))?
+        .arg(optional_words(
+            alloc,
+            "PATH",
+            "The paths of staged files, and folders of such",
+        ))
 }
 
 fn status_command<'a>(alloc: Global) -> Command<'a>
@@ -201,14 +240,26 @@ fn run_with_options<'a>(alloc: Global) -> Result<Command<'a>, AllocError>
         ))
 }
 
-/// `run-files [--hook-stage=STAGE] [--fresh] PATH..`.
+/// `run-files [--hook-stage=STAGE] [--fresh] [--paths-from=FILE] [PATH..]`.
 pub(crate) fn run_files_command<'a>(alloc: Global) -> Result<Command<'a>, AllocError>
     ensures app { IfOk result (λ command. app_of command ≡ run_files_app) }
     ensures local { IfOk result (λ command. (fields_of command).has_globals ≡ false) }
 {
+    run_files_with_options(alloc)?.arg(optional_words(
+        alloc,
+        "PATH",
+        "The staged files to run the hooks on",
+    ))
+}
+
+// `run-files` with its options alone.
+fn run_files_with_options<'a>(alloc: Global) -> Result<Command<'a>, AllocError>
+    ensures app { IfOk result (λ command. app_of command ≡ run_files_with_options_app) }
+    ensures local { IfOk result (λ command. (fields_of command).has_globals ≡ false) }
+{
     Command::new(alloc, "run-files")
         .about("Runs the hooks of the staged configuration on the named staged files")
-        .override_usage("hookhost run-files [--hook-stage=<STAGE>] [--fresh] <PATH>...")
+        .override_usage(RUN_FILES_USAGE)
         .after_help(RUN_FILES_HELP)
         .arg(stage(alloc))?
         .arg(flag(
@@ -216,7 +267,7 @@ pub(crate) fn run_files_command<'a>(alloc: Global) -> Result<Command<'a>, AllocE
             "fresh",
             "Starts every command, also where its answer is remembered",
         ))?
-        .arg(words(alloc, "PATH", "The staged files to run the hooks on"))
+        .arg(paths_from(alloc))
 }
 
 fn fixes_command<'a>(alloc: Global) -> Command<'a>
@@ -339,6 +390,24 @@ fn words<'a>(alloc: Global, id: &'a str, help: &'a str) -> Arg<'a>
     Arg::new(alloc, id).required(true).num_args(1..).help(help)
 }
 
+// A value of any number of words.
+fn optional_words<'a>(alloc: Global, id: &'a str, help: &'a str) -> Arg<'a>
+    ensures rule { rule_of result ≡ optional_words_rule id.entry.now }
+    ensures local { result.global ≡ false }
+{
+    Arg::new(alloc, id).num_args(1..).help(help)
+}
+
+fn paths_from<'a>(alloc: Global) -> Arg<'a>
+    ensures rule { rule_of result ≡ paths_from_rule }
+    ensures local { result.global ≡ false }
+{
+    Arg::new(alloc, "paths-from")
+        .long("paths-from")
+        .value_name("FILE")
+        .help("A file of paths, each ended by a NUL byte; - is standard input")
+}
+
 fn chmod<'a>(alloc: Global) -> Arg<'a>
     ensures rule { rule_of result ≡ chmod_rule }
     ensures local { result.global ≡ false }
@@ -346,7 +415,7 @@ fn chmod<'a>(alloc: Global) -> Arg<'a>
     Arg::new(alloc, "chmod")
         .long("chmod")
         .value_name("MODE")
-        .help("The file's mode: +x makes it executable")
+        .help("The mode of the files: +x makes each executable")
 }
 
 fn commit_number<'a>(alloc: Global) -> Arg<'a>

@@ -8,7 +8,7 @@ Without words, the configuration is read from standard input, and its hooks are
 run on no files. What that refuses, hookhost try --help explains.
 
 A repository lies in .hookhost of the current folder: init makes it, and all
-commands but try and check work on it.
+commands but try, check and explain work on it.
 
 Examples:
   hookhost try .pre-commit-config.yaml README.md src/main.c
@@ -96,3 +96,28 @@ the file is read as '4 OutOfMemory', and everything else as
                   leave some out
   12 OutOfMemory  memory was refused
                   free some memory, and run it again";
+
+/// Behind the help of `explain`.
+pub(crate) const EXPLAIN_HELP: &str = "\
+Nothing is run, and no repository is needed. Of a configuration that is refused, the
+line, the hook, the key, the value and what is wanted are told, with the word that
+may have been meant, and the line itself with a mark under the place. Of one that is
+taken: the hooks of each stage and what each runs, the keys that are ignored, the
+hooks that never run here, and those that run at all four stages of a commit.
+
+That a command looks at the clock, the network, git, the environment or a file that
+none of its words names can't be seen: hookhost run --fresh shows it.
+
+Examples:
+  hookhost explain
+  hookhost explain templates/hooks.yaml
+
+Exit status:
+   0  the configuration was taken
+   1  it was refused: standard output says why
+   2  the words are wrong, or ask for help
+   3  something was refused: standard error says what
+
+A file that can't be read is told as 'hookhost: cannot use FILE', an output that
+takes no more as 'hookhost: refused: 3 Write', and want of memory as
+'hookhost: refused: 4 OutOfMemory'.";

@@ -7,8 +7,10 @@ mod command_line;
 mod commands;
 mod help;
 mod line;
+mod paths;
 mod repository_help;
 mod values;
+mod version;
 
 pub use command_line::line_of;
-pub use line::{FileChoice, FileVersion, Line, StageChoice};
+pub use line::{FileChoice, FileVersion, Line, PathSource, StageChoice};

@@ -16,17 +16,34 @@ pub enum Line {
     },
     /// A reading of the working folder's configuration, and what it says.
     Check,
-    /// A file of the working folder is staged.
+    /// A reading of a configuration, and which of its keys do what.
+    Explain {
+        /// The name of the file that holds the configuration, or `None` for the working folder's.
+        file: Option<Text>,
+    },
+    /// A file of the working folder is staged, or the files of a folder.
     Add {
         /// The name of the file, which is its path in the repository too.
         path: Text,
         /// The mode that is asked for, or `None` for that of the staged file.
         mode: Option<Mode>,
     },
-    /// A path is taken out of the staged files.
+    /// Files of the working folder are staged, all or none.
+    AddAll {
+        /// The names of files and folders, of which words give two at least.
+        paths: PathSource,
+        /// The mode that is asked for, or `None` for that of each staged file.
+        mode: Option<Mode>,
+    },
+    /// A path is taken out of the staged files, or those of a folder.
     Remove {
         /// The path, as a text that needn't be one.
         path: Text,
+    },
+    /// Paths are taken out of the staged files, all or none.
+    RemoveAll {
+        /// The paths of staged files and of folders of such, of which words give two at least.
+        paths: PathSource,
     },
     /// The staged files that differ from those of the last commit.
     Status,
@@ -81,6 +98,17 @@ pub enum FileChoice {
     All,
     /// These, as texts that needn't be paths.
     Named(Items<Text>),
+    /// Those that the file of this name lists, each ended by a NUL byte. `-` is standard input.
+    Listed(Text),
+}
+
+/// Where the paths of a line stand.
+#[derive(Debug, Drop)]
+pub enum PathSource {
+    /// In these words, as texts that needn't be paths.
+    Words(Items<Text>),
+    /// In the file of this name, each ended by a NUL byte. `-` is standard input.
+    Listed(Text),
 }
 
 /// Which bytes of a path are looked up.

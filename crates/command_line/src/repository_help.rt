@@ -70,12 +70,20 @@ hookhost works here: wait for it. Everything else is told as
 /// Behind the help of `add`.
 pub(crate) const ADD_HELP: &str = opening_help!(
     "\
-The file's bytes are staged as they are now. A file that is staged already keeps
-its mode, and a new one isn't executable, unless --chmod=+x is given.
+The bytes of each file are staged as they are now, those of all files or of none. A
+file that is staged already keeps its mode, and a new one isn't executable, unless
+--chmod=+x is given. A folder stands for the files below it, in the order of their
+paths: no link is followed, and .git and the .hookhost of the current folder are
+left out. Files that .gitignore names are staged too: no such file is read.
+
+With --paths-from the paths are read from a file, or with - from standard input,
+each ended by a NUL byte, as git ls-files -z writes them.
 
 Examples:
   hookhost add README.md
-  hookhost add --chmod=+x tools/build.sh",
+  hookhost add --chmod=+x tools/build.sh
+  hookhost add .pre-commit-config.yaml src
+  git ls-files -z | hookhost add --paths-from=-",
     "
    3 BadPath N    PATH isn't allowed; docs/REFERENCE.md has the number N
                   name a path inside the folder, and none below .git
@@ -88,23 +96,33 @@ Examples:
   15 Clash        a staged path is a folder of PATH, or lies in it
                   take the other path out first, by hookhost rm
 
-'hookhost: cannot use PATH' says that the file is missing, is a folder or can't be
-read: name a file that can."
+Where there are several files 'hookhost: at PATH' says behind it which of them is
+refused, the first one. 'hookhost: cannot use PATH' says that the file is missing or
+can't be read, or the folder can't: name one that can."
 );
 
 /// Behind the help of `rm`.
 pub(crate) const REMOVE_HELP: &str = opening_help!(
     "\
-The path leaves the staged files. The file in the folder stays, and so do the
-commits.
+The paths leave the staged files, all or none. Those in the folder stay, and so do
+the commits. A path that isn't staged, but is a folder of staged files, stands for
+all of these.
 
-Example:
-  hookhost rm README.md",
+With --paths-from the paths are read from a file, or with - from standard input,
+each ended by a NUL byte, as git ls-files -z writes them.
+
+Examples:
+  hookhost rm README.md
+  hookhost rm src docs/old.md",
     "
    3 BadPath N    PATH isn't allowed; docs/REFERENCE.md has the number N
                   name a path inside the folder, and none below .git
    4 NotStaged    nothing is staged at PATH
-                  stage it first, by hookhost add"
+                  stage it first, by hookhost add
+
+Where there are several paths 'hookhost: at PATH' says behind it which of them is
+refused, the first one. 'hookhost: cannot use FILE' says that the file of paths is
+missing or can't be read: name one that can."
 );
 
 /// Behind the help of `status`.
@@ -159,8 +177,12 @@ pub(crate) const RUN_FILES_HELP: &str = opening_help!(
 As hookhost run, whose help tells more, but on the named files alone. Each has to be
 staged; that it differs from the last commit isn't asked.
 
-Example:
-  hookhost run-files README.md src/main.c",
+With --paths-from the paths are read from a file, or with - from standard input,
+each ended by a NUL byte, as git diff --name-only -z writes them.
+
+Examples:
+  hookhost run-files README.md src/main.c
+  git diff --name-only -z | hookhost run-files --paths-from=-",
     "   0  every hook passed or was skipped
    1  a hook failed",
     "
@@ -175,7 +197,10 @@ Example:
   13 Collision    other contents are kept under the same digest
                   this store can't keep these contents
   14 Spent        no more children can be counted
-                  run it again: each run counts anew"
+                  run it again: each run counts anew
+
+'hookhost: cannot use FILE' says that the file of paths is missing or can't be read:
+name one that can."
 );
 
 /// Behind the help of `fixes`.

@@ -207,8 +207,8 @@ fn versions_message(alloc: Global, text: &str) -> Result<String, AllocError> {
     format!(in alloc; "invalid value '{text}' for '--commit <N>': it can't stand beside --fixed")
 }
 
-// The error of a value that the command doesn't take, with its usage.
-fn error_of(command: Result<Command<'_>, AllocError>, message: &str) -> Error
+/// The error of a value that the command doesn't take, with its usage.
+pub(crate) fn error_of(command: Result<Command<'_>, AllocError>, message: &str) -> Error
     ensures { HasKind (InvalidValue ∷ []) result }
 {
     let made = match command {

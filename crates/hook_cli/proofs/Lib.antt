@@ -3,3 +3,4 @@ pub mod OverRunLemmas
 pub mod PathLemmas
 pub mod PrintingLemmas
 pub mod RunPrintingLemmas
+pub mod StagingLemmas

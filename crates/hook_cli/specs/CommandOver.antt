@@ -37,14 +37,14 @@ use Rattle.commit_flow.specs.StagedPaths.{IsLegal}
 use Rattle.commit_flow.specs.Steps.{Step, entry_to_add}
 use Rattle.commit_flow.specs.CommitSteps.{IsCommitStep}
 use Rattle.command_line.specs.declared.line.FileChoice.{FileChoice}
-use Rattle.command_line.specs.declared.line.FileChoice.TheVariants.{Changed, All, Named}
+use Rattle.command_line.specs.declared.line.FileChoice.TheVariants.{Changed, All, Named, Listed}
 use Rattle.command_line.specs.declared.line.FileVersion.{FileVersion}
 use Rattle.command_line.specs.declared.line.FileVersion.TheVariants.{Staged, Fixed}
 use Rattle.command_line.specs.declared.line.FileVersion.TheVariants as versions
 use Rattle.command_line.specs.declared.line.StageChoice.{StageChoice}
 use Rattle.command_line.specs.declared.line.StageChoice.TheVariants.{PreCommit, Manual}
 use Rattle.command_line.specs.declared.line.Line.{Line}
-use Rattle.command_line.specs.declared.line.Line.TheVariants.{Init, Try, Check, Add, Remove, Status, Run, Fixes, Accept, Commit, Cat, Log, Show, Memory, Forget}
+use Rattle.command_line.specs.declared.line.Line.TheVariants.{Init, Try, Check, Explain, Add, AddAll, Remove, RemoveAll, Status, Run, Fixes, Accept, Commit, Cat, Log, Show, Memory, Forget}
 use Rattle.hook_cli.specs.declared.command_ending.CommandEnding.{CommandEnding}
 use Rattle.hook_cli.specs.declared.command_ending.CommandEnding.TheVariants as ends
 use Rattle.text_output.specs.Outputs.{IsSilent, Output}
@@ -58,12 +58,20 @@ use Rattle.repository_text.specs.ShowText.{show_text}
 use Rattle.repository_text.specs.StatusText.{status_text}
 use Rattle.configuration_run.specs.TryOver.{NoneCalled}
 
--- the line is a command over a repository
+-- the files are named in the line itself, where they are named
+abbrev pub IsNamed : FileChoice → Type 0
+IsNamed (Listed from) = ⊥
+IsNamed files = Unit {0}
+
+-- the line is a command over a repository, which one call of the host does
 abbrev pub IsOverHost : Line → Type 0
 IsOverHost Init = ⊥
 IsOverHost (Try config paths) = ⊥
 IsOverHost Check = ⊥
-IsOverHost (Run files only stage fresh) = Unit {0}
+IsOverHost (Explain file) = ⊥
+IsOverHost (AddAll paths mode) = ⊥
+IsOverHost (RemoveAll paths) = ⊥
+IsOverHost (Run files only stage fresh) = IsNamed files
 IsOverHost (Commit message no_verify) = Unit {0}
 IsOverHost (Add path mode) = Unit {0}
 IsOverHost (Remove path) = Unit {0}
@@ -156,6 +164,8 @@ abbrev pub which_of : FileChoice → Which
 which_of Changed = which.Changed
 which_of All = which.All
 which_of (Named paths) = which.Named paths
+-- nothing is asked before the names are read
+which_of (Listed from) = which.Named []
 
 abbrev pub stage_of : StageChoice → AskStage
 stage_of PreCommit = ask_stage.PreCommit
@@ -202,6 +212,9 @@ IsAnswer repo (Show number) text = option_map show_text (commit_at number repo.h
 IsAnswer repo Init text = ⊥
 IsAnswer repo (Try config paths) text = ⊥
 IsAnswer repo Check text = ⊥
+IsAnswer repo (Explain file) text = ⊥
+IsAnswer repo (AddAll paths mode) text = ⊥
+IsAnswer repo (RemoveAll paths) text = ⊥
 IsAnswer repo (Run files only stage fresh) text = ⊥
 IsAnswer repo (Commit message no_verify) text = ⊥
 IsAnswer repo (Add path mode) text = ⊥
@@ -243,6 +256,9 @@ IsRefusalText repo (Show number) text =
 IsRefusalText repo Init text = ⊥
 IsRefusalText repo (Try config paths) text = ⊥
 IsRefusalText repo Check text = ⊥
+IsRefusalText repo (Explain file) text = ⊥
+IsRefusalText repo (AddAll paths mode) text = ⊥
+IsRefusalText repo (RemoveAll paths) text = ⊥
 IsRefusalText repo (Run files only stage fresh) text = ⊥
 IsRefusalText repo (Commit message no_verify) text = ⊥
 IsRefusalText repo (Add path mode) text = ⊥
@@ -289,6 +305,9 @@ IsEnded g tells counts old new Forget bytes skip out err ending = IsForgetOver g
 IsEnded g tells counts old new Init bytes skip out err ending = ⊥
 IsEnded g tells counts old new (Try config paths) bytes skip out err ending = ⊥
 IsEnded g tells counts old new Check bytes skip out err ending = ⊥
+IsEnded g tells counts old new (Explain file) bytes skip out err ending = ⊥
+IsEnded g tells counts old new (AddAll paths mode) bytes skip out err ending = ⊥
+IsEnded g tells counts old new (RemoveAll paths) bytes skip out err ending = ⊥
 IsEnded g tells counts old new (Run files only stage fresh) bytes skip out err ending =
     IsRunOverHost g tells counts old new (ask_of files only stage fresh skip) out err ending
 IsEnded g tells counts old new (Commit message no_verify) bytes skip out err ending =

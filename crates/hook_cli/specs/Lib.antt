@@ -3,3 +3,4 @@ pub mod MemoryText
 pub mod Printing
 pub mod RefusalText
 pub mod RunText
+pub mod StagingOver

@@ -1,11 +1,12 @@
-//! The commands of `hookhost` over a repository, with what they print and their exit statuses (`command_over`). What a program
-//! needs beside it is handed on: the command line (`line_of` of `command_line`), and the run and the check of a configuration
-//! without a repository (`try_over`, `check_text` of `configuration_run`).
+//! The commands of `hookhost` over a repository, with what they print and their exit statuses (`command_over`), and several
+//! changes of the staged files, all or none (`stage_over`). What a program needs beside them is handed on: the command line
+//! (`line_of` of `command_line`), and the run and the check of a configuration without a repository (`try_over`, `check_text` of
+//! `configuration_run`).
 //!
-//! The contracts cite `specs/CommandOver.antt` (what each command changes, prints and exits with), which stands on the
-//! definitions of `commit_flow`, on the texts of `repository_text`, on `specs/RunText.antt`, `specs/MemoryText.antt` and
-//! `specs/RefusalText.antt` (the texts of runs and commits, of remembered answers, and of refusals), and on `specs/Printing.antt`
-//! (which text stands on which output).
+//! The contracts cite `specs/CommandOver.antt` (what each command changes, prints and exits with) and `specs/StagingOver.antt`
+//! (what several changes do, and what is told of a refusal), which stand on the definitions of `commit_flow`, on the texts of
+//! `repository_text`, on `specs/RunText.antt`, `specs/MemoryText.antt` and `specs/RefusalText.antt` (the texts of runs and commits,
+//! of remembered answers, and of refusals), and on `specs/Printing.antt` (which text stands on which output).
 #![tactic(auto)]
 
 mod command_ending;
@@ -13,12 +14,14 @@ mod look_up;
 mod over_answers;
 mod over_host;
 mod over_runs;
+mod over_staging;
 mod printing;
 mod run_printing;
 
 pub use command_ending::CommandEnding;
-pub use command_line::{FileChoice, FileVersion, Line, StageChoice, line_of};
+pub use command_line::{FileChoice, FileVersion, Line, PathSource, StageChoice, line_of};
 pub use configuration_run::{
     MOST_CONFIGURATION_BYTES, TryFault, check_text, skip_list_of, try_over,
 };
 pub use over_host::command_over;
+pub use over_staging::stage_over;

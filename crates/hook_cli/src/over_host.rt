@@ -105,7 +105,12 @@ fn end_of<S: Alter, C: Children, O: Write, E: Write>(
         Line::Memory => memory(host, out, err),
         Line::Forget => forget(host, out, err),
         // The caller has them done elsewhere.
-        Line::Init | Line::Try { .. } | Line::Check => unreachable!(),
+        Line::Init
+        | Line::Try { .. }
+        | Line::Check
+        | Line::Explain { .. }
+        | Line::AddAll { .. }
+        | Line::RemoveAll { .. } => unreachable!(),
     }
 }
 

@@ -5,7 +5,7 @@
 ghost use Rattle.std.specs.Prelude.{◌≡◌, IfOk};
 ghost use Rattle.child_port.specs.Telling.{SameTells};
 ghost use Rattle.commit_flow.specs.Commands.{reply_of_ending};
-ghost use Rattle.hook_cli.specs.CommandOver.{IsCommitOverHost, IsReplied, IsRunOverHost, ask_of, stage_of, which_of};
+ghost use Rattle.hook_cli.specs.CommandOver.{IsCommitOverHost, IsNamed, IsReplied, IsRunOverHost, ask_of, stage_of, which_of};
 
 use crate::printing::tell;
 use crate::run_printing::{say_commit, say_failure, say_run};
@@ -106,6 +106,7 @@ pub(crate) fn ask_of(
     fresh: bool,
     skip: &[Text],
 ) -> Result<HostAsk, OutOfMemory>
+    requires { IsNamed files.now }
     ensures { IfOk result (λ ask. ask ≡ ask_of files.now only.now stage fresh skip.now) }
 {
     Ok(HostAsk {
@@ -118,6 +119,7 @@ pub(crate) fn ask_of(
 }
 
 fn which_of(alloc: Global, files: &FileChoice) -> Result<Which, OutOfMemory>
+    requires { IsNamed files.now }
     ensures { IfOk result (λ which. which ≡ which_of files.now) }
 {
     match files {
@@ -127,6 +129,8 @@ fn which_of(alloc: Global, files: &FileChoice) -> Result<Which, OutOfMemory>
             alloc,
             names.as_slice(),
         )?))),
+        // The caller reads the names.
+        FileChoice::Listed(_) => unreachable!(),
     }
 }
 

@@ -1,7 +1,7 @@
 //! What a line of words asks for.
 
 use hook_base::{Mode, Text};
-use hook_cli::{FileChoice, FileVersion, Line, StageChoice, line_of};
+use hook_cli::{FileChoice, FileVersion, Line, PathSource, StageChoice, line_of};
 use std::alloc::Global;
 use trial_rows::{Answer, Stop, texts_of};
 
@@ -24,8 +24,17 @@ fn told(answer: Answer, line: &Line) -> Answer {
         Line::Try { config, paths } => {
             with_lines(with_line(answer.text("try\n"), config), paths.as_slice())
         }
-        Line::Add { path, mode } => with_line(answer.text(word_of_add(*mode)), path),
+        Line::Explain { file } => with_name(answer.text("explain\n"), file),
+        Line::Add { path, mode } => with_line(
+            answer.texts(&["add", word_of_mode(*mode), "\n"]),
+            path,
+        ),
+        Line::AddAll { paths, mode } => with_paths(
+            answer.texts(&["add all", word_of_mode(*mode)]),
+            paths,
+        ),
         Line::Remove { path } => with_line(answer.text("remove\n"), path),
+        Line::RemoveAll { paths } => with_paths(answer.text("remove all"), paths),
         Line::Commit { message, no_verify } => with_line(
             answer.text(word_of_commit(*no_verify)),
             message,
@@ -65,11 +74,18 @@ fn word_alone(line: &Line) -> &'static str {
     }
 }
 
-fn word_of_add(mode: Option<Mode>) -> &'static str {
+fn word_of_mode(mode: Option<Mode>) -> &'static str {
     match mode {
-        None => "add\n",
-        Some(Mode::Plain) => "add plain\n",
-        Some(Mode::Executable) => "add executable\n",
+        None => "",
+        Some(Mode::Plain) => " plain",
+        Some(Mode::Executable) => " executable",
+    }
+}
+
+fn with_paths(answer: Answer, paths: &PathSource) -> Answer {
+    match paths {
+        PathSource::Words(words) => with_lines(answer.text("\n"), words.as_slice()),
+        PathSource::Listed(from) => with_line(answer.text(" listed\n"), from),
     }
 }
 
@@ -90,9 +106,8 @@ fn with_run(
     fresh: bool,
 ) -> Answer {
     let fresh = if fresh { " fresh\n" } else { "\n" };
-    let (files, paths) = files_of(files);
-    let answer = answer.texts(&["run ", word_of_stage(stage), files, fresh]);
-    with_lines(with_name(answer, only), paths)
+    let answer = answer.texts(&["run ", word_of_stage(stage), word_of_files(files), fresh]);
+    with_files(with_name(answer, only), files)
 }
 
 fn word_of_stage(stage: StageChoice) -> &'static str {
@@ -102,11 +117,20 @@ fn word_of_stage(stage: StageChoice) -> &'static str {
     }
 }
 
-fn files_of(files: &FileChoice) -> (&'static str, &[Text]) {
+fn word_of_files(files: &FileChoice) -> &'static str {
     match files {
-        FileChoice::Changed => (" changed", &[] as &[Text]),
-        FileChoice::All => (" all", &[] as &[Text]),
-        FileChoice::Named(paths) => (" named", paths.as_slice()),
+        FileChoice::Changed => " changed",
+        FileChoice::All => " all",
+        FileChoice::Named(_) => " named",
+        FileChoice::Listed(_) => " listed",
+    }
+}
+
+fn with_files(answer: Answer, files: &FileChoice) -> Answer {
+    match files {
+        FileChoice::Changed | FileChoice::All => answer,
+        FileChoice::Named(paths) => with_lines(answer, paths.as_slice()),
+        FileChoice::Listed(from) => with_line(answer, from),
     }
 }
 

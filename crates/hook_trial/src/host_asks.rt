@@ -2,6 +2,8 @@
 //! the one that is named; ONLY names the hooks to run, or is empty; HOW is `remembering` or `fresh` of a run, `verified` or
 //! `unverified` of a commit.
 
+ghost use Rattle.hook_cli.specs.CommandOver.{IsNamed};
+
 use crate::host_words::Words;
 use commit_flow::{AskStage, Which};
 use hook_base::{Items, Text};
@@ -46,7 +48,9 @@ pub(crate) fn files_of(alloc: Global, words: &mut Words<'_>) -> Result<Which, St
 }
 
 /// The files of a line, as the host has them.
-pub(crate) fn chosen_files(which: Which) -> FileChoice {
+pub(crate) fn chosen_files(which: Which) -> FileChoice
+    ensures { IsNamed result }
+{
     match which {
         Which::Changed => FileChoice::Changed,
         Which::All => FileChoice::All,

@@ -4,7 +4,7 @@
 //! `commit MESSAGE` and `fixes FIX..` (one text, a fix a line: a path alone is a file that is gone, and behind a path and a tab
 //! stand its other bytes) set the store up, which is empty at first, for a new host. `line OUT ERR COMMAND ..` plays a command
 //! (`host_lines.rt`) over writers of two habits (`host_writers.rt`), and is answered by the exit status and how many bytes stand
-//! on each writer, and after a line end by these bytes. `store` is answered by the staged files, those of HEAD, and how many
+//! on each writer, and after a line end by these bytes; and so is `several ERR COUNT EDIT..` (`host_edits.rt`). `store` is answered by the staged files, those of HEAD, and how many
 //! fixes and commits there are; `forget` by how many answers are forgotten; and `counts` by how many children were started, how
 //! many of them failed and how many answers are remembered, and a line with the numbers of the rows by which children answered
 //! since the last such step, with `-` for one that has no row. From `spent` on no child can be counted any more. Before all of
@@ -15,6 +15,7 @@ ghost use Rattle.hook_base.specs.Paths.{message_path};
 
 use crate::child_tables::children_of;
 use crate::host_counts::{with_counts, with_forgotten, with_rows};
+use crate::host_edits::several_played;
 use crate::host_lines::line_played;
 use crate::host_words::{Words, mode_of, with_file};
 use crate::turn_children::TurnChildren;
@@ -76,6 +77,7 @@ fn stepped(
     let mut host = host;
     match step {
         "line" => line_played(alloc, words, children, &mut host, told)?,
+        "several" => several_played(alloc, words, &mut host, told)?,
         "store" => tell_store(host.store(), told),
         "counts" => tell_counts(children, &host, told),
         "forget" => tell_forgotten(&mut host, told),

@@ -132,7 +132,8 @@ fn zeros(alloc: Global, count: u32) -> Result<Vec<u8>, Stop> {
     Ok(bytes)
 }
 
-fn tell_end(status: u8, out: HabitWriter, err: HabitWriter, told: &mut Answer) {
+/// Tells how a command ended, and what stands on its writers.
+pub(crate) fn tell_end(status: u8, out: HabitWriter, err: HabitWriter, told: &mut Answer) {
     let fresh = Answer::new(told.alloc());
     let answer = mem::replace(told, fresh);
     let answer = answer.text("status ").shown(status).text(", out ");

@@ -21,6 +21,7 @@ mod fused_book;
 mod host_asks;
 mod host_commands;
 mod host_counts;
+mod host_edits;
 mod host_lines;
 mod host_words;
 mod host_writers;

@@ -1,1 +1,2 @@
 pub mod FileTreeLemmas
+pub mod StopLemmas

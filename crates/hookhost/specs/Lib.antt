@@ -1,2 +1,3 @@
 pub mod FileTrees
 pub mod Stops
+pub mod Works

@@ -11,12 +11,16 @@ use Rattle.configuration_run.specs.declared.try_fault.TryFault.TheVariants.{Read
 use Rattle.hook_config.specs.declared.config_fault.ConfigKind.TheVariants.{OutOfMemory as NoMemory}
 use Rattle.commit_flow.specs.declared.host_refusal.HostRefusal.TheVariants.{OutOfMemory as NoMemoryOfHost}
 use Rattle.command_line.specs.declared.line.Line.{Line}
-use Rattle.command_line.specs.declared.line.Line.TheVariants.{Add, Run, Commit}
+use Rattle.command_line.specs.declared.line.FileChoice.{FileChoice}
+use Rattle.command_line.specs.declared.line.FileChoice.TheVariants.{Listed as ListedFiles}
+use Rattle.command_line.specs.declared.line.PathSource.{PathSource}
+use Rattle.command_line.specs.declared.line.PathSource.TheVariants.{Words, Listed}
+use Rattle.command_line.specs.declared.line.Line.TheVariants.{Add, AddAll, RemoveAll, Run, Commit}
 use Rattle.hook_base.specs.declared.file.File.{File}
 use Rattle.repository_files.specs.RepositoryFaults.{IsFaultOfOpening}
 use Rattle.hookhost.specs.FileTrees.{AreFilesOf}
 use Rattle.hookhost.specs.declared.stop.Stop.{Stop}
-use Rattle.hookhost.specs.declared.stop.Stop.TheVariants.{Usage, NotText, CannotUse, Refused, NoConfiguration, NoRepository, RefusedCommand}
+use Rattle.hookhost.specs.declared.stop.Stop.TheVariants.{Usage, NotText, CannotUse, Refused, NoConfiguration, NoRepository, NoNewRepository, RefusedCommand}
 
 -- 2 for words that name no command, 3 for a refusal
 abbrev pub status_of : Stop → ℕ
@@ -26,6 +30,7 @@ status_of (CannotUse word) = 3
 status_of (Refused fault) = 3
 status_of (NoConfiguration fault) = 3
 status_of (NoRepository fault) = 3
+status_of (NoNewRepository fault) = 3
 status_of (RefusedCommand refusal) = 3
 
 -- 0 where every hook passed, and 1 where one failed
@@ -81,6 +86,7 @@ of_check (CannotUse word) = CannotUse word
 of_check (Refused fault) = of_check_fault fault
 of_check (NoConfiguration fault) = NoConfiguration fault
 of_check (NoRepository fault) = NoRepository fault
+of_check (NoNewRepository fault) = NoNewRepository fault
 of_check (RefusedCommand refusal) = RefusedCommand refusal
 
 -- a run's refusal where a command on the repository is asked for: want of memory is the host's
@@ -98,6 +104,7 @@ of_command (CannotUse word) = CannotUse word
 of_command (Refused fault) = of_command_fault fault
 of_command (NoConfiguration fault) = NoConfiguration fault
 of_command (NoRepository fault) = NoRepository fault
+of_command (NoNewRepository fault) = NoNewRepository fault
 of_command (RefusedCommand refusal) = RefusedCommand refusal
 
 -- the store's file can't be used, or the store can't be opened
@@ -105,11 +112,42 @@ abbrev pub IsStopOfOpening : Stop → Type 0
 IsStopOfOpening (NoRepository fault) = IsFaultOfOpening fault
 IsStopOfOpening _ = ⊥
 
--- the file that a line stages can't be used, or memory was refused for it or for what runs of hooks need, which is then the
--- host's refusal
+-- a file or a folder can't be used, or memory was refused
+abbrev pub IsStopOfReading : Stop → Type 0
+IsStopOfReading (CannotUse word) = Unit {0}
+IsStopOfReading (Refused fault) = fault ≡ OutOfMemory
+IsStopOfReading stop = ⊥
+
+-- the file that lists names can't be used, or the names aren't UTF-8
+abbrev pub IsStopOfNames : List ℕ → Stop → Type 0
+IsStopOfNames from stop = (stop ≡ NotText) ⊎ IsStopOfFile from stop
+
+-- a file or a folder that a line stages can't be used, or memory was refused, which is then the host's refusal
+abbrev pub IsStopOfStaging : Stop → Type 0
+IsStopOfStaging (CannotUse word) = Unit {0}
+IsStopOfStaging (RefusedCommand refusal) = refusal ≡ NoMemoryOfHost
+IsStopOfStaging stop = ⊥
+
+-- the same of a file that lists names
+abbrev pub IsStopOfList : List ℕ → Stop → Type 0
+IsStopOfList from stop = (stop ≡ NotText) ⊎ (stop ≡ CannotUse from) ⊎ (stop ≡ RefusedCommand NoMemoryOfHost)
+
+-- what stops a line for the file that lists its paths
+abbrev pub IsStopOfSource : PathSource → Stop → Type 0
+IsStopOfSource (Words words) stop = ⊥
+IsStopOfSource (Listed from) stop = IsStopOfList from stop
+
+abbrev pub IsStopOfChoice : FileChoice → Stop → Type 0
+IsStopOfChoice (ListedFiles from) stop = IsStopOfList from stop
+IsStopOfChoice files stop = ⊥
+
+-- the files that a line stages can't be used, nor the file that lists its paths, or memory was refused for these or for what runs of
+-- hooks need, which is then the host's refusal
 abbrev pub IsStopOfLine : Line → Stop → Type 0
-IsStopOfLine (Add path mode) stop = (stop ≡ CannotUse path) ⊎ (stop ≡ RefusedCommand NoMemoryOfHost)
-IsStopOfLine (Run which only stage fresh) stop = stop ≡ RefusedCommand NoMemoryOfHost
+IsStopOfLine (Add path mode) stop = IsStopOfStaging stop
+IsStopOfLine (AddAll paths mode) stop = IsStopOfStaging stop ⊎ IsStopOfSource paths stop
+IsStopOfLine (RemoveAll paths) stop = IsStopOfSource paths stop
+IsStopOfLine (Run files only stage fresh) stop = (stop ≡ RefusedCommand NoMemoryOfHost) ⊎ IsStopOfChoice files stop
 IsStopOfLine (Commit message no_verify) stop = stop ≡ RefusedCommand NoMemoryOfHost
 IsStopOfLine line stop = ⊥
 

@@ -2,12 +2,12 @@
 
 ghost use Rattle.std.specs.Prelude.{IfErr, IfOk};
 ghost use Rattle.hookhost.specs.FileTrees.{AreFilesOf, IsFileOf, IsTreeOf};
-ghost use Rattle.hookhost.specs.Stops.{IsStopOfLine, IsStopOfFile, IsStopOfFiles};
+ghost use Rattle.hookhost.specs.Stops.{IsStopOfFile, IsStopOfFiles};
 
 use crate::file_tree::{plain_file, tree_of};
 use crate::stop::Stop;
 use hook_base::{File, Items, MOST_FILE_BYTES, PathFault, RepoPath, Text, Tree};
-use hook_cli::{Line, MOST_CONFIGURATION_BYTES, TryFault};
+use hook_cli::{MOST_CONFIGURATION_BYTES, TryFault};
 use std::io::Read;
 use std::os::unix::fs::FileTypeExt;
 use std::rt::Files;
@@ -61,32 +61,9 @@ pub(crate) fn read_configuration<R: Files + AllocGlobal>(
     }
 }
 
-/// The bytes of the file that a line stages, up to one past the limit: the host refuses one that is longer. There are none
-/// for another line. A file that isn't there or can't be read is `Stop::CannotUse`, and want of memory
-/// `Stop::RefusedCommand`.
-pub(crate) fn read_file_of<R: Files + AllocGlobal>(rt: &R, line: &Line) -> Result<Vec<u8>, Stop>
-    ensures { IfErr result (IsStopOfLine line.now) }
-{
-    match line {
-        Line::Add { path, .. } => read_staged(rt, path).map_err(Stop::of_command),
-        Line::Init
-        | Line::Try { .. }
-        | Line::Check
-        | Line::Remove { .. }
-        | Line::Status
-        | Line::Run { .. }
-        | Line::Fixes
-        | Line::Accept
-        | Line::Commit { .. }
-        | Line::Cat { .. }
-        | Line::Log
-        | Line::Show { .. }
-        | Line::Memory
-        | Line::Forget => Ok(Vec::new(rt.alloc())),
-    }
-}
-
-fn read_staged<R: Files + AllocGlobal>(rt: &R, path: &Text) -> Result<Vec<u8>, Stop>
+/// The bytes of a file that is staged, up to one past the limit: the host refuses one that is longer. A file that isn't there or
+/// can't be read is `Stop::CannotUse`, and want of memory `Stop::Refused`.
+pub(crate) fn read_staged<R: Files + AllocGlobal>(rt: &R, path: &Text) -> Result<Vec<u8>, Stop>
     ensures { IfErr result (IsStopOfFile path.now) }
 {
     let word = path.clone()?;
@@ -107,7 +84,12 @@ fn is_fifo<R: Files>(rt: &R, path: &str) -> bool {
     }
 }
 
-fn read_up_to<R: Files + AllocGlobal>(rt: &R, path: &str, most: usize) -> io::Result<Vec<u8>> {
+/// The bytes of a file, at most so many.
+pub(crate) fn read_up_to<R: Files + AllocGlobal>(
+    rt: &R,
+    path: &str,
+    most: usize,
+) -> io::Result<Vec<u8>> {
     let mut bytes = Vec::new(rt.alloc());
     fs::open(rt, path)?
         .take(most as u64)

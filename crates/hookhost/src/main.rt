@@ -6,14 +6,23 @@ ghost use Rattle.std.specs.Prelude.{◌≡◌};
 ghost use Rattle.hookhost.specs.Stops.{status_of_run};
 
 mod commands;
+mod explained;
 mod file_tree;
 mod files;
+mod folder_files;
+mod hint;
+mod names;
 mod runs;
+mod staged_words;
 mod stop;
 mod terminal;
+mod unstaged_words;
+mod work;
 
 use commands::host_command;
+use explained::explain_file;
 use files::{read_configuration, read_tree};
+use hint::hint_at;
 use hook_base::{Items, Text, Tree};
 use hook_cli::{Line, TryFault, check_text, line_of, try_over};
 use hook_config::read_config_with_node;
@@ -37,19 +46,35 @@ const HOOK_FAILED: u8 = 1;
 fn main(rt: HostRuntime) -> ExitCode {
     match run(&rt) {
         Ok(status) => ExitCode::from(status),
-        Err(stop) => ExitCode::from(tell(&rt, &stop)),
+        Err(stop) => {
+            let status = tell(&rt, &stop);
+            hint_at(&rt, &stop);
+            ExitCode::from(status)
+        }
     }
 }
 
 // Does what the process's words ask for, and answers its exit status.
 fn run(rt: &HostRuntime) -> Result<u8, Stop> {
-    match line_of_process(rt)? {
-        Some(line) => do_line(rt, line),
-        None => {
+    match line_of_process(rt) {
+        Ok(Some(line)) => do_line(rt, line),
+        Ok(None) => {
             let passed = report(rt, &mut rt.reader(), &Tree::new(rt.alloc()))?;
             Ok(status_of_run(passed))
         }
+        Err(Stop::Usage(error)) => version_or_usage(rt, error),
+        Err(stop) => Err(stop),
     }
+}
+
+// Prints the version where the words ask for it; else the error stops the program.
+fn version_or_usage(rt: &HostRuntime, error: clap::Error) -> Result<u8, Stop> {
+    if error.kind() != clap::error::ErrorKind::DisplayVersion {
+        return Err(Stop::Usage(error));
+    }
+    let text = format!(in rt.alloc(); "{error}")?;
+    print(rt, text.as_bytes()).map_err(|_| Stop::Refused(TryFault::Write))?;
+    Ok(DONE)
 }
 
 // The line that the process's words make, or `None` where there are none. The words, of which there may be many, aren't kept.
@@ -74,12 +99,13 @@ fn do_line(rt: &HostRuntime, line: Line) -> Result<u8, Stop> {
             check(rt).map_err(Stop::of_check)?;
             Ok(DONE)
         }
+        Line::Explain { file } => explain(rt, file),
         Line::Init => {
-            init(rt)?;
+            init(rt).map_err(Stop::NoNewRepository)?;
             Ok(DONE)
         }
         // What `host_command` asks of a line holds of each other one, and is proved here.
-        line => host_command(rt, &line),
+        line => host_command(rt, line),
     }
 }
 
@@ -100,6 +126,17 @@ fn check<R: Files + Print + AllocGlobal>(rt: &R) -> Result<(), Stop> {
     // The process ends next and its memory with it, so the nodes aren't freed one by one before.
     mem::forget(read);
     Ok(())
+}
+
+// `explain [FILE]`: says what is wrong with a configuration, or what its hooks will do.
+fn explain(rt: &HostRuntime, file: Option<Text>) -> Result<u8, Stop> {
+    let word = match file {
+        Some(word) => word,
+        None => Text::copy_of(rt.alloc(), CONFIGURATION)?,
+    };
+    let explanation = explain_file(rt, word)?;
+    print(rt, explanation.text.as_slice()).map_err(|_| Stop::Refused(TryFault::Write))?;
+    Ok(status_of_run(explanation.is_taken()))
 }
 
 fn print<R: Print>(rt: &R, text: &[u8]) -> io::Result<()> {

@@ -38,8 +38,11 @@ pub(crate) fn runs_of(rt: &HostRuntime, line: &Line) -> Result<Option<Runs>, Sto
         Line::Init
         | Line::Try { .. }
         | Line::Check
+        | Line::Explain { .. }
         | Line::Add { .. }
+        | Line::AddAll { .. }
         | Line::Remove { .. }
+        | Line::RemoveAll { .. }
         | Line::Status
         | Line::Fixes
         | Line::Accept

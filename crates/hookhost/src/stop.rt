@@ -32,6 +32,8 @@ pub(crate) enum Stop {
     NoConfiguration(ConfigFault),
     /// The repository's files can't be used.
     NoRepository(RepositoryFault),
+    /// No new repository can be made.
+    NoNewRepository(RepositoryFault),
     /// A command on the repository was refused before the host was asked.
     RefusedCommand(HostRefusal),
 }
@@ -186,7 +188,10 @@ pub(crate) fn tell<R: Eprint>(rt: &R, stop: &Stop) -> u8
         Stop::CannotUse(word) => (say_unusable(rt, word.as_str()), REFUSED),
         Stop::Refused(fault) => (say_refused(rt, fault.number(), fault.name()), REFUSED),
         Stop::NoConfiguration(fault) => (say_refused(rt, fault.number(), fault.name()), REFUSED),
-        Stop::NoRepository(fault) => (say_unused(rt, fault), REFUSED),
+        Stop::NoRepository(fault) | Stop::NoNewRepository(fault) => (
+            say_unused(rt, fault),
+            REFUSED,
+        ),
         Stop::RefusedCommand(refusal) => (
             say_refused(rt, refusal.number(), refusal.name()),
             REFUSED,

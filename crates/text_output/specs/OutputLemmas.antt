@@ -45,7 +45,7 @@ begun-before held holds text more begun = record {
   written = begun.written;
 }
 
-begun-behind : (held mid holds : Option (List ℕ)) (text more : List ℕ) → Appends held mid text
+pub begun-behind : (held mid holds : Option (List ℕ)) (text more : List ℕ) → Appends held mid text
     → HasBeginning (record { held = mid; holds = holds }) more → HasBeginning (record { held = held; holds = holds }) (text ++ more)
 begun-behind held mid holds text more taken begun = record {
   part = text ++ begun.part;

@@ -1,0 +1,119 @@
+//! Several changes of the staged files, all or none.
+//!
+//! The contracts cite `specs/StagingOver.antt`.
+
+ghost use Rattle.std.specs.Prelude.{◌≡◌, ◌≢◌, ◌⊎◌, [], OnErr, OnOk, option_map};
+ghost use Rattle.report_text.specs.Report.{line};
+ghost use Rattle.text_output.specs.Outputs.{Has, HasBeginning};
+ghost use Rattle.text_output.specs.QuotedPaths.{told_path};
+ghost use Rattle.hook_cli.specs.declared.command_ending.CommandEnding.TheVariants as ends;
+ghost use Rattle.hook_cli.specs.Printing.{IsTold};
+ghost use Rattle.hook_cli.specs.StagingOver.{AreStaged, IsStagingOver, at_path_text, at_text, path_at, path_of_edit, stop_text};
+
+use crate::CommandEnding;
+use crate::command_ending::status_of;
+use crate::printing::tell;
+use commit_flow::{Host, StagingEdit, StagingStop};
+use sqlite::Alter;
+use std::io::Write;
+use text_output::{Unwritten, write_path, write_pieces};
+
+/// Makes several changes of the staged files by one call of the host, all or none, and answers the exit status. There must be
+/// one at least.
+///
+/// Done, it is 0, and nothing is printed. Refused, it is 3, and the repository is as it was: `hookhost: refused: NUMBER NAME`
+/// stands on `err`, as of the command that makes the refused change alone, with the inner number where the refusal has one, and
+/// behind it `hookhost: at PATH`, the path of that change. Where its bytes would end the line it stands in double quotes, as Git
+/// writes it. Where memory or the database refuses all of them together, no path is told. An error of `err` gives 3 too: what it
+/// took before is out.
+pub fn stage_over<S: Alter, E: Write>(edits: &[StagingEdit], host: &mut Host<S>, err: &mut E) -> u8
+    requires { edits.now ≢ [] }
+    ensures done { IsStagingOver S.Store host.old host.new edits.now (record { held = E.contents err.old; holds = E.contents err.new }) result }
+    ensures one_of { (result ≡ 0) ⊎ (result ≡ 3) }
+{
+    status_of(staged(edits, host, err))
+}
+
+fn staged<S: Alter, E: Write>(
+    edits: &[StagingEdit],
+    host: &mut Host<S>,
+    err: &mut E,
+) -> CommandEnding
+    requires { edits.now ≢ [] }
+    ensures staged { AreStaged S.Store host.old host.new edits.now (record { held = E.contents err.old; holds = E.contents err.new }) result }
+    ensures one_of { (result ≡ ends.Done) ⊎ (result ≡ ends.Refused) ⊎ (result ≡ ends.Untold) }
+{
+    match host.stage_all(edits) {
+        Ok(()) => CommandEnding::Done,
+        Err(stop) => tell_stop(edits, &stop, err),
+    }
+}
+
+// Tells why the changes are refused, and at which path.
+fn tell_stop<E: Write>(edits: &[StagingEdit], stop: &StagingStop, err: &mut E) -> CommandEnding
+    ensures told { IsTold ends.Refused (record { held = E.contents err.old; holds = E.contents err.new }) (stop_text edits.now stop.now) result }
+    ensures one_of { (result ≡ ends.Refused) ⊎ (result ≡ ends.Untold) }
+{
+    match tell(err, &stop.refusal) {
+        CommandEnding::Refused => tell_at(edits, stop.at, err),
+        ending => ending,
+    }
+}
+
+// Tells the path of the change with an index, if it has one.
+fn tell_at<E: Write>(edits: &[StagingEdit], at: Option<usize>, err: &mut E) -> CommandEnding
+    ensures told { IsTold ends.Refused (record { held = E.contents err.old; holds = E.contents err.new }) (at_text (path_at edits.now at)) result }
+    ensures one_of { (result ≡ ends.Refused) ⊎ (result ≡ ends.Untold) }
+{
+    match path_at(edits, at) {
+        Some(path) => tell_at_path(path, err),
+        None => CommandEnding::Refused,
+    }
+}
+
+fn tell_at_path<E: Write>(path: &str, err: &mut E) -> CommandEnding
+    ensures told { IsTold ends.Refused (record { held = E.contents err.old; holds = E.contents err.new }) (at_path_text path.now) result }
+    ensures one_of { (result ≡ ends.Refused) ⊎ (result ≡ ends.Untold) }
+{
+    match write_at_path(path, err) {
+        Ok(()) => CommandEnding::Refused,
+        Err(Unwritten) => CommandEnding::Untold,
+    }
+}
+
+fn write_at_path<E: Write>(path: &str, err: &mut E) -> Result<(), Unwritten>
+    ensures ok { OnOk result (Has (record { held = E.contents err.old; holds = E.contents err.new }) (at_path_text path.now)) }
+    ensures err { OnErr result (HasBeginning (record { held = E.contents err.old; holds = E.contents err.new }) (at_path_text path.now)) }
+{
+    write_pieces(err, &["hookhost: at "])?;
+    write_path_line(path, err)
+}
+
+fn write_path_line<E: Write>(path: &str, err: &mut E) -> Result<(), Unwritten>
+    ensures ok { OnOk result (Has (record { held = E.contents err.old; holds = E.contents err.new }) (line (told_path path.now))) }
+    ensures err { OnErr result (HasBeginning (record { held = E.contents err.old; holds = E.contents err.new }) (line (told_path path.now))) }
+{
+    write_path(err, path)?;
+    write_pieces(err, &["\n"])
+}
+
+fn path_at(edits: &[StagingEdit], at: Option<usize>) -> Option<&str>
+    ensures { option_map (λ s. s.now) result ≡ path_at edits.now at }
+{
+    match at {
+        Some(at) => match edits.get(at) {
+            Some(edit) => Some(path_of(edit)),
+            None => None,
+        },
+        None => None,
+    }
+}
+
+fn path_of(edit: &StagingEdit) -> &str
+    ensures { result.now ≡ path_of_edit edit.now }
+{
+    match edit {
+        StagingEdit::Add { path, .. } => path.as_str(),
+        StagingEdit::Remove { path } => path.as_str(),
+    }
+}

@@ -1,0 +1,161 @@
+//! The files below a folder of the working folder.
+
+ghost use Rattle.std.specs.Prelude.{IfErr, IfOk};
+ghost use Rattle.hookhost.specs.Stops.{IsStopOfReading};
+
+use crate::stop::Stop;
+use hook_base::Text;
+use std::io::Read;
+use std::rt::Files;
+use std::{fs, io};
+
+// The folder of a repository of Git, at any depth.
+const GIT: &str = ".git";
+
+// The folder of the repository, which lies in the working folder.
+const HOOKHOST: &str = ".hookhost";
+
+// What is found below a folder.
+#[derive(Drop)]
+struct Below {
+    files: Vec<String>,
+    // Those that weren't looked into yet.
+    folders: Vec<String>,
+}
+
+/// The paths of the regular files below a folder, in the order of their bytes; below the working folder where the folder's path is
+/// empty. No link is followed, and `.git` and the `.hookhost` of the working folder are left out. A folder that can't be read, or
+/// that holds a name which isn't UTF-8, is `Stop::CannotUse`, and want of memory `Stop::Refused`.
+pub(crate) fn files_below<R: Files + AllocGlobal>(rt: &R, folder: &str) -> Result<Vec<String>, Stop>
+    ensures { IfErr result IsStopOfReading }
+{
+    let mut below = Below {
+        files: Vec::new(rt.alloc()),
+        folders: Vec::new(rt.alloc()),
+    };
+    if !is_of_repository(folder) {
+        below.folders.push(String::from_str(rt.alloc(), folder)?)?;
+    }
+    'folders: for _turn in 0..u64::MAX {
+        match below.folders.pop() {
+            Some(folder) => look_into(rt, folder.as_str(), &mut below)?,
+            None => break,
+        }
+    }
+    let mut files = below.files;
+    files.sort()?;
+    Ok(files)
+}
+
+fn is_of_repository(path: &str) -> bool {
+    path == HOOKHOST || path.starts_with(".hookhost/")
+}
+
+fn look_into<R: Files + AllocGlobal>(rt: &R, folder: &str, below: &mut Below) -> Result<(), Stop>
+    ensures { IfErr result IsStopOfReading }
+{
+    match look_at_names(rt, folder, below) {
+        Ok(done) => done,
+        Err(error) => Err(stop_at(rt, &error, folder)),
+    }
+}
+
+// An error is one of reading the folder itself.
+fn look_at_names<R: Files + AllocGlobal>(
+    rt: &R,
+    folder: &str,
+    below: &mut Below,
+) -> io::Result<Result<(), Stop>>
+    ensures { IfOk result (λ done. IfErr done IsStopOfReading) }
+{
+    let mut listing = rt.open_dir(if folder.is_empty() { "." } else { folder })?;
+    let mut names = [0u8; 8_192];
+    'reads: for _turn in 0..u64::MAX {
+        let count = listing.read(&mut names)?;
+        if count == 0 {
+            break;
+        }
+        if let Err(stop) = take_names(rt, folder, &names[..count], below) {
+            return Ok(Err(stop));
+        }
+    }
+    Ok(Ok(()))
+}
+
+// The names end each in a byte 0.
+fn take_names<R: Files + AllocGlobal>(
+    rt: &R,
+    folder: &str,
+    names: &[u8],
+    below: &mut Below,
+) -> Result<(), Stop>
+    ensures { IfErr result IsStopOfReading }
+{
+    'names: for name in names.split(|byte| *byte == 0) {
+        match str::from_utf8(name) {
+            Ok("" | "." | ".." | GIT) => {}
+            Ok(name) => take_name(rt, folder, name, below)?,
+            Err(_) => return Err(unusable(rt, folder)),
+        }
+    }
+    Ok(())
+}
+
+fn take_name<R: Files + AllocGlobal>(
+    rt: &R,
+    folder: &str,
+    name: &str,
+    below: &mut Below,
+) -> Result<(), Stop>
+    ensures { IfErr result IsStopOfReading }
+{
+    let path = path_in(rt, folder, name)?;
+    if path.as_str() == HOOKHOST {
+        return Ok(());
+    }
+    match fs::symlink_metadata(rt, path.as_str()) {
+        Ok(found) if found.is_dir() => below.folders.push(path)?,
+        Ok(found) if found.is_file() => below.files.push(path)?,
+        Ok(_) => {}
+        Err(error) => return Err(Stop::of_file(&error, Text::from(path))),
+    }
+    Ok(())
+}
+
+// The path of a name in a folder.
+fn path_in<R: AllocGlobal>(rt: &R, folder: &str, name: &str) -> Result<String, Stop>
+    ensures { IfErr result IsStopOfReading }
+{
+    let mut path = String::from_str(rt.alloc(), folder)?;
+    if !folder.is_empty() {
+        path.push('/')?;
+    }
+    path.push_str(name)?;
+    Ok(path)
+}
+
+fn stop_at<R: AllocGlobal>(rt: &R, error: &io::Error, folder: &str) -> Stop
+    ensures { IsStopOfReading result }
+{
+    match told(rt, folder) {
+        Ok(word) => Stop::of_file(error, word),
+        Err(stop) => stop,
+    }
+}
+
+fn unusable<R: AllocGlobal>(rt: &R, folder: &str) -> Stop
+    ensures { IsStopOfReading result }
+{
+    match told(rt, folder) {
+        Ok(word) => Stop::CannotUse(word),
+        Err(stop) => stop,
+    }
+}
+
+// The folder as it is told.
+fn told<R: AllocGlobal>(rt: &R, folder: &str) -> Result<Text, Stop>
+    ensures { IfErr result IsStopOfReading }
+{
+    let folder = if folder.is_empty() { "." } else { folder };
+    Ok(Text::copy_of(rt.alloc(), folder)?)
+}

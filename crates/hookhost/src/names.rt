@@ -1,0 +1,79 @@
+//! The names that a file lists.
+
+ghost use Rattle.std.specs.Prelude.{◌≡◌, ◌⊎◌, IfErr};
+ghost use Rattle.configuration_run.specs.declared.try_fault.TryFault.TheVariants.{OutOfMemory};
+ghost use Rattle.hookhost.specs.declared.stop.Stop.TheVariants.{NotText, Refused};
+ghost use Rattle.hookhost.specs.Stops.{IsStopOfLine, IsStopOfNames};
+
+use crate::files::read_up_to;
+use crate::stop::Stop;
+use hook_base::{Items, MOST_FILE_BYTES, Text};
+use hook_cli::{FileChoice, Line, PathSource};
+use std::io::{self, Read};
+
+// The name that stands for standard input.
+const STANDARD_INPUT: &str = "-";
+
+/// The names that the file of `--paths-from` lists, in their order; none for a line without. A file that can't be read, or has
+/// more than 16 MiB, is `Stop::CannotUse`, names that aren't UTF-8 are `Stop::NotText`, and want of memory is
+/// `Stop::RefusedCommand`.
+pub(crate) fn names_of(rt: &HostRuntime, line: &Line) -> Result<Items<Text>, Stop>
+    ensures { IfErr result (IsStopOfLine line.now) }
+{
+    match line {
+        Line::AddAll {
+            paths: PathSource::Listed(from),
+            ..
+        }
+        | Line::RemoveAll {
+            paths: PathSource::Listed(from),
+        }
+        | Line::Run {
+            files: FileChoice::Listed(from),
+            ..
+        } => read_names(rt, from).map_err(Stop::of_command),
+        _ => Ok(Items::new(rt.alloc())),
+    }
+}
+
+fn read_names(rt: &HostRuntime, from: &Text) -> Result<Items<Text>, Stop>
+    ensures { IfErr result (IsStopOfNames from.now) }
+{
+    let word = from.clone()?;
+    match read_list(rt, word.as_str()) {
+        Ok(bytes) if bytes.len() <= MOST_FILE_BYTES => names_in(rt, bytes.as_slice()),
+        Ok(_) => Err(Stop::CannotUse(word)),
+        Err(error) => Err(Stop::of_file(&error, word)),
+    }
+}
+
+// The bytes of the list, up to one past the limit.
+fn read_list(rt: &HostRuntime, from: &str) -> io::Result<Vec<u8>> {
+    if from == STANDARD_INPUT {
+        let mut bytes = Vec::new(rt.alloc());
+        rt.reader()
+            .take(MOST_FILE_BYTES as u64 + 1)
+            .read_to_end(&mut bytes)?;
+        Ok(bytes)
+    } else {
+        read_up_to(rt, from, MOST_FILE_BYTES + 1)
+    }
+}
+
+// The names, each ended by a NUL byte. The last one may do without.
+fn names_in(rt: &HostRuntime, bytes: &[u8]) -> Result<Items<Text>, Stop>
+    ensures { IfErr result (λ stop. (stop ≡ NotText) ⊎ (stop ≡ Refused OutOfMemory)) }
+{
+    let Ok(text) = str::from_utf8(bytes) else {
+        return Err(Stop::NotText);
+    };
+    let mut names = Vec::new(rt.alloc());
+    'names: for name in text.split('\0') {
+        names.push(Text::copy_of(rt.alloc(), name)?)?;
+    }
+    // Behind the last NUL nothing has to stand.
+    if text.is_empty() || text.ends_with('\0') {
+        let _nothing = names.pop();
+    }
+    Ok(Items::from(names))
+}

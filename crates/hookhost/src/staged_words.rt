@@ -1,0 +1,120 @@
+//! The files that the words of `add` stand for, each read once.
+
+ghost use Rattle.std.specs.Prelude.{IfErr};
+ghost use Rattle.hookhost.specs.Stops.{IsStopOfReading};
+
+use crate::files::read_staged;
+use crate::folder_files::files_below;
+use crate::stop::Stop;
+use commit_flow::StagingEdit;
+use hook_base::{Bytes, Mode, PathFault, RepoPath, Text};
+use hook_cli::TryFault;
+use repo_store::MOST_FILES;
+use std::collections::BTreeSet;
+use std::fs;
+use std::rt::Files;
+
+// The edits so far, with their paths.
+#[derive(Drop)]
+struct Gathered {
+    mode: Option<Mode>,
+    edits: Vec<StagingEdit>,
+    paths: BTreeSet<String>,
+}
+
+/// The edits that stage the files of the words, in the order of the words. A folder stands for the files below it, and a file that
+/// comes again is staged once. The first word that can't be used is `Stop::CannotUse`, with the path of the file or the folder
+/// that can't be read, and want of memory is `Stop::Refused`. An empty word, which the store refuses, isn't read. Where there are
+/// more files than a store has, those behind the first one too many are left out, since the store refuses all of them.
+pub(crate) fn staged_by<R: Files + AllocGlobal>(
+    rt: &R,
+    words: &[Text],
+    mode: Option<Mode>,
+) -> Result<Vec<StagingEdit>, Stop>
+    ensures { IfErr result IsStopOfReading }
+{
+    let mut gathered = Gathered {
+        mode,
+        edits: Vec::new(rt.alloc()),
+        paths: BTreeSet::new(rt.alloc()),
+    };
+    'words: for word in words {
+        gather_word(rt, word.as_str(), &mut gathered)?;
+    }
+    Ok(gathered.edits)
+}
+
+/// The path of the folder that a word names, empty for the working folder, and `None` where it names no folder. Slashes may stand
+/// behind it. A link is none.
+pub(crate) fn folder_of<R: Files + AllocGlobal>(rt: &R, word: &str) -> Result<Option<String>, Stop>
+    ensures { IfErr result IsStopOfReading }
+{
+    if word == "." || word == "./" {
+        return Ok(Some(String::new(rt.alloc())));
+    }
+    let path = word.trim_end_matches('/');
+    match fs::symlink_metadata(rt, path) {
+        Ok(found) if found.is_dir() => {}
+        _ => return Ok(None),
+    }
+    match RepoPath::read(rt.alloc(), path) {
+        Ok(_) => Ok(Some(String::from_str(rt.alloc(), path)?)),
+        Err(PathFault::OutOfMemory) => Err(Stop::Refused(TryFault::OutOfMemory)),
+        Err(_) => Ok(None),
+    }
+}
+
+fn gather_word<R: Files + AllocGlobal>(
+    rt: &R,
+    word: &str,
+    gathered: &mut Gathered,
+) -> Result<(), Stop>
+    ensures { IfErr result IsStopOfReading }
+{
+    match folder_of(rt, word)? {
+        Some(folder) => gather_folder(rt, folder.as_str(), gathered),
+        None => gather_file(rt, String::from_str(rt.alloc(), word)?, gathered),
+    }
+}
+
+fn gather_folder<R: Files + AllocGlobal>(
+    rt: &R,
+    folder: &str,
+    gathered: &mut Gathered,
+) -> Result<(), Stop>
+    ensures { IfErr result IsStopOfReading }
+{
+    'files: for path in files_below(rt, folder)? {
+        gather_file(rt, path, gathered)?;
+    }
+    Ok(())
+}
+
+fn gather_file<R: Files + AllocGlobal>(
+    rt: &R,
+    path: String,
+    gathered: &mut Gathered,
+) -> Result<(), Stop>
+    ensures { IfErr result IsStopOfReading }
+{
+    if gathered.edits.len() > MOST_FILES || !gathered.paths.insert(path.clone()?)? {
+        return Ok(());
+    }
+    let path = Text::from(path);
+    let bytes = bytes_of(rt, &path)?;
+    gathered.edits.push(StagingEdit::Add {
+        path,
+        bytes: Bytes::from(bytes),
+        mode: gathered.mode,
+    })?;
+    Ok(())
+}
+
+fn bytes_of<R: Files + AllocGlobal>(rt: &R, path: &Text) -> Result<Vec<u8>, Stop>
+    ensures { IfErr result IsStopOfReading }
+{
+    if path.is_empty() {
+        return Ok(Vec::new(rt.alloc()));
+    }
+    read_staged(rt, path)
+}

@@ -1,0 +1,131 @@
+//! The staged files that the words of `rm` stand for.
+
+use commit_flow::StagingEdit;
+use hook_base::{OutOfMemory, PathFault, RepoPath, Text};
+use repo_store::{MOST_FILES, Store};
+use sqlite::Alter;
+use std::alloc::Global;
+use std::cmp::Ordering;
+use std::collections::BTreeSet;
+
+// The edits so far, with their paths.
+#[derive(Drop)]
+struct Gathered {
+    alloc: Global,
+    edits: Vec<StagingEdit>,
+    paths: BTreeSet<String>,
+}
+
+/// The edits that take out what the words name, in the order of the words. A word that isn't staged but is a folder of staged files
+/// stands for these, and what comes again is taken out once. A word that is neither has an edit too, which the store refuses.
+pub(crate) fn unstaged_by<S: Alter>(
+    alloc: Global,
+    store: &Store<S>,
+    words: &[Text],
+) -> Result<Vec<StagingEdit>, OutOfMemory> {
+    let mut gathered = Gathered {
+        alloc,
+        edits: Vec::new(alloc),
+        paths: BTreeSet::new(alloc),
+    };
+    'words: for word in words {
+        if is_staged(alloc, store, word.as_str())?
+            || !gather_below(store, word.as_str(), &mut gathered)?
+        {
+            gather(word.as_str(), &mut gathered)?;
+        }
+    }
+    Ok(gathered.edits)
+}
+
+/// The edits that take out the staged files below a word. There are none where the word itself is staged.
+pub(crate) fn unstaged_below<S: Alter>(
+    alloc: Global,
+    store: &Store<S>,
+    word: &Text,
+) -> Result<Vec<StagingEdit>, OutOfMemory> {
+    let mut gathered = Gathered {
+        alloc,
+        edits: Vec::new(alloc),
+        paths: BTreeSet::new(alloc),
+    };
+    if !is_staged(alloc, store, word.as_str())? {
+        let _any = gather_below(store, word.as_str(), &mut gathered)?;
+    }
+    Ok(gathered.edits)
+}
+
+fn is_staged<S: Alter>(alloc: Global, store: &Store<S>, word: &str) -> Result<bool, OutOfMemory> {
+    match RepoPath::read(alloc, word) {
+        Ok(path) => Ok(store.is_staged(&path)),
+        Err(PathFault::OutOfMemory) => Err(OutOfMemory),
+        Err(_) => Ok(false),
+    }
+}
+
+// Gathers the staged files below a folder, and answers whether there are any.
+fn gather_below<S: Alter>(
+    store: &Store<S>,
+    word: &str,
+    gathered: &mut Gathered,
+) -> Result<bool, OutOfMemory> {
+    let head = head_of(gathered.alloc, word)?;
+    let first = first_from(store, head.as_str());
+    let mut is_any = false;
+    'files: for index in first..MOST_FILES {
+        match store.staged_file(index) {
+            Some(file) if file.path.as_str().starts_with(head.as_str()) => {
+                gather(file.path.as_str(), gathered)?;
+                is_any = true;
+            }
+            _ => break,
+        }
+    }
+    Ok(is_any)
+}
+
+// How the paths below a folder begin. Slashes may stand behind the word already.
+fn head_of(alloc: Global, word: &str) -> Result<String, OutOfMemory> {
+    if word == "." || word == "./" {
+        return Ok(String::new(alloc));
+    }
+    let mut head = String::from_str(alloc, word.trim_end_matches('/'))?;
+    head.push('/')?;
+    Ok(head)
+}
+
+// The index of the first staged file whose path isn't before the text. The paths rise.
+fn first_from<S: Alter>(store: &Store<S>, text: &str) -> usize {
+    let (mut low, mut high) = (0, MOST_FILES);
+    'halves: for _turn in 0..usize::BITS {
+        if low >= high {
+            break;
+        }
+        let middle = low + (high - low) / 2;
+        if is_before(store, middle, text) {
+            low = middle + 1;
+        } else {
+            high = middle;
+        }
+    }
+    low
+}
+
+fn is_before<S: Alter>(store: &Store<S>, index: usize, text: &str) -> bool {
+    match store.staged_file(index) {
+        Some(file) => file.path.as_str().cmp(text) == Ordering::Less,
+        None => false,
+    }
+}
+
+fn gather(path: &str, gathered: &mut Gathered) -> Result<(), OutOfMemory> {
+    if gathered
+        .paths
+        .insert(String::from_str(gathered.alloc, path)?)?
+    {
+        gathered.edits.push(StagingEdit::Remove {
+            path: Text::copy_of(gathered.alloc, path)?,
+        })?;
+    }
+    Ok(())
+}
