@@ -4,6 +4,7 @@
 
     put TREE MODE PATH BYTES    change PATH BYTES, change PATH (it is gone)    copy (one to other)    apply (to one)
     absorb (as apply, and none waits any longer)
+    take-from PATH (one takes what other has there)    share INDEX (one takes the file that other has there)
 
 Others show what their line below has, and a semicolon:
 
@@ -141,6 +142,27 @@ ROWS = [
         "0 true;true false;plain=n/o;true;false;none;false true; a:plain=a b:plain=b m:plain=m z:plain=z;"
         " a:plain=a b:plain=b m:plain=m n/o:plain=n/o z:plain=z;",
     ),
+    # A tree takes what another has at a path, and nothing where that has none; or the file of an index. The other stays.
+    (
+        "trees",
+        "put one plain m 1",
+        "put other executable m 2",
+        "put other plain z 3",
+        "put other plain a 4",
+        "take-from z",
+        "take-from b",
+        "files one",
+        "take-from m",
+        "files one",
+        "share 2",
+        "share 0",
+        "files one",
+        "remove m",
+        "share 1",
+        "same",
+        "files other",
+        " m:plain=1 z:plain=3; m:executable=2 z:plain=3; a:plain=4 m:executable=2 z:plain=3;true;true false; a:plain=4 m:executable=2 z:plain=3;",
+    ),
     # Changes whose paths don't rise are given back.
     ("trees", "change a", "change a", "take", "given back a gone a gone;"),
     ("trees", "change b 1", "change a", "take", "take", "given back b=1 a gone;taken;"),
@@ -149,6 +171,10 @@ ROWS = [
     ("copy_bytes", "abc", "abc", "3 true true"),
     ("copy_bytes", "abc", "abd", "3 true false"),
     ("copy_bytes", b"\xff\x00", "", "2 true false"),
+    # Contents know their SHA-256: the digests of "abc" and of no bytes are those of FIPS 180-4's examples.
+    ("copy_content", "abc", "abc", "3 true true ba7816bf8f01cfea414140de5dae2223b00361a396177a9cb410ff61f20015ad"),
+    ("copy_content", "abc", "abd", "3 true false ba7816bf8f01cfea414140de5dae2223b00361a396177a9cb410ff61f20015ad"),
+    ("copy_content", "", "a", "0 true false e3b0c44298fc1c149afbf4c8996fb92427ae41e4649b934ca495991b7852b855"),
     ("copy_text", "abc", "abc true"),
     ("copy_texts", "abc", "abc true true"),
     ("copy_texts", "a", "é", "a é true true"),

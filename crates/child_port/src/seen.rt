@@ -78,7 +78,7 @@ fn put_marked(alloc: Global, tree: &Tree, marks: &[bool]) -> Result<Tree, OutOfM
         if !*mark {
             continue;
         }
-        files.put_from(tree, &tree.entry(index).path)?;
+        files.put_shared(tree.shared(index).clone()?)?;
     }
     Ok(files)
 }

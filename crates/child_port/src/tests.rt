@@ -5,7 +5,7 @@ use crate::{
     Answer, Children, Fault, FuseChildren, Outcome, TableChildren, TableRow, is_stray, plain_word,
     seen_of,
 };
-use hook_base::{Bytes, Change, Changes, FileEntry, Items, Mode, RepoPath, Text, Tree};
+use hook_base::{Bytes, Change, Changes, Content, FileEntry, Items, Mode, RepoPath, Text, Tree};
 use std::alloc::Global;
 use std::process::Abort;
 use std::test::Fail;
@@ -27,7 +27,7 @@ fn tree_of(alloc: Global, paths: &str) -> Result<Tree, Fail> {
         } else {
             Mode::Plain
         };
-        let bytes = Bytes::copy_of(alloc, path.as_bytes())?;
+        let bytes = Content::copy_of(alloc, path.as_bytes())?;
         tree.put(RepoPath::read(alloc, path)?, FileEntry { mode, bytes })?;
     }
     Ok(tree)
@@ -83,7 +83,7 @@ fn answer_of(alloc: Global, changes: &str) -> Result<Answer, Fail> {
     let mut list = Vec::new(alloc);
     for change in changes.split_whitespace() {
         let (path, now) = match change.split_once('=') {
-            Some((path, bytes)) => (path, Some(Bytes::copy_of(alloc, bytes.as_bytes())?)),
+            Some((path, bytes)) => (path, Some(Content::copy_of(alloc, bytes.as_bytes())?)),
             None => (change, None),
         };
         let path = RepoPath::read(alloc, path)?;

@@ -3,7 +3,7 @@
 use crate::outcomes::{measured_text, outcome_text};
 use crate::runs::{ask_of, run_text};
 use child_port::{Children, Outcome};
-use hook_base::{Bytes, FileEntry, Mode, OutOfMemory, RepoPath, Text, Tree};
+use hook_base::{Bytes, Content, FileEntry, Mode, OutOfMemory, RepoPath, Text, Tree};
 use hook_config::{Config, read_config};
 use hook_run::run_hooks;
 use process_children::ProcessChildren;
@@ -51,7 +51,7 @@ impl Play {
         let [path, bytes] = arguments else {
             return Err(Stop::BadLine);
         };
-        let bytes = Bytes::copy_of(self.alloc, bytes.as_slice())?;
+        let bytes = Content::copy_of(self.alloc, bytes.as_slice())?;
         self.put(path.as_slice(), bytes)
     }
 
@@ -62,10 +62,11 @@ impl Play {
         };
         let count = number_of(count.as_slice())? as usize;
         let letters = vec![in self.alloc; b'x'; count]?;
-        self.put(path.as_slice(), Bytes::from(letters))
+        let bytes = Content::new(self.alloc, Bytes::from(letters))?;
+        self.put(path.as_slice(), bytes)
     }
 
-    fn put(&mut self, path: &[u8], bytes: Bytes) -> Result<Vec<u8>, Stop> {
+    fn put(&mut self, path: &[u8], bytes: Content) -> Result<Vec<u8>, Stop> {
         let path = RepoPath::read(self.alloc, text_of(path)?)?;
         let mode = Mode::Plain;
         self.tree.put(path, FileEntry { mode, bytes })?;

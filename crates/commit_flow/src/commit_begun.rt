@@ -9,7 +9,7 @@ use crate::candidates::changed_paths;
 use crate::configured::staged_config;
 use crate::course::Course;
 use crate::message::begun_message;
-use hook_base::{Bytes, Items, RepoPath};
+use hook_base::{Bytes, Content, Items, RepoPath};
 use hook_config::Config;
 use repo_store::{MOST_CONTENT_BYTES, Store};
 use sqlite::Alter;
@@ -41,13 +41,13 @@ pub(crate) fn begin_commit<S: Alter>(
     let config = staged_config(alloc, store)?;
     let staged = store.staged()?;
     let changed = changed_paths(alloc, store, &staged)?;
-    let message = begun_message(alloc, message)?;
+    let message = Bytes::from(begun_message(alloc, message)?);
     Ok(CommitBegun {
         config,
         changed,
         course: Course {
             tree: staged,
-            message: Bytes::from(message),
+            message: Content::new(alloc, message)?,
         },
     })
 }

@@ -4,7 +4,7 @@ ghost use Rattle.std.specs.Prelude.{◌≡◌, List, IfOk};
 ghost use Rattle.hook_base.specs.declared.file.File.{File};
 ghost use Rattle.commit_flow.specs.CommitStages.{course_after, tree_in, with_message_file, without_message_file};
 
-use hook_base::{Bytes, FileEntry, Mode, OutOfMemory, RepoPath, Tree};
+use hook_base::{Content, FileEntry, Mode, OutOfMemory, RepoPath, Tree};
 use hook_config::Stage;
 use std::alloc::Global;
 
@@ -12,7 +12,7 @@ use std::alloc::Global;
 #[derive(Drop)]
 pub(crate) struct Course {
     pub(crate) tree: Tree,
-    pub(crate) message: Bytes,
+    pub(crate) message: Content,
 }
 
 impl Course {
@@ -55,13 +55,10 @@ impl Course {
         let path = RepoPath::message(alloc)?;
         let entry = FileEntry {
             mode: Mode::Plain,
-            bytes: message,
+            bytes: message.clone()?,
         };
         tree.put(path, entry)?;
-        Ok(Course {
-            tree,
-            message: Bytes::new(alloc),
-        })
+        Ok(Course { tree, message })
     }
 }
 
@@ -73,7 +70,7 @@ fn without_message_file(alloc: Global, tree: Tree) -> Result<Course, OutOfMemory
     let path = RepoPath::message(alloc)?;
     let message = match tree.get(&path) {
         Some(entry) => entry.bytes.clone()?,
-        None => Bytes::new(alloc),
+        None => Content::copy_of(alloc, b"")?,
     };
     tree.remove(&path);
     Ok(Course { tree, message })

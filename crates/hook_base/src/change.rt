@@ -1,6 +1,6 @@
 //! One change of a file.
 
-use crate::{Bytes, RepoPath};
+use crate::{Content, RepoPath};
 
 /// What became of a file: its new bytes, or `None` where it is gone.
 #[derive(Clone, Debug, Drop, PartialEq, Eq)]
@@ -8,5 +8,5 @@ pub struct Change {
     /// The file's path.
     pub path: RepoPath,
     /// Its bytes now, or `None` where it is gone.
-    pub now: Option<Bytes>,
+    pub now: Option<Content>,
 }

@@ -4,8 +4,7 @@ ghost use Rattle.std.specs.Prelude.{◌≡◌, ◌↔◌, [], length, option_to_
 ghost use Rattle.std.specs.Option.{option_copied};
 ghost use Rattle.hook_base.specs.Trees.{IsRising, IsRisingChanges, change_to, changes_between};
 
-use crate::shared_file::SharedFile;
-use crate::{Change, File, FileEntry, OutOfMemory, Tree};
+use crate::{Change, File, FileEntry, OutOfMemory, SharedFile, Tree};
 use std::alloc::{AllocError, Global};
 use std::cmp::Ordering;
 use std::marker::Model;

@@ -1,6 +1,6 @@
 //! A file: its path, whether it is to be run, and its bytes.
 
-use crate::{Bytes, RepoPath};
+use crate::{Content, RepoPath};
 
 /// Whether a file is to be run as a program.
 #[derive(Clone, Copy, Debug, PartialEq, Eq)]
@@ -17,7 +17,7 @@ pub struct FileEntry {
     /// Whether it is to be run as a program.
     pub mode: Mode,
     /// What it contains.
-    pub bytes: Bytes,
+    pub bytes: Content,
 }
 
 /// A path with what stands there: a row of a tree.

@@ -2,7 +2,8 @@
 //!
 //! `RepoPath` is a path inside a repository (`PathFault` says why a text is none), `Tree` the files of one moment in the
 //! order of their paths (`File`, `FileEntry`, `Mode`), and `Changes` what a program did to the files of a tree (`Change`).
-//! `Bytes`, `Text` and `Items` own what contracts see as lists, and `OutOfMemory` is the refusal of memory.
+//! Trees share their files (`SharedFile`), and files what they contain (`Content`). `Bytes`, `Text` and `Items` own what
+//! contracts see as lists, and `OutOfMemory` is the refusal of memory.
 //!
 //! The contracts cite `specs/Paths.antt`, `specs/PathFaults.antt`, `specs/Rising.antt`, `specs/Trees.antt` and
 //! `specs/Limits.antt`; `specs/Places.antt` serves private functions alone. [`laws`] says that the limits of the code are
@@ -12,6 +13,7 @@
 mod bytes;
 mod change;
 mod changes;
+mod content;
 mod file;
 mod items;
 pub mod laws;
@@ -29,11 +31,13 @@ mod tree;
 pub use bytes::Bytes;
 pub use change::Change;
 pub use changes::Changes;
+pub use content::Content;
 pub use file::{File, FileEntry, Mode};
 pub use items::Items;
 pub use limits::{MOST_FILE_BYTES, MOST_PATH_BYTES};
 pub use memory::OutOfMemory;
 pub use path_fault::PathFault;
 pub use repo_path::RepoPath;
+pub use shared_file::SharedFile;
 pub use text::{Text, copy_texts};
 pub use tree::Tree;

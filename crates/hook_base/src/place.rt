@@ -1,10 +1,10 @@
 //! Where a path's row stands in rows that rise.
 
+ghost use Rattle.std.specs.Prelude.{length, IsTrue};
 ghost use Rattle.hook_base.specs.Trees.{IsRising};
-ghost use Rattle.hook_base.specs.Places.{IsPlace};
+ghost use Rattle.hook_base.specs.Places.{IsGap, IsPlace};
 
-use crate::RepoPath;
-use crate::shared_file::SharedFile;
+use crate::{RepoPath, SharedFile};
 use std::cmp::Ordering;
 
 /// Where a path stands in a list of rows.
@@ -32,4 +32,30 @@ pub(crate) fn place_of(rows: &[SharedFile], path: &RepoPath) -> Place
         }
     }
     Place::Before(low)
+}
+
+// Whether a path comes behind those of all rows, of which there is one at least.
+fn is_behind(rows: &[SharedFile], path: &RepoPath) -> bool
+    requires { IsRising rows.now }
+    ensures { IsTrue result → IsGap path.now rows.now (length rows.now) }
+{
+    let count = rows.len();
+    if count == 0 {
+        return false;
+    }
+    match rows[count - 1].as_file().path.cmp(path) {
+        Ordering::Less => true,
+        _ => false,
+    }
+}
+
+/// The same, for a row that is to be put there. Rows are mostly put in their order, so the end is looked at first.
+pub(crate) fn place_for(rows: &[SharedFile], path: &RepoPath) -> Place
+    requires { IsRising rows.now }
+    ensures { IsPlace path.now rows.now result }
+{
+    if is_behind(rows, path) {
+        return Place::Before(rows.len());
+    }
+    place_of(rows, path)
 }

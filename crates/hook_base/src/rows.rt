@@ -3,9 +3,8 @@
 ghost use Rattle.std.specs.Prelude.{◌≡◌, is_some, IfOk, OnOk, OnErr};
 ghost use Rattle.hook_base.specs.Trees.{IsRising, entry_of, put_row, remove_file, rewrite_file, apply_change, apply_changes};
 
-use crate::place::{Place, place_of};
-use crate::shared_file::SharedFile;
-use crate::{Bytes, Change, File, FileEntry, OutOfMemory, RepoPath};
+use crate::place::{Place, place_for, place_of};
+use crate::{Change, Content, File, FileEntry, OutOfMemory, RepoPath, SharedFile};
 
 /// Puts a row in place of the one of its path, or adds it. A refusal leaves the rows as they were.
 pub(crate) fn put_row(rows: &mut Vec<SharedFile>, row: SharedFile) -> Result<(), OutOfMemory>
@@ -14,7 +13,7 @@ pub(crate) fn put_row(rows: &mut Vec<SharedFile>, row: SharedFile) -> Result<(),
     ensures kept { OnErr result (rows.new.items ≡ rows.old.items) }
     ensures rising { IsRising rows.new.items }
 {
-    match place_of(rows.as_slice(), &row.as_file().path) {
+    match place_for(rows.as_slice(), &row.as_file().path) {
         Place::At(index) => rows[index] = row,
         Place::Before(index) => rows.insert(index, row)?,
     }
@@ -41,7 +40,7 @@ pub(crate) fn remove_row(rows: &mut Vec<SharedFile>, path: &RepoPath) -> bool
 pub(crate) fn rewrite_row(
     rows: &mut Vec<SharedFile>,
     path: RepoPath,
-    bytes: Bytes,
+    bytes: Content,
 ) -> Result<(), OutOfMemory>
     requires { IsRising rows.old.items }
     ensures rewritten { OnOk result (rows.new.items ≡ rewrite_file path bytes rows.old.items) }

@@ -10,7 +10,7 @@ use std::rc::Rc;
 /// A file, shared by the trees that have it: a copy takes no memory, and a list of files is copied at the cost of their
 /// addresses. Contracts see the file.
 #[derive(Debug, Drop)]
-pub(crate) struct SharedFile {
+pub struct SharedFile {
     file: Rc<File>,
 }
 
@@ -26,8 +26,8 @@ impl Model for SharedFile {
 }
 
 impl SharedFile {
-    /// The file, to be shared.
-    pub(crate) fn of(alloc: Global, file: File) -> Result<SharedFile, OutOfMemory>
+    /// The file, to be shared, or `OutOfMemory` where memory is refused.
+    pub fn of(alloc: Global, file: File) -> Result<SharedFile, OutOfMemory>
         ensures { IfOk result (λ shared. shared ≡ file) }
     {
         let file = Rc::new(alloc, file)?;
@@ -35,7 +35,7 @@ impl SharedFile {
     }
 
     /// The file.
-    pub(crate) fn as_file(&self) -> &File
+    pub fn as_file(&self) -> &File
         ensures { result.now ≡ self.now }
     {
         self.file.as_ref()

@@ -2,12 +2,11 @@
 
 ghost use Rattle.std.specs.Prelude.{◌≡◌, ◌↔◌, ◌<◌, [], length, is_some, slice_get, IfOk, OnOk, OnErr, IsTrue};
 ghost use Rattle.std.specs.Option.{option_copied};
-ghost use Rattle.hook_base.specs.Trees.{IsRising, entry_of, put_file, put_found, remove_file, apply_changes, changes_between};
+ghost use Rattle.hook_base.specs.Trees.{IsRising, entry_of, put_file, put_found, put_row, remove_file, apply_changes, changes_between};
 
 use crate::place::{Place, place_of};
 use crate::rows::{apply_to_rows, copy_rows, put_row, remove_row};
-use crate::shared_file::SharedFile;
-use crate::{Change, Changes, File, FileEntry, OutOfMemory, RepoPath};
+use crate::{Change, Changes, File, FileEntry, OutOfMemory, RepoPath, SharedFile};
 use std::alloc::{AllocError, Global};
 use std::marker::Model;
 
@@ -65,6 +64,15 @@ impl Tree {
         self.rows[index].as_file()
     }
 
+    /// The same file, for other trees to share it.
+    pub fn shared(&self, index: usize) -> &SharedFile
+        requires { index < length self.now }
+        ensures row { slice_get self.now index ≡ Some result.now }
+        ensures rising { IsRising self.now }
+    {
+        &self.rows[index]
+    }
+
     /// What stands at a path, or `None` where nothing does.
     pub fn get(&self, path: &RepoPath) -> Option<&FileEntry>
         ensures { option_copied result ≡ entry_of path.now self.now }
@@ -84,6 +92,16 @@ impl Tree {
     {
         let row = SharedFile::of(*self.rows.allocator(), File { path, entry })?;
         put_row(&mut self.rows, row)
+    }
+
+    /// Puts a file, which is shared then, in place of the one at its path, or adds it. `OutOfMemory` where memory is refused,
+    /// which leaves the tree as it was.
+    pub fn put_shared(&mut self, file: SharedFile) -> Result<(), OutOfMemory>
+        ensures put { OnOk result (self.new ≡ put_row file self.old) }
+        ensures kept { OnErr result (self.new ≡ self.old) }
+        ensures rising { IsRising self.new }
+    {
+        put_row(&mut self.rows, file)
     }
 
     /// Puts what stands at a path of another tree, which both trees share then, in place of the file at that path, or adds

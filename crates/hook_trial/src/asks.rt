@@ -1,6 +1,6 @@
 //! What is asked of a run, and the files that it is on.
 
-use hook_base::{Bytes, FileEntry, Items, Mode, RepoPath, Text, Tree};
+use hook_base::{Content, FileEntry, Items, Mode, RepoPath, Text, Tree};
 use hook_config::Stage;
 use hook_run::RunAsk;
 use std::alloc::Global;
@@ -54,7 +54,7 @@ pub(crate) fn tree_of(alloc: Global, files: &[Vec<u8>]) -> Result<Tree, Stop> {
             .split_once('\n')
             .ok_or(Stop::BadLine)?;
         let (mode, path) = line.split_once(' ').ok_or(Stop::BadLine)?;
-        let bytes = Bytes::copy_of(alloc, contents.as_bytes())?;
+        let bytes = Content::copy_of(alloc, contents.as_bytes())?;
         let mode = mode_of(mode)?;
         tree.put(RepoPath::read(alloc, path)?, FileEntry { mode, bytes })?;
     }

@@ -17,7 +17,7 @@ use crate::configurations::refusal;
 use crate::fused_book::FusedBook;
 use crate::host_words::{Words, mode_of};
 use child_port::{Children, Fault, FuseChildren};
-use hook_base::{Bytes, FileEntry, Items, RepoPath, Tree};
+use hook_base::{Content, FileEntry, Items, RepoPath, Tree};
 use hook_config::{Config, Stage, read_config};
 use hook_run::{RunAsk, run_hooks};
 use repo_store::StoreFault;
@@ -81,7 +81,7 @@ fn stepped(
 fn put_file(alloc: Global, words: &mut Words<'_>, tree: &mut Tree) -> Result<(), Stop> {
     let mode = mode_of(words)?.ok_or(Stop::BadLine)?;
     let path = RepoPath::read(alloc, words.text()?)?;
-    let bytes = Bytes::copy_of(alloc, words.bytes()?)?;
+    let bytes = Content::copy_of(alloc, words.bytes()?)?;
     tree.put(path, FileEntry { mode, bytes })?;
     Ok(())
 }

@@ -6,7 +6,7 @@
 //! is seen, stands one that is executable.
 
 use child_port::{Answer, Fault, TableRow};
-use hook_base::{Bytes, Change, Changes, FileEntry, Items, Mode, RepoPath, Text, Tree};
+use hook_base::{Bytes, Change, Changes, Content, FileEntry, Items, Mode, RepoPath, Text, Tree};
 use std::alloc::Global;
 use trial_rows::{Stop, number_of, text_of};
 
@@ -116,7 +116,7 @@ fn path_of(alloc: Global, text: &str) -> Result<RepoPath, Stop> {
     Ok(RepoPath::read(alloc, text)?)
 }
 
-fn line_bytes(alloc: Global, line: &str) -> Result<Bytes, Stop> {
+fn line_bytes(alloc: Global, line: &str) -> Result<Content, Stop> {
     let mut bytes = line.as_bytes().to_vec(alloc)?;
     bytes.push(b'\n')?;
     for byte in bytes.as_mut_slice() {
@@ -124,5 +124,5 @@ fn line_bytes(alloc: Global, line: &str) -> Result<Bytes, Stop> {
             *byte = b'\n';
         }
     }
-    Ok(Bytes::from(bytes))
+    Ok(Content::new(alloc, Bytes::from(bytes))?)
 }

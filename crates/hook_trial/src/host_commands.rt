@@ -20,7 +20,7 @@ use crate::host_lines::line_played;
 use crate::host_words::{Words, mode_of, with_file};
 use crate::turn_children::TurnChildren;
 use commit_flow::Host;
-use hook_base::{Bytes, Change, Changes, RepoPath};
+use hook_base::{Change, Changes, Content, RepoPath};
 use repo_store::{FileRef, Store, StoreFault};
 use sqlite::{Connection, MemStore};
 use std::alloc::Global;
@@ -143,7 +143,7 @@ fn fix_of(alloc: Global, line: &str) -> Result<Change, Stop> {
     match line.split_once('\t') {
         Some((path, text)) => Ok(Change {
             path: RepoPath::read(alloc, path)?,
-            now: Some(Bytes::from(text.as_bytes().to_vec(alloc)?)),
+            now: Some(Content::copy_of(alloc, text.as_bytes())?),
         }),
         None => Ok(Change {
             path: RepoPath::read(alloc, line)?,

@@ -3,7 +3,7 @@
 
 use crate::quiet_children::{QuietChildren, quiet_answer};
 use child_port::{Children, is_stray};
-use hook_base::{Bytes, FileEntry, Items, Mode, RepoPath, Text, Tree};
+use hook_base::{Bytes, Content, FileEntry, Items, Mode, RepoPath, Text, Tree};
 use hook_config::{Config, Stage, read_config};
 use hook_run::{RunAsk, RunOut, run_hooks};
 use result_book::{Book, ListBook};
@@ -146,7 +146,8 @@ fn tree_of(alloc: Global, files: u32, size: u32) -> Result<Tree, Stop> {
     for number in 0..files {
         let path = format!(in alloc; "f/{number:05}.txt")?;
         let bytes = vec![in alloc; b'x'; size as usize]?;
-        put_file(alloc, &mut tree, path.as_str(), Bytes::from(bytes))?;
+        let bytes = Content::new(alloc, Bytes::from(bytes))?;
+        put_file(alloc, &mut tree, path.as_str(), bytes)?;
     }
     Ok(tree)
 }
@@ -155,12 +156,12 @@ fn tree_of(alloc: Global, files: u32, size: u32) -> Result<Tree, Stop> {
 fn numbered_tree(alloc: Global, number: u32) -> Result<Tree, Stop> {
     let mut tree = Tree::new(alloc);
     let text = format!(in alloc; "{number}")?;
-    let bytes = Bytes::copy_of(alloc, text.as_str().as_bytes())?;
+    let bytes = Content::copy_of(alloc, text.as_str().as_bytes())?;
     put_file(alloc, &mut tree, "a.txt", bytes)?;
     Ok(tree)
 }
 
-fn put_file(alloc: Global, tree: &mut Tree, path: &str, bytes: Bytes) -> Result<(), Stop> {
+fn put_file(alloc: Global, tree: &mut Tree, path: &str, bytes: Content) -> Result<(), Stop> {
     let mode = Mode::Plain;
     tree.put(RepoPath::read(alloc, path)?, FileEntry { mode, bytes })?;
     Ok(())

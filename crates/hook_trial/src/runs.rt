@@ -7,7 +7,7 @@ use crate::plans::verdict_of;
 use crate::readers::{Pieces, Texts};
 use crate::writers::{Flushed, Kept};
 use child_port::TableChildren;
-use hook_base::{Bytes, FileEntry, Items, Mode, RepoPath, Tree};
+use hook_base::{Content, FileEntry, Items, Mode, RepoPath, Tree};
 use hook_cli::{TryFault, try_over};
 use std::alloc::Global;
 use std::io::{Read, Write};
@@ -117,14 +117,14 @@ fn tree_of(alloc: Global, paths: &[Vec<u8>]) -> Result<Tree, Stop> {
     let mut tree = Tree::new(alloc);
     for path in paths {
         let path = RepoPath::read(alloc, text_of(path.as_slice())?)?;
-        tree.put(path, empty_file(alloc))?;
+        tree.put(path, empty_file(alloc)?)?;
     }
     Ok(tree)
 }
 
-fn empty_file(alloc: Global) -> FileEntry {
-    FileEntry {
+fn empty_file(alloc: Global) -> Result<FileEntry, Stop> {
+    Ok(FileEntry {
         mode: Mode::Plain,
-        bytes: Bytes::from(Vec::new(alloc)),
-    }
+        bytes: Content::copy_of(alloc, b"")?,
+    })
 }

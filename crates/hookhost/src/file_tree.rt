@@ -5,20 +5,19 @@
 ghost use Rattle.std.specs.Prelude.{◌≡◌, IfOk};
 ghost use Rattle.hookhost.specs.FileTrees.{HoldsFiles, plain_file};
 
-use hook_base::{Bytes, File, FileEntry, Mode, OutOfMemory, RepoPath, Tree};
+use hook_base::{Bytes, Content, File, FileEntry, Mode, OutOfMemory, RepoPath, Tree};
 use std::alloc::Global;
 
 /// The row of a file with these bytes, which hooks see as a plain one.
-pub(crate) fn plain_file(path: RepoPath, bytes: Vec<u8>) -> File
-    ensures { result ≡ plain_file path bytes.items }
+pub(crate) fn plain_file(alloc: Global, path: RepoPath, bytes: Vec<u8>) -> Result<File, OutOfMemory>
+    ensures { IfOk result (λ file. file ≡ plain_file path bytes.items) }
 {
-    File {
+    let bytes = Content::new(alloc, Bytes::from(bytes))?;
+    let mode = Mode::Plain;
+    Ok(File {
         path,
-        entry: FileEntry {
-            mode: Mode::Plain,
-            bytes: Bytes::from(bytes),
-        },
-    }
+        entry: FileEntry { mode, bytes },
+    })
 }
 
 /// The tree of the files. Of several at one path one stands there.

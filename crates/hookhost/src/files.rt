@@ -44,7 +44,7 @@ fn read_plain_file<R: Files + AllocGlobal>(rt: &R, word: Text) -> Result<File, S
         Err(_) => return Err(Stop::CannotUse(word)),
     };
     match read_up_to(rt, word.as_str(), MOST_FILE_BYTES + 1) {
-        Ok(bytes) if bytes.len() <= MOST_FILE_BYTES => Ok(plain_file(path, bytes)),
+        Ok(bytes) if bytes.len() <= MOST_FILE_BYTES => Ok(plain_file(rt.alloc(), path, bytes)?),
         Ok(_) => Err(Stop::CannotUse(word)),
         Err(error) => Err(Stop::of_file(&error, word)),
     }

@@ -6,7 +6,7 @@ use crate::keep::refuse_link;
 use crate::place::{place_in, standing};
 use crate::stop::Stop;
 use child_port::Fault;
-use hook_base::{Bytes, Change, Changes, File, MOST_FILE_BYTES, Tree};
+use hook_base::{Bytes, Change, Changes, Content, File, MOST_FILE_BYTES, Tree};
 use std::alloc::{AllocError, Global};
 use std::fs::Files;
 use std::io;
@@ -90,7 +90,8 @@ fn change_of<R: Files>(
             if is_alike && contains(files, place, before, piece)? {
                 return Ok(None);
             }
-            Some(Bytes::from(read_file(files, alloc, place, piece)?))
+            let bytes = Bytes::from(read_file(files, alloc, place, piece)?);
+            Some(Content::new(alloc, bytes).map_err(|_refused| AllocError)?)
         }
     };
     let path = file.path.clone()?;

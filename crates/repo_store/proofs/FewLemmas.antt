@@ -14,7 +14,7 @@ use Rattle.hook_base.specs.Trees.{IsRising, IsRisingChanges, path_of, entry_of, 
 use Rattle.hook_base.specs.TreeLemmas.{at_within, entry_of-first, entry_of-later, rewrite_file-later}
 use Rattle.repo_store.specs.declared.accepted.Accepted.{Accepted}
 use Rattle.repo_store.specs.declared.accepted.Accepted.TheVariants.{Few, All}
-use Rattle.repo_store.specs.declared.shared.FileParts.{FileParts}
+use Rattle.repo_store.specs.Shared.{FileParts}
 use Rattle.repo_store.specs.declared.shared.SharedFix.{SharedFix}
 use Rattle.repo_store.specs.Accepted.{HaveSameFixed, IsAccepted, accepted_files, file_at, files_with_fix}
 use Rattle.repo_store.specs.Lists.{entry_in, file_of, fix_of}

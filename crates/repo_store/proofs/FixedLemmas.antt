@@ -10,7 +10,7 @@ use Rattle.hook_base.specs.Rising.{IsBelow, IsBelowAll}
 use Rattle.hook_base.specs.RisingLemmas.{above_differs, below_all_later, bytes_same, path_cases}
 use Rattle.hook_base.specs.Trees.{IsRising, IsRisingChanges, path_of, remove_file, rewrite_file, with_bytes, apply_at, apply_change, apply_changes}
 use Rattle.hook_base.specs.TreeLemmas.{remove_file-later, rewrite_file-later}
-use Rattle.repo_store.specs.declared.shared.FileParts.{FileParts}
+use Rattle.repo_store.specs.Shared.{FileParts}
 use Rattle.repo_store.specs.declared.shared.SharedFix.{SharedFix}
 use Rattle.repo_store.specs.Accepted.{HasReached}
 use Rattle.repo_store.specs.Lists.{file_of, fix_of}

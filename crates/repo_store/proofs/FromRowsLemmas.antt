@@ -24,7 +24,7 @@ use Rattle.store_tables.specs.declared.rows.FixRow.{FixRow}
 use Rattle.store_tables.specs.declared.rows.StagedRow.{StagedRow}
 use Rattle.repo_store.specs.declared.fault.StoreFault.{StoreFault}
 use Rattle.repo_store.specs.declared.fault.StoreFault.TheVariants.{NotAStore, Damaged, Sql, OutOfMemory, Collision, TooLarge, TooMany}
-use Rattle.repo_store.specs.declared.shared.FileParts.{FileParts}
+use Rattle.repo_store.specs.Shared.{FileParts}
 use Rattle.repo_store.specs.declared.shared.SharedFix.{SharedFix}
 use Rattle.repo_store.specs.declared.table_rows.StoreRows.{StoreRows}
 use Rattle.repo_store.specs.Answers.{KeptAnswer}

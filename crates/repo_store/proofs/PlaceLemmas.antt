@@ -23,7 +23,7 @@ use Rattle.hook_base.specs.Places.{IsAt, IsGap}
 use Rattle.hook_base.specs.Trees.{IsRising, path_of, put_row, remove_file, entry_of, rewrite_file, with_bytes, apply_at, apply_changes}
 use Rattle.hook_base.specs.TreeLemmas.{put_row-at, put_row-gap, gap_within, at_within, entry_of-at, entry_of-gap, remove_file-at}
 use Rattle.hook_base.proofs.PlaceLemmas.{found}
-use Rattle.repo_store.specs.declared.shared.FileParts.{FileParts}
+use Rattle.repo_store.specs.Shared.{FileParts}
 use Rattle.repo_store.specs.Limits.{Fits, path_bytes, most_files, most_tree_path_bytes}
 use Rattle.repo_store.specs.Lists.{entry_in, file_of}
 

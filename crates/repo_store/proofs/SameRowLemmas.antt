@@ -11,7 +11,7 @@ use Rattle.hook_base.specs.declared.file.FileEntry.{FileEntry}
 use Rattle.hook_base.specs.declared.file.Mode.{Mode}
 use Rattle.hook_base.specs.Trees.{entry_of}
 use Rattle.store_tables.specs.declared.rows.StagedRow.{StagedRow}
-use Rattle.repo_store.specs.declared.shared.FileParts.{FileParts}
+use Rattle.repo_store.specs.Shared.{FileParts}
 use Rattle.repo_store.specs.Complete.{HaveContents, HaveDistinctDigests, IsAmong, IsComplete}
 use Rattle.repo_store.specs.Kept.{Kept}
 use Rattle.repo_store.specs.Lists.{entry_in, file_of}

@@ -11,7 +11,7 @@ use Rattle.store_tables.specs.Steps.{IsStep}
 use Rattle.store_tables.specs.Tables.{Tables, with_blob, with_entry, with_fix}
 use Rattle.repo_store.specs.declared.shared.SharedFix.{SharedFix}
 use Rattle.store_tables.specs.declared.rows.FixRow.{FixRow}
-use Rattle.repo_store.specs.declared.shared.FileParts.{FileParts}
+use Rattle.repo_store.specs.Shared.{FileParts}
 use Rattle.repo_store.specs.Lists.{file_of, fix_of}
 use Rattle.repo_store.specs.Rows.{blob_row, with_blobs, entry_row, with_entries, fix_row, with_fix_rows}
 use Rattle.repo_store.proofs.CallLemmas.{step_then}

@@ -9,7 +9,7 @@ use Rattle.hook_base.specs.declared.file.File.{File}
 use Rattle.hook_base.specs.Rising.{IsBelow, IsBelowAll}
 use Rattle.hook_base.specs.RisingLemmas.{greater_from_below}
 use Rattle.hook_base.specs.Trees.{IsRising, path_of, put_row}
-use Rattle.repo_store.specs.declared.shared.FileParts.{FileParts}
+use Rattle.repo_store.specs.Shared.{FileParts}
 use Rattle.repo_store.specs.declared.shared.SharedCommit.{SharedCommit}
 use Rattle.repo_store.specs.declared.log_entry.LogEntry.{LogEntry}
 use Rattle.repo_store.specs.Lists.{file_of, commit_of}

@@ -9,7 +9,7 @@ use Rattle.hook_base.specs.declared.change.Change.{Change}
 use Rattle.hook_base.specs.Rising.{IsBelow}
 use Rattle.hook_base.specs.Trees.{entry_of, apply_changes}
 use Rattle.store_tables.specs.declared.rows.StagedRow.{StagedRow}
-use Rattle.repo_store.specs.declared.shared.FileParts.{FileParts}
+use Rattle.repo_store.specs.Shared.{FileParts}
 use Rattle.repo_store.specs.declared.accepted.Accepted.{Accepted}
 use Rattle.repo_store.specs.declared.accepted.Accepted.TheVariants.{Few, All}
 use Rattle.repo_store.specs.Lists.{file_of}

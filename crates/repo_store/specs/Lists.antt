@@ -4,7 +4,7 @@ use Rattle.std.specs.Prelude.{◌≡◌, ℕ, List, map}
 use Rattle.hook_base.specs.declared.file.File.{File}
 use Rattle.hook_base.specs.declared.file.FileEntry.{FileEntry}
 use Rattle.hook_base.specs.declared.change.Change.{Change}
-use Rattle.repo_store.specs.declared.shared.FileParts.{FileParts}
+use Rattle.repo_store.specs.Shared.{FileParts}
 use Rattle.repo_store.specs.declared.shared.SharedFix.{SharedFix}
 use Rattle.repo_store.specs.declared.shared.SharedCommit.{SharedCommit}
 use Rattle.repo_store.specs.Limits.{path_bytes}

@@ -1,9 +1,17 @@
--- Serves private functions only: how a file in memory is told apart.
+-- Serves private functions only: a file of the lists by its parts, and how it is told apart.
 use Rattle.std.specs.Prelude.{ℕ, List, refl}
 use Rattle.std.specs.Coded.{Coded, code_by, coded×, coded_ℕ, coded_list}
+use Rattle.hook_base.specs.declared.file.File.{File}
 use Rattle.hook_base.specs.declared.file.Mode.{Mode}
 use Rattle.hook_base.specs.contracts.file.Mode as mode
-use Rattle.repo_store.specs.declared.shared.FileParts.{FileParts}
+
+pub record FileParts : Type 0 where
+  pub path : List ℕ
+  pub mode : Mode
+  pub content : List ℕ
+
+abbrev pub parts_of : File → FileParts
+parts_of file = record { path = file.path; mode = file.entry.mode; content = file.entry.bytes }
 
 abbrev pub parts_code : Coded FileParts
 parts_code =

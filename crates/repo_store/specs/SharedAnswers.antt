@@ -2,7 +2,7 @@
 -- memory.
 use Rattle.std.specs.Prelude.{◌≡◌, ℕ, List, [], ◌∷◌, map}
 use Rattle.answer_records.specs.Records.{changed_of_changes, changes_record, seen_of_files, seen_record, words_record}
-use Rattle.repo_store.specs.declared.shared.FileParts.{FileParts}
+use Rattle.repo_store.specs.Shared.{FileParts}
 use Rattle.repo_store.specs.declared.shared.SharedFix.{SharedFix}
 use Rattle.repo_store.specs.Answers.{KeptAnswer}
 use Rattle.repo_store.specs.Lists.{file_of, fix_of}

@@ -11,7 +11,7 @@ ghost use Rattle.repo_store.specs.Rows.{with_staged_rows};
 
 use crate::look_ups::file_at;
 use crate::mode::number_of;
-use crate::shared::{SharedFile, SharedFix};
+use crate::shared::{ListedFile, SharedFix};
 use hook_base::RepoPath;
 use sqlite::{Alter, Connection, Error, Transaction};
 use store_tables::{clear_fixes, put_staged, take_staged};
@@ -20,7 +20,7 @@ use store_tables::{clear_fixes, put_staged, take_staged};
 fn rewrite<S: Alter>(
     tx: &mut Transaction<'_, S>,
     path: &RepoPath,
-    files: &[SharedFile],
+    files: &[ListedFile],
 ) -> Result<(), Error>
     requires { IsRising (map file_of files.now) }
     ensures same_reference { tx.new.conn.ghost_name ≡ tx.old.conn.ghost_name }
@@ -41,7 +41,7 @@ fn rewrite<S: Alter>(
 fn accept_in<S: Alter>(
     tx: &mut Transaction<'_, S>,
     fixes: &[SharedFix],
-    files: &[SharedFile],
+    files: &[ListedFile],
 ) -> Result<(), Error>
     requires { IsRising (map file_of files.now) }
     ensures same_reference { tx.new.conn.ghost_name ≡ tx.old.conn.ghost_name }
@@ -59,7 +59,7 @@ fn accept_in<S: Alter>(
 pub(crate) fn accept_rows<S: Alter>(
     conn: &mut Connection<S>,
     fixes: &[SharedFix],
-    files: &[SharedFile],
+    files: &[ListedFile],
 ) -> Result<(), Error>
     requires outside { conn.old.in_transaction ≡ false }
     requires rising { IsRising (map file_of files.now) }

@@ -9,7 +9,7 @@ ghost use Rattle.repo_store.specs.Lists.{file_of, fix_of};
 use crate::few_fixes::{files_with_fix, settle_all};
 use crate::files::count_path_bytes;
 use crate::fixed_files::with_fixes;
-use crate::shared::{SharedFile, SharedFix};
+use crate::shared::{ListedFile, SharedFix};
 use hook_base::OutOfMemory;
 use std::alloc::Global;
 
@@ -23,13 +23,13 @@ const MOST_TAKEN_OUT: usize = 8;
 #[derive(Drop)]
 pub(crate) enum Accepted {
     /// The files that have one of few fixes, but for those that are gone.
-    Few(Vec<SharedFile>),
+    Few(Vec<ListedFile>),
     /// All files.
-    All(Vec<SharedFile>),
+    All(Vec<ListedFile>),
 }
 
 // Whether it is quicker to put the fixes in place one by one. Both ways come to the same files.
-fn are_few(files: &[SharedFile], fixes: &[SharedFix]) -> bool {
+fn are_few(files: &[ListedFile], fixes: &[SharedFix]) -> bool {
     let mut gone = 0;
     'fixes: for fix in fixes {
         if fix.now.is_none() {
@@ -43,7 +43,7 @@ impl Accepted {
     /// What the fixes make of the files.
     pub(crate) fn of(
         alloc: Global,
-        files: &[SharedFile],
+        files: &[ListedFile],
         fixes: &[SharedFix],
     ) -> Result<Accepted, OutOfMemory>
         requires files { IsRising (map file_of files.now) }
@@ -60,7 +60,7 @@ impl Accepted {
         Ok(Accepted::All(all))
     }
 
-    pub(crate) fn as_slice(&self) -> &[SharedFile]
+    pub(crate) fn as_slice(&self) -> &[ListedFile]
         ensures { result.now ≡ accepted_files self.now }
     {
         match self {
@@ -71,7 +71,7 @@ impl Accepted {
     /// Applies the fixes to the files, whose paths have so many bytes together. Answers the bytes that they have then.
     pub(crate) fn put_into(
         self,
-        files: &mut Vec<SharedFile>,
+        files: &mut Vec<ListedFile>,
         path_bytes: usize,
         fixes: &[SharedFix],
     ) -> usize

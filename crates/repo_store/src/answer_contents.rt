@@ -16,15 +16,12 @@ ghost use Rattle.repo_store.specs.SharedAnswers.{records_of_parts};
 ghost use Rattle.repo_store.specs.SoundAnswers.{IsSoundAnswer, KeepToSeen};
 ghost use Rattle.repo_store.specs.WrittenAnswers.{contents_for, contents_in_changes, contents_in_files};
 
-use crate::content::Content;
 use crate::contents::Contents;
-use crate::known::Known;
-use crate::limits::MOST_CONTENT_BYTES;
-use crate::shared::{SharedFile, SharedFix};
+use crate::shared::{ListedFile, SharedFix};
 use crate::shared_answer::{AnswerRecords, SharedAnswer};
 use crate::{AnswerRef, StoreFault};
 use answer_records::{ChangedFile, SeenFile, changes_record, seen_record, words_record};
-use hook_base::{Change, File, OutOfMemory, RepoPath, Text, Tree, copy_texts};
+use hook_base::{Change, Content, OutOfMemory, SharedFile, Text, Tree, copy_texts};
 use std::alloc::Global;
 
 // What is written down of an answer, and what its child wrote.
@@ -34,47 +31,23 @@ struct Written {
     records: AnswerRecords,
 }
 
-// Keeps contents that stand at a path.
-fn keep_at(
-    contents: &mut Contents,
-    known: Known<'_>,
-    path: &RepoPath,
-    bytes: &[u8],
-) -> Result<Content, StoreFault>
-    ensures content { IfOk result (λ content. content ≡ bytes.now) }
-    ensures kept { OnOk result (AreAllKept (bytes.now ∷ []) contents.old contents.new) }
-    ensures stopped { IfErr result (IsStopped (bytes.now ∷ []) contents.old contents.new) }
-{
-    if bytes.len() > MOST_CONTENT_BYTES {
-        return Err(StoreFault::TooLarge);
-    }
-    contents.keep_under(known.digest_of(path, bytes), bytes)
-}
-
 // Keeps the contents of a file.
-fn keep_file(
-    alloc: Global,
-    contents: &mut Contents,
-    known: Known<'_>,
-    file: &File,
-) -> Result<SharedFile, StoreFault>
+fn keep_file(contents: &mut Contents, file: &SharedFile) -> Result<ListedFile, StoreFault>
     ensures file { IfOk result (λ made. file_of made ≡ file.now) }
     ensures kept { OnOk result (AreAllKept (file.now.entry.bytes ∷ []) contents.old contents.new) }
     ensures stopped { IfErr result (IsStopped (file.now.entry.bytes ∷ []) contents.old contents.new) }
 {
-    let path = file.path.clone()?;
-    let content = keep_at(contents, known, &file.path, file.entry.bytes.as_slice())?;
-    let file = SharedFile::of(alloc, path, file.entry.mode, content)?;
-    Ok(file)
+    let listed = ListedFile::sharing(file)?;
+    contents.keep_shared(&file.as_file().entry.bytes)?;
+    Ok(listed)
 }
 
 // Keeps the contents of the files that a child saw.
 fn keep_files(
     alloc: Global,
     contents: &mut Contents,
-    known: Known<'_>,
     seen: &Tree,
-) -> Result<Vec<SharedFile>, StoreFault>
+) -> Result<Vec<ListedFile>, StoreFault>
     ensures files { IfOk result (λ files. map file_of files.items ≡ seen.now) }
     ensures rising { IsRising seen.now }
     ensures kept { OnOk result (AreAllKept (contents_in_files seen.now) contents.old contents.new) }
@@ -82,18 +55,14 @@ fn keep_files(
 {
     let mut files = Vec::new(alloc);
     'files: for index in 0..seen.len() {
-        let file = keep_file(alloc, contents, known, seen.entry(index))?;
+        let file = keep_file(contents, seen.shared(index))?;
         files.push(file)?;
     }
     Ok(files)
 }
 
 // Keeps the new contents of a change.
-fn keep_change(
-    contents: &mut Contents,
-    known: Known<'_>,
-    change: &Change,
-) -> Result<SharedFix, StoreFault>
+fn keep_change(contents: &mut Contents, change: &Change) -> Result<SharedFix, StoreFault>
     ensures change { IfOk result (λ made. fix_of made ≡ change.entry.now) }
     ensures kept { OnOk result (AreAllKept (option_to_list change.entry.now.now) contents.old contents.new) }
     ensures stopped { IfErr result (IsStopped (option_to_list change.entry.now.now) contents.old contents.new) }
@@ -102,7 +71,7 @@ fn keep_change(
     match &change.now {
         None => Ok(SharedFix { path, now: None }),
         Some(bytes) => {
-            let content = keep_at(contents, known, &change.path, bytes.as_slice())?;
+            let content = contents.keep_shared(bytes)?;
             Ok(SharedFix {
                 path,
                 now: Some(content),
@@ -115,7 +84,6 @@ fn keep_change(
 fn keep_changes(
     alloc: Global,
     contents: &mut Contents,
-    known: Known<'_>,
     changes: &[Change],
 ) -> Result<Vec<SharedFix>, StoreFault>
     ensures changes { IfOk result (λ made. map fix_of made.items ≡ changes.now) }
@@ -124,7 +92,7 @@ fn keep_changes(
 {
     let mut made = Vec::new(alloc);
     'changes: for change in changes {
-        let change = keep_change(contents, known, change)?;
+        let change = keep_change(contents, change)?;
         made.push(change)?;
     }
     Ok(made)
@@ -141,7 +109,7 @@ fn keep_words(alloc: Global, contents: &mut Contents, words: &[Text]) -> Result<
 }
 
 // The files as a record names them.
-fn named_files(alloc: Global, files: &[SharedFile]) -> Result<Vec<SeenFile>, OutOfMemory>
+fn named_files(alloc: Global, files: &[ListedFile]) -> Result<Vec<SeenFile>, OutOfMemory>
     ensures { IfOk result (λ named. named.items ≡ seen_of_files (map file_of files.now)) }
 {
     let mut named = Vec::new(alloc);
@@ -159,7 +127,7 @@ fn named_files(alloc: Global, files: &[SharedFile]) -> Result<Vec<SeenFile>, Out
 fn keep_seen(
     alloc: Global,
     contents: &mut Contents,
-    files: &[SharedFile],
+    files: &[ListedFile],
 ) -> Result<Content, StoreFault>
     requires { IsRising (map file_of files.now) }
     ensures record { IfOk result (IsSeenRecord (seen_of_files (map file_of files.now))) }
@@ -216,7 +184,7 @@ fn keep_written(
     alloc: Global,
     contents: &mut Contents,
     words: &[Text],
-    files: &[SharedFile],
+    files: &[ListedFile],
     output: &[u8],
     changes: &[SharedFix],
 ) -> Result<Written, StoreFault>
@@ -245,7 +213,6 @@ fn keep_written(
 fn keep_parts(
     alloc: Global,
     contents: &mut Contents,
-    known: Known<'_>,
     words: &[Text],
     seen: &Tree,
     answer: AnswerRef<'_>,
@@ -257,8 +224,8 @@ fn keep_parts(
     ensures stopped { IfErr result (IsStopped (contents_for (copied_answer words.now seen.now answer.entry)) contents.old contents.new) }
 {
     let copy = copy_texts(alloc, words)?;
-    let files = keep_files(alloc, contents, known, seen)?;
-    let changes = keep_changes(alloc, contents, known, answer.changes.as_slice())?;
+    let files = keep_files(alloc, contents, seen)?;
+    let changes = keep_changes(alloc, contents, answer.changes.as_slice())?;
     let written = keep_written(
         alloc,
         contents,
@@ -277,13 +244,10 @@ fn keep_parts(
     ))
 }
 
-/// An answer to be remembered, whose contents are kept. Contents that are found at
-/// the same path aren't hashed anew. A
-/// refusal leaves all as it was.
+/// An answer to be remembered, whose contents are kept. A refusal leaves all as it was.
 pub(crate) fn keep_answer(
     alloc: Global,
     contents: &mut Contents,
-    known: Known<'_>,
     words: &[Text],
     seen: &Tree,
     answer: AnswerRef<'_>,
@@ -296,7 +260,7 @@ pub(crate) fn keep_answer(
     ensures why { IfErr result (IsRefusal (¬ AreSmall (contents_for (copied_answer words.now seen.now answer.entry))) ⊥ (SomeCollides (contents_for (copied_answer words.now seen.now answer.entry)) contents.old)) }
 {
     let before = contents.len();
-    match keep_parts(alloc, contents, known, words, seen, answer) {
+    match keep_parts(alloc, contents, words, seen, answer) {
         Ok(answer) => Ok(answer),
         Err(fault) => {
             contents.truncate(before);

@@ -14,7 +14,6 @@ ghost use Rattle.repo_store.specs.Remembering.{AnyCollides};
 ghost use Rattle.repo_store.specs.WrittenAnswers.{contents_in_files};
 
 use crate::contents::Contents;
-use crate::known::Known;
 use crate::shared_answer::SharedAnswer;
 use crate::trees::changes_of;
 use crate::{StoreFault, StoredAnswer};
@@ -57,26 +56,21 @@ pub(crate) fn known_words(
 }
 
 // The file as a record names it, if its contents are kept.
-fn known_file(
-    contents: &Contents,
-    known: Known<'_>,
-    file: &File,
-) -> Result<Option<SeenFile>, StoreFault>
+fn known_file(contents: &Contents, file: &File) -> Result<Option<SeenFile>, StoreFault>
     ensures named { IfOk result (λ found. IfSome found (λ named. named ≡ seen_file file.now)) }
     ensures known { IfOk result (λ found. IfSome found (λ _. IsAmong contents.now file.now.entry.bytes)) }
     ensures absent { IfOk result (λ found. IfNone found (has_digest (sha256 file.now.entry.bytes) contents.now ≡ false)) }
     ensures why { IfErr result (IsRefusal ⊥ ⊥ (Collides file.now.entry.bytes contents.now)) }
 {
-    let bytes = file.entry.bytes.as_slice();
-    let digest = known.digest_of(&file.path, bytes);
-    if !contents.has(&digest, bytes)? {
+    let content = &file.entry.bytes;
+    if !contents.has(content.digest(), content.as_slice())? {
         return Ok(None);
     }
     let path = file.path.clone()?;
     Ok(Some(SeenFile {
         path,
         mode: file.entry.mode,
-        digest,
+        digest: *content.digest(),
     }))
 }
 
@@ -84,7 +78,6 @@ fn known_file(
 fn known_files(
     alloc: Global,
     contents: &Contents,
-    known: Known<'_>,
     seen: &Tree,
 ) -> Result<Option<Vec<SeenFile>>, StoreFault>
     ensures named { IfOk result (λ found. IfSome found (λ named. named.items ≡ seen_of_files seen.now)) }
@@ -94,7 +87,7 @@ fn known_files(
 {
     let mut named = Vec::new(alloc);
     'files: for index in 0..seen.len() {
-        let Some(file) = known_file(contents, known, seen.entry(index))? else {
+        let Some(file) = known_file(contents, seen.entry(index))? else {
             return Ok(None);
         };
         named.push(file)?;
@@ -102,12 +95,10 @@ fn known_files(
     Ok(Some(named))
 }
 
-/// The digest of the record of these files, if it is kept, and so are the contents of all of them. Contents that are found
-/// at the same path aren't hashed anew.
+/// The digest of the record of these files, if it is kept, and so are the contents of all of them.
 pub(crate) fn known_seen(
     alloc: Global,
     contents: &Contents,
-    known: Known<'_>,
     seen: &Tree,
 ) -> Result<Option<[u8; 32]>, StoreFault>
     ensures digest { IfOk result (λ found. IfSome found (λ digest. digest ≡ sha256 (seen_record (seen_of_files seen.now)))) }
@@ -115,7 +106,7 @@ pub(crate) fn known_seen(
     ensures absent { IfOk result (λ found. IfNone found (¬ ArePlacedFiles contents.now seen.now)) }
     ensures why { IfErr result (IsRefusal ⊥ ⊥ (AnyCollides (seen_record (seen_of_files seen.now) ∷ contents_in_files seen.now) contents.now)) }
 {
-    let Some(named) = known_files(alloc, contents, known, seen)? else {
+    let Some(named) = known_files(alloc, contents, seen)? else {
         return Ok(None);
     };
     match seen_record(alloc, named.as_slice()) {

@@ -60,14 +60,6 @@ impl Answers {
         self.items.len()
     }
 
-    /// The one that was added last, if there is one.
-    pub(crate) fn last(&self) -> Option<&SharedAnswer> {
-        match self.items.as_slice() {
-            [.., answer] => Some(answer),
-            [] => None,
-        }
-    }
-
     /// The answer whose key has these digests, if there is one.
     pub(crate) fn find(&self, words: [u8; 32], seen: [u8; 32]) -> Option<&SharedAnswer>
         ensures found { IfSome result (λ answer. Contains self.now.answers answer.now) }

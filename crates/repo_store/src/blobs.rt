@@ -6,7 +6,7 @@ ghost use Rattle.store_tables.specs.Tables.{Tables, Holds};
 ghost use Rattle.repo_store.specs.Transactions.{IsCall};
 ghost use Rattle.repo_store.specs.Rows.{with_blobs};
 
-use crate::content::Content;
+use hook_base::Content;
 use sqlite::{Alter, Connection, Error, Transaction};
 use store_tables::{change_nothing, put_blob};
 

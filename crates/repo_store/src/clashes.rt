@@ -1,38 +1,82 @@
 //! Whether a path can stand beside files.
 
-ghost use Rattle.std.specs.Prelude.{◌⊎◌, ◌↔◌, map, IsTrue};
-ghost use Rattle.repo_store.specs.Clashes.{Clashes, IsFolderOf};
+ghost use Rattle.std.specs.Prelude.{◌≡◌, ◌↔◌, ◌++◌, [], ◌∷◌, length, map, take, IsTrue};
+ghost use Rattle.std.specs.List.{Any};
+ghost use Rattle.hook_base.specs.Rising.{path_cmp};
+ghost use Rattle.hook_base.specs.Trees.{IsRising};
+ghost use Rattle.hook_base.specs.declared.file.File.{File};
+ghost use Rattle.repo_store.specs.Clashes.{Clashes, IsFolderOf, slash};
 ghost use Rattle.repo_store.specs.Lists.{file_of};
 
-use crate::shared::SharedFile;
+use crate::shared::ListedFile;
 use hook_base::RepoPath;
+use std::cmp::Ordering;
 
-// Whether a path is a folder of another.
-fn is_folder_of(folder: &str, path: &str) -> bool
-    ensures { IsTrue result ↔ IsFolderOf folder.now path.now }
+// On which side of a text a file's path stands.
+fn side_of(file: &ListedFile, text: &[u8]) -> Ordering
+    ensures { result ≡ path_cmp file.now.path text.now }
 {
-    match path.as_bytes().strip_prefix(folder.as_bytes()) {
-        Some(rest) => rest.starts_with(b"/"),
-        None => false,
+    file.path().as_str().as_bytes().cmp(text)
+}
+
+// On which side of a slash the first byte stands. A text that ends comes before any that goes on.
+fn side_of_slash(text: &[u8]) -> Ordering
+    ensures { result ≡ path_cmp (take 1 text.now) (slash ∷ []) }
+{
+    match text {
+        [byte, ..] => byte.cmp(&b'/'),
+        [] => Ordering::Less,
     }
 }
 
-// Whether one of two paths is a folder of the other.
-fn are_nested(path: &str, other: &str) -> bool
-    ensures { IsTrue result ↔ (IsFolderOf other.now path.now ⊎ IsFolderOf path.now other.now) }
+// On which side of all that lies below a folder a file's path stands: `Equal` where it lies below. The folder's path and
+// its slash are compared one after the other, so that nothing is allocated.
+fn side_of_folder(file: &ListedFile, folder: &[u8]) -> Ordering
+    ensures { let below = folder.now ++ (slash ∷ []) in result ≡ path_cmp (take (length below) file.now.path) below }
 {
-    is_folder_of(other, path) || is_folder_of(path, other)
+    let path = file.path().as_str().as_bytes();
+    match path.split_at_checked(folder.len()) {
+        Some((front, rest)) => front.cmp(folder).then(side_of_slash(rest)),
+        None => path.cmp(folder),
+    }
 }
 
-/// Whether some file's path is a folder of the path, or the path is a folder of some file's.
-pub(crate) fn clashes(files: &[SharedFile], path: &RepoPath) -> bool
-    ensures { IsTrue result ↔ Clashes path.now (map file_of files.now) }
+// Whether a file has this path.
+fn has_file_at(files: &[ListedFile], path: &[u8]) -> bool
+    requires { IsRising (map file_of files.now) }
+    ensures { IsTrue result ↔ Any (λ (file : File). file.path ≡ path.now) (map file_of files.now) }
 {
-    let text = path.as_str();
-    'files: for file in files {
-        if are_nested(text, file.path().as_str()) {
+    files.binary_search_by(|file| side_of(file, path)).is_ok()
+}
+
+// Whether a file lies below a folder. Those that do stand side by side in files that rise, so a search by halves meets one.
+fn has_file_below(files: &[ListedFile], folder: &[u8]) -> bool
+    requires { IsRising (map file_of files.now) }
+    ensures { IsTrue result ↔ Any (λ (file : File). IsFolderOf folder.now file.path) (map file_of files.now) }
+{
+    files
+        .binary_search_by(|file| side_of_folder(file, folder))
+        .is_ok()
+}
+
+// Whether a file's path is a folder of the path. Its folders are the texts before its slashes.
+fn lies_below_file(files: &[ListedFile], path: &[u8]) -> bool
+    requires { IsRising (map file_of files.now) }
+    ensures { IsTrue result ↔ Any (λ (file : File). IsFolderOf file.path path.now) (map file_of files.now) }
+{
+    'bytes: for (index, byte) in path.iter().enumerate() {
+        if *byte == b'/' && has_file_at(files, &path[..index]) {
             return true;
         }
     }
     false
+}
+
+/// Whether some file's path is a folder of the path, or the path is a folder of some file's.
+pub(crate) fn clashes(files: &[ListedFile], path: &RepoPath) -> bool
+    requires { IsRising (map file_of files.now) }
+    ensures { IsTrue result ↔ Clashes path.now (map file_of files.now) }
+{
+    let text = path.as_str().as_bytes();
+    lies_below_file(files, text) || has_file_below(files, text)
 }

@@ -8,14 +8,14 @@ ghost use Rattle.repo_store.specs.Lists.{file_of};
 ghost use Rattle.repo_store.specs.Rows.{entry_row, with_entries};
 
 use crate::mode::number_of;
-use crate::shared::{SharedCommit, SharedFile};
+use crate::shared::{ListedFile, SharedCommit};
 use sqlite::{Alter, Connection, Error, Transaction};
 use store_tables::{change_nothing, clear_fixes, put_commit, put_entry};
 
 fn put_files<S: Alter>(
     tx: &mut Transaction<'_, S>,
     n: u32,
-    files: &[SharedFile],
+    files: &[ListedFile],
 ) -> Result<(), Error>
     ensures same_reference { tx.new.conn.ghost_name ≡ tx.old.conn.ghost_name }
     ensures step { IsStep S.Store tx.old.conn.now tx.new.conn.now result (λ t. with_entries (map (entry_row n) (map file_of files.now)) t) }

@@ -9,9 +9,8 @@ ghost use Rattle.repo_store.specs.Limits.{IsSmall};
 ghost use Rattle.repo_store.specs.RowRules.{IsBlobRow};
 
 use crate::StoreFault;
-use crate::content::Content;
 use crate::limits::MOST_CONTENT_BYTES;
-use hook_base::OutOfMemory;
+use hook_base::{Bytes, Content, OutOfMemory};
 use sha2::{Digest as _, Sha256};
 use sqlite::Error;
 use std::alloc::Global;
@@ -159,7 +158,7 @@ impl Contents {
         if self.find(&found).is_some() {
             return Err(StoreFault::Sql(Error::InvalidQuery));
         }
-        let content = Content::of(*self.items.allocator(), found, bytes)?;
+        let content = Content::with_digest(*self.items.allocator(), found, bytes)?;
         self.push(content)?;
         Ok(())
     }
@@ -171,9 +170,50 @@ impl Contents {
         ensures kept { OnOk result (self.new ≡ self.old ++ bytes.now ∷ []) }
         ensures same { OnErr result (self.new ≡ self.old) }
     {
-        let content = Content::copy_of(*self.items.allocator(), digest, bytes)?;
+        let alloc = *self.items.allocator();
+        let content = Content::with_digest(alloc, digest, Bytes::copy_of(alloc, bytes)?)?;
         self.push(content.clone()?)?;
         Ok(content)
+    }
+
+    /// The contents, shared, kept anew where they aren't there yet. A refusal leaves all as it was.
+    pub(crate) fn keep_shared(&mut self, content: &Content) -> Result<Content, StoreFault>
+        ensures content { IfOk result (λ kept. kept ≡ content.now) }
+        ensures kept { OnOk result (self.new ≡ with_content content.now self.old) }
+        ensures same { OnErr result (self.new ≡ self.old) }
+        ensures why { IfErr result (IsRefusal (¬ IsSmall content.now) ⊥ (IsSmall content.now × Collides content.now self.old)) }
+        ensures small { OnOk result (IsSmall content.now) }
+        ensures apart { OnOk result (¬ Collides content.now self.old) }
+    {
+        if content.len() > MOST_CONTENT_BYTES {
+            return Err(StoreFault::TooLarge);
+        }
+        self.share(content)
+    }
+
+    fn share(&mut self, content: &Content) -> Result<Content, StoreFault>
+        ensures content { IfOk result (λ kept. kept ≡ content.now) }
+        ensures kept { OnOk result (self.new ≡ with_content content.now self.old) }
+        ensures same { OnErr result (self.new ≡ self.old) }
+        ensures why { IfErr result (IsRefusal ⊥ ⊥ (Collides content.now self.old)) }
+        ensures apart { OnOk result (¬ Collides content.now self.old) }
+    {
+        if let Some(kept) = self.find(content.digest()) {
+            return shared(kept, content.as_slice());
+        }
+        let content = self.add_shared(content)?;
+        Ok(content)
+    }
+
+    fn add_shared(&mut self, content: &Content) -> Result<Content, OutOfMemory>
+        requires { has_digest (sha256 content.now) self.old ≡ false }
+        ensures content { IfOk result (λ kept. kept ≡ content.now) }
+        ensures kept { OnOk result (self.new ≡ self.old ++ content.now ∷ []) }
+        ensures same { OnErr result (self.new ≡ self.old) }
+    {
+        let kept = content.clone()?;
+        self.push(content.clone()?)?;
+        Ok(kept)
     }
 
     /// Takes the last out.

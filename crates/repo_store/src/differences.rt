@@ -9,25 +9,25 @@ ghost use Rattle.repo_store.specs.Lists.{file_of};
 ghost use Rattle.repo_store.specs.Rows.{staged_row};
 
 use crate::look_ups::file_at;
-use crate::shared::SharedFile;
+use crate::shared::ListedFile;
 use hook_base::RepoPath;
 
 // Whether two files have the same mode, and contents of the same digest.
-fn is_same_entry(file: &SharedFile, other: &SharedFile) -> bool
+fn is_same_entry(file: &ListedFile, other: &ListedFile) -> bool
     ensures { IsTrue result ↔ ((file.now.mode ≡ other.now.mode) × (sha256 file.now.content ≡ sha256 other.now.content)) }
 {
     file.mode() == other.mode() && file.content().digest() == other.content().digest()
 }
 
 // Whether two files have the same path and mode, and contents of the same digest.
-fn is_same_row(file: &SharedFile, other: &SharedFile) -> bool
+fn is_same_row(file: &ListedFile, other: &ListedFile) -> bool
     ensures { IsTrue result ↔ (staged_row (file_of file.now) ≡ staged_row (file_of other.now)) }
 {
     file.path() == other.path() && is_same_entry(file, other)
 }
 
 /// Whether there are as many files here as there, and each is the same as that of its index.
-pub(crate) fn are_same_rows(files: &[SharedFile], others: &[SharedFile]) -> bool
+pub(crate) fn are_same_rows(files: &[ListedFile], others: &[ListedFile]) -> bool
     ensures { IsTrue result ↔ (map staged_row (map file_of files.now) ≡ map staged_row (map file_of others.now)) }
 {
     if files.len() != others.len() {
@@ -43,7 +43,7 @@ pub(crate) fn are_same_rows(files: &[SharedFile], others: &[SharedFile]) -> bool
 
 /// Whether one path has other entries here and there, or an entry in one of both alone. This holds where all contents are
 /// among some that are told apart by their digests.
-pub(crate) fn differ_at(files: &[SharedFile], others: &[SharedFile], path: &RepoPath) -> bool
+pub(crate) fn differ_at(files: &[ListedFile], others: &[ListedFile], path: &RepoPath) -> bool
     requires rising { IsRising (map file_of files.now) }
     requires others { IsRising (map file_of others.now) }
     ensures { (contents : List (List ℕ)) → HaveDistinctDigests contents → HaveContents contents (map file_of files.now) → HaveContents contents (map file_of others.now) → IsTrue result ↔ (entry_of path.now (map file_of files.now) ≢ entry_of path.now (map file_of others.now)) }

@@ -8,9 +8,9 @@ ghost use Rattle.repo_store.specs.SharedEdits.{all_rows, edit_of, edited_rows};
 ghost use Rattle.repo_store.specs.Transactions.{IsCall};
 
 use crate::blobs::keep_in;
-use crate::content::Content;
 use crate::mode::number_of;
 use crate::shared_edit::SharedEdit;
+use hook_base::Content;
 use sqlite::{Alter, Connection, Error, Transaction};
 use store_tables::{clear_fixes, put_staged, take_staged};
 

@@ -7,14 +7,14 @@ ghost use Rattle.repo_store.specs.Limits.{path_bytes as path_bytes_of};
 ghost use Rattle.repo_store.specs.Lists.{file_of, fix_of};
 
 use crate::files::{place_of, take_out};
-use crate::shared::{SharedFile, SharedFix};
+use crate::shared::{ListedFile, SharedFix};
 use hook_base::{OutOfMemory, RepoPath};
 use std::alloc::Global;
 
 // Adds the file of a path, if it has one.
 fn push_at(
-    found: &mut Vec<SharedFile>,
-    files: &[SharedFile],
+    found: &mut Vec<ListedFile>,
+    files: &[ListedFile],
     path: &RepoPath,
 ) -> Result<(), OutOfMemory>
     requires { IsRising (map file_of files.now) }
@@ -29,9 +29,9 @@ fn push_at(
 /// The files that have a fix.
 pub(crate) fn files_with_fix(
     alloc: Global,
-    files: &[SharedFile],
+    files: &[ListedFile],
     fixes: &[SharedFix],
-) -> Result<Vec<SharedFile>, OutOfMemory>
+) -> Result<Vec<ListedFile>, OutOfMemory>
     requires { IsRising (map file_of files.now) }
     ensures { IfOk result (λ found. map file_of found.items ≡ files_with_fix (map fix_of fixes.now) (map file_of files.now)) }
 {
@@ -43,7 +43,7 @@ pub(crate) fn files_with_fix(
 }
 
 // Puts a file in place of the one at its path.
-fn replace(files: &mut Vec<SharedFile>, file: SharedFile)
+fn replace(files: &mut Vec<ListedFile>, file: ListedFile)
     requires rising { IsRising (map file_of files.old.items) }
     requires there { IsTrue (is_some (entry_of file.path (map file_of files.old.items))) }
     ensures files { map file_of files.new.items ≡ put_row (file_of file) (map file_of files.old.items) }
@@ -56,7 +56,7 @@ fn replace(files: &mut Vec<SharedFile>, file: SharedFile)
 
 // Moves the file that the fixed ones have at the path of the fix in place of the one there; where they have none, takes that
 // out. Answers the bytes that the paths have less then.
-fn settle(files: &mut Vec<SharedFile>, fixed: &mut Vec<SharedFile>, fix: &SharedFix) -> usize
+fn settle(files: &mut Vec<ListedFile>, fixed: &mut Vec<ListedFile>, fix: &SharedFix) -> usize
     requires files_rise { IsRising (map file_of files.old.items) }
     requires fixed_rise { IsRising (map file_of fixed.old.items) }
     requires same { entry_of fix.now.path (map file_of fixed.old.items) ≡ entry_of fix.now.path (apply_change (fix_of fix.now) (map file_of files.old.items)) }
@@ -75,8 +75,8 @@ fn settle(files: &mut Vec<SharedFile>, fixed: &mut Vec<SharedFile>, fix: &Shared
 
 /// Applies the fixes to the files, whose fixed ones are made already. Answers the bytes that the paths have less then.
 pub(crate) fn settle_all(
-    files: &mut Vec<SharedFile>,
-    fixed: Vec<SharedFile>,
+    files: &mut Vec<ListedFile>,
+    fixed: Vec<ListedFile>,
     fixes: &[SharedFix],
 ) -> usize
     requires files_rise { IsRising (map file_of files.old.items) }

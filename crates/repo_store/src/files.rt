@@ -10,11 +10,11 @@ ghost use Rattle.repo_store.specs.Limits.{Fits, path_bytes as path_bytes_of};
 ghost use Rattle.repo_store.specs.Lists.{file_of};
 
 use crate::limits::{MOST_FILES, MOST_TREE_PATH_BYTES};
-use crate::shared::{SharedCommit, SharedFile};
+use crate::shared::{ListedFile, SharedCommit};
 use hook_base::{Bytes, OutOfMemory, RepoPath};
 
 /// Where a path stands in files that rise: at the file of an index, or before it.
-pub(crate) fn place_of(files: &[SharedFile], path: &RepoPath) -> Result<usize, usize>
+pub(crate) fn place_of(files: &[ListedFile], path: &RepoPath) -> Result<usize, usize>
     requires { IsRising (map file_of files.now) }
     ensures { MatchResult result (IsAt path.now (map file_of files.now)) (IsGap path.now (map file_of files.now)) }
 {
@@ -22,7 +22,7 @@ pub(crate) fn place_of(files: &[SharedFile], path: &RepoPath) -> Result<usize, u
 }
 
 /// Whether a path has a file.
-pub(crate) fn has_path(files: &[SharedFile], path: &RepoPath) -> bool
+pub(crate) fn has_path(files: &[ListedFile], path: &RepoPath) -> bool
     requires { IsRising (map file_of files.now) }
     ensures { result ≡ is_some (entry_of path.now (map file_of files.now)) }
 {
@@ -30,7 +30,7 @@ pub(crate) fn has_path(files: &[SharedFile], path: &RepoPath) -> bool
 }
 
 /// The bytes of the paths together.
-pub(crate) fn count_path_bytes(files: &[SharedFile]) -> usize
+pub(crate) fn count_path_bytes(files: &[ListedFile]) -> usize
     requires { path_bytes_of (map file_of files.now) < 2 ^ 64 }
     ensures { result ≡ path_bytes_of (map file_of files.now) }
 {
@@ -38,7 +38,7 @@ pub(crate) fn count_path_bytes(files: &[SharedFile]) -> usize
 }
 
 /// Whether the files are within the limits of a staged tree.
-pub(crate) fn fit(files: &[SharedFile]) -> bool
+pub(crate) fn fit(files: &[ListedFile]) -> bool
     ensures { IsTrue result ↔ Fits (map file_of files.now) }
 {
     if files.len() > MOST_FILES {
@@ -56,7 +56,7 @@ pub(crate) fn fit(files: &[SharedFile]) -> bool
 }
 
 /// Whether the files, whose paths have so many bytes, still fit when a file stands at the path too.
-pub(crate) fn may_put(files: &[SharedFile], path_bytes: usize, path: &RepoPath) -> bool
+pub(crate) fn may_put(files: &[ListedFile], path_bytes: usize, path: &RepoPath) -> bool
     requires counted { path_bytes ≡ path_bytes_of (map file_of files.now) }
     requires rising { IsRising (map file_of files.now) }
     requires fits { Fits (map file_of files.now) }
@@ -76,7 +76,7 @@ pub(crate) fn may_put(files: &[SharedFile], path_bytes: usize, path: &RepoPath) 
 
 /// Puts a file, for which there is room, in place of the one at its path, or adds it. Answers the bytes that the paths have
 /// more then.
-pub(crate) fn put_file(files: &mut Vec<SharedFile>, file: SharedFile) -> usize
+pub(crate) fn put_file(files: &mut Vec<ListedFile>, file: ListedFile) -> usize
     requires rising { IsRising (map file_of files.old.items) }
     requires room { vec_len files.old < vec_capacity files.old }
     ensures files { map file_of files.new.items ≡ put_row (file_of file) (map file_of files.old.items) }
@@ -96,7 +96,7 @@ pub(crate) fn put_file(files: &mut Vec<SharedFile>, file: SharedFile) -> usize
 }
 
 /// Takes the file of a path out, if there is one. Answers the bytes that the paths have less then.
-pub(crate) fn take_out(files: &mut Vec<SharedFile>, path: &RepoPath) -> usize
+pub(crate) fn take_out(files: &mut Vec<ListedFile>, path: &RepoPath) -> usize
     requires { IsRising (map file_of files.old.items) }
     ensures files { map file_of files.new.items ≡ remove_file path.now (map file_of files.old.items) }
     ensures bytes { path_bytes_of (map file_of files.old.items) ≡ path_bytes_of (map file_of files.new.items) + result }
@@ -113,7 +113,7 @@ pub(crate) fn take_out(files: &mut Vec<SharedFile>, path: &RepoPath) -> usize
 /// A commit of these files.
 pub(crate) fn commit_with(
     message: &[u8],
-    files: &Vec<SharedFile>,
+    files: &Vec<ListedFile>,
 ) -> Result<SharedCommit, OutOfMemory>
     ensures { IfOk result (λ commit. (commit.message ≡ message.now) × (map file_of commit.files.items ≡ map file_of files.now.items)) }
 {

@@ -7,9 +7,8 @@ ghost use Rattle.hook_base.specs.Trees.{IsRising, IsRisingChanges, apply_change,
 ghost use Rattle.repo_store.specs.Accepted.{HasReached};
 ghost use Rattle.repo_store.specs.Lists.{file_of, fix_of};
 
-use crate::content::Content;
-use crate::shared::{SharedFile, SharedFix};
-use hook_base::{OutOfMemory, RepoPath};
+use crate::shared::{ListedFile, SharedFix};
+use hook_base::{Content, OutOfMemory, RepoPath};
 use std::alloc::Global;
 use std::cmp::Ordering;
 
@@ -52,21 +51,21 @@ fn first_at<'a>(fixes: &'a [SharedFix], path: &RepoPath) -> Option<&'a SharedFix
 // The file with these contents.
 fn with_content(
     alloc: Global,
-    file: &SharedFile,
+    file: &ListedFile,
     content: &Content,
-) -> Result<SharedFile, OutOfMemory>
+) -> Result<ListedFile, OutOfMemory>
     ensures { IfOk result (λ made. file_of made ≡ with_bytes content.now (file_of file.now)) }
 {
     let path = file.path().clone()?;
     let content = content.clone()?;
-    SharedFile::of(alloc, path, file.mode(), content)
+    ListedFile::of(alloc, path, file.mode(), content)
 }
 
 // Adds a file as the fixes leave it, of which none is of an earlier path.
 fn push_fixed(
     alloc: Global,
-    made: &mut Vec<SharedFile>,
-    file: &SharedFile,
+    made: &mut Vec<ListedFile>,
+    file: &ListedFile,
     fixes: &[SharedFix],
 ) -> Result<(), OutOfMemory>
     requires rising { IsRisingChanges (map fix_of fixes.now) }
@@ -87,9 +86,9 @@ fn push_fixed(
 /// The files with the fixes applied.
 pub(crate) fn with_fixes(
     alloc: Global,
-    files: &[SharedFile],
+    files: &[ListedFile],
     fixes: &[SharedFix],
-) -> Result<Vec<SharedFile>, OutOfMemory>
+) -> Result<Vec<ListedFile>, OutOfMemory>
     requires files { IsRising (map file_of files.now) }
     requires fixes { IsRisingChanges (map fix_of fixes.now) }
     ensures { IfOk result (λ made. map file_of made.items ≡ apply_changes (map fix_of fixes.now) (map file_of files.now)) }

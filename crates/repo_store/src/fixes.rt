@@ -8,8 +8,8 @@ ghost use Rattle.repo_store.specs.Lists.{fix_of};
 ghost use Rattle.repo_store.specs.Rows.{fix_row, with_blobs, with_fix_rows};
 
 use crate::blobs::{keep_in, keep_rows};
-use crate::content::Content;
 use crate::shared::SharedFix;
+use hook_base::Content;
 use sqlite::{Alter, Connection, Error, Transaction};
 use store_tables::{clear_fixes, put_fix};
 

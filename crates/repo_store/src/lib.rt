@@ -29,7 +29,6 @@ mod answers;
 mod blobs;
 mod clashes;
 mod commit;
-mod content;
 mod contents;
 mod create;
 mod differences;

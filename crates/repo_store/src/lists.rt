@@ -32,18 +32,17 @@ use crate::answer_contents::keep_answer;
 use crate::answer_search::{known_seen, known_words, stored};
 use crate::answers::Answers;
 use crate::clashes::clashes;
-use crate::content::Content;
 use crate::contents::Contents;
 use crate::differences::{are_same_rows, differ_at};
 use crate::files::{commit_with, count_path_bytes, has_path, may_put, put_file, take_out};
-use crate::known::Known;
+use crate::known::digest_of;
 use crate::limits::{MOST_COMMITS, MOST_CONTENT_BYTES};
 use crate::look_ups::{bytes_at, file_at, fixed_at, shown_at};
-use crate::shared::{SharedCommit, SharedFile, SharedFix};
+use crate::shared::{ListedFile, SharedCommit, SharedFix};
 use crate::shared_answer::SharedAnswer;
 use crate::trees::{changes_of, log_of, tree_of};
 use crate::{AnswerRef, FileRef, LogEntry, StoreFault, StoredAnswer};
-use hook_base::{Change, Mode, OutOfMemory, RepoPath, Text, Tree};
+use hook_base::{Change, Content, Mode, OutOfMemory, RepoPath, Text, Tree};
 use std::alloc::Global;
 use std::marker::Model;
 
@@ -56,7 +55,7 @@ pub(crate) use staging::Edited;
 pub(crate) struct Lists {
     contents: Contents,
     history: Vec<SharedCommit>,
-    staged: Vec<SharedFile>,
+    staged: Vec<ListedFile>,
     // The bytes of the staged paths together.
     staged_bytes: usize,
     fixes: Vec<SharedFix>,
@@ -103,7 +102,7 @@ impl Lists {
     pub(crate) fn of(
         contents: Contents,
         history: Vec<SharedCommit>,
-        staged: Vec<SharedFile>,
+        staged: Vec<ListedFile>,
         fixes: Vec<SharedFix>,
         answers: Answers,
     ) -> Lists
@@ -159,15 +158,6 @@ impl Lists {
         self.contents.keep(bytes)
     }
 
-    // Where contents are looked for whose digests are known.
-    fn known(&self) -> Known<'_> {
-        Known {
-            staged: self.staged.as_slice(),
-            fixes: self.fixes.as_slice(),
-            answer: self.answers.last(),
-        }
-    }
-
     // The bytes as contents, as `keep` gives them. They stand at a path, where their digest may be known.
     fn keep_at(&mut self, path: &RepoPath, bytes: &[u8]) -> Result<Content, StoreFault>
         ensures content { IfOk result (λ content. content ≡ bytes.now) }
@@ -180,7 +170,7 @@ impl Lists {
         if bytes.len() > MOST_CONTENT_BYTES {
             return Err(StoreFault::TooLarge);
         }
-        let digest = self.known().digest_of(path, bytes);
+        let digest = digest_of(self.staged.as_slice(), self.fixes.as_slice(), path, bytes);
         self.contents.keep_under(digest, bytes)
     }
 
@@ -197,7 +187,7 @@ impl Lists {
         path: &RepoPath,
         mode: Mode,
         bytes: &[u8],
-    ) -> Result<SharedFile, StoreFault>
+    ) -> Result<ListedFile, StoreFault>
         ensures file { IfOk result (λ file. file_of file ≡ record { path = path.now; entry = record { mode = mode; bytes = bytes.now } }) }
         ensures kept { OnOk result (self.new.kept ≡ keeping bytes.now self.old.kept) }
         ensures room { OnOk result (self.new.has_room ≡ true) }
@@ -220,8 +210,8 @@ impl Lists {
         let path = path.clone()?;
         self.reserve()?;
         let before = self.count();
-        let content = self.keep(bytes)?;
-        match SharedFile::of(*self.staged.allocator(), path, mode, content) {
+        let content = self.keep_at(&path, bytes)?;
+        match ListedFile::of(*self.staged.allocator(), path, mode, content) {
             Ok(file) => Ok(file),
             Err(_refused) => {
                 self.forget_since(before);
@@ -231,7 +221,7 @@ impl Lists {
     }
 
     /// Stages a file, for which there is room, and forgets the fixes.
-    pub(crate) fn stage(&mut self, file: SharedFile)
+    pub(crate) fn stage(&mut self, file: ListedFile)
         requires room { self.old.has_room ≡ true }
         requires fits { Fits (put_file file.path (record { mode = file.mode; bytes = file.content }) self.old.kept.repo.staged) }
         ensures { self.new.kept ≡ record self.old.kept { repo = with_staged file.path (record { mode = file.mode; bytes = file.content }) self.old.kept.repo } }
@@ -291,7 +281,7 @@ impl Lists {
         match &change.now {
             None => Ok(SharedFix { path, now: None }),
             Some(bytes) => {
-                let content = self.keep_at(&change.path, bytes.as_slice())?;
+                let content = self.contents.keep_shared(bytes)?;
                 Ok(SharedFix {
                     path,
                     now: Some(content),
@@ -366,7 +356,7 @@ impl Lists {
         self.fixes = fixes;
     }
 
-    /// The staged files, in memory of their own.
+    /// The staged files, which the tree shares.
     pub(crate) fn staged(&self) -> Result<Tree, OutOfMemory>
         ensures { IfOk result (λ tree. tree ≡ self.now.kept.repo.staged) }
     {
@@ -374,7 +364,7 @@ impl Lists {
     }
 
     // The files of the last commit, and none where there is no commit.
-    fn head_files(&self) -> &[SharedFile]
+    fn head_files(&self) -> &[ListedFile]
         ensures files { map file_of result.now ≡ last_tree self.now.kept.repo.history }
         ensures rising { IsRising (map file_of result.now) }
     {
@@ -384,14 +374,14 @@ impl Lists {
         }
     }
 
-    /// The files of the last commit, and none where there is no commit, in memory of their own.
+    /// The files of the last commit, which the tree shares, and none where there is no commit.
     pub(crate) fn head(&self) -> Result<Tree, OutOfMemory>
         ensures { IfOk result (λ tree. tree ≡ last_tree self.now.kept.repo.history) }
     {
         tree_of(*self.staged.allocator(), self.head_files())
     }
 
-    /// The fixes, in memory of their own.
+    /// The fixes, which share their contents.
     pub(crate) fn fixes(&self) -> Result<Vec<Change>, OutOfMemory>
         ensures { IfOk result (λ fixes. fixes.items ≡ self.now.kept.repo.fixes) }
     {
@@ -417,7 +407,7 @@ impl Lists {
     }
 
     // The files of a commit, and none where no commit has the number.
-    fn files_at(&self, number: u32) -> &[SharedFile]
+    fn files_at(&self, number: u32) -> &[ListedFile]
         ensures { map file_of result.now ≡ tree_at number self.now.kept.repo.history }
     {
         match self.commit_at(number) {
@@ -557,12 +547,7 @@ impl Lists {
     {
         self.reserve()?;
         let alloc = *self.staged.allocator();
-        let known = Known {
-            staged: self.staged.as_slice(),
-            fixes: self.fixes.as_slice(),
-            answer: self.answers.last(),
-        };
-        keep_answer(alloc, &mut self.contents, known, words, seen, answer)
+        keep_answer(alloc, &mut self.contents, words, seen, answer)
     }
 
     /// What is remembered for the words and the seen files, as a copy, or none where nothing is.
@@ -580,7 +565,7 @@ impl Lists {
         let Some(words) = known_words(alloc, &self.contents, words)? else {
             return Ok(None);
         };
-        let Some(seen) = known_seen(alloc, &self.contents, self.known(), seen)? else {
+        let Some(seen) = known_seen(alloc, &self.contents, seen)? else {
             return Ok(None);
         };
         match self.answers.find(words, seen) {

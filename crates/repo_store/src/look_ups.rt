@@ -10,11 +10,11 @@ ghost use Rattle.repo_store.specs.Repository.{fixed_bytes};
 
 use crate::FileRef;
 use crate::files::place_of;
-use crate::shared::{SharedFile, SharedFix};
+use crate::shared::{ListedFile, SharedFix};
 use hook_base::RepoPath;
 
 /// The file of a path, if it has one.
-pub(crate) fn file_at<'a>(files: &'a [SharedFile], path: &RepoPath) -> Option<&'a SharedFile>
+pub(crate) fn file_at<'a>(files: &'a [ListedFile], path: &RepoPath) -> Option<&'a ListedFile>
     requires { IsRising (map file_of files.now) }
     ensures { option_map entry_in (option_copied result) ≡ entry_of path.now (map file_of files.now) }
 {
@@ -25,7 +25,7 @@ pub(crate) fn file_at<'a>(files: &'a [SharedFile], path: &RepoPath) -> Option<&'
 }
 
 /// The contents of the file of a path, if it has one.
-pub(crate) fn bytes_at<'a>(files: &'a [SharedFile], path: &RepoPath) -> Option<&'a [u8]>
+pub(crate) fn bytes_at<'a>(files: &'a [ListedFile], path: &RepoPath) -> Option<&'a [u8]>
     requires { IsRising (map file_of files.now) }
     ensures { option_copied result ≡ option_map (λ (entry : FileEntry). entry.bytes) (entry_of path.now (map file_of files.now)) }
 {
@@ -58,7 +58,7 @@ fn new_bytes(fix: &SharedFix) -> Option<&[u8]>
 }
 
 /// The file without a copy.
-pub(crate) fn shown(file: &SharedFile) -> FileRef<'_>
+pub(crate) fn shown(file: &ListedFile) -> FileRef<'_>
     ensures { copied_file result ≡ file_of file.now }
 {
     FileRef {
@@ -69,7 +69,7 @@ pub(crate) fn shown(file: &SharedFile) -> FileRef<'_>
 }
 
 /// The file of an index, without a copy, if there is one.
-pub(crate) fn shown_at(files: &[SharedFile], index: usize) -> Option<FileRef<'_>>
+pub(crate) fn shown_at(files: &[ListedFile], index: usize) -> Option<FileRef<'_>>
     ensures { option_map copied_file result ≡ slice_get (map file_of files.now) index }
 {
     match files.get(index) {

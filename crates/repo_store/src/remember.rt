@@ -8,8 +8,8 @@ ghost use Rattle.repo_store.specs.Remembering.{with_answer_row};
 ghost use Rattle.repo_store.specs.Rows.{answer_row, with_blobs};
 
 use crate::blobs::keep_in;
-use crate::content::Content;
 use crate::shared_answer::SharedAnswer;
+use hook_base::Content;
 use sqlite::{Alter, Connection, Error, Transaction};
 use store_tables::{put_answer, take_answer};
 

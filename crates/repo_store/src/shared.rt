@@ -1,87 +1,85 @@
 //! Files, fixes and commits in memory, which share what they have in common.
 
 ghost use Rattle.std.specs.Prelude.{◌≡◌, IfOk};
+ghost use Rattle.repo_store.specs.Lists.{file_of};
 
-use crate::content::Content;
-use hook_base::{Bytes, Mode, OutOfMemory, RepoPath};
+use hook_base::{Bytes, Content, File, FileEntry, Mode, OutOfMemory, RepoPath, SharedFile};
 use std::alloc::{AllocError, Global};
 use std::marker::Model;
-use std::rc::Rc;
 
-// A file of a tree by its parts. Its contents are shared with the other files that have the same.
+/// A file of the lists, shared with the trees that callers give and get. Contracts see its parts.
 #[derive(Drop)]
-pub(crate) struct FileParts {
-    path: RepoPath,
-    mode: Mode,
-    content: Content,
+pub(crate) struct ListedFile {
+    file: SharedFile,
 }
 
-/// A file, shared by the trees that have it: a copy takes no memory for path or contents, and a list of files is moved at
-/// the cost of their addresses. Contracts see its parts.
-#[derive(Drop)]
-pub(crate) struct SharedFile {
-    parts: Rc<FileParts>,
-}
-
-impl Model for SharedFile {
-    ghost use Rattle.repo_store.specs.declared.shared.FileParts.{FileParts};
-    ghost use Rattle.repo_store.specs.Shared.{parts_code};
+impl Model for ListedFile {
+    ghost use Rattle.repo_store.specs.Shared.{FileParts, parts_code, parts_of};
 
     ghost Value = { FileParts };
 
     ghost coded = { parts_code };
 
-    ghost view = { λ file. file.parts.value };
+    ghost view = { λ listed. parts_of listed.file };
 }
 
-impl SharedFile {
+impl ListedFile {
     /// The file of these parts.
     pub(crate) fn of(
         alloc: Global,
         path: RepoPath,
         mode: Mode,
-        content: Content,
-    ) -> Result<SharedFile, OutOfMemory>
-        ensures { IfOk result (λ file. file ≡ record { path = path; mode = mode; content = content }) }
+        bytes: Content,
+    ) -> Result<ListedFile, OutOfMemory>
+        ensures { IfOk result (λ listed. listed ≡ record { path = path; mode = mode; content = bytes }) }
     {
-        let parts = Rc::new(
-            alloc,
-            FileParts {
-                path,
-                mode,
-                content,
-            },
-        )?;
-        Ok(SharedFile { parts })
+        let entry = FileEntry { mode, bytes };
+        let file = SharedFile::of(alloc, File { path, entry })?;
+        Ok(ListedFile { file })
+    }
+
+    /// A file of a tree, shared with it.
+    pub(crate) fn sharing(file: &SharedFile) -> Result<ListedFile, OutOfMemory>
+        ensures { IfOk result (λ listed. file_of listed ≡ file.now) }
+    {
+        let file = file.clone()?;
+        Ok(ListedFile { file })
+    }
+
+    /// The file as trees share it.
+    pub(crate) fn shared(&self) -> &SharedFile
+        ensures { result.now ≡ file_of self.now }
+    {
+        &self.file
     }
 
     pub(crate) fn path(&self) -> &RepoPath
         ensures { result.now ≡ self.now.path }
     {
-        &self.parts.as_ref().path
+        &self.file.as_file().path
     }
 
     pub(crate) fn mode(&self) -> Mode
         ensures { result ≡ self.now.mode }
     {
-        self.parts.as_ref().mode
+        self.file.as_file().entry.mode
     }
 
     pub(crate) fn content(&self) -> &Content
         ensures { result.now ≡ self.now.content }
     {
-        &self.parts.as_ref().content
+        &self.file.as_file().entry.bytes
     }
 }
 
-impl Clone for SharedFile {
+impl Clone for ListedFile {
     ghost use Rattle.std.specs.Prelude.{◌≡◌};
 
     ghost is_clone = { λ source made. made ≡ source };
 
     fn clone(&self) -> Result<Self, AllocError> {
-        let parts = self.parts.clone()?;
-        Ok(SharedFile { parts })
+        let file = self.file.clone()?;
+        Ok(ListedFile { file })
     }
 }
 
@@ -108,5 +106,5 @@ impl Clone for SharedFix {
 #[derive(Drop)]
 pub(crate) struct SharedCommit {
     pub(crate) message: Bytes,
-    pub(crate) files: Vec<SharedFile>,
+    pub(crate) files: Vec<ListedFile>,
 }

@@ -5,9 +5,8 @@ ghost use Rattle.repo_store.specs.Lists.{file_of, fix_of};
 ghost use Rattle.repo_store.specs.SharedAnswers.{IsWritten, answer_of};
 ghost use Rattle.repo_store.specs.WrittenAnswers.{written_changes, written_seen, written_words};
 
-use crate::content::Content;
-use crate::shared::{SharedFile, SharedFix};
-use hook_base::{Items, Text};
+use crate::shared::{ListedFile, SharedFix};
+use hook_base::{Content, Items, Text};
 use std::marker::Model;
 
 /// What is written down of an answer.
@@ -25,7 +24,7 @@ pub(crate) struct AnswerRecords {
 #[derive(Drop)]
 pub(crate) struct SharedAnswer {
     words: Items<Text>,
-    seen: Vec<SharedFile>,
+    seen: Vec<ListedFile>,
     output: Content,
     changes: Vec<SharedFix>,
     status: u8,
@@ -50,7 +49,7 @@ impl SharedAnswer {
     /// The answer of these parts, which is written down so.
     pub(crate) fn of(
         words: Items<Text>,
-        seen: Vec<SharedFile>,
+        seen: Vec<ListedFile>,
         output: Content,
         changes: Vec<SharedFix>,
         status: u8,
@@ -95,11 +94,6 @@ impl SharedAnswer {
         ensures { result.now ≡ self.now.output }
     {
         &self.output
-    }
-
-    /// The files that its child saw.
-    pub(crate) fn seen(&self) -> &[SharedFile] {
-        self.seen.as_slice()
     }
 
     /// What became of its files.

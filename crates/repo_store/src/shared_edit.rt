@@ -1,11 +1,11 @@
 //! A change of the staged files as it is made.
 
-use crate::shared::SharedFile;
+use crate::shared::ListedFile;
 use hook_base::RepoPath;
 
 /// The file that is staged at a path from now on, or none where the path is staged no more.
 #[derive(Drop)]
 pub(crate) struct SharedEdit {
     pub(crate) path: RepoPath,
-    pub(crate) file: Option<SharedFile>,
+    pub(crate) file: Option<ListedFile>,
 }

@@ -8,16 +8,16 @@ ghost use Rattle.repo_store.specs.Lists.{file_of};
 ghost use Rattle.repo_store.specs.Rows.{with_blobs, staged_row};
 
 use crate::blobs::keep_in;
-use crate::content::Content;
 use crate::mode::number_of;
-use crate::shared::SharedFile;
+use crate::shared::ListedFile;
+use hook_base::Content;
 use sqlite::{Alter, Connection, Error, Transaction};
 use store_tables::{clear_fixes, put_staged, take_staged};
 
 fn stage_in<S: Alter>(
     tx: &mut Transaction<'_, S>,
     news: &[Content],
-    file: &SharedFile,
+    file: &ListedFile,
 ) -> Result<(), Error>
     ensures same_reference { tx.new.conn.ghost_name ≡ tx.old.conn.ghost_name }
     ensures step { IsStep S.Store tx.old.conn.now tx.new.conn.now result (λ t. with_staged (staged_row (file_of file.now)) (without_staged file.now.path (without_fixes (with_blobs news.now t)))) }
@@ -37,7 +37,7 @@ fn stage_in<S: Alter>(
 pub(crate) fn stage_rows<S: Alter>(
     conn: &mut Connection<S>,
     news: &[Content],
-    file: &SharedFile,
+    file: &ListedFile,
 ) -> Result<(), Error>
     requires { conn.old.in_transaction ≡ false }
     ensures { (t : Tables) → IsCall S.Store conn.old conn.new result (λ db. Holds db t) (λ db. Holds db (with_staged (staged_row (file_of file.now)) (without_staged file.now.path (without_fixes (with_blobs news.now t))))) }

@@ -319,8 +319,8 @@ impl<S: Alter> Store<S> {
     }
 
     /// What is remembered for the words of a command and the files that its child saw, with their modes and bytes, as a copy,
-    /// or `None` where nothing is. Bytes are compared, not digests alone, and contents that a staged file has at the same path
-    /// aren't hashed anew. Where other bytes stand under a digest of the key (that of a seen file's contents, or of what is written
+    /// or `None` where nothing is. Bytes are compared, not digests alone; the contents bring theirs, so that none is hashed
+    /// anew. Where other bytes stand under a digest of the key (that of a seen file's contents, or of what is written
     /// down of the words or of the seen files), it is refused as `Collision`; under such a digest nothing may stand instead, and then
     /// nothing is remembered, whatever stands under the others. Else it is refused for want of memory alone.
     pub fn answer_find(

@@ -1,4 +1,4 @@
-//! Trees, changes and the log in memory of their own, for the callers.
+//! Trees, changes and the log, for the callers.
 
 ghost use Rattle.std.specs.Prelude.{◌≡◌, ◌≤◌, length, map, IfOk};
 ghost use Rattle.hook_base.specs.Trees.{IsRising};
@@ -7,50 +7,37 @@ ghost use Rattle.repo_store.specs.Lists.{commit_of, file_of, fix_of};
 ghost use Rattle.repo_store.specs.Log.{log_from};
 
 use crate::LogEntry;
-use crate::shared::{SharedCommit, SharedFile, SharedFix};
-use hook_base::{Bytes, Change, FileEntry, OutOfMemory, Tree};
+use crate::shared::{ListedFile, SharedCommit, SharedFix};
+use hook_base::{Change, OutOfMemory, Tree};
 use std::alloc::Global;
 
-fn entry_of(file: &SharedFile, alloc: Global) -> Result<FileEntry, OutOfMemory>
-    ensures { IfOk result (λ entry. entry ≡ (file_of file.entry.now).entry) }
-{
-    let bytes = Bytes::copy_of(alloc, file.content().as_slice())?;
-    Ok(FileEntry {
-        mode: file.mode(),
-        bytes,
-    })
-}
-
-/// The files as a tree of their own.
-pub(crate) fn tree_of(alloc: Global, files: &[SharedFile]) -> Result<Tree, OutOfMemory>
+/// The files as a tree, which shares them.
+pub(crate) fn tree_of(alloc: Global, files: &[ListedFile]) -> Result<Tree, OutOfMemory>
     requires { IsRising (map file_of files.now) }
     ensures { IfOk result (λ tree. tree ≡ map file_of files.now) }
 {
     let mut tree = Tree::new(alloc);
     for file in files {
-        tree.put(file.path().clone()?, entry_of(file, alloc)?)?;
+        tree.put_shared(file.shared().clone()?)?;
     }
     Ok(tree)
 }
 
-fn change_of(alloc: Global, fix: &SharedFix) -> Result<Change, OutOfMemory>
+fn change_of(fix: &SharedFix) -> Result<Change, OutOfMemory>
     ensures { IfOk result (λ change. change ≡ fix_of fix.entry.now) }
 {
     let path = fix.path.clone()?;
-    let now = match &fix.now {
-        None => None,
-        Some(content) => Some(Bytes::copy_of(alloc, content.as_slice())?),
-    };
+    let now = fix.now.clone()?;
     Ok(Change { path, now })
 }
 
-/// The fixes as changes of their own.
+/// The fixes as changes, which share their contents.
 pub(crate) fn changes_of(alloc: Global, fixes: &[SharedFix]) -> Result<Vec<Change>, OutOfMemory>
     ensures { IfOk result (λ changes. changes.items ≡ map fix_of fixes.now) }
 {
     let mut changes = Vec::new(alloc);
     for fix in fixes {
-        changes.push(change_of(alloc, fix)?)?;
+        changes.push(change_of(fix)?)?;
     }
     Ok(changes)
 }

@@ -2,7 +2,7 @@
 
 use crate::{Book, ListBook};
 use child_port::{Answer, is_stray};
-use hook_base::{Bytes, Change, Changes, FileEntry, Items, Mode, RepoPath, Text, Tree};
+use hook_base::{Bytes, Change, Changes, Content, FileEntry, Items, Mode, RepoPath, Text, Tree};
 use std::alloc::Global;
 use std::process::Abort;
 use std::test::Fail;
@@ -24,7 +24,7 @@ fn tree_of(alloc: Global, files: &str) -> Result<Tree, Fail> {
             None => (file, Mode::Plain),
         };
         let (path, bytes) = file.split_once('=').ok_or("no bytes")?;
-        let bytes = Bytes::copy_of(alloc, bytes.as_bytes())?;
+        let bytes = Content::copy_of(alloc, bytes.as_bytes())?;
         tree.put(RepoPath::read(alloc, path)?, FileEntry { mode, bytes })?;
     }
     Ok(tree)
@@ -35,7 +35,7 @@ fn answer_of(alloc: Global, path: &str, output: &str) -> Result<Answer, Fail> {
     let mut changes = Vec::new(alloc);
     changes.push(Change {
         path: RepoPath::read(alloc, path)?,
-        now: Some(Bytes::copy_of(alloc, output.as_bytes())?),
+        now: Some(Content::copy_of(alloc, output.as_bytes())?),
     })?;
     Ok(Answer {
         status: 3,

@@ -1,6 +1,6 @@
 //! The paths and the trees of arguments.
 
-use hook_base::{Bytes, FileEntry, Mode, RepoPath, Tree};
+use hook_base::{Content, FileEntry, Mode, RepoPath, Tree};
 use std::alloc::Global;
 use trial_rows::{Stop, text_of};
 
@@ -50,7 +50,7 @@ pub(crate) fn put_file(
     path: &str,
     bytes: &[u8],
 ) -> Result<(), Stop> {
-    let bytes = Bytes::copy_of(alloc, bytes)?;
+    let bytes = Content::copy_of(alloc, bytes)?;
     let path = RepoPath::read(alloc, path)?;
     Ok(tree.put(path, FileEntry { mode, bytes })?)
 }

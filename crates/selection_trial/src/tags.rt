@@ -2,7 +2,7 @@
 
 use crate::files::path_of;
 use file_tags::{MOST_SHEBANG_BYTES, Tags, shebang, tags_of};
-use hook_base::{Bytes, FileEntry, Mode};
+use hook_base::{Content, FileEntry, Mode};
 use std::alloc::Global;
 use trial_rows::{Answer, Stop, only, text_of};
 
@@ -18,7 +18,7 @@ pub(crate) fn among(alloc: Global, arguments: &[Vec<u8>]) -> Result<Answer, Stop
 
 fn entry_of(alloc: Global, mode: &[u8], bytes: &[u8]) -> Result<FileEntry, Stop> {
     let mode = mode_of(mode)?;
-    let bytes = Bytes::copy_of(alloc, bytes)?;
+    let bytes = Content::copy_of(alloc, bytes)?;
     Ok(FileEntry { mode, bytes })
 }
 

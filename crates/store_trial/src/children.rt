@@ -5,7 +5,7 @@
 use crate::stop::Stop;
 use crate::text::read_text;
 use child_port::{Answer, TableChildren, TableRow};
-use hook_base::{Bytes, Change, Changes, FileEntry, Items, Mode, RepoPath, Text, Tree};
+use hook_base::{Bytes, Change, Changes, Content, FileEntry, Items, Mode, RepoPath, Text, Tree};
 use std::alloc::Global;
 
 /// What a commit's message is called, among the files of its stages.
@@ -57,7 +57,7 @@ fn tree_in(alloc: Global, text: &str) -> Result<Tree, Stop> {
     let mut tree = Tree::new(alloc);
     for file in words_in(alloc, text)?.as_slice() {
         let (path, contents) = file.as_str().split_once('=').ok_or(Stop::BadLine)?;
-        let (mode, bytes) = (Mode::Plain, Bytes::from(read_text(alloc, contents)?));
+        let (mode, bytes) = (Mode::Plain, read_content(alloc, contents)?);
         tree.put(read_path(alloc, path)?, FileEntry { mode, bytes })?;
     }
     Ok(tree)
@@ -73,11 +73,16 @@ fn changes_in(alloc: Global, text: &str) -> Result<Changes, Stop> {
 
 fn read_change(alloc: Global, text: &str) -> Result<Change, Stop> {
     let (path, now) = match text.split_once('=') {
-        Some((path, contents)) => (path, Some(Bytes::from(read_text(alloc, contents)?))),
+        Some((path, contents)) => (path, Some(read_content(alloc, contents)?)),
         None => (text, None),
     };
     let path = read_path(alloc, path)?;
     Ok(Change { path, now })
+}
+
+/// The contents of a text.
+pub(crate) fn read_content(alloc: Global, text: &str) -> Result<Content, Stop> {
+    Ok(Content::new(alloc, Bytes::from(read_text(alloc, text)?))?)
 }
 
 /// A path that a tree may hold.

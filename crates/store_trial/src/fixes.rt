@@ -1,9 +1,10 @@
 //! The fixes that wait to be set.
 
 use crate::answer::Answer;
+use crate::children::read_content;
 use crate::stop::Stop;
 use crate::text::read_text;
-use hook_base::{Bytes, Change, Changes, RepoPath};
+use hook_base::{Change, Changes, RepoPath};
 use repo_store::Store;
 use sqlite::Alter;
 use std::alloc::Global;
@@ -30,7 +31,7 @@ pub(crate) fn collect(
 
 fn read_fix(alloc: Global, rest: &str) -> Result<Change, Stop> {
     let (path, text) = rest.split_once(' ').ok_or(Stop::BadLine)?;
-    let now = Bytes::from(read_text(alloc, text)?);
+    let now = read_content(alloc, text)?;
     Ok(Change {
         path: RepoPath::read(alloc, path)?,
         now: Some(now),

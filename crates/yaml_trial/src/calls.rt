@@ -56,6 +56,7 @@ fn of_two(alloc: Global, name: &str, one: &[u8], other: &[u8]) -> Result<Answer,
     match name {
         "order_paths" => paths::order(alloc, one, other),
         "copy_bytes" => copies::copy_bytes(alloc, one, other),
+        "copy_content" => copies::copy_content(alloc, one, other),
         "read_flow" => flows::read(alloc, one, other),
         "read_long_words" => read_records::long_words(alloc, one, other),
         _ => Err(Stop::BadLine),

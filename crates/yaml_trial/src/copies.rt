@@ -1,6 +1,6 @@
-//! The calls on bytes and texts that contracts see as lists.
+//! The calls on bytes, contents and texts that contracts see as lists.
 
-use hook_base::{Bytes, Items, OutOfMemory, Text, copy_texts};
+use hook_base::{Bytes, Content, Items, OutOfMemory, Text, copy_texts};
 use std::alloc::Global;
 use trial_rows::{Answer, Stop, text_of};
 
@@ -11,6 +11,27 @@ pub(crate) fn copy_bytes(alloc: Global, bytes: &[u8], other: &[u8]) -> Result<An
     let is_other = Bytes::copy_of(alloc, other)? == copy;
     let answer = Answer::new(alloc).shown(copy.len());
     Ok(answer.text(" ").shown(is_same).text(" ").shown(is_other))
+}
+
+/// The length of copied contents, whether their copy and the bytes under their digest are the same, whether the other contents
+/// are, and the digest.
+pub(crate) fn copy_content(alloc: Global, bytes: &[u8], other: &[u8]) -> Result<Answer, Stop> {
+    let content = Content::copy_of(alloc, bytes)?;
+    let under = Content::with_digest(alloc, *content.digest(), Bytes::copy_of(alloc, bytes)?)?;
+    let is_same = content.as_slice() == bytes && content.clone()? == under;
+    let is_other = Content::copy_of(alloc, other)? == content;
+    let answer = Answer::new(alloc).shown(content.len());
+    let answer = answer.text(" ").shown(is_same).text(" ").shown(is_other);
+    with_digest(alloc, answer.text(" "), content.digest())
+}
+
+fn with_digest(alloc: Global, answer: Answer, digest: &[u8; 32]) -> Result<Answer, Stop> {
+    let mut answer = answer;
+    for byte in digest {
+        let digits = format!(in alloc; "{byte:02x}")?;
+        answer = answer.text(digits.as_str());
+    }
+    Ok(answer)
 }
 
 /// A copied text, and whether its copy is the same.

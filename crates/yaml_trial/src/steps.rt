@@ -1,6 +1,6 @@
 //! The words of a step, and what files and changes show.
 
-use hook_base::{Bytes, Change, FileEntry, Mode, RepoPath, Tree};
+use hook_base::{Change, Content, FileEntry, Mode, RepoPath, Tree};
 use std::alloc::Global;
 use trial_rows::{Answer, Stop};
 
@@ -11,7 +11,7 @@ pub(crate) fn parted(text: &str) -> (&str, &str) {
 
 pub(crate) fn entry_of(alloc: Global, mode: &str, bytes: &str) -> Result<FileEntry, Stop> {
     let mode = mode_of(mode)?;
-    let bytes = Bytes::copy_of(alloc, bytes.as_bytes())?;
+    let bytes = Content::copy_of(alloc, bytes.as_bytes())?;
     Ok(FileEntry { mode, bytes })
 }
 
@@ -30,9 +30,9 @@ pub(crate) fn read_change(alloc: Global, text: &str) -> Result<Change, Stop> {
     Ok(Change { path, now })
 }
 
-fn now_of(alloc: Global, text: &str) -> Result<Option<Bytes>, Stop> {
+fn now_of(alloc: Global, text: &str) -> Result<Option<Content>, Stop> {
     match text.split_once(' ') {
-        Some((_path, bytes)) => Ok(Some(Bytes::copy_of(alloc, bytes.as_bytes())?)),
+        Some((_path, bytes)) => Ok(Some(Content::copy_of(alloc, bytes.as_bytes())?)),
         None => Ok(None),
     }
 }

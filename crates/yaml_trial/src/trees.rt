@@ -4,7 +4,7 @@ use crate::steps::{entry_of, parted, read_change, with_changes, with_entry, with
 use hook_base::{Change, Changes, RepoPath, Tree};
 use std::alloc::Global;
 use std::mem;
-use trial_rows::{Answer, Stop, text_of};
+use trial_rows::{Answer, Stop, number_of, text_of};
 
 /// What the steps show.
 pub(crate) fn answer(alloc: Global, words: &[Vec<u8>]) -> Result<Answer, Stop> {
@@ -33,7 +33,7 @@ impl Trees {
     fn play(&mut self, answer: Answer, step: &str) -> Result<Answer, Stop> {
         let (word, rest) = parted(step);
         match word {
-            "put" | "copy" | "change" | "apply" | "absorb" => {
+            "put" | "copy" | "take-from" | "share" | "change" | "apply" | "absorb" => {
                 self.change(word, rest)?;
                 Ok(answer)
             }
@@ -46,6 +46,8 @@ impl Trees {
         match word {
             "put" => self.put(rest),
             "copy" => self.copy(),
+            "take-from" => self.take_from(rest),
+            "share" => self.share(rest),
             "change" => self.wait_for(rest),
             "apply" => Ok(self.one.apply(self.waiting.as_slice())?),
             _ => self.absorb(),
@@ -55,6 +57,22 @@ impl Trees {
     fn copy(&mut self) -> Result<(), Stop> {
         self.other = self.one.copy()?;
         Ok(())
+    }
+
+    /// The first tree takes what the other has at a path.
+    fn take_from(&mut self, path: &str) -> Result<(), Stop> {
+        let path = RepoPath::read(self.alloc, path)?;
+        Ok(self.one.put_from(&self.other, &path)?)
+    }
+
+    /// The first tree takes the file that the other has at an index.
+    fn share(&mut self, index: &str) -> Result<(), Stop> {
+        let index = number_of(index.as_bytes())? as usize;
+        if index >= self.other.len() {
+            return Err(Stop::BadLine);
+        }
+        let file = self.other.shared(index).clone()?;
+        Ok(self.one.put_shared(file)?)
     }
 
     fn absorb(&mut self) -> Result<(), Stop> {

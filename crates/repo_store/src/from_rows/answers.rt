@@ -20,7 +20,7 @@ use crate::StoreFault;
 use crate::answers::Answers;
 use crate::contents::Contents;
 use crate::files::has_path;
-use crate::shared::{SharedFile, SharedFix};
+use crate::shared::{ListedFile, SharedFix};
 use crate::shared_answer::{AnswerRecords, SharedAnswer};
 use std::alloc::Global;
 use store_tables::AnswerRow;
@@ -38,7 +38,7 @@ fn status_at(number: i64) -> Result<u8, StoreFault>
 }
 
 // Whether each change is of one of the files.
-fn keep_to_seen(changes: &[SharedFix], seen: &[SharedFile]) -> bool
+fn keep_to_seen(changes: &[SharedFix], seen: &[ListedFile]) -> bool
     requires { IsRising (map file_of seen.now) }
     ensures { IsTrue result ↔ KeepToSeen (map fix_of changes.now) (map file_of seen.now) }
 {

@@ -15,10 +15,10 @@ ghost use Rattle.repo_store.specs.Rows.{blob_row};
 use super::columns::content_at;
 use super::recorded::Recorded;
 use crate::StoreFault;
-use crate::content::Content;
 use crate::contents::Contents;
 use crate::shared::SharedFix;
 use answer_records::{ChangedFile, read_changes};
+use hook_base::Content;
 use std::alloc::Global;
 
 // The new contents of a file, or none where it is gone.

@@ -11,10 +11,9 @@ ghost use Rattle.repo_store.specs.Rows.{blob_row, mode_number, staged_row};
 ghost use Rattle.repo_store.specs.RowRules.{IsFileRow, IsPathText, is_kept};
 
 use crate::StoreFault;
-use crate::content::Content;
 use crate::contents::Contents;
-use crate::shared::SharedFile;
-use hook_base::{Mode, PathFault, RepoPath};
+use crate::shared::ListedFile;
+use hook_base::{Content, Mode, PathFault, RepoPath};
 use std::alloc::Global;
 use std::cmp::Ordering;
 use std::str;
@@ -83,7 +82,7 @@ pub(crate) fn file_at(
     path: &[u8],
     mode: i64,
     digest: &[u8],
-) -> Result<SharedFile, StoreFault>
+) -> Result<ListedFile, StoreFault>
     ensures file { IfOk result (λ file. staged_row (file_of file) ≡ record { path = path.now; mode = mode; digest = digest.now }) }
     ensures among { IfOk result (λ file. IsAmong contents.now file.content) }
     ensures obeys { OnOk result (IsFileRow (map blob_row contents.now) path.now mode digest.now) }
@@ -94,7 +93,7 @@ pub(crate) fn file_at(
     };
     let path = path_at(alloc, path)?;
     let content = content_at(contents, digest)?;
-    let file = SharedFile::of(alloc, path, mode, content)?;
+    let file = ListedFile::of(alloc, path, mode, content)?;
     Ok(file)
 }
 

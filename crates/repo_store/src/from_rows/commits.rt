@@ -18,7 +18,7 @@ use super::staged::add_file;
 use crate::StoreFault;
 use crate::contents::Contents;
 use crate::limits::{MOST_COMMITS, MOST_CONTENT_BYTES};
-use crate::shared::{SharedCommit, SharedFile};
+use crate::shared::{ListedFile, SharedCommit};
 use sqlite::Error;
 use std::alloc::Global;
 use store_tables::{CommitRow, EntryRow};
@@ -106,7 +106,7 @@ fn place_of(number: i64, commits: usize) -> Result<usize, StoreFault>
 fn add_entry(
     history: &mut Vec<SharedCommit>,
     place: usize,
-    file: SharedFile,
+    file: ListedFile,
 ) -> Result<(), StoreFault>
     requires there { place < length history.old.items }
     requires rising { AllByRecursion (λ (commit : Commit). IsRising commit.tree) (map commit_of history.old.items) }

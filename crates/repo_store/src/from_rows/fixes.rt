@@ -13,11 +13,10 @@ ghost use Rattle.repo_store.specs.Rows.{blob_row, fix_at, fix_row, staged_row};
 
 use super::columns::{content_at, is_after, path_at};
 use crate::StoreFault;
-use crate::content::Content;
 use crate::contents::Contents;
 use crate::files::has_path;
-use crate::shared::{SharedFile, SharedFix};
-use hook_base::RepoPath;
+use crate::shared::{ListedFile, SharedFix};
+use hook_base::{Content, RepoPath};
 use sqlite::Error;
 use std::alloc::Global;
 use store_tables::FixRow;
@@ -50,7 +49,7 @@ fn now_of(contents: &Contents, row: &FixRow) -> Result<Option<Content>, StoreFau
 fn fix_of_row(
     alloc: Global,
     contents: &Contents,
-    staged: &[SharedFile],
+    staged: &[ListedFile],
     row: &FixRow,
 ) -> Result<SharedFix, StoreFault>
     requires { IsRising (map file_of staged.now) }
@@ -96,7 +95,7 @@ fn add_fix(fixes: &mut Vec<SharedFix>, fix: SharedFix) -> Result<(), StoreFault>
 pub(crate) fn fixes_of(
     alloc: Global,
     contents: &Contents,
-    staged: &[SharedFile],
+    staged: &[ListedFile],
     rows: Vec<FixRow>,
 ) -> Result<Vec<SharedFix>, StoreFault>
     requires { IsRising (map file_of staged.now) }

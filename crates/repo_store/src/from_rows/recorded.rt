@@ -1,6 +1,6 @@
 //! Parts of an answer that are read of their records.
 
-use crate::content::Content;
+use hook_base::Content;
 
 /// A part of an answer, and the record of it.
 #[derive(Drop)]

@@ -15,7 +15,7 @@ use super::columns::content_at;
 use super::recorded::Recorded;
 use crate::StoreFault;
 use crate::contents::Contents;
-use crate::shared::SharedFile;
+use crate::shared::ListedFile;
 use answer_records::{SeenFile, read_seen};
 use std::alloc::Global;
 
@@ -24,14 +24,14 @@ fn seen_file_of(
     alloc: Global,
     contents: &Contents,
     named: SeenFile,
-) -> Result<SharedFile, StoreFault>
+) -> Result<ListedFile, StoreFault>
     ensures file { IfOk result (λ file. seen_file (file_of file) ≡ named) }
     ensures among { IfOk result (λ file. IsAmong contents.now file.content) }
     ensures broken { IfErr result (IsDamage (¬ (is_kept (map blob_row contents.now) named.digest ≡ true))) }
 {
     let SeenFile { path, mode, digest } = named;
     let content = content_at(contents, &digest)?;
-    let file = SharedFile::of(alloc, path, mode, content)?;
+    let file = ListedFile::of(alloc, path, mode, content)?;
     Ok(file)
 }
 
@@ -40,7 +40,7 @@ fn seen_files_of(
     alloc: Global,
     contents: &Contents,
     named: Vec<SeenFile>,
-) -> Result<Vec<SharedFile>, StoreFault>
+) -> Result<Vec<ListedFile>, StoreFault>
     ensures files { IfOk result (λ files. seen_of_files (map file_of files.items) ≡ named.items) }
     ensures among { IfOk result (λ files. HaveContents contents.now (map file_of files.items)) }
     ensures broken { IfErr result (IsDamage (¬ HaveKeptContents (map blob_row contents.now) named.items)) }
@@ -58,7 +58,7 @@ pub(crate) fn seen_files_at(
     alloc: Global,
     contents: &Contents,
     digest: &[u8],
-) -> Result<Recorded<Vec<SharedFile>>, StoreFault>
+) -> Result<Recorded<Vec<ListedFile>>, StoreFault>
     ensures named { IfOk result (λ seen. sha256 seen.record ≡ digest.now) }
     ensures among { IfOk result (λ seen. IsAmong contents.now seen.record) }
     ensures record { IfOk result (λ seen. IsSeenRecord (seen_of_files (map file_of seen.part.items)) seen.record) }

@@ -16,14 +16,14 @@ use super::columns::{file_at, is_after};
 use crate::StoreFault;
 use crate::contents::Contents;
 use crate::files::fit;
-use crate::shared::SharedFile;
+use crate::shared::ListedFile;
 use hook_base::RepoPath;
 use sqlite::Error;
 use std::alloc::Global;
 use store_tables::StagedRow;
 
 // Whether a path comes after those of all files.
-fn follows_files(files: &[SharedFile], path: &RepoPath) -> bool
+fn follows_files(files: &[ListedFile], path: &RepoPath) -> bool
     requires { IsRising (map file_of files.now) }
     ensures { IsTrue result → AllByRecursion (λ (file : File). IsBelowPath file.path path.now) (map file_of files.now) }
 {
@@ -34,7 +34,7 @@ fn follows_files(files: &[SharedFile], path: &RepoPath) -> bool
 }
 
 /// Adds a file whose path comes after all others.
-pub(crate) fn add_file(files: &mut Vec<SharedFile>, file: SharedFile) -> Result<(), StoreFault>
+pub(crate) fn add_file(files: &mut Vec<ListedFile>, file: ListedFile) -> Result<(), StoreFault>
     requires { IsRising (map file_of files.old.items) }
     ensures added { OnOk result (map file_of files.new.items ≡ map file_of files.old.items ++ file_of file ∷ []) }
     ensures rising { OnOk result (IsRising (map file_of files.new.items)) }
@@ -52,7 +52,7 @@ fn files_of(
     alloc: Global,
     contents: &Contents,
     rows: Vec<StagedRow>,
-) -> Result<Vec<SharedFile>, StoreFault>
+) -> Result<Vec<ListedFile>, StoreFault>
     ensures files { IfOk result (λ files. map staged_row (map file_of files.items) ≡ rows.items) }
     ensures rising { IfOk result (λ files. IsRising (map file_of files.items)) }
     ensures among { IfOk result (λ files. HaveContents contents.now (map file_of files.items)) }
@@ -78,7 +78,7 @@ pub(crate) fn staged_of(
     alloc: Global,
     contents: &Contents,
     rows: Vec<StagedRow>,
-) -> Result<Vec<SharedFile>, StoreFault>
+) -> Result<Vec<ListedFile>, StoreFault>
     ensures files { IfOk result (λ files. map staged_row (map file_of files.items) ≡ rows.items) }
     ensures rising { IfOk result (λ files. IsRising (map file_of files.items)) }
     ensures fits { IfOk result (λ files. Fits (map file_of files.items)) }

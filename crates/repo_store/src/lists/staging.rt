@@ -12,7 +12,7 @@ ghost use Rattle.repo_store.specs.Sound.{IsSound};
 
 use super::Lists;
 use crate::limits::MOST_CONTENT_BYTES;
-use crate::shared::{SharedFile, SharedFix};
+use crate::shared::{ListedFile, SharedFix};
 use crate::shared_edit::SharedEdit;
 use crate::{StagingEdit, StagingFault, StagingRefusal, StoreFault};
 use hook_base::{Mode, OutOfMemory, RepoPath};
@@ -21,7 +21,7 @@ use hook_base::{Mode, OutOfMemory, RepoPath};
 /// contents were kept.
 #[derive(Drop)]
 pub(crate) struct Before {
-    staged: Vec<SharedFile>,
+    staged: Vec<ListedFile>,
     staged_bytes: usize,
     fixes: Vec<SharedFix>,
     pub(crate) count: usize,

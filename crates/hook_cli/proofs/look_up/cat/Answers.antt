@@ -1,5 +1,4 @@
-use Rattle.std.proofs.Common.{inl, refl, subst}
-use Rattle.hook_cli.specs.CommandOver.{IsLookUp}
+use Rattle.std.proofs.Common.{inl, refl}
 use Rattle.command_line.specs.declared.line.Line.TheVariants.{Cat}
 use Rattle.hook_cli.specs.RefusalText.{refusal_text}
 use Rattle.hook_cli.proofs.OverHostLemmas.{look-up-refused, silent-itself}

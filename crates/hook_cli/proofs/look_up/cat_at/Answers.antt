@@ -1,5 +1,4 @@
-use Rattle.std.proofs.Common.{◌∙◌, ap, inr, sym}
-use Rattle.std.specs.Option.{option_copied}
+use Rattle.std.proofs.Common.{inr, sym}
 use Rattle.command_line.specs.declared.line.Line.TheVariants.{Cat}
 use Rattle.hook_cli.proofs.OverHostLemmas.{look-up-refused, looked-up, silent-itself}
 use Rattle.hook_cli.proofs.look_up.cat_at.Goals as goal

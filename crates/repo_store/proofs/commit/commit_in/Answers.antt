@@ -1,7 +1,7 @@
 use Rattle.std.proofs.Common.{List, ℕ, Ok, pos, map, subst}
 use Rattle.store_tables.specs.Steps.{IsStep}
 use Rattle.store_tables.specs.Tables.{with_commit, without_fixes}
-use Rattle.repo_store.specs.declared.shared.FileParts.{FileParts}
+use Rattle.repo_store.specs.Shared.{FileParts}
 use Rattle.repo_store.specs.Lists.{file_of}
 use Rattle.repo_store.specs.Rows.{entry_row, with_entries}
 use Rattle.repo_store.proofs.CallLemmas.{step_then}

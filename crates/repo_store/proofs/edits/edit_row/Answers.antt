@@ -3,7 +3,7 @@ use Rattle.std.specs.Str.{bytes_eq}
 use Rattle.store_tables.specs.declared.rows.StagedRow.{StagedRow}
 use Rattle.store_tables.specs.Steps.{IsStep}
 use Rattle.store_tables.specs.Tables.{with_staged, without_staged}
-use Rattle.repo_store.specs.declared.shared.FileParts.{FileParts}
+use Rattle.repo_store.specs.Shared.{FileParts}
 use Rattle.repo_store.specs.Accepted.{with_entry_at}
 use Rattle.repo_store.specs.Lists.{entry_in, file_of}
 use Rattle.repo_store.specs.Rows.{staged_row, with_staged_rows}

@@ -3,7 +3,7 @@ use Rattle.hook_base.specs.declared.file.File.{File}
 use Rattle.hook_base.specs.Places.{IsAt, IsGap}
 use Rattle.hook_base.specs.Trees.{entry_of, put_row}
 use Rattle.hook_base.specs.TreeLemmas.{entry_of-gap, remove_file-gap}
-use Rattle.repo_store.specs.declared.shared.FileParts.{FileParts}
+use Rattle.repo_store.specs.Shared.{FileParts}
 use Rattle.repo_store.specs.Lists.{entry_in, file_of}
 use Rattle.repo_store.proofs.FewLemmas.{gone, held_at, named, put_fixed, was_there, within_held}
 use Rattle.repo_store.proofs.PlaceLemmas.{held_remove}

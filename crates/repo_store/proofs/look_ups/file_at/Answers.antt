@@ -1,6 +1,6 @@
 use Rattle.std.proofs.Common.{Option, map, option_map, sym, ap, ◌∙◌}
 use Rattle.hook_base.specs.TreeLemmas.{entry_of-gap}
-use Rattle.repo_store.specs.declared.shared.FileParts.{FileParts}
+use Rattle.repo_store.specs.Shared.{FileParts}
 use Rattle.repo_store.specs.Lists.{entry_in, file_of}
 use Rattle.repo_store.proofs.PlaceLemmas.{found_at}
 use Rattle.repo_store.proofs.TreeLemmas.{got}

@@ -5,7 +5,7 @@ use Rattle.answer_records.specs.declared.changed_file.ChangedFile.{ChangedFile}
 use Rattle.answer_records.specs.declared.seen_file.SeenFile.{SeenFile}
 use Rattle.answer_records.specs.Reading.{IsChangesRecord, IsSeenRecord, IsWordsRecord}
 use Rattle.answer_records.specs.Records.{changed_of_changes, seen_of_files}
-use Rattle.repo_store.specs.declared.shared.FileParts.{FileParts}
+use Rattle.repo_store.specs.Shared.{FileParts}
 use Rattle.repo_store.specs.declared.shared.SharedFix.{SharedFix}
 use Rattle.repo_store.specs.Complete.{HasRecords}
 use Rattle.repo_store.specs.Lists.{file_of, fix_of}

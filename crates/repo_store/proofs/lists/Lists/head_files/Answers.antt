@@ -1,7 +1,7 @@
 use Rattle.std.proofs.Common.{◌≡◌, ◌+◌, ◌-◌, ◌<◌, length, get_or, List, map, sym, ap, subst, ◌∙◌, arith}
 use Rattle.hook_base.specs.Trees.{IsRising}
 use Rattle.repo_store.specs.declared.shared.SharedCommit.{SharedCommit}
-use Rattle.repo_store.specs.declared.shared.FileParts.{FileParts}
+use Rattle.repo_store.specs.Shared.{FileParts}
 use Rattle.repo_store.specs.Kept.{Mirror}
 use Rattle.repo_store.specs.Lists.{file_of}
 use Rattle.repo_store.specs.Repository.{last_tree}

@@ -1,6 +1,6 @@
 use Rattle.std.proofs.Common.{◌≡◌, Ok, Err, List, map, refl, sym, subst, arith}
 use Rattle.hook_base.specs.Trees.{apply_changes}
-use Rattle.repo_store.specs.declared.shared.FileParts.{FileParts}
+use Rattle.repo_store.specs.Shared.{FileParts}
 use Rattle.repo_store.specs.Accepted.{HaveSameFixed}
 use Rattle.repo_store.specs.Kept.{accepting}
 use Rattle.repo_store.specs.Lists.{file_of, fix_of}

@@ -1,0 +1,118 @@
+//! What files contain, shared by all that contain the same.
+
+ghost use Rattle.std.specs.Prelude.{◌≡◌, length, IfOk};
+ghost use Rattle.sha2.specs.Sha256.{sha256};
+
+use crate::{Bytes, OutOfMemory};
+use sha2::{Digest as _, Sha256};
+use std::alloc::{AllocError, Global};
+use std::marker::Model;
+use std::rc::Rc;
+
+// Bytes, and the SHA-256 of them.
+#[derive(Debug, Drop)]
+struct Hashed {
+    digest: [u8; 32],
+    bytes: Bytes,
+}
+
+/// Bytes with the SHA-256 of them (FIPS 180-4). They are hashed once, when they are made; a copy shares both and takes no
+/// memory. Contracts see the bytes.
+#[derive(Debug, Drop)]
+pub struct Content {
+    hashed: Rc<Hashed>,
+}
+
+impl Model for Content {
+    ghost use Rattle.std.specs.Prelude.{◌≡◌, List, ℕ};
+    ghost use Rattle.sha2.specs.Sha256.{sha256};
+
+    ghost Value = { List ℕ };
+
+    ghost view = { λ content. content.hashed.value.bytes };
+
+    ghost invariant = { λ content. content.hashed.value.digest ≡ sha256 content.hashed.value.bytes };
+}
+
+impl Content {
+    /// These bytes, or `OutOfMemory` where memory is refused.
+    pub fn new(alloc: Global, bytes: Bytes) -> Result<Content, OutOfMemory>
+        ensures { IfOk result (λ content. content ≡ bytes) }
+    {
+        let digest = Sha256::digest(bytes.as_slice());
+        Content::with_digest(alloc, digest, bytes)
+    }
+
+    /// These bytes, whose SHA-256 is known, or `OutOfMemory` where memory is refused.
+    pub fn with_digest(
+        alloc: Global,
+        digest: [u8; 32],
+        bytes: Bytes,
+    ) -> Result<Content, OutOfMemory>
+        requires { digest ≡ sha256 bytes }
+        ensures { IfOk result (λ content. content ≡ bytes) }
+    {
+        let hashed = Rc::new(alloc, Hashed { digest, bytes })?;
+        Ok(Content { hashed })
+    }
+
+    /// A copy of the bytes, or `OutOfMemory` where memory is refused.
+    pub fn copy_of(alloc: Global, bytes: &[u8]) -> Result<Content, OutOfMemory>
+        ensures { IfOk result (λ content. content ≡ bytes.now) }
+    {
+        Content::new(alloc, Bytes::copy_of(alloc, bytes)?)
+    }
+
+    /// The SHA-256 of the bytes.
+    pub fn digest(&self) -> &[u8; 32]
+        ensures { result.now ≡ sha256 self.now }
+    {
+        &self.hashed.as_ref().digest
+    }
+
+    /// The number of bytes.
+    pub fn len(&self) -> usize
+        ensures { result ≡ length self.now }
+    {
+        self.as_slice().len()
+    }
+
+    /// The bytes.
+    pub fn as_slice(&self) -> &[u8]
+        ensures { result.now ≡ self.now }
+    {
+        self.hashed.as_ref().bytes.as_slice()
+    }
+}
+
+// The same bytes, shared once more. `AllocError` where they have too many owners to be counted.
+impl Clone for Content {
+    ghost use Rattle.std.specs.Prelude.{◌≡◌};
+
+    ghost is_clone = { λ source made. made ≡ source };
+
+    fn clone(&self) -> Result<Self, AllocError> {
+        let hashed = self.hashed.clone()?;
+        Ok(Content { hashed })
+    }
+}
+
+impl PartialEq for Content {
+    ghost use Rattle.std.specs.Prelude.{nat_eq};
+    ghost use Rattle.std.specs.Cmp.{partial_equiv_from_equiv};
+    ghost use Rattle.std.specs.Cmp.Lexicographic.{nat_list_eq_equiv, pointwise};
+
+    ghost eq = { pointwise nat_eq };
+
+    ghost laws = { partial_equiv_from_equiv nat_list_eq_equiv };
+
+    fn eq(&self, other: &Self) -> bool {
+        self.as_slice() == other.as_slice()
+    }
+}
+
+impl Eq for Content {
+    ghost use Rattle.std.specs.Cmp.Lexicographic.{nat_list_eq_equiv};
+
+    ghost laws = { nat_list_eq_equiv };
+}
