@@ -1,7 +1,6 @@
 -- A hook has one part for each file of its tree at most, or one without names, and no outcome makes the tree longer.
-use Rattle.std.proofs.Common.{◌≡◌, ◌∙◌, ap, sym, subst, refl, arith, ℕ, ◌+◌, ◌<◌, ◌≤◌, Bool, true, false, List, [], ◌∷◌, ◌++◌, length, map, Option, None, Some, All}
-use Rattle.std.specs.Prelude.{MatchBool, MatchOption, if◌then◌else◌, not, ◌&&◌}
-use Rattle.std.specs.List.{filter}
+use Rattle.std.proofs.Common.{◌≡◌, ap, refl, arith, ℕ, ◌+◌, ◌<◌, ◌≤◌, Bool, true, false, List, [], ◌∷◌, ◌++◌, length, Option, None, Some, All}
+use Rattle.std.specs.Prelude.{if◌then◌else◌, not, ◌&&◌}
 use Rattle.std.specs.Str.{bytes_eq}
 use Rattle.std.proofs.lemmas.List.{length-map}
 use Rattle.std.proofs.lemmas.List.Sums.{count_by-le-length, length-filter}
@@ -24,7 +23,7 @@ use Rattle.report_text.specs.declared.hook_result.Ending.{Ending}
 use Rattle.hook_run.specs.declared.run_ask.RunAsk.{RunAsk}
 use Rattle.hook_run.specs.Asks.{is_skipped}
 use Rattle.hook_run.specs.Commands.{command_of}
-use Rattle.hook_run.specs.HookRun.{AreItsParts, IsCommandRun, IsEnding, IsLanguageRun, commands_of, further_of, most_names_of, names_for, rules_of, sees_whole}
+use Rattle.hook_run.specs.HookRun.{IsCommandRun, IsEnding, IsLanguageRun, commands_of, further_of, most_names_of, names_for, rules_of, sees_whole}
 use Rattle.hook_run.specs.Limits.{most_command_bytes}
 use Rattle.hook_run.specs.Parts.{ArePartsOf, Part}
 use Rattle.hook_run.specs.PlanBounds.{most_of_hooks}

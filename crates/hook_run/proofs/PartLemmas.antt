@@ -20,13 +20,13 @@ use Rattle.hook_run.specs.declared.part_outcome.PartOutcome.{PartOutcome}
 use Rattle.hook_run.specs.declared.run_refusal.RunRefusal.{RunRefusal}
 use Rattle.hook_run.specs.declared.run_refusal.RunRefusal.TheVariants.{NoSuchHook, Spent}
 use Rattle.hook_run.specs.AnswerLemmas.{answered-none, so-far-back_to, so-far-back_to-last}
-use Rattle.hook_run.specs.Answers.{AreAnswered, AreAnsweredSoFar, IsCounted}
+use Rattle.hook_run.specs.Answers.{AreAnswered}
 use Rattle.hook_run.specs.Moments.{Moment, moment}
-use Rattle.hook_run.specs.Parts.{AllTold, Part}
+use Rattle.hook_run.specs.Parts.{Part}
 use Rattle.hook_run.specs.PlanRuns.{IsPartStarted, IsPartStopped, IsPartUnput, part_of}
-use Rattle.hook_run.specs.Plans.{CanComplete, Plan, need_of, part_with, seen_of_plan, words_of}
+use Rattle.hook_run.specs.Plans.{Plan, need_of, part_with, seen_of_plan, words_of}
 use Rattle.hook_run.specs.Refusals.{of_book}
-use Rattle.hook_run.specs.Starts.{AfterOutcome, IsMarked, IsStarted, StartsFor, StartsOne}
+use Rattle.hook_run.specs.Starts.{AfterOutcome, IsMarked, IsStarted, StartsFor}
 use Rattle.hook_run.proofs.CompletionLemmas.{can-complete, can-follow}
 use Rattle.hook_run.proofs.RunLemmas.{not-asked, not-spent}
 

@@ -1,5 +1,5 @@
 -- A run for whose parts answers are remembered has these answers, and starts no child.
-use Rattle.std.proofs.Common.{◌≡◌, ◌∙◌, ap, ap₂, sym, subst, ℕ, ◌+◌, false, List, [], ◌∷◌, ◌++◌, length, Option, None, Some, arith}
+use Rattle.std.proofs.Common.{◌≡◌, ◌∙◌, ap, ap₂, sym, subst, ℕ, false, List, [], ◌∷◌, ◌++◌, length, Option, None, Some, arith}
 use Rattle.std.specs.List.{AllByRecursion as Each}
 use Rattle.std.proofs.lemmas.List.Elements.{recursion_from_All}
 use Rattle.hook_base.specs.declared.file.File.{File}

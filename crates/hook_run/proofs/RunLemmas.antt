@@ -1,5 +1,5 @@
 -- A run over children and what is remembered, part by part.
-use Rattle.std.proofs.Common.{◌≡◌, ◌≢◌, ◌⊎◌, ◌∙◌, ap, sym, subst, refl, inl, inr, arith, append_assoc, ℕ, ◌+◌, ◌-◌, ◌^◌, Bool, false, List, [], ◌∷◌, ◌++◌, Option, None, Some, Result, Ok, Err, IfOk, IfErr, IsErrAnd}
+use Rattle.std.proofs.Common.{◌≡◌, ◌≢◌, ◌∙◌, ap, sym, subst, refl, append_assoc, ℕ, Bool, false, List, [], ◌∷◌, ◌++◌, Option, None, Some, Result, Ok, Err, IfOk, IfErr, IsErrAnd}
 use Rattle.std.proofs.lemmas.List.{append-nil}
 use Rattle.hook_base.specs.declared.file.File.{File}
 use Rattle.child_port.specs.SeenLemmas.{IsPartOf-seen_of}
@@ -10,7 +10,6 @@ use Rattle.hook_base.specs.Trees.{IsPartOf}
 use Rattle.hook_config.specs.declared.configuration.Config.{Config}
 use Rattle.result_book.specs.declared.book_fault.BookFault.{BookFault}
 use Rattle.result_book.specs.declared.book_fault.BookFault.TheVariants as book
-use Rattle.result_book.specs.Contents.{Contents, Lacks}
 use Rattle.result_book.specs.Told.{AddsTold}
 use Rattle.hook_run.specs.declared.need.Need.TheVariants.{Child, Over}
 use Rattle.hook_run.specs.declared.run_ask.RunAsk.{RunAsk}
@@ -18,15 +17,15 @@ use Rattle.hook_run.specs.declared.run_out.RunOut.{RunOut}
 use Rattle.hook_run.specs.declared.run_refusal.RunRefusal.{RunRefusal}
 use Rattle.hook_run.specs.declared.run_refusal.RunRefusal.TheVariants.{Book, NoSuchHook, OutOfMemory, Spent}
 use Rattle.hook_run.specs.AnswerLemmas.{answered-adds, answered-append, answered-none, answered-told, so-far, so-far-adds, so-far-append, so-far-last, so-far-told}
-use Rattle.hook_run.specs.Answers.{AreAnswered, AreAnsweredSoFar}
+use Rattle.hook_run.specs.Answers.{AreAnswered}
 use Rattle.hook_run.specs.HookRun.{further_of, sees_whole}
 use Rattle.hook_run.specs.Moments.{Moment}
-use Rattle.hook_run.specs.Parts.{AllTold, Part, all_parts}
+use Rattle.hook_run.specs.Parts.{AllTold, Part}
 use Rattle.hook_run.specs.PlanRuns.{IsPartStopped, IsPlanRun, IsPlanStopped}
-use Rattle.hook_run.specs.Plans.{AtPart, CanComplete, Completes, CompletesAt, IsPlanAfter, IsPlanOf, Plan, need_at, need_of, out_of_plan, part_with, seen_at, seen_of_plan, tree_of_plan, words_of}
+use Rattle.hook_run.specs.Plans.{AtPart, CanComplete, Completes, CompletesAt, IsPlanAfter, IsPlanOf, Plan, need_at, need_of, out_of_plan, part_with, seen_at, seen_of_plan, tree_of_plan}
 use Rattle.hook_run.specs.Refusals.{IsOfBook, is_of_book, of_book}
 use Rattle.hook_run.specs.RunOuts.{IsBegun, IsRunOver, IsStoppedRun}
-use Rattle.hook_run.proofs.CompletionLemmas.{begins-at-once, can-complete, can-follow}
+use Rattle.hook_run.proofs.CompletionLemmas.{begins-at-once, can-follow}
 
 -- ---- a plan, part by part
 

@@ -1,5 +1,5 @@
 -- Lemmas on how parts come to their outcomes: parts behind one another, what is told, what is remembered, and the counts.
-use Rattle.std.specs.Prelude.{◌≡◌, ◌⊎◌, ◌+◌, ◌≤◌, ℕ, Bool, true, false, MatchBool, List, [], ◌∷◌, ◌++◌, length, Option, None, Some, refl}
+use Rattle.std.specs.Prelude.{◌≡◌, ◌+◌, ℕ, Bool, true, false, MatchBool, List, [], ◌∷◌, ◌++◌, Option, None, Some, refl}
 use Rattle.std.proofs.Common.{ap, sym, ◌∙◌, inl, inr, subst, arith, append_assoc, length-append}
 use Rattle.std.proofs.lemmas.List.{append-nil}
 use Rattle.hook_base.specs.declared.file.File.{File}

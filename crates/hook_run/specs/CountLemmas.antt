@@ -1,5 +1,5 @@
 -- Lemmas on the counts of the children over the parts that they told.
-use Rattle.std.specs.Prelude.{◌+◌, ◌≤◌, ℕ, List, [], ◌∷◌, length}
+use Rattle.std.specs.Prelude.{◌+◌, ◌≤◌, List, [], ◌∷◌, length}
 use Rattle.std.proofs.Common.{arith}
 use Rattle.child_port.specs.Outcomes.{faults_in}
 use Rattle.child_port.specs.declared.answer.Outcome.{Outcome}

@@ -1,6 +1,6 @@
 -- Which parts of a run are started, and what is remembered of their answers. For each part, in a fresh run too, its words and
 -- seen files are looked up in what is remembered at that moment.
-use Rattle.std.specs.Prelude.{◌≡◌, ◌≢◌, ◌↔◌, ℕ, Bool, false, IsTrue, MatchBool, List, [], ◌∷◌, ◌++◌, Option, None, Some}
+use Rattle.std.specs.Prelude.{◌≡◌, ◌≢◌, ◌↔◌, ℕ, Bool, false, IsTrue, MatchBool, List, [], ◌∷◌, ◌++◌, Option, Some}
 use Rattle.hook_base.specs.declared.file.File.{File}
 use Rattle.child_port.specs.declared.answer.Answer.{Answer}
 use Rattle.child_port.specs.declared.answer.Outcome.{Outcome}

@@ -2,9 +2,10 @@
 
 ghost use Rattle.std.specs.Prelude.{◌≡◌};
 ghost use Rattle.std.specs.Option.{option_copied};
+ghost use Rattle.hook_base.specs.Trees.{entry_of};
 ghost use Rattle.hook_run.specs.PartsEnding.{has_changed, is_modified, is_modified_row, is_tracked};
 
-use hook_base::{File, FileEntry, Tree};
+use hook_base::{File, FileEntry, RepoPath, Tree};
 
 /// Whether a tracked file of the tree `before` is gone from the tree `after`, or has other bytes there.
 pub fn is_modified(before: &Tree, after: &Tree) -> bool
@@ -12,17 +13,30 @@ pub fn is_modified(before: &Tree, after: &Tree) -> bool
 {
     'rows: for index in 0..before.len() {
         let row = before.entry(index);
-        if is_modified_row(after, row) {
+        if is_modified_row(after, index, row) {
             return true;
         }
     }
     false
 }
 
-fn is_modified_row(after: &Tree, row: &File) -> bool
+fn is_modified_row(after: &Tree, near: usize, row: &File) -> bool
     ensures { result ≡ is_modified_row after.now row.now }
 {
-    is_tracked(row) && has_changed(row, after.get(&row.path))
+    is_tracked(row) && has_changed(row, entry_near(after, near, &row.path))
+}
+
+// What stands at a path. A hook seldom takes files out, so each is mostly at the same index as before, which is looked at first.
+fn entry_near<'a>(tree: &'a Tree, near: usize, path: &RepoPath) -> Option<&'a FileEntry>
+    ensures { option_copied result ≡ entry_of path.now tree.now }
+{
+    if near < tree.len() {
+        let row = tree.entry(near);
+        if row.path == *path {
+            return Some(&row.entry);
+        }
+    }
+    tree.get(path)
 }
 
 // The message of a commit isn't tracked.
