@@ -136,7 +136,36 @@ PLAYS = [
     ),
 ]
 
+# Staged paths in their order, whether another can't stand beside them, and that path. Those around a slash in the order of bytes
+# stand between a folder and what lies in it.
+AMONG = [
+    (["a", "a-x", "a.b", "a0"], True, "a.b/c"),
+    (["a", "a-x", "a.b", "a0"], True, "a/b/c/d"),
+    (["a", "a-x", "a.b", "a0"], True, "a0/c"),
+    (["a-x", "a.b", "a/b", "a0"], True, "a"),
+    (["a-x", "a.b", "a/b", "a/c", "a/d", "a0"], True, "a"),
+    (["a-x", "a.b", "a/b", "a0"], True, "a/b/c"),
+    (["a/b/c/d/e"], True, "a/b/c"),
+    (["src/lib.rs", "src/main.rs"], True, "src/lib.rs/x"),
+    (["a-x", "a.b", "a0"], False, "a"),
+    (["a-x", "a.b", "a0"], False, "a1/c"),
+    (["a-x", "a.b", "a0"], False, "A/c"),
+    (["a/bb"], False, "a/b"),
+    (["aa/b", "ab"], False, "a"),
+    (["src/lib.rs", "src/main.rs"], False, "src/lib"),
+]
+
+
+def beside(staged, clash, path):
+    """A path that is staged last."""
+    standing = sorted(staged if clash else [*staged, path])
+    added = "".join(["added\n" * len(staged), "refused 15 Clash\n" if clash else "added\n"])
+    plays = [word for each in [*staged, path] for word in ("add", "none", each, "")]
+    return (*plays, added + ended() + files("staged", *(("plain", each, "") for each in standing)))
+
+
 ROWS = [
+    *(("play", *beside(*each)) for each in AMONG),
     *(("cleaned_message", message, cleaned) for message, cleaned in CLEANED),
     ("begun_message", "", ""),
     ("begun_message", "\n", "\n"),

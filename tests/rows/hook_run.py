@@ -8,7 +8,8 @@ are played over a table of answers:
 
 run_hooks CONFIGURATION STAGE CANDIDATES ONLY SKIP CALLS KTH FAULT COUNT ROW.. FILE..
 
-The first line then tells the children's outcomes and faults, and lines on the files that were changed follow. No contract says what a
+The first line then tells the children's outcomes and faults, and lines on the files that were changed follow. `run_plan` is the same,
+where each child that the plan of the run needs is started outside, and its outcome told to the plan. No contract says what a
 refusal is shown as; the other rows are those of users, beside the definitions that the contracts cite."""
 
 PROGRAM = "hook_trial"
@@ -317,6 +318,7 @@ CHILDREN = [
 
 ROWS = [
     *CHILDREN,
+    *(("run_plan", *row[1:]) for row in CHILDREN),
     # A plan that needs a child says so.
     ("run", T, "pre-commit", "a.txt", "all", "", X, "Child"),
     *(("run", configuration, stage, "a.txt", only, skip, A, answer) for configuration, stage, only, skip, answer in ASKED),

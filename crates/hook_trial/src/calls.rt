@@ -77,6 +77,7 @@ fn of_hook_run(alloc: Global, call: &str, arguments: &[Vec<u8>]) -> Result<Answe
         "columns" => report_texts::for_names(alloc, arguments),
         "run" => plans::played(alloc, arguments),
         "run_hooks" => child_runs::played(alloc, arguments),
+        "run_plan" => child_runs::planned(alloc, arguments),
         _ => of_commit_flow(alloc, call, arguments),
     }
 }

@@ -7,10 +7,19 @@ use crate::plans::{refused_run, verdict_of, with_results};
 use child_port::{Children, FuseChildren, TableChildren, TableRow};
 use hook_base::{Change, Items, Tree};
 use hook_config::{Config, read_config};
-use hook_run::{RunAsk, RunOut, run_hooks};
+use hook_run::{Need, RunAsk, RunOut, RunPlan, RunRefusal, run_hooks};
 use result_book::ListBook;
 use std::alloc::Global;
 use trial_rows::{Answer, Stop, number_of, text_of};
+
+// A run that a row asks for: of which configuration, over which children, and on which files.
+#[derive(Drop)]
+struct Asked<'a> {
+    configuration: &'a [u8],
+    children: FuseChildren<TableChildren>,
+    ask: RunAsk,
+    tree: Tree,
+}
 
 /// `run_hooks CONFIGURATION STAGE CANDIDATES ONLY SKIP CALLS KTH FAULT COUNT ROW.. FILE..`: children that have told so many
 /// outcomes, or `all` that can be counted, answer by the first COUNT rows, and their call of the number KTH fails. The run's
@@ -18,6 +27,35 @@ use trial_rows::{Answer, Stop, number_of, text_of};
 /// and how many of them are faults, and how many hooks are unsteady; a line for each file that is changed; then a line for
 /// each result, and the report.
 pub(crate) fn played(alloc: Global, arguments: &[Vec<u8>]) -> Result<Answer, Stop> {
+    let Asked {
+        configuration,
+        children,
+        ask,
+        tree,
+    } = asked_by(alloc, arguments)?;
+    let mut children = children;
+    match read_config(alloc, configuration) {
+        Ok(config) => run_over(alloc, &mut children, &config, &ask, &tree),
+        Err(fault) => Ok(refusal(alloc, fault)),
+    }
+}
+
+/// `run_plan ..`: the same, where the children that the plan of the run needs are started here, and their outcomes told to it.
+pub(crate) fn planned(alloc: Global, arguments: &[Vec<u8>]) -> Result<Answer, Stop> {
+    let Asked {
+        configuration,
+        children,
+        ask,
+        tree,
+    } = asked_by(alloc, arguments)?;
+    let mut children = children;
+    match read_config(alloc, configuration) {
+        Ok(config) => plan_over(alloc, &mut children, &config, &ask, &tree),
+        Err(fault) => Ok(refusal(alloc, fault)),
+    }
+}
+
+fn asked_by(alloc: Global, arguments: &[Vec<u8>]) -> Result<Asked<'_>, Stop> {
     let [configuration, rest @ ..] = arguments else {
         return Err(Stop::BadLine);
     };
@@ -32,12 +70,12 @@ pub(crate) fn played(alloc: Global, arguments: &[Vec<u8>]) -> Result<Answer, Sto
     };
     let table = table_of(alloc, calls.as_slice(), rows)?;
     let kth = u64::from(number_of(kth.as_slice())?);
-    let mut children = FuseChildren::new(table, kth, fault_of(fault.as_slice())?);
-    let (ask, tree) = (ask_of(alloc, asked)?, tree_of(alloc, files)?);
-    match read_config(alloc, configuration.as_slice()) {
-        Ok(config) => run_over(alloc, &mut children, &config, &ask, &tree),
-        Err(fault) => Ok(refusal(alloc, fault)),
-    }
+    Ok(Asked {
+        configuration: configuration.as_slice(),
+        children: FuseChildren::new(table, kth, fault_of(fault.as_slice())?),
+        ask: ask_of(alloc, asked)?,
+        tree: tree_of(alloc, files)?,
+    })
 }
 
 pub(crate) fn table_of(
@@ -73,6 +111,30 @@ fn run_over(
         }
         Err(refused) => refused_run(alloc, refused),
     }
+}
+
+fn plan_over(
+    alloc: Global,
+    children: &mut FuseChildren<TableChildren>,
+    config: &Config,
+    ask: &RunAsk,
+    tree: &Tree,
+) -> Result<Answer, Stop> {
+    let (calls, faults) = (children.calls(), children.faults());
+    let mut plan = match RunPlan::begin(alloc, config, ask, tree) {
+        Ok(plan) => plan,
+        Err(refused) => return refused_run(alloc, refused),
+    };
+    'children: while plan.next() == Need::Child {
+        if children.calls() == u64::MAX {
+            return refused_run(alloc, RunRefusal::Spent);
+        }
+        let outcome = children.run(plan.words(), plan.tree(), plan.seen())?;
+        plan = plan.tell(outcome)?;
+    }
+    let calls = children.calls().saturating_sub(calls);
+    let faults = children.faults().saturating_sub(faults);
+    told(alloc, &plan.finish(), calls, faults, tree)
 }
 
 fn told(alloc: Global, out: &RunOut, calls: u64, faults: u64, tree: &Tree) -> Result<Answer, Stop> {
