@@ -419,7 +419,18 @@ REPOSITORY_LINES = [
         ["add", "--ch=+x", "a"],
         refused("add", "UnknownArgument", "unexpected argument '--ch' found\n\n  tip: a similar argument exists: '--chmod'"),
     ),
-    # The help of a command.
+    # The help of a command, which is short where the first word that asks for it begins with -h.
+    *(
+        (
+            ["status", *words],
+            "refused DisplayHelp\n"
+            "Prints which staged files differ from those of the last commit\n\n"
+            "Usage: hookhost status\n\n"
+            "Options:\n"
+            f"  -h, --help  Print help\n\n{MORE}",
+        )
+        for words in [["-h"], ["-h", "--help"], ["-hx"]]
+    ),
     (
         ["status", "--help"],
         "refused DisplayHelp\n"

@@ -8,6 +8,7 @@ ghost use Rattle.command_line.specs.declared.line.PathSource.TheVariants.{Words}
 ghost use Rattle.command_line.specs.CommandLine.{IsValueOf, add_line, add_of, cat_line, commit_line, files_in, hookhost_app, is_command, line_asked, line_by, line_fault, named_in, remove_line, remove_of, run_files_line, run_line, show_line, try_line};
 
 use crate::commands::hookhost;
+use crate::help_length::help_asked;
 use crate::paths::paths_of;
 use crate::values::{
     flag_of, maybe_text_of, mode_of, number_of, stage_of, text_of, texts_of, version_of,
@@ -40,7 +41,7 @@ fn matches_of<'a>(alloc: Global, words: &'a [&'a str]) -> Result<ArgMatches<'a>,
     ensures met { IfOk result (λ m. is_some (subcommand_rows_of m) ≡ true) }
     ensures fault { FailsBy (fault_of hookhost_app (map (λ s. s.now) words.entry.now)) result }
 {
-    hookhost(alloc)?.try_get_matches_from(words)
+    hookhost(alloc, help_asked(words))?.try_get_matches_from(words)
 }
 
 // The command that was met, with its values.

@@ -8,6 +8,7 @@ ghost use Rattle.clap.specs.declared.builder.Command.TheViews.{out-Command as fi
 ghost use Rattle.command_line.specs.CommandLine.{accept_app, add_app, cat_app, check_app, chmod_rule, commit_app, commit_rule, explain_app, fixes_app, flag_rule, forget_app, hookhost_app, hookhost_base, init_app, log_app, memory_app, message_rule, optional_words_rule, paths_from_rule, remove_app, run_app, run_files_app, run_files_with_options_app, run_with_options_app, show_app, stage_rule, status_app, try_app, with_commands, word_rule, words_rule};
 
 use crate::help::{CHECK_HELP, EXPLAIN_HELP, PROGRAM_HELP, TRY_HELP};
+use crate::help_length::HelpLength;
 use crate::repository_help::{
     ACCEPT_HELP, ADD_HELP, CAT_HELP, COMMIT_HELP, FIXES_HELP, FORGET_HELP, INIT_HELP, LOG_HELP,
     MEMORY_HELP, REMOVE_HELP, RUN_FILES_HELP, RUN_HELP, SHOW_HELP, STATUS_HELP,
@@ -20,114 +21,146 @@ const RUN_FILES_USAGE: &str =
     "hookhost run-files [--hook-stage=<STAGE>] [--fresh] (<PATH>... | --paths-from=<FILE>)";
 
 /// The program without its name, with all its commands.
-pub(crate) fn hookhost<'a>(alloc: Global) -> Result<Command<'a>, AllocError>
+pub(crate) fn hookhost<'a>(alloc: Global, help: HelpLength) -> Result<Command<'a>, AllocError>
     ensures { IfOk result (λ command. app_of command ≡ hookhost_app) }
 {
-    let program = with_configurations(alloc, program(alloc))?;
-    let program = with_staging(alloc, program)?;
-    let program = with_staged_files(alloc, program)?;
-    let program = with_runs(alloc, program)?;
-    let program = with_fixes(alloc, program)?;
-    let program = with_commits(alloc, program)?;
-    with_answers(alloc, program)
+    let program = with_configurations(alloc, help, program(alloc, help))?;
+    let program = with_staging(alloc, help, program)?;
+    let program = with_staged_files(alloc, help, program)?;
+    let program = with_runs(alloc, help, program)?;
+    let program = with_fixes(alloc, help, program)?;
+    let program = with_commits(alloc, help, program)?;
+    with_answers(alloc, help, program)
 }
 
-fn program<'a>(alloc: Global) -> Command<'a>
+fn program<'a>(alloc: Global, help: HelpLength) -> Command<'a>
     ensures { app_of result ≡ hookhost_base }
 {
     Command::new(alloc, "hookhost")
         .about("Runs the hooks of a pre-commit configuration, and keeps a small repository")
         .version(VERSION)
-        .after_help(PROGRAM_HELP)
+        .after_help(help.of(PROGRAM_HELP))
         .no_binary_name(true)
         .disable_help_subcommand(true)
         .subcommand_required(true)
 }
 
-fn with_configurations<'a>(alloc: Global, program: Command<'a>) -> Result<Command<'a>, AllocError>
+fn with_configurations<'a>(
+    alloc: Global,
+    help: HelpLength,
+    program: Command<'a>,
+) -> Result<Command<'a>, AllocError>
     ensures { IfOk result (λ command. app_of command ≡ with_commands (app_of program.entry) (init_app ∷ try_app ∷ check_app ∷ explain_app ∷ [])) }
 {
-    let program = program.subcommand(init_command(alloc))?;
-    with_readings(alloc, program)
+    let program = program.subcommand(init_command(alloc, help))?;
+    with_readings(alloc, help, program)
 }
 
 // The commands that need no repository.
-fn with_readings<'a>(alloc: Global, program: Command<'a>) -> Result<Command<'a>, AllocError>
+fn with_readings<'a>(
+    alloc: Global,
+    help: HelpLength,
+    program: Command<'a>,
+) -> Result<Command<'a>, AllocError>
     ensures { IfOk result (λ command. app_of command ≡ with_commands (app_of program.entry) (try_app ∷ check_app ∷ explain_app ∷ [])) }
 {
     program
-        .subcommand(try_command(alloc)?)?
-        .subcommand(check_command(alloc))?
-        .subcommand(explain_command(alloc)?)
+        .subcommand(try_command(alloc, help)?)?
+        .subcommand(check_command(alloc, help))?
+        .subcommand(explain_command(alloc, help)?)
 }
 
-fn with_staging<'a>(alloc: Global, program: Command<'a>) -> Result<Command<'a>, AllocError>
+fn with_staging<'a>(
+    alloc: Global,
+    help: HelpLength,
+    program: Command<'a>,
+) -> Result<Command<'a>, AllocError>
     ensures { IfOk result (λ command. app_of command ≡ with_commands (app_of program.entry) (add_app ∷ remove_app ∷ [])) }
 {
     program
-        .subcommand(add_command(alloc)?)?
-        .subcommand(remove_command(alloc)?)
+        .subcommand(add_command(alloc, help)?)?
+        .subcommand(remove_command(alloc, help)?)
 }
 
-fn with_staged_files<'a>(alloc: Global, program: Command<'a>) -> Result<Command<'a>, AllocError>
+fn with_staged_files<'a>(
+    alloc: Global,
+    help: HelpLength,
+    program: Command<'a>,
+) -> Result<Command<'a>, AllocError>
     ensures { IfOk result (λ command. app_of command ≡ with_commands (app_of program.entry) (status_app ∷ cat_app ∷ [])) }
 {
     program
-        .subcommand(status_command(alloc))?
-        .subcommand(cat_command(alloc)?)
+        .subcommand(status_command(alloc, help))?
+        .subcommand(cat_command(alloc, help)?)
 }
 
-fn with_runs<'a>(alloc: Global, program: Command<'a>) -> Result<Command<'a>, AllocError>
+fn with_runs<'a>(
+    alloc: Global,
+    help: HelpLength,
+    program: Command<'a>,
+) -> Result<Command<'a>, AllocError>
     ensures { IfOk result (λ command. app_of command ≡ with_commands (app_of program.entry) (run_app ∷ run_files_app ∷ [])) }
 {
     program
-        .subcommand(run_command(alloc)?)?
-        .subcommand(run_files_command(alloc)?)
+        .subcommand(run_command(alloc, help)?)?
+        .subcommand(run_files_command(alloc, help)?)
 }
 
-fn with_fixes<'a>(alloc: Global, program: Command<'a>) -> Result<Command<'a>, AllocError>
+fn with_fixes<'a>(
+    alloc: Global,
+    help: HelpLength,
+    program: Command<'a>,
+) -> Result<Command<'a>, AllocError>
     ensures { IfOk result (λ command. app_of command ≡ with_commands (app_of program.entry) (fixes_app ∷ accept_app ∷ [])) }
 {
     program
-        .subcommand(fixes_command(alloc))?
-        .subcommand(accept_command(alloc))
+        .subcommand(fixes_command(alloc, help))?
+        .subcommand(accept_command(alloc, help))
 }
 
-fn with_commits<'a>(alloc: Global, program: Command<'a>) -> Result<Command<'a>, AllocError>
+fn with_commits<'a>(
+    alloc: Global,
+    help: HelpLength,
+    program: Command<'a>,
+) -> Result<Command<'a>, AllocError>
     ensures { IfOk result (λ command. app_of command ≡ with_commands (app_of program.entry) (commit_app ∷ log_app ∷ show_app ∷ [])) }
 {
     program
-        .subcommand(commit_command(alloc)?)?
-        .subcommand(log_command(alloc))?
-        .subcommand(show_command(alloc)?)
+        .subcommand(commit_command(alloc, help)?)?
+        .subcommand(log_command(alloc, help))?
+        .subcommand(show_command(alloc, help)?)
 }
 
-fn with_answers<'a>(alloc: Global, program: Command<'a>) -> Result<Command<'a>, AllocError>
+fn with_answers<'a>(
+    alloc: Global,
+    help: HelpLength,
+    program: Command<'a>,
+) -> Result<Command<'a>, AllocError>
     ensures { IfOk result (λ command. app_of command ≡ with_commands (app_of program.entry) (memory_app ∷ forget_app ∷ [])) }
 {
     program
-        .subcommand(memory_command(alloc))?
-        .subcommand(forget_command(alloc))
+        .subcommand(memory_command(alloc, help))?
+        .subcommand(forget_command(alloc, help))
 }
 
-fn init_command<'a>(alloc: Global) -> Command<'a>
+fn init_command<'a>(alloc: Global, help: HelpLength) -> Command<'a>
     ensures app { app_of result ≡ init_app }
     ensures local { (fields_of result).has_globals ≡ false }
 {
     Command::new(alloc, "init")
         .about("Makes a new repository in the current folder")
         .override_usage("hookhost init")
-        .after_help(INIT_HELP)
+        .after_help(help.of(INIT_HELP))
 }
 
-fn try_command<'a>(alloc: Global) -> Result<Command<'a>, AllocError>
+fn try_command<'a>(alloc: Global, help: HelpLength) -> Result<Command<'a>, AllocError>
     ensures app { IfOk result (λ command. app_of command ≡ try_app) }
     ensures local { IfOk result (λ command. (fields_of command).has_globals ≡ false) }
 {
     Command::new(alloc, "try")
         .about("Runs the hooks of a configuration on files, and prints the report")
         .override_usage("hookhost try <CONFIG> <PATH>...")
-        .after_help(TRY_HELP)
+        .after_help(help.of(TRY_HELP))
         .arg(word(
             alloc,
             "CONFIG",
@@ -136,24 +169,24 @@ fn try_command<'a>(alloc: Global) -> Result<Command<'a>, AllocError>
         .arg(words(alloc, "PATH", "The files to run the hooks on"))
 }
 
-fn check_command<'a>(alloc: Global) -> Command<'a>
+fn check_command<'a>(alloc: Global, help: HelpLength) -> Command<'a>
     ensures app { app_of result ≡ check_app }
     ensures local { (fields_of result).has_globals ≡ false }
 {
     Command::new(alloc, "check")
         .about("Prints how many hooks .pre-commit-config.yaml has, and its ignored keys")
         .override_usage("hookhost check")
-        .after_help(CHECK_HELP)
+        .after_help(help.of(CHECK_HELP))
 }
 
-fn explain_command<'a>(alloc: Global) -> Result<Command<'a>, AllocError>
+fn explain_command<'a>(alloc: Global, help: HelpLength) -> Result<Command<'a>, AllocError>
     ensures app { IfOk result (λ command. app_of command ≡ explain_app) }
     ensures local { IfOk result (λ command. (fields_of command).has_globals ≡ false) }
 {
     Command::new(alloc, "explain")
         .about("Says why a configuration is refused, or what its hooks will do")
         .override_usage("hookhost explain [FILE]")
-        .after_help(EXPLAIN_HELP)
+        .after_help(help.of(EXPLAIN_HELP))
         .arg(optional_word(
             alloc,
             "FILE",
@@ -162,14 +195,14 @@ fn explain_command<'a>(alloc: Global) -> Result<Command<'a>, AllocError>
 }
 
 /// `add [--chmod=MODE] [--paths-from=FILE] [PATH..]`.
-pub(crate) fn add_command<'a>(alloc: Global) -> Result<Command<'a>, AllocError>
+pub(crate) fn add_command<'a>(alloc: Global, help: HelpLength) -> Result<Command<'a>, AllocError>
     ensures app { IfOk result (λ command. app_of command ≡ add_app) }
     ensures local { IfOk result (λ command. (fields_of command).has_globals ≡ false) }
 {
     Command::new(alloc, "add")
         .about("Stages files of the current folder")
         .override_usage("hookhost add [--chmod=+x] (<PATH>... | --paths-from=<FILE>)")
-        .after_help(ADD_HELP)
+        .after_help(help.of(ADD_HELP))
         .arg(chmod(alloc))?
         .arg(paths_from(alloc))?
         .arg(optional_words(
@@ -180,14 +213,14 @@ pub(crate) fn add_command<'a>(alloc: Global) -> Result<Command<'a>, AllocError>
 }
 
 /// `rm [--paths-from=FILE] [PATH..]`.
-pub(crate) fn remove_command<'a>(alloc: Global) -> Result<Command<'a>, AllocError>
+pub(crate) fn remove_command<'a>(alloc: Global, help: HelpLength) -> Result<Command<'a>, AllocError>
     ensures app { IfOk result (λ command. app_of command ≡ remove_app) }
     ensures local { IfOk result (λ command. (fields_of command).has_globals ≡ false) }
 {
     Command::new(alloc, "rm")
         .about("Takes paths out of the staged files")
         .override_usage("hookhost rm (<PATH>... | --paths-from=<FILE>)")
-        .after_help(REMOVE_HELP)
+        .after_help(help.of(REMOVE_HELP))
         .arg(paths_from(alloc))?
         .arg(optional_words(
             alloc,
@@ -196,22 +229,22 @@ pub(crate) fn remove_command<'a>(alloc: Global) -> Result<Command<'a>, AllocErro
         ))
 }
 
-fn status_command<'a>(alloc: Global) -> Command<'a>
+fn status_command<'a>(alloc: Global, help: HelpLength) -> Command<'a>
     ensures app { app_of result ≡ status_app }
     ensures local { (fields_of result).has_globals ≡ false }
 {
     Command::new(alloc, "status")
         .about("Prints which staged files differ from those of the last commit")
         .override_usage("hookhost status")
-        .after_help(STATUS_HELP)
+        .after_help(help.of(STATUS_HELP))
 }
 
 /// `run [--all-files] [--hook-stage=STAGE] [--fresh] [ID]`.
-pub(crate) fn run_command<'a>(alloc: Global) -> Result<Command<'a>, AllocError>
+pub(crate) fn run_command<'a>(alloc: Global, help: HelpLength) -> Result<Command<'a>, AllocError>
     ensures app { IfOk result (λ command. app_of command ≡ run_app) }
     ensures local { IfOk result (λ command. (fields_of command).has_globals ≡ false) }
 {
-    run_with_options(alloc)?.arg(optional_word(
+    run_with_options(alloc, help)?.arg(optional_word(
         alloc,
         "ID",
         "The id or alias of the hooks to run; without it all of the stage",
@@ -219,14 +252,14 @@ pub(crate) fn run_command<'a>(alloc: Global) -> Result<Command<'a>, AllocError>
 }
 
 // `run` with its options alone.
-fn run_with_options<'a>(alloc: Global) -> Result<Command<'a>, AllocError>
+fn run_with_options<'a>(alloc: Global, help: HelpLength) -> Result<Command<'a>, AllocError>
     ensures app { IfOk result (λ command. app_of command ≡ run_with_options_app) }
     ensures local { IfOk result (λ command. (fields_of command).has_globals ≡ false) }
 {
     Command::new(alloc, "run")
         .about("Runs the hooks of the staged configuration on staged files, and prints the report")
         .override_usage("hookhost run [--all-files] [--hook-stage=<STAGE>] [--fresh] [ID]")
-        .after_help(RUN_HELP)
+        .after_help(help.of(RUN_HELP))
         .arg(flag(
             alloc,
             "all-files",
@@ -241,11 +274,14 @@ fn run_with_options<'a>(alloc: Global) -> Result<Command<'a>, AllocError>
 }
 
 /// `run-files [--hook-stage=STAGE] [--fresh] [--paths-from=FILE] [PATH..]`.
-pub(crate) fn run_files_command<'a>(alloc: Global) -> Result<Command<'a>, AllocError>
+pub(crate) fn run_files_command<'a>(
+    alloc: Global,
+    help: HelpLength,
+) -> Result<Command<'a>, AllocError>
     ensures app { IfOk result (λ command. app_of command ≡ run_files_app) }
     ensures local { IfOk result (λ command. (fields_of command).has_globals ≡ false) }
 {
-    run_files_with_options(alloc)?.arg(optional_words(
+    run_files_with_options(alloc, help)?.arg(optional_words(
         alloc,
         "PATH",
         "The staged files to run the hooks on",
@@ -253,14 +289,14 @@ pub(crate) fn run_files_command<'a>(alloc: Global) -> Result<Command<'a>, AllocE
 }
 
 // `run-files` with its options alone.
-fn run_files_with_options<'a>(alloc: Global) -> Result<Command<'a>, AllocError>
+fn run_files_with_options<'a>(alloc: Global, help: HelpLength) -> Result<Command<'a>, AllocError>
     ensures app { IfOk result (λ command. app_of command ≡ run_files_with_options_app) }
     ensures local { IfOk result (λ command. (fields_of command).has_globals ≡ false) }
 {
     Command::new(alloc, "run-files")
         .about("Runs the hooks of the staged configuration on the named staged files")
         .override_usage(RUN_FILES_USAGE)
-        .after_help(RUN_FILES_HELP)
+        .after_help(help.of(RUN_FILES_HELP))
         .arg(stage(alloc))?
         .arg(flag(
             alloc,
@@ -270,34 +306,34 @@ fn run_files_with_options<'a>(alloc: Global) -> Result<Command<'a>, AllocError>
         .arg(paths_from(alloc))
 }
 
-fn fixes_command<'a>(alloc: Global) -> Command<'a>
+fn fixes_command<'a>(alloc: Global, help: HelpLength) -> Command<'a>
     ensures app { app_of result ≡ fixes_app }
     ensures local { (fields_of result).has_globals ≡ false }
 {
     Command::new(alloc, "fixes")
         .about("Prints the fixes, which accept applies to the staged files")
         .override_usage("hookhost fixes")
-        .after_help(FIXES_HELP)
+        .after_help(help.of(FIXES_HELP))
 }
 
-fn accept_command<'a>(alloc: Global) -> Command<'a>
+fn accept_command<'a>(alloc: Global, help: HelpLength) -> Command<'a>
     ensures app { app_of result ≡ accept_app }
     ensures local { (fields_of result).has_globals ≡ false }
 {
     Command::new(alloc, "accept")
         .about("Applies the fixes to the staged files, and prints how many there were")
         .override_usage("hookhost accept")
-        .after_help(ACCEPT_HELP)
+        .after_help(help.of(ACCEPT_HELP))
 }
 
-fn commit_command<'a>(alloc: Global) -> Result<Command<'a>, AllocError>
+fn commit_command<'a>(alloc: Global, help: HelpLength) -> Result<Command<'a>, AllocError>
     ensures app { IfOk result (λ command. app_of command ≡ commit_app) }
     ensures local { IfOk result (λ command. (fields_of command).has_globals ≡ false) }
 {
     Command::new(alloc, "commit")
         .about("Commits the staged files, through the hooks of a commit")
         .override_usage("hookhost commit [--no-verify] -m <TEXT>")
-        .after_help(COMMIT_HELP)
+        .after_help(help.of(COMMIT_HELP))
         .arg(flag(
             alloc,
             "no-verify",
@@ -307,14 +343,14 @@ fn commit_command<'a>(alloc: Global) -> Result<Command<'a>, AllocError>
 }
 
 /// `cat [--fixed] [--commit=N] PATH`.
-pub(crate) fn cat_command<'a>(alloc: Global) -> Result<Command<'a>, AllocError>
+pub(crate) fn cat_command<'a>(alloc: Global, help: HelpLength) -> Result<Command<'a>, AllocError>
     ensures app { IfOk result (λ command. app_of command ≡ cat_app) }
     ensures local { IfOk result (λ command. (fields_of command).has_globals ≡ false) }
 {
     Command::new(alloc, "cat")
         .about("Prints the bytes of a staged file, of its fix or of a commit's file")
         .override_usage("hookhost cat [--fixed | --commit=<N>] <PATH>")
-        .after_help(CAT_HELP)
+        .after_help(help.of(CAT_HELP))
         .arg(flag(
             alloc,
             "fixed",
@@ -324,46 +360,46 @@ pub(crate) fn cat_command<'a>(alloc: Global) -> Result<Command<'a>, AllocError>
         .arg(word(alloc, "PATH", "The path of the file"))
 }
 
-fn log_command<'a>(alloc: Global) -> Command<'a>
+fn log_command<'a>(alloc: Global, help: HelpLength) -> Command<'a>
     ensures app { app_of result ≡ log_app }
     ensures local { (fields_of result).has_globals ≡ false }
 {
     Command::new(alloc, "log")
         .about("Prints the commits, the newest first")
         .override_usage("hookhost log")
-        .after_help(LOG_HELP)
+        .after_help(help.of(LOG_HELP))
 }
 
 /// `show N`.
-pub(crate) fn show_command<'a>(alloc: Global) -> Result<Command<'a>, AllocError>
+pub(crate) fn show_command<'a>(alloc: Global, help: HelpLength) -> Result<Command<'a>, AllocError>
     ensures app { IfOk result (λ command. app_of command ≡ show_app) }
     ensures local { IfOk result (λ command. (fields_of command).has_globals ≡ false) }
 {
     Command::new(alloc, "show")
         .about("Prints a commit's message and its paths")
         .override_usage("hookhost show <N>")
-        .after_help(SHOW_HELP)
+        .after_help(help.of(SHOW_HELP))
         .arg(word(alloc, "N", "The commit's number"))
 }
 
-fn memory_command<'a>(alloc: Global) -> Command<'a>
+fn memory_command<'a>(alloc: Global, help: HelpLength) -> Command<'a>
     ensures app { app_of result ≡ memory_app }
     ensures local { (fields_of result).has_globals ≡ false }
 {
     Command::new(alloc, "memory")
         .about("Prints how many answers of hooks' commands are remembered")
         .override_usage("hookhost memory")
-        .after_help(MEMORY_HELP)
+        .after_help(help.of(MEMORY_HELP))
 }
 
-fn forget_command<'a>(alloc: Global) -> Command<'a>
+fn forget_command<'a>(alloc: Global, help: HelpLength) -> Command<'a>
     ensures app { app_of result ≡ forget_app }
     ensures local { (fields_of result).has_globals ≡ false }
 {
     Command::new(alloc, "forget")
         .about("Forgets the remembered answers, and prints how many there were")
         .override_usage("hookhost forget")
-        .after_help(FORGET_HELP)
+        .after_help(help.of(FORGET_HELP))
 }
 
 // A value of one word.

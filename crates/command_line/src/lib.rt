@@ -6,6 +6,7 @@
 mod command_line;
 mod commands;
 mod help;
+mod help_length;
 mod line;
 mod paths;
 mod repository_help;

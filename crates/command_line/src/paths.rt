@@ -9,6 +9,7 @@ ghost use Rattle.command_line.specs.CommandLine.{IsValueOf, paths_in, source_in}
 
 use crate::PathSource;
 use crate::commands::{add_command, remove_command, run_files_command};
+use crate::help_length::HelpLength;
 use crate::values::{error_of, maybe_text_of, texts_of};
 use clap::{ArgMatches, Command, Error};
 use hook_base::{Items, Text};
@@ -64,8 +65,8 @@ fn both_error(alloc: Global, command: &str) -> Error
 
 fn command_with_paths<'a>(alloc: Global, name: &str) -> Result<Command<'a>, AllocError> {
     match name {
-        "add" => add_command(alloc),
-        "rm" => remove_command(alloc),
-        _ => run_files_command(alloc),
+        "add" => add_command(alloc, HelpLength::Short),
+        "rm" => remove_command(alloc, HelpLength::Short),
+        _ => run_files_command(alloc, HelpLength::Short),
     }
 }

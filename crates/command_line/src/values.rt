@@ -8,6 +8,7 @@ ghost use Rattle.clap.specs.declared.error.kind.ErrorKind.TheVariants.{InvalidVa
 ghost use Rattle.command_line.specs.CommandLine.{IsValueOf, flag_in, mode_in, number_in, stage_in, version_in, word_in, words_in};
 
 use crate::commands::{add_command, cat_command, run_command, run_files_command, show_command};
+use crate::help_length::HelpLength;
 use crate::{FileVersion, StageChoice};
 use clap::error::ErrorKind;
 use clap::{ArgMatches, Command, Error};
@@ -138,7 +139,7 @@ fn chmod_error(alloc: Global, text: &str) -> Error
     ensures { HasKind (InvalidValue ∷ []) result }
 {
     match chmod_message(alloc, text) {
-        Ok(message) => error_of(add_command(alloc), message.as_str()),
+        Ok(message) => error_of(add_command(alloc, HelpLength::Short), message.as_str()),
         Err(refused) => Error::from(refused),
     }
 }
@@ -164,8 +165,8 @@ fn stage_message(alloc: Global, text: &str) -> Result<String, AllocError> {
 
 fn command_of_runs<'a>(alloc: Global, name: &str) -> Result<Command<'a>, AllocError> {
     match name {
-        "run-files" => run_files_command(alloc),
-        _ => run_command(alloc),
+        "run-files" => run_files_command(alloc, HelpLength::Short),
+        _ => run_command(alloc, HelpLength::Short),
     }
 }
 
@@ -173,7 +174,7 @@ fn number_error(alloc: Global, text: &str) -> Error
     ensures { HasKind (InvalidValue ∷ []) result }
 {
     match number_message(alloc, text, "<N>") {
-        Ok(message) => error_of(show_command(alloc), message.as_str()),
+        Ok(message) => error_of(show_command(alloc, HelpLength::Short), message.as_str()),
         Err(refused) => Error::from(refused),
     }
 }
@@ -182,7 +183,7 @@ fn commit_error(alloc: Global, text: &str) -> Error
     ensures { HasKind (InvalidValue ∷ []) result }
 {
     match number_message(alloc, text, "--commit <N>") {
-        Ok(message) => error_of(cat_command(alloc), message.as_str()),
+        Ok(message) => error_of(cat_command(alloc, HelpLength::Short), message.as_str()),
         Err(refused) => Error::from(refused),
     }
 }
@@ -198,7 +199,7 @@ fn versions_error(alloc: Global, text: &str) -> Error
     ensures { HasKind (InvalidValue ∷ []) result }
 {
     match versions_message(alloc, text) {
-        Ok(message) => error_of(cat_command(alloc), message.as_str()),
+        Ok(message) => error_of(cat_command(alloc, HelpLength::Short), message.as_str()),
         Err(refused) => Error::from(refused),
     }
 }
