@@ -23,6 +23,8 @@ from pathlib import Path
 HERE = Path(__file__).resolve().parent
 PROGRAM = os.path.abspath(sys.argv[1] if len(sys.argv) > 1 else HERE.parent / "crates/hookhost/out/hookhost")
 LIMIT = 60
+# What is said on a terminal behind a run that left fixes.
+FIXES = "hint: hookhost fixes lists what hooks changed, hookhost accept stages it"
 
 
 class Wrong(Exception):
@@ -200,13 +202,59 @@ def shows(hooks, files, shown, status=0, **how):
 
 def shows_each_child_and_how_many_came_before():
     played = shows([hook("true", "A"), hook("no-such-program", "B"), hook("false", "C", always_run="true", pass_filenames="false"), hook("true again", "D")], ["a.txt", "b.txt"], [
-        "[0] true a.txt b.txt", "[1] no-such-program a.txt b.txt", "[2] false", "[3] true again a.txt b.txt"], status=1)
+        "[0] 1/4 A: true a.txt b.txt", "[1] 2/4 B: no-such-program a.txt b.txt", "[2] 3/4 C: false", "[3] 4/4 D: true again a.txt b.txt"], status=1)
     equal([it.split(".")[0] for it in played.printed().splitlines() if it.startswith(tuple("ABCD"))], ["A", "B", "C", "D"], "the report")
 
 
 def shows_none_where_an_answer_is_remembered():
-    played = shows([hook("true", "A"), hook("true", "B"), hook("true again", "C")], ["a.txt"], ["[0] true a.txt", "[1] true again a.txt"])
+    played = shows([hook("true", "A"), hook("true", "B"), hook("true again", "C")], ["a.txt"], ["[0] 1/3 A: true a.txt", "[1] 3/3 C: true again a.txt"])
     equal(played.printed(), "".join(line(name, "Passed") + "\n" for name in "ABC"), "the report")
+
+
+def names_the_hooks_that_start_children_by_their_place():
+    hooks = [hook("no", "A", files="^b").replace("system", "fail"), hook("true", "B", files="^b"), hook("x", "C").replace("system", "pygrep"), hook("true x", "A name", args="[-y, z]"), hook("true m", "M", stages="[manual]")]
+    shows(hooks, ["a.txt"], ["[0] 4/4 A name: true x -y z a.txt"], status=1)
+
+
+def names_hooks_that_start_a_file():
+    folder, words = folder_of([hook("./b.sh 1", "B", files="^a").replace("system", "script"), hook("./c.py", "C", files="^a"), hook("sh c.py", "D", files="^a"), hook("e.sh", "E", files="^a").replace("system", "script")], ["a.txt"])
+    Path(folder, "b.sh").write_text("exit 0\n")
+    Path(folder, "c.py").write_text("#!/usr/bin/env -S sh -u\nexit 0\n")
+    played = Played(folder, [*words, "b.sh", "c.py"])
+    equal(played.wait(), 1, "the exit status")
+    equal(played.screen.shown, ["[0] 1/4 B: sh b.sh 1 a.txt", "[1] 2/4 C: /usr/bin/env -S sh -u c.py a.txt", "[2] 3/4 D: sh c.py a.txt", "[3] 4/4 E: ./e.sh a.txt"], "the lines that were shown")
+
+
+def names_no_hook_of_words_that_no_hook_has():
+    # Without words the configuration comes by standard input, and is read once.
+    end, near = os.openpty()
+    done = subprocess.Popen([PROGRAM], cwd=folder_of([])[0], stdin=subprocess.PIPE, stdout=subprocess.DEVNULL, stderr=near, env={**os.environ, "TERM": "xterm"})
+    os.close(near)
+    done.communicate(("repos:\n- repo: local\n  hooks:\n" + hook("true x", "A", always_run="true")).encode(), LIMIT)
+    screen = Screen(80)
+    screen.take(os.read(end, 65536))
+    os.close(end)
+    equal((done.returncode, screen.shown), (0, ["[0] true x"]), "the line")
+
+
+def names_the_hooks_of_runs_and_commits():
+    stages = {"A": "[pre-commit]", "B": "[pre-commit, commit-msg]", "C": "[pre-commit]", "M": "[manual]", "P": "[post-commit]"}
+    folder, _ = folder_of([hook("true " + name.lower(), name, stages=stage, always_run="true", pass_filenames="false" if name == "P" else "true", exclude="yaml$") for name, stage in stages.items()], ["a.txt"])
+    os.rename(Path(folder, "c.yaml"), Path(folder, ".pre-commit-config.yaml"))
+    for words, variables, shown in [
+        (["init"], {}, []),
+        (["add", "."], {}, []),
+        (["run"], {}, ["[0] 1/3 A: true a a.txt", "[1] 2/3 B: true b a.txt", "[2] 3/3 C: true c a.txt"]),
+        (["run"], {}, []),
+        (["run", "--fresh"], {"SKIP": "b,x"}, ["[0] 1/3 A: true a a.txt", "[1] 3/3 C: true c a.txt"]),
+        (["run", "--fresh", "b"], {}, ["[0] 1/1 B: true b a.txt"]),
+        (["run-files", "--hook-stage=manual", "a.txt"], {}, ["[0] 1/1 M: true m a.txt"]),
+        (["forget"], {}, []),
+        (["commit", "-m", "first"], {}, ["[0] 1/3 A: true a a.txt", "[1] 2/3 B: true b a.txt", "[2] 3/3 C: true c a.txt", "[3] 1/1 B: true b .git/COMMIT_EDITMSG", "[4] 1/1 P: true p"]),
+    ]:
+        played = Played(folder, words, **variables)
+        equal(played.wait(), 0, f"the exit status of {words!r}")
+        equal(played.screen.shown, shown, f"the lines that {words!r} shows")
 
 
 def stands_while_the_child_runs():
@@ -216,7 +264,7 @@ def stands_while_the_child_runs():
         played.read()
     time.sleep(0.3)
     check(not select.select([played.end], [], [], 0)[0], "something came while the child ran")
-    equal(played.screen.all(), [f"[0] sh -c until [ -e {BASE}/go ]; do sleep 0.01; done"[:80]], "the screen")
+    equal(played.screen.all(), [f"[0] 1/1 H: sh -c until [ -e {BASE}/go ]; do sleep 0.01; done"[:80]], "the screen")
     Path(BASE, "go").touch()
     equal(played.wait(), 0, "the exit status")
     equal(played.screen.all(), [""], "what is left on the screen")
@@ -224,36 +272,36 @@ def stands_while_the_child_runs():
 
 def is_cut_to_the_columns_that_are_said():
     for columns in (1, 3, 4, 12, 40, 79, 80):
-        shows([hook("echo " + "0123456789" * 20, pass_filenames="false")], ["a.txt"], [("[0] echo " + "0123456789" * 20)[:columns].rstrip()], columns=columns, COLUMNS=str(columns))
+        shows([hook("echo " + "0123456789" * 20, pass_filenames="false")], ["a.txt"], [("[0] 1/1 H: echo " + "0123456789" * 20)[:columns].rstrip()], columns=columns, COLUMNS=str(columns))
 
 
 def is_one_line_on_a_terminal_that_says_nothing():
     # The terminal cuts the line itself, and shows the last of 80 columns at its margin.
-    text = ("[0] echo " + "0123456789" * 20)[:80]
+    text = ("[0] 1/1 H: echo " + "0123456789" * 20)[:80]
     for columns in (1, 2, 20, 79, 80, 200):
         shows([hook("echo " + "0123456789" * 20, pass_filenames="false")], ["a.txt"], [text[:columns - 1] + text[-1] if columns < 80 else text], columns=columns)
 
 
 def what_columns_says_amiss_is_80():
     for said in ("", "0", "-5", "wide", "65536", "80 "):
-        shows([hook("echo " + "0123456789" * 20, pass_filenames="false")], ["a.txt"], [("[0] echo " + "0123456789" * 20)[:80]], columns=300, COLUMNS=said)
+        shows([hook("echo " + "0123456789" * 20, pass_filenames="false")], ["a.txt"], [("[0] 1/1 H: echo " + "0123456789" * 20)[:80]], columns=300, COLUMNS=said)
 
 
 def wide_characters_take_two_columns():
-    for columns, shown in ((20, "[0] echo 日本語のな"), (19, "[0] echo 日本語のな"), (18, "[0] echo 日本語の"), (17, "[0] echo 日本語の"), (16, "[0] echo 日本語")):
+    for columns, shown in ((27, "[0] 1/1 H: echo 日本語のな"), (26, "[0] 1/1 H: echo 日本語のな"), (25, "[0] 1/1 H: echo 日本語の"), (24, "[0] 1/1 H: echo 日本語の"), (23, "[0] 1/1 H: echo 日本語")):
         shows([hook("echo 日本語のなまえ", pass_filenames="false")], ["a.txt"], [shown], columns=columns, COLUMNS=str(columns))
-    shows([hook("echo", pass_filenames="true")], ["é/日本.txt", "e\u0301.txt"], ["[0] echo e\u0301.txt é/日本.txt"])
+    shows([hook("echo", pass_filenames="true")], ["é/日本.txt", "e\u0301.txt"], ["[0] 1/1 H: echo e\u0301.txt é/日本.txt"])
 
 
 def control_characters_are_shown_as_question_marks():
-    shows([hook("echo 'a\nb\x1b[2Jc\td\x1b]0;title\re'", pass_filenames="false")], ["a.txt"], ["[0] echo a?b?[2Jc?d?]0;title?e"])
-    shows([hook("echo '\x1b[31m\n\n\n'", pass_filenames="false")], ["a.txt"], ["[0] echo ?[31m???"])
-    shows([hook("echo \u009b31m\u0085\u007f", pass_filenames="false")], ["a.txt"], ["[0] echo ?31m??"])
+    shows([hook("echo 'a\nb\x1b[2Jc\td\x1b]0;title\re'", pass_filenames="false")], ["a.txt"], ["[0] 1/1 H: echo a?b?[2Jc?d?]0;title?e"])
+    shows([hook("echo '\x1b[31m\n\n\n'", pass_filenames="false")], ["a.txt"], ["[0] 1/1 H: echo ?[31m???"])
+    shows([hook("echo \u009b31m\u0085\u007f", pass_filenames="false")], ["a.txt"], ["[0] 1/1 H: echo ?31m??"])
 
 
 def long_commands_are_one_line():
     names = [f"files/{number:06}.txt" for number in range(3000)]
-    shows([hook("true", require_serial="true")], names, [("[0] true " + " ".join(names))[:80]])
+    shows([hook("true", require_serial="true")], names, [("[0] 1/1 H: true " + " ".join(names))[:80]])
 
 
 def parts_are_shown_one_by_one():
@@ -267,7 +315,7 @@ def parts_are_shown_one_by_one():
 
 
 def what_a_child_prints_stays_off_the_terminal():
-    shows([hook("sh -c 'echo out; echo err >&2; printf \"\\033[2J\" >&2'", pass_filenames="false")], ["a.txt"], ["[0] sh -c echo out; echo err >&2; printf \"\\033[2J\" >&2"])
+    shows([hook("sh -c 'echo out; echo err >&2; printf \"\\033[2J\" >&2'", pass_filenames="false")], ["a.txt"], ["[0] 1/1 H: sh -c echo out; echo err >&2; printf \"\\033[2J\" >&2"])
 
 
 def a_report_on_the_same_terminal_stands_alone():
@@ -322,27 +370,58 @@ def a_hint_says_what_to_do_next():
     """Behind what refuses or stops a command, and behind a run that left fixes; without a terminal there is none."""
     folder, _ = folder_of([hook("sed -i s/x/y/", "A", files="^a", stages="[pre-commit]")], ["a.txt"])
     os.rename(Path(folder, "c.yaml"), Path(folder, ".pre-commit-config.yaml"))
-    fixes = "hint: hookhost fixes lists what hooks changed, hookhost accept stages it"
     steps = [
         (["status"], 3, ["hookhost: cannot use .hookhost/store.db", "hint: hookhost init makes a repository here"]),
         (["init"], 0, []),
         (["init"], 3, ["hookhost: cannot use .hookhost/store.db", "hint: a repository is here already: go on with it, as by hookhost status"]),
         (["add", "nowhere"], 3, ["hookhost: cannot use nowhere"]),
         (["add", "a.txt", ".pre-commit-config.yaml"], 0, []),
-        (["run"], 1, [fixes]),
-        (["commit", "-m", "first"], 1, [fixes]),
+        (["run"], 1, [FIXES]),
+        (["commit", "-m", "first"], 1, [FIXES]),
         (["accept"], 0, []),
         (["run"], 0, []),
         (["rm", "a.txt", "b.txt"], 3, ["hookhost: refused: 4 NotStaged", "hookhost: at b.txt"]),
     ]
     for words, status, lines in steps:
-        copy = shutil.copytree(folder, tempfile.mkdtemp(dir=BASE), dirs_exist_ok=True)
-        done = subprocess.run([PROGRAM, *words], cwd=copy, stdin=subprocess.DEVNULL, capture_output=True, timeout=LIMIT)
-        told = "".join(text + "\n" for text in lines if not text.startswith("hint: "))
-        equal((done.returncode, done.stderr.decode()), (status, told), f"{words!r} without a terminal")
-        played = Played(folder, words)
-        equal(played.wait(), status, f"the exit status of {words!r}")
-        equal([text for text in played.screen.all() if text], lines, f"what {words!r} says")
+        says(folder, words, status, lines)
+
+
+def a_hint_says_that_a_fix_is_undone():
+    """Where other bytes are staged than the fix of that path has, and where they are staged; of several paths the first is told."""
+    folder, _ = folder_of([hook("sed -i s/x/y/", "A", files="^[am]", stages="[pre-commit]")], ["a.txt", "my file.txt", "other.txt"])
+    os.rename(Path(folder, "c.yaml"), Path(folder, ".pre-commit-config.yaml"))
+    told = "hint: this undoes the fix of {0}: to take it over, hookhost run, then hookhost cat --fixed {1} > {1}"
+    of_a, of_my_file = told.format("a.txt", "a.txt"), told.format("my file.txt", "PATH")
+    steps = [
+        (["a.txt"], 0, [of_a]),
+        (["--chmod=+x", "a.txt"], 0, [of_a]),
+        (["other.txt"], 0, []),
+        (["my file.txt"], 0, [of_my_file]),
+        (["other.txt", "my file.txt", "a.txt"], 0, [of_my_file]),
+        (["."], 0, [of_a]),
+        (["a.txt", "nowhere"], 3, ["hookhost: cannot use nowhere"]),
+        (["a.txt", "a.txt/b"], 3, ["hookhost: cannot use a.txt/b"]),
+    ]
+    for words in [["init"], ["add", "."]]:
+        says(folder, words, 0, [])
+    for words, status, lines in steps:
+        says(folder, ["run"], 1, [FIXES])
+        says(folder, ["add", *words], status, lines)
+        says(folder, ["add", "a.txt"], 0, [] if status == 0 else [of_a])
+    says(folder, ["run"], 1, [FIXES])
+    Path(folder, "a.txt").write_text("y\n")
+    says(folder, ["add", "a.txt"], 0, [])
+
+
+def says(folder, words, status, lines):
+    """What the command says on a terminal are these lines, and without one those of them that are no hint."""
+    copy = shutil.copytree(folder, tempfile.mkdtemp(dir=BASE), dirs_exist_ok=True)
+    done = subprocess.run([PROGRAM, *words], cwd=copy, stdin=subprocess.DEVNULL, capture_output=True, timeout=LIMIT)
+    told = "".join(text + "\n" for text in lines if not text.startswith("hint: "))
+    equal((done.returncode, done.stderr.decode()), (status, told), f"{words!r} without a terminal")
+    played = Played(folder, words, columns=200)
+    equal(played.wait(), status, f"the exit status of {words!r}")
+    equal([text for text in played.screen.all() if text], lines, f"what {words!r} says")
 
 
 def a_killed_program_leaves_a_terminal_that_wraps():
@@ -362,7 +441,9 @@ def want_of_memory_for_the_line_loses_no_child():
     refused_file = os.path.join(BASE, "refused")
     whole = Played(folder, words)
     equal((whole.wait(), len(whole.screen.shown)), (1, 1), "with ample memory")
-    unseen = seen = 0
+    # Where memory is refused while the hooks are looked up, the line names none.
+    unnamed = [text.replace(" 1/1 A:", "") for text in whole.screen.shown]
+    unseen = seen = nameless = 0
     for number in range(1, 2000):
         Path(refused_file).unlink(missing_ok=True)
         # A run that gave up leaves what the next would clear away, which takes memory of its own.
@@ -370,25 +451,28 @@ def want_of_memory_for_the_line_loses_no_child():
         played = Played(folder, words, LD_PRELOAD=library, REFUSE_ALLOCATION=str(number), REFUSED_FILE=refused_file)
         status = played.wait()
         equal([text for text in played.screen.all() if text], [] if status == 1 else ["hookhost: refused: 4 OutOfMemory"], f"the screen with allocation {number} refused")
-        check(played.screen.shown in ([], whole.screen.shown), f"a line is shown in part: {played.screen.shown!r}")
+        check(played.screen.shown in ([], unnamed, whole.screen.shown), f"a line is shown in part: {played.screen.shown!r}")
         if status == 1:
             equal(played.printed(), whole.printed(), f"the report with allocation {number} refused")
-            seen, unseen = (seen, unseen + 1) if not played.screen.shown else (seen + 1, unseen)
+            seen += played.screen.shown == whole.screen.shown
+            nameless += played.screen.shown == unnamed
+            unseen += played.screen.shown == []
         else:
             equal((status, played.printed()), (3, ""), f"with allocation {number} refused")
         if not os.path.exists(refused_file):
             break
     else:
         raise Wrong("no run had all its memory")
-    check(unseen > 0 and seen > 0, f"{unseen} runs showed no line, {seen} did")
+    check(unseen > 0 and nameless > 0 and seen > 0, f"{unseen} runs showed no line, {nameless} one without a hook, {seen} the whole")
 
 
 CASES = [
-    shows_each_child_and_how_many_came_before, shows_none_where_an_answer_is_remembered, stands_while_the_child_runs, is_cut_to_the_columns_that_are_said, is_one_line_on_a_terminal_that_says_nothing,
+    shows_each_child_and_how_many_came_before, shows_none_where_an_answer_is_remembered, names_the_hooks_that_start_children_by_their_place,
+    names_hooks_that_start_a_file, names_no_hook_of_words_that_no_hook_has, names_the_hooks_of_runs_and_commits, stands_while_the_child_runs, is_cut_to_the_columns_that_are_said, is_one_line_on_a_terminal_that_says_nothing,
     what_columns_says_amiss_is_80, wide_characters_take_two_columns, control_characters_are_shown_as_question_marks, long_commands_are_one_line,
     parts_are_shown_one_by_one, what_a_child_prints_stays_off_the_terminal, a_report_on_the_same_terminal_stands_alone, nothing_is_shown_without_a_terminal,
     nothing_is_shown_on_a_dumb_terminal, nothing_is_shown_of_hooks_without_children, a_terminal_that_goes_away_changes_nothing,
-    a_hint_says_what_to_do_next, a_killed_program_leaves_a_terminal_that_wraps, want_of_memory_for_the_line_loses_no_child,
+    a_hint_says_what_to_do_next, a_hint_says_that_a_fix_is_undone, a_killed_program_leaves_a_terminal_that_wraps, want_of_memory_for_the_line_loses_no_child,
 ]
 
 

@@ -4,6 +4,7 @@ use Rattle.std.specs.List.{flat_map}
 use Rattle.std.specs.Fmt.{decimal}
 use Rattle.std.specs.Str.Parse.{IsNumeral, digits_value, without_leading_plus}
 use Rattle.unicode_width.specs.Width.{char_width}
+use Rattle.child_display.specs.declared.shown_hook.ShownHook.{ShownHook}
 
 -- a character as it is shown: a control character, as a line feed or an escape, is a question mark
 abbrev pub shown_char : ℕ → ℕ
@@ -23,6 +24,15 @@ cut_to columns (c ∷ cs) =
 abbrev pub command_text : List (List ℕ) → ℕ → List ℕ
 command_text words before = codes "[" ++ decimal before ++ codes "]" ++ flat_map (λ word. 32 ∷ word) words
 
+-- the same number, and the hook: its place among so many, and its name
+abbrev pub hook_head : ShownHook → ℕ → List ℕ
+hook_head hook before =
+    codes "[" ++ decimal before ++ codes "] " ++ decimal hook.place ++ codes "/" ++ decimal hook.stage_hooks ++ codes " " ++ hook.name ++ codes ":"
+
+-- behind it each word of the command
+abbrev pub hook_text : ShownHook → List (List ℕ) → ℕ → List ℕ
+hook_text hook words before = hook_head hook before ++ flat_map (λ word. 32 ∷ word) words
+
 -- ECMA-48 and DEC's private modes: a terminal doesn't go on in the next line, where the text is wider than it is
 abbrev pub wrapping_off : List ℕ
 wrapping_off = 27 ∷ codes "[?7l"
@@ -30,10 +40,17 @@ wrapping_off = 27 ∷ codes "[?7l"
 abbrev pub wrapping_on : List ℕ
 wrapping_on = 27 ∷ codes "[?7h"
 
--- the line of a child: as many columns of its text as the terminal has, and nothing that would begin another line
+-- as many columns of a text as the terminal has, and nothing that would begin another line
+abbrev pub line_of_text : List ℕ → ℕ → List ℕ
+line_of_text text columns = wrapping_off ++ encode_utf8_all (cut_to columns (chars text)) ++ wrapping_on
+
+-- the line of a child
 abbrev pub line_of_child : List (List ℕ) → ℕ → ℕ → List ℕ
-line_of_child words before columns =
-    wrapping_off ++ encode_utf8_all (cut_to columns (chars (command_text words before))) ++ wrapping_on
+line_of_child words before columns = line_of_text (command_text words before) columns
+
+-- the line of a child that is of this hook
+abbrev pub line_of_hook : ShownHook → List (List ℕ) → ℕ → ℕ → List ℕ
+line_of_hook hook words before columns = line_of_text (hook_text hook words before) columns
 
 -- the cursor goes to the line's beginning, and what stands from there on is erased
 abbrev pub clearing : List ℕ

@@ -2,9 +2,11 @@
 //!
 //! The contracts cite `specs/Lines.antt`.
 
-ghost use Rattle.std.specs.Prelude.{◌≡◌, ◌++◌, IfOk, OnOk, chars, encode_utf8_all, string_bytes};
-ghost use Rattle.child_display.specs.Lines.{clearing, columns_of_char, command_text, cut_to, line_of_child, shown_char};
+ghost use Rattle.std.specs.Prelude.{◌≡◌, ◌++◌, ◌∷◌, IfOk, OnOk, chars, encode_utf8_all, string_bytes};
+ghost use Rattle.std.specs.List.{flat_map};
+ghost use Rattle.child_display.specs.Lines.{clearing, columns_of_char, command_text, cut_to, hook_head, hook_text, line_of_child, line_of_hook, line_of_text, shown_char};
 
+use crate::ShownHook;
 use hook_base::{OutOfMemory, Text};
 use std::alloc::Global;
 use unicode_width::UnicodeWidthChar;
@@ -26,8 +28,29 @@ pub fn line_of_child(
     ensures { IfOk result (λ line. string_bytes line ≡ line_of_child words.now before columns) }
 {
     let text = command_text(alloc, words, before)?;
+    line_of_text(alloc, text.as_str(), columns)
+}
+
+/// The same of a child that is of this hook, which the line names before the words: its place among the hooks of its stage, how many
+/// these are, and what it is called.
+pub fn line_of_hook(
+    alloc: Global,
+    hook: &ShownHook,
+    words: &[Text],
+    before: u64,
+    columns: usize,
+) -> Result<String, OutOfMemory>
+    ensures { IfOk result (λ line. string_bytes line ≡ line_of_hook hook.now words.now before columns) }
+{
+    let text = hook_text(alloc, hook, words, before)?;
+    line_of_text(alloc, text.as_str(), columns)
+}
+
+fn line_of_text(alloc: Global, text: &str, columns: usize) -> Result<String, OutOfMemory>
+    ensures { IfOk result (λ line. string_bytes line ≡ line_of_text text.now columns) }
+{
     let mut line = String::from_str(alloc, WRAPPING_OFF)?;
-    push_cut(&mut line, text.as_str(), columns)?;
+    push_cut(&mut line, text, columns)?;
     line.push_str(WRAPPING_ON)?;
     Ok(line)
 }
@@ -43,11 +66,40 @@ fn command_text(alloc: Global, words: &[Text], before: u64) -> Result<String, Ou
     ensures { IfOk result (λ text. string_bytes text ≡ command_text words.now before) }
 {
     let mut text = format!(in alloc; "[{before}]")?;
+    push_words(&mut text, words)?;
+    Ok(text)
+}
+
+fn hook_text(
+    alloc: Global,
+    hook: &ShownHook,
+    words: &[Text],
+    before: u64,
+) -> Result<String, OutOfMemory>
+    ensures { IfOk result (λ text. string_bytes text ≡ hook_text hook.now words.now before) }
+{
+    let mut text = hook_head(alloc, hook, before)?;
+    push_words(&mut text, words)?;
+    Ok(text)
+}
+
+fn hook_head(alloc: Global, hook: &ShownHook, before: u64) -> Result<String, OutOfMemory>
+    ensures { IfOk result (λ text. string_bytes text ≡ hook_head hook.now before) }
+{
+    let (place, of, name) = (hook.place, hook.stage_hooks, hook.name.as_str());
+    let text = format!(in alloc; "[{before}] {place}/{of} {name}:")?;
+    Ok(text)
+}
+
+// Puts each word behind a blank.
+fn push_words(text: &mut String, words: &[Text]) -> Result<(), OutOfMemory>
+    ensures { OnOk result (string_bytes text.new ≡ string_bytes text.old ++ flat_map (λ word. 32 ∷ word) words.now) }
+{
     for word in words {
         text.push(' ')?;
         text.push_str(word.as_str())?;
     }
-    Ok(text)
+    Ok(())
 }
 
 // Puts the text's characters at the line's end as they are shown, up to the first that doesn't fit.

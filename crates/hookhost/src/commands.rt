@@ -5,15 +5,17 @@ ghost use Rattle.hook_cli.specs.CommandOver.{IsOverHost};
 ghost use Rattle.hookhost.specs.Stops.{IsStopOfCommand, IsStopOfOpening};
 ghost use Rattle.hookhost.specs.Works.{IsOfRepository, IsWork};
 
-use crate::hint::{FIXES, hint};
+use crate::hint::{FIXES, hint, hint_undone, is_heard};
 use crate::names::names_of;
 use crate::runs::{Runs, runs_of};
+use crate::shown_hooks::show_staged_hooks;
 use crate::stop::{Stop, tell};
+use crate::undone_fix::undone_fix;
 use crate::unstaged_words::{unstaged_below, unstaged_by};
 use crate::work::{Work, work_of};
 use child_port::TableChildren;
 use commit_flow::{Host, HostRefusal, StagingEdit};
-use hook_base::{Items, OutOfMemory, Text};
+use hook_base::{Items, OutOfMemory, RepoPath, Text};
 use hook_cli::{Line, command_over, stage_over};
 use repo_store::Store;
 use repository_files::{
@@ -132,13 +134,25 @@ fn do_in<S: Alter + Drop>(
     match open_store(rt, before, conn) {
         Ok(store) => {
             let mut host = Host::over(store);
+            let undone = if is_heard(rt) {
+                undone_fix(rt.alloc(), work, host.store())
+            } else {
+                None
+            };
             let status = answer(rt, work, runs, &mut host);
-            if status == HOOK_FAILED && host.store().count_fixes() > 0 {
-                hint(rt, FIXES);
-            }
+            hint_behind(rt, status, undone, host.store());
             Ok((status, host.into_store().into_connection()))
         }
         Err(fault) => Err(Stop::from(fault)),
+    }
+}
+
+// Says the next step behind what was done, where there is one.
+fn hint_behind<S: Alter>(rt: &HostRuntime, status: u8, undone: Option<RepoPath>, store: &Store<S>) {
+    match undone {
+        Some(path) if status == DONE => hint_undone(rt, &path),
+        _ if status == HOOK_FAILED && store.count_fixes() > 0 => hint(rt, FIXES),
+        _ => {}
     }
 }
 
@@ -229,16 +243,19 @@ fn call<S: Alter + Drop>(
     let alloc = rt.alloc();
     let (mut out, mut err) = (io::writer(rt), rt.stderr());
     match runs {
-        Some(Runs { skip, children }) => command_over(
-            alloc,
-            line,
-            bytes,
-            skip.as_slice(),
-            host,
-            children,
-            &mut out,
-            &mut err,
-        ),
+        Some(Runs { skip, children }) => {
+            show_staged_hooks(rt, line, skip.as_slice(), host.store(), children);
+            command_over(
+                alloc,
+                line,
+                bytes,
+                skip.as_slice(),
+                host,
+                children,
+                &mut out,
+                &mut err,
+            )
+        }
         None => {
             let mut children = TableChildren::new(Items::new(alloc));
             command_over(

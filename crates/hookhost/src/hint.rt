@@ -1,6 +1,7 @@
 //! The next step, told to whoever sits at a terminal.
 
 use crate::stop::Stop;
+use hook_base::RepoPath;
 use repository_files::{RepositoryFault, STORE};
 use std::fs;
 use std::io::{ErrorKind, IsTerminal};
@@ -16,9 +17,34 @@ const STORE_HERE: &str = "hint: a repository is here already: go on with it, as 
 
 /// Says a hint on standard error where that is a terminal, and else nothing.
 pub(crate) fn hint(rt: &HostRuntime, text: &str) {
-    if rt.stderr().is_terminal() {
+    if is_heard(rt) {
         let _said = rt.eprintln(text);
     }
+}
+
+/// Whether there is somebody to whom a hint could be said.
+pub(crate) fn is_heard(rt: &HostRuntime) -> bool {
+    rt.stderr().is_terminal()
+}
+
+/// Says that the fix of this path is undone, and how its bytes are taken over nevertheless: they are forgotten by now.
+pub(crate) fn hint_undone(rt: &HostRuntime, path: &RepoPath) {
+    let path = path.as_str();
+    let word = if path.bytes().all(is_plain) {
+        path
+    } else {
+        "PATH"
+    };
+    if let Ok(text) = format!(in rt.alloc();
+        "hint: this undoes the fix of {path}: to take it over, hookhost run, then hookhost cat --fixed {word} > {word}"
+    ) {
+        hint(rt, text.as_str());
+    }
+}
+
+// Whether a shell takes the byte in a word as it is.
+fn is_plain(byte: u8) -> bool {
+    byte.is_ascii_alphanumeric() || matches!(byte, b'.' | b'/' | b'_' | b'+')
 }
 
 /// Says the remedy of a stop, where it has one.

@@ -13,9 +13,11 @@ mod folder_files;
 mod hint;
 mod names;
 mod runs;
+mod shown_hooks;
 mod staged_words;
 mod stop;
 mod terminal;
+mod undone_fix;
 mod unstaged_words;
 mod work;
 
@@ -25,9 +27,10 @@ use files::{read_configuration, read_tree};
 use hint::hint_at;
 use hook_base::{Items, Text, Tree};
 use hook_cli::{Line, TryFault, check_text, line_of, try_over};
-use hook_config::read_config_with_node;
+use hook_config::{Stage, read_config_with_node};
 use repository_files::init;
-use runs::children_of;
+use runs::{RealChildren, children_of};
+use shown_hooks::{AskedHooks, show_hooks};
 use std::io::{Read, Write};
 use std::process::ExitCode;
 use std::rt::Files;
@@ -59,7 +62,8 @@ fn run(rt: &HostRuntime) -> Result<u8, Stop> {
     match line_of_process(rt) {
         Ok(Some(line)) => do_line(rt, line),
         Ok(None) => {
-            let passed = report(rt, &mut rt.reader(), &Tree::new(rt.alloc()))?;
+            let tree = Tree::new(rt.alloc());
+            let passed = report(rt, &mut rt.reader(), &tree, children_of(rt)?)?;
             Ok(status_of_run(passed))
         }
         Err(Stop::Usage(error)) => version_or_usage(rt, error),
@@ -149,15 +153,27 @@ fn print<R: Print>(rt: &R, text: &[u8]) -> io::Result<()> {
 fn try_files(rt: &HostRuntime, config: Text, paths: Items<Text>) -> Result<bool, Stop> {
     let bytes = read_configuration(rt, config)?;
     let tree = read_tree(rt, paths)?;
-    let passed = report(rt, &mut bytes.as_slice(), &tree)?;
+    let mut children = children_of(rt)?;
+    let asked = AskedHooks {
+        stages: &[Stage::PreCommit],
+        only: None,
+        skip: &[],
+    };
+    show_hooks(rt, bytes.as_slice(), &asked, &tree, &mut children);
+    let passed = report(rt, &mut bytes.as_slice(), &tree, children)?;
     // As above, of the files.
     mem::forget(tree);
     Ok(passed)
 }
 
-// Runs the configuration over the tree, with children that are processes, which a terminal shows, and prints the report.
-fn report(rt: &HostRuntime, reader: &mut impl Read, tree: &Tree) -> Result<bool, Stop> {
-    let mut children = children_of(rt)?;
+// Runs the configuration over the tree, with these children, and prints the report.
+fn report(
+    rt: &HostRuntime,
+    reader: &mut impl Read,
+    tree: &Tree,
+    children: RealChildren,
+) -> Result<bool, Stop> {
+    let mut children = children;
     let passed = try_over(rt.alloc(), reader, &mut io::writer(rt), tree, &mut children)?;
     Ok(passed)
 }

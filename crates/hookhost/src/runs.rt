@@ -18,13 +18,16 @@ use std::io::Stderr;
 // The variable of the environment that names the hooks to skip.
 const SKIP: &str = "SKIP";
 
+/// Children that are processes, which a terminal shows.
+pub(crate) type RealChildren = ShownChildren<ProcessChildren<HostRuntime>, Stderr>;
+
 /// What a line that runs hooks needs beside its host.
 #[derive(Drop)]
 pub(crate) struct Runs {
     /// The ids and aliases of the hooks that are skipped.
     pub skip: Items<Text>,
     /// The children that run the hooks' commands.
-    pub children: ShownChildren<ProcessChildren<HostRuntime>, Stderr>,
+    pub children: RealChildren,
 }
 
 /// What the line needs to run hooks, and `None` where it runs none. Want of memory is `Stop::RefusedCommand`.
@@ -63,13 +66,11 @@ fn made_runs(rt: &HostRuntime) -> Result<Runs, Stop>
     })
 }
 
-/// Children that are processes, which a terminal shows. None has run yet.
-pub(crate) fn children_of(
-    rt: &HostRuntime,
-) -> Result<ShownChildren<ProcessChildren<HostRuntime>, Stderr>, OutOfMemory> {
+/// The children of a run, of which none has run yet.
+pub(crate) fn children_of(rt: &HostRuntime) -> Result<RealChildren, OutOfMemory> {
     let folder = String::from_str(rt.alloc(), SCRATCH)?;
     let children = ProcessChildren::new(rt.clone()?, folder);
-    Ok(ShownChildren::new(children, terminal_of(rt)))
+    Ok(ShownChildren::new(rt.alloc(), children, terminal_of(rt)))
 }
 
 // The names in the variable of the environment. There are none where it isn't set, or isn't UTF-8.

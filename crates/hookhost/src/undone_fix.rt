@@ -1,0 +1,59 @@
+//! The fix that a line undoes by what it stages.
+
+use crate::work::Work;
+use commit_flow::StagingEdit;
+use hook_base::{Change, RepoPath, Text};
+use hook_cli::Line;
+use repo_store::Store;
+use sqlite::Alter;
+use std::alloc::Global;
+
+/// The path of the first file to which the work gives other bytes than its fix would, where there is one. It is looked for before
+/// the work is done, since the fixes are forgotten then. `None` also where memory is refused.
+pub(crate) fn undone_fix<S: Alter>(
+    alloc: Global,
+    work: &Work,
+    store: &Store<S>,
+) -> Option<RepoPath> {
+    let Ok(fixes) = store.fixes() else {
+        return None;
+    };
+    match work {
+        Work::Call {
+            line: Line::Add { path, .. },
+            bytes,
+        } => undone_at(alloc, path, bytes.as_slice(), fixes.as_slice()),
+        Work::Stage(edits) => undone_among(alloc, edits.as_slice(), fixes.as_slice()),
+        Work::Call { .. } | Work::Unstage(_) => None,
+    }
+}
+
+fn undone_among(alloc: Global, edits: &[StagingEdit], fixes: &[Change]) -> Option<RepoPath> {
+    'edits: for edit in edits {
+        if let Some(path) = undone_by(alloc, edit, fixes) {
+            return Some(path);
+        }
+    }
+    None
+}
+
+fn undone_by(alloc: Global, edit: &StagingEdit, fixes: &[Change]) -> Option<RepoPath> {
+    match edit {
+        StagingEdit::Add { path, bytes, .. } => undone_at(alloc, path, bytes.as_slice(), fixes),
+        _ => None,
+    }
+}
+
+// The path, where its fix gives other bytes to it than these. The fixes stand in the order of their paths.
+fn undone_at(alloc: Global, path: &Text, bytes: &[u8], fixes: &[Change]) -> Option<RepoPath> {
+    let Ok(path) = RepoPath::read(alloc, path.as_str()) else {
+        return None;
+    };
+    let Ok(index) = fixes.binary_search_by(|fix| fix.path.cmp(&path)) else {
+        return None;
+    };
+    match &fixes[index].now {
+        Some(fixed) if fixed.as_slice() != bytes => Some(path),
+        _ => None,
+    }
+}
