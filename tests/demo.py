@@ -14,7 +14,7 @@ HERE = os.path.dirname(os.path.abspath(__file__))
 TOP = os.path.join(HERE, "..")
 COUNT = os.path.join(TOP, "demo", "count_proved")
 # The calls of the program by which it reaches the repository.
-CUT = ["host_command(", "init("]
+CUT = ["look_up(", "change(", "init("]
 # What is asked for, and the crates that the lines show as proved or kept, in their order.
 CASES = [
     ("hook_base child_port lazy_disk yaml_lines yaml_flows hookhost", "hook_base child_port lazy_disk hookhost"),

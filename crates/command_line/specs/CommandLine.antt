@@ -22,7 +22,10 @@ use Rattle.command_line.specs.declared.line.PathSource.{PathSource}
 use Rattle.command_line.specs.declared.line.PathSource.TheVariants.{Words, Listed}
 use Rattle.command_line.specs.declared.line.StageChoice.{StageChoice}
 use Rattle.command_line.specs.declared.line.StageChoice.TheVariants.{PreCommit, Manual}
-use Rattle.command_line.specs.declared.line.Line.TheVariants.{Init, Try, Check, Explain, Add, AddAll, Remove, RemoveAll, Status, Run, Fixes, Accept, Commit, Cat, Log, Show, Memory, Forget}
+use Rattle.command_line.specs.declared.line.Line.TheVariants as line
+use Rattle.command_line.specs.declared.line.LookUp.TheVariants.{Status, Fixes, Cat, Log, Show, Memory}
+use Rattle.command_line.specs.declared.line.Standalone.TheVariants.{Init, Try, Check, Explain}
+use Rattle.command_line.specs.declared.line.Update.TheVariants.{Add, Remove, Run, Accept, Commit, Forget}
 
 -- ---- the commands and their values, as `clap` takes them
 
@@ -214,31 +217,22 @@ paths_in rows = source_in (words_in (codes "PATH") rows) (first_of (codes "paths
 -- ---- what a line of words asks for
 
 abbrev pub try_line : List Row → Line
-try_line rows = Try (word_in (codes "CONFIG") rows) (words_in (codes "PATH") rows)
+try_line rows = line.Standalone (Try (word_in (codes "CONFIG") rows) (words_in (codes "PATH") rows))
 
--- one word is a line of its own
-abbrev pub add_of : PathSource → Option Mode → Line
-add_of (Words (path ∷ [])) mode = Add path mode
-add_of (Words []) mode = AddAll (Words []) mode
-add_of (Words (path ∷ other ∷ paths)) mode = AddAll (Words (path ∷ other ∷ paths)) mode
-add_of (Listed from) mode = AddAll (Listed from) mode
-
-abbrev pub remove_of : PathSource → Line
-remove_of (Words (path ∷ [])) = Remove path
-remove_of (Words []) = RemoveAll (Words [])
-remove_of (Words (path ∷ other ∷ paths)) = RemoveAll (Words (path ∷ other ∷ paths))
-remove_of (Listed from) = RemoveAll (Listed from)
+abbrev pub explain_line : List Row → Line
+explain_line rows = line.Standalone (Explain (first_of (codes "FILE") rows))
 
 abbrev pub add_line : List Row → Option Line
 add_line rows =
-    option_and_then (λ (paths : PathSource). option_map (add_of paths) (mode_in (first_of (codes "chmod") rows))) (paths_in rows)
+    option_and_then (λ (paths : PathSource). option_map (λ (mode : Option Mode). line.Update (Add paths mode)) (mode_in (first_of (codes "chmod") rows)))
+    (paths_in rows)
 
 abbrev pub remove_line : List Row → Option Line
-remove_line rows = option_map remove_of (paths_in rows)
+remove_line rows = option_map (λ (paths : PathSource). line.Update (Remove paths)) (paths_in rows)
 
 abbrev pub run_line : List Row → Option Line
 run_line rows =
-    option_map (λ (stage : StageChoice). Run (files_in rows) (first_of (codes "ID") rows) stage (flag_in (codes "fresh") rows))
+    option_map (λ (stage : StageChoice). line.Update (Run (files_in rows) (first_of (codes "ID") rows) stage (flag_in (codes "fresh") rows)))
     (stage_in (first_of (codes "hook-stage") rows))
 
 -- the files that are named, in words or in a file
@@ -248,38 +242,40 @@ named_in (Listed from) = ListedFiles from
 
 abbrev pub run_files_line : List Row → Option Line
 run_files_line rows =
-    option_and_then (λ (paths : PathSource). option_map (λ (stage : StageChoice). Run (named_in paths) None stage (flag_in (codes "fresh") rows))
+    option_and_then (λ (paths : PathSource). option_map (λ (stage : StageChoice). line.Update (Run (named_in paths) None stage (flag_in (codes "fresh") rows)))
     (stage_in (first_of (codes "hook-stage") rows))) (paths_in rows)
 
 abbrev pub commit_line : List Row → Line
-commit_line rows = Commit (word_in (codes "message") rows) (flag_in (codes "no-verify") rows)
+commit_line rows = line.Update (Commit (word_in (codes "message") rows) (flag_in (codes "no-verify") rows))
 
 abbrev pub cat_line : List Row → Option Line
-cat_line rows = option_map (Cat (word_in (codes "PATH") rows)) (version_in (flag_in (codes "fixed") rows) (first_of (codes "commit") rows))
+cat_line rows =
+    option_map (λ (version : FileVersion). line.LookUp (Cat (word_in (codes "PATH") rows) version))
+    (version_in (flag_in (codes "fixed") rows) (first_of (codes "commit") rows))
 
 abbrev pub show_line : List Row → Option Line
-show_line rows = option_map Show (number_in (word_in (codes "N") rows))
+show_line rows = option_map (λ (number : ℕ). line.LookUp (Show number)) (number_in (word_in (codes "N") rows))
 
 -- what a command asks for with its values, unless one of them can't be taken
 abbrev pub line_by : Text → List Row → Option Line
 line_by name rows =
-    if bytes_eq name (codes "init") then Some Init
+    if bytes_eq name (codes "init") then Some (line.Standalone Init)
     else (if bytes_eq name (codes "try") then Some (try_line rows)
-    else (if bytes_eq name (codes "check") then Some Check
-    else (if bytes_eq name (codes "explain") then Some (Explain (first_of (codes "FILE") rows))
+    else (if bytes_eq name (codes "check") then Some (line.Standalone Check)
+    else (if bytes_eq name (codes "explain") then Some (explain_line rows)
+    else (if bytes_eq name (codes "status") then Some (line.LookUp Status)
+    else (if bytes_eq name (codes "fixes") then Some (line.LookUp Fixes)
+    else (if bytes_eq name (codes "cat") then cat_line rows
+    else (if bytes_eq name (codes "log") then Some (line.LookUp Log)
+    else (if bytes_eq name (codes "show") then show_line rows
+    else (if bytes_eq name (codes "memory") then Some (line.LookUp Memory)
     else (if bytes_eq name (codes "add") then add_line rows
     else (if bytes_eq name (codes "rm") then remove_line rows
-    else (if bytes_eq name (codes "status") then Some Status
     else (if bytes_eq name (codes "run") then run_line rows
     else (if bytes_eq name (codes "run-files") then run_files_line rows
-    else (if bytes_eq name (codes "fixes") then Some Fixes
-    else (if bytes_eq name (codes "accept") then Some Accept
+    else (if bytes_eq name (codes "accept") then Some (line.Update Accept)
     else (if bytes_eq name (codes "commit") then Some (commit_line rows)
-    else (if bytes_eq name (codes "cat") then cat_line rows
-    else (if bytes_eq name (codes "log") then Some Log
-    else (if bytes_eq name (codes "show") then show_line rows
-    else (if bytes_eq name (codes "memory") then Some Memory
-    else (if bytes_eq name (codes "forget") then Some Forget else None))))))))))))))))
+    else (if bytes_eq name (codes "forget") then Some (line.Update Forget) else None))))))))))))))))
 
 -- what the words ask for: a command with its values, as `clap` finds them
 abbrev pub line_asked : List Text → Option Line

@@ -2,10 +2,9 @@
 //!
 //! The contracts cite `specs/CommandLine.antt`, which states the command line as `clap` sees it.
 
-ghost use Rattle.std.specs.Prelude.{◌≡◌, ◌∷◌, IfOk, Some, [], is_some, length, map, option_map, true};
+ghost use Rattle.std.specs.Prelude.{◌≡◌, IfOk, Some, is_some, map, option_map, true};
 ghost use Rattle.clap.specs.Words.{FailsBy, fault_of, found_of, rows_of, subcommand_of, subcommand_rows_of};
-ghost use Rattle.command_line.specs.declared.line.PathSource.TheVariants.{Words};
-ghost use Rattle.command_line.specs.CommandLine.{IsValueOf, add_line, add_of, cat_line, commit_line, files_in, hookhost_app, is_command, line_asked, line_by, line_fault, named_in, remove_line, remove_of, run_files_line, run_line, show_line, try_line};
+ghost use Rattle.command_line.specs.CommandLine.{IsValueOf, add_line, cat_line, commit_line, explain_line, files_in, hookhost_app, is_command, line_asked, line_by, line_fault, named_in, remove_line, run_files_line, run_line, show_line, try_line};
 
 use crate::commands::hookhost;
 use crate::help_length::help_asked;
@@ -13,9 +12,8 @@ use crate::paths::paths_of;
 use crate::values::{
     flag_of, maybe_text_of, mode_of, number_of, stage_of, text_of, texts_of, version_of,
 };
-use crate::{FileChoice, Line, PathSource};
+use crate::{FileChoice, Line, LookUp, PathSource, Standalone, Update};
 use clap::{ArgMatches, Error};
-use hook_base::{Items, Mode, Text};
 use std::alloc::{AllocError, Global};
 
 /// What the words, without the program's own name, ask for.
@@ -57,25 +55,23 @@ fn line_by(alloc: Global, name: &str, values: &ArgMatches<'_>) -> Result<Line, E
     ensures { IsValueOf (line_by name.now (rows_of (found_of values.now))) result }
 {
     match name {
-        "init" => Ok(Line::Init),
+        "init" => Ok(Line::Standalone(Standalone::Init)),
         "try" => Ok(try_line(alloc, values)?),
-        "check" => Ok(Line::Check),
-        "explain" => Ok(Line::Explain {
-            file: maybe_text_of(alloc, values, "FILE")?,
-        }),
+        "check" => Ok(Line::Standalone(Standalone::Check)),
+        "explain" => Ok(explain_line(alloc, values)?),
+        "status" => Ok(Line::LookUp(LookUp::Status)),
+        "fixes" => Ok(Line::LookUp(LookUp::Fixes)),
+        "cat" => cat_line(alloc, values),
+        "log" => Ok(Line::LookUp(LookUp::Log)),
+        "show" => show_line(alloc, values),
+        "memory" => Ok(Line::LookUp(LookUp::Memory)),
         "add" => add_line(alloc, values),
         "rm" => remove_line(alloc, values),
-        "status" => Ok(Line::Status),
         "run" => run_line(alloc, values),
         "run-files" => run_files_line(alloc, values),
-        "fixes" => Ok(Line::Fixes),
-        "accept" => Ok(Line::Accept),
+        "accept" => Ok(Line::Update(Update::Accept)),
         "commit" => Ok(commit_line(alloc, values)?),
-        "cat" => cat_line(alloc, values),
-        "log" => Ok(Line::Log),
-        "show" => show_line(alloc, values),
-        "memory" => Ok(Line::Memory),
-        "forget" => Ok(Line::Forget),
+        "forget" => Ok(Line::Update(Update::Forget)),
         _ => unreachable!(),
     }
 }
@@ -83,10 +79,18 @@ fn line_by(alloc: Global, name: &str, values: &ArgMatches<'_>) -> Result<Line, E
 fn try_line(alloc: Global, values: &ArgMatches<'_>) -> Result<Line, AllocError>
     ensures { IfOk result (λ line. line ≡ try_line (rows_of (found_of values.now))) }
 {
-    Ok(Line::Try {
+    Ok(Line::Standalone(Standalone::Try {
         config: text_of(alloc, values, "CONFIG")?,
         paths: texts_of(alloc, values, "PATH")?,
-    })
+    }))
+}
+
+fn explain_line(alloc: Global, values: &ArgMatches<'_>) -> Result<Line, AllocError>
+    ensures { IfOk result (λ line. line ≡ explain_line (rows_of (found_of values.now))) }
+{
+    Ok(Line::Standalone(Standalone::Explain {
+        file: maybe_text_of(alloc, values, "FILE")?,
+    }))
 }
 
 fn add_line(alloc: Global, values: &ArgMatches<'_>) -> Result<Line, Error>
@@ -94,90 +98,27 @@ fn add_line(alloc: Global, values: &ArgMatches<'_>) -> Result<Line, Error>
 {
     let paths = paths_of(alloc, "add", values)?;
     let mode = mode_of(alloc, values)?;
-    Ok(add_of(paths, mode))
-}
-
-fn add_of(paths: PathSource, mode: Option<Mode>) -> Line
-    ensures { result ≡ add_of paths mode }
-{
-    match paths {
-        PathSource::Words(words) => add_words(words, mode),
-        PathSource::Listed(from) => Line::AddAll {
-            paths: PathSource::Listed(from),
-            mode,
-        },
-    }
-}
-
-fn add_words(words: Items<Text>, mode: Option<Mode>) -> Line
-    ensures { result ≡ add_of (Words words) mode }
-{
-    if words.len() == 1 {
-        Line::Add {
-            path: only_of(words),
-            mode,
-        }
-    } else {
-        Line::AddAll {
-            paths: PathSource::Words(words),
-            mode,
-        }
-    }
+    Ok(Line::Update(Update::Add { paths, mode }))
 }
 
 fn remove_line(alloc: Global, values: &ArgMatches<'_>) -> Result<Line, Error>
     ensures { IsValueOf (remove_line (rows_of (found_of values.now))) result }
 {
-    Ok(remove_of(paths_of(alloc, "rm", values)?))
-}
-
-fn remove_of(paths: PathSource) -> Line
-    ensures { result ≡ remove_of paths }
-{
-    match paths {
-        PathSource::Words(words) => remove_words(words),
-        PathSource::Listed(from) => Line::RemoveAll {
-            paths: PathSource::Listed(from),
-        },
-    }
-}
-
-fn remove_words(words: Items<Text>) -> Line
-    ensures { result ≡ remove_of (Words words) }
-{
-    if words.len() == 1 {
-        Line::Remove {
-            path: only_of(words),
-        }
-    } else {
-        Line::RemoveAll {
-            paths: PathSource::Words(words),
-        }
-    }
-}
-
-// The word of a list that has one.
-fn only_of(words: Items<Text>) -> Text
-    requires { length words ≡ 1 }
-    ensures { words ≡ result ∷ [] }
-{
-    let mut words = words.into_vec();
-    match words.pop() {
-        Some(word) => word,
-        None => unreachable!(),
-    }
+    Ok(Line::Update(Update::Remove {
+        paths: paths_of(alloc, "rm", values)?,
+    }))
 }
 
 fn run_line(alloc: Global, values: &ArgMatches<'_>) -> Result<Line, Error>
     ensures { IsValueOf (run_line (rows_of (found_of values.now))) result }
 {
     let stage = stage_of(alloc, "run", values)?;
-    Ok(Line::Run {
+    Ok(Line::Update(Update::Run {
         files: files_of(values),
         only: maybe_text_of(alloc, values, "ID")?,
         stage,
         fresh: flag_of(values, "fresh"),
-    })
+    }))
 }
 
 fn files_of(values: &ArgMatches<'_>) -> FileChoice
@@ -195,12 +136,12 @@ fn run_files_line(alloc: Global, values: &ArgMatches<'_>) -> Result<Line, Error>
 {
     let paths = paths_of(alloc, "run-files", values)?;
     let stage = stage_of(alloc, "run-files", values)?;
-    Ok(Line::Run {
+    Ok(Line::Update(Update::Run {
         files: named_by(paths),
         only: None,
         stage,
         fresh: flag_of(values, "fresh"),
-    })
+    }))
 }
 
 fn named_by(paths: PathSource) -> FileChoice
@@ -215,25 +156,25 @@ fn named_by(paths: PathSource) -> FileChoice
 fn commit_line(alloc: Global, values: &ArgMatches<'_>) -> Result<Line, AllocError>
     ensures { IfOk result (λ line. line ≡ commit_line (rows_of (found_of values.now))) }
 {
-    Ok(Line::Commit {
+    Ok(Line::Update(Update::Commit {
         message: text_of(alloc, values, "message")?,
         no_verify: flag_of(values, "no-verify"),
-    })
+    }))
 }
 
 fn cat_line(alloc: Global, values: &ArgMatches<'_>) -> Result<Line, Error>
     ensures { IsValueOf (cat_line (rows_of (found_of values.now))) result }
 {
-    Ok(Line::Cat {
+    Ok(Line::LookUp(LookUp::Cat {
         path: text_of(alloc, values, "PATH")?,
         version: version_of(alloc, values)?,
-    })
+    }))
 }
 
 fn show_line(alloc: Global, values: &ArgMatches<'_>) -> Result<Line, Error>
     ensures { IsValueOf (show_line (rows_of (found_of values.now))) result }
 {
-    Ok(Line::Show {
+    Ok(Line::LookUp(LookUp::Show {
         number: number_of(alloc, values)?,
-    })
+    }))
 }

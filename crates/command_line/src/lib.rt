@@ -14,4 +14,6 @@ mod values;
 mod version;
 
 pub use command_line::line_of;
-pub use line::{FileChoice, FileVersion, Line, PathSource, StageChoice};
+pub use line::{
+    FileChoice, FileVersion, Line, LookUp, PathSource, StageChoice, Standalone, Update,
+};

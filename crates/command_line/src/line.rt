@@ -5,6 +5,17 @@ use hook_base::{Items, Mode, Text};
 /// What a line of words asks the program for.
 #[derive(Debug, Drop)]
 pub enum Line {
+    /// What is done without a repository.
+    Standalone(Standalone),
+    /// What is looked up in the repository, which stays as it is.
+    LookUp(LookUp),
+    /// A change of the repository, or of what it remembers.
+    Update(Update),
+}
+
+/// What is done without a repository.
+#[derive(Debug, Drop)]
+pub enum Standalone {
     /// A new repository in the working folder.
     Init,
     /// A run of the configuration over the files, with its report written out.
@@ -21,54 +32,15 @@ pub enum Line {
         /// The name of the file that holds the configuration, or `None` for the working folder's.
         file: Option<Text>,
     },
-    /// A file of the working folder is staged, or the files of a folder.
-    Add {
-        /// The name of the file, which is its path in the repository too.
-        path: Text,
-        /// The mode that is asked for, or `None` for that of the staged file.
-        mode: Option<Mode>,
-    },
-    /// Files of the working folder are staged, all or none.
-    AddAll {
-        /// The names of files and folders, of which words give two at least.
-        paths: PathSource,
-        /// The mode that is asked for, or `None` for that of each staged file.
-        mode: Option<Mode>,
-    },
-    /// A path is taken out of the staged files, or those of a folder.
-    Remove {
-        /// The path, as a text that needn't be one.
-        path: Text,
-    },
-    /// Paths are taken out of the staged files, all or none.
-    RemoveAll {
-        /// The paths of staged files and of folders of such, of which words give two at least.
-        paths: PathSource,
-    },
+}
+
+/// What is looked up in the repository.
+#[derive(Debug, Drop)]
+pub enum LookUp {
     /// The staged files that differ from those of the last commit.
     Status,
-    /// A run of hooks on the staged files.
-    Run {
-        /// The files that hooks may get.
-        files: FileChoice,
-        /// The id or alias of the hooks that are run, or `None` for all of the stage.
-        only: Option<Text>,
-        /// The stage whose hooks are run.
-        stage: StageChoice,
-        /// Whether every child is to be started, also where its answer is remembered.
-        fresh: bool,
-    },
     /// What the last run of hooks would change of the staged files.
     Fixes,
-    /// The fixes are applied to the staged files.
-    Accept,
-    /// A commit of the staged files, through its hooks.
-    Commit {
-        /// The message, before any hook has seen it.
-        message: Text,
-        /// Whether the hooks of `pre-commit` and `commit-msg` are left out.
-        no_verify: bool,
-    },
     /// The bytes of a file of the repository.
     Cat {
         /// The path, as a text that needn't be one.
@@ -85,6 +57,43 @@ pub enum Line {
     },
     /// How many answers of hooks' commands are remembered.
     Memory,
+}
+
+/// A change of the repository, or of what it remembers.
+#[derive(Debug, Drop)]
+pub enum Update {
+    /// Files of the working folder are staged, all or none.
+    Add {
+        /// The names of files and folders, of which words give one at least. They are their paths in the repository too.
+        paths: PathSource,
+        /// The mode that is asked for, or `None` for that of each staged file.
+        mode: Option<Mode>,
+    },
+    /// Paths are taken out of the staged files, all or none.
+    Remove {
+        /// The paths of staged files and of folders of such, of which words give one at least.
+        paths: PathSource,
+    },
+    /// A run of hooks on the staged files.
+    Run {
+        /// The files that hooks may get.
+        files: FileChoice,
+        /// The id or alias of the hooks that are run, or `None` for all of the stage.
+        only: Option<Text>,
+        /// The stage whose hooks are run.
+        stage: StageChoice,
+        /// Whether every child is to be started, also where its answer is remembered.
+        fresh: bool,
+    },
+    /// The fixes are applied to the staged files.
+    Accept,
+    /// A commit of the staged files, through its hooks.
+    Commit {
+        /// The message, before any hook has seen it.
+        message: Text,
+        /// Whether the hooks of `pre-commit` and `commit-msg` are left out.
+        no_verify: bool,
+    },
     /// All remembered answers are forgotten.
     Forget,
 }

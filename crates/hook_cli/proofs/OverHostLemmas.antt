@@ -2,15 +2,14 @@
 use Rattle.std.proofs.Common.{◌≡◌, subst, refl, inl, inr, ℕ, List, [], Option, None, Some, option_map, Ok, Err}
 use Rattle.sqlite_trees.specs.declared.store.Store.{Ghosts}
 use Rattle.repo_store.specs.AllOrNothing.{IsAllOrNothing}
-use Rattle.repo_store.specs.Kept.{accepting}
-use Rattle.repo_store.specs.Repository.{Repository}
+use Rattle.repo_store.specs.Kept.{Kept, accepting}
 use Rattle.commit_flow.specs.declared.command.Command.TheVariants as command
 use Rattle.commit_flow.specs.declared.host_refusal.HostRefusal.{HostRefusal}
 use Rattle.commit_flow.specs.declared.reply.Reply.TheVariants.{Accepted, Refused}
 use Rattle.commit_flow.specs.Crashes.{IsOneCommand}
 use Rattle.commit_flow.specs.declared.host.Host.{Host}
 use Rattle.commit_flow.specs.Steps.{IsAcceptRefusal, Step}
-use Rattle.command_line.specs.declared.line.Line.{Line}
+use Rattle.command_line.specs.declared.line.LookUp.{LookUp}
 use Rattle.hook_cli.specs.declared.command_ending.CommandEnding.{CommandEnding}
 use Rattle.hook_cli.specs.declared.command_ending.CommandEnding.TheVariants as ends
 use Rattle.hook_cli.specs.CommandOver.{IsAcceptOver, IsAnswer, IsLookUp, IsRefusalText}
@@ -22,13 +21,13 @@ use Rattle.text_output.specs.OutputLemmas.{keeps-itself}
 
 -- ---- look-ups
 
-pub looked-up : (repo : Repository) (line : Line) (out err : Output) (ending : CommandEnding) (text : List ℕ) → IsAnswer repo line text
-    → IsSaid ends.Done out text err untaken_line ending → IsLookUp repo line out err ending
-looked-up repo line out err ending text answer said = inl (record { text = text; answer = answer; said = said })
+pub looked-up : (kept : Kept) (look_up : LookUp) (out err : Output) (ending : CommandEnding) (text : List ℕ) → IsAnswer kept look_up text
+    → IsSaid ends.Done out text err untaken_line ending → IsLookUp kept look_up out err ending
+looked-up kept look_up out err ending text answer said = inl (record { text = text; answer = answer; said = said })
 
-pub look-up-refused : (repo : Repository) (line : Line) (out err : Output) (ending : CommandEnding) (text : List ℕ) → IsRefusalText repo line text
-    → IsTold ends.Refused err text ending → IsSilent out → IsLookUp repo line out err ending
-look-up-refused repo line out err ending text refusal told silent = inr (record { text = text; refusal = refusal; told = told; silent = silent })
+pub look-up-refused : (kept : Kept) (look_up : LookUp) (out err : Output) (ending : CommandEnding) (text : List ℕ) → IsRefusalText kept.repo look_up text
+    → IsTold ends.Refused err text ending → IsSilent out → IsLookUp kept look_up out err ending
+look-up-refused kept look_up out err ending text refusal told silent = inr (record { text = text; refusal = refusal; told = told; silent = silent })
 
 pub none-mapped : {A B : Type 0} (f : A → B) (found : Option A) → None ≡ option_map f found → found ≡ None
 none-mapped f None none = refl

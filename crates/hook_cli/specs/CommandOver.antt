@@ -1,5 +1,5 @@
 -- The commands over a repository: what each makes of it, which children it calls, what it prints, and the exit status.
-use Rattle.std.specs.Prelude.{◌≡◌, ◌⊎◌, ℕ, Bool, List, [], length, Option, None, Some, IsSome, option_map, Result, IfErr, IfOk, OnOk}
+use Rattle.std.specs.Prelude.{◌≡◌, ◌⊎◌, ℕ, Bool, List, [], ◌∷◌, length, Option, None, Some, IsSome, option_map, Result, IfErr, IfOk, OnOk}
 use Rattle.sqlite_trees.specs.declared.store.Store.{Ghosts}
 use Rattle.hook_base.specs.declared.file.File.{File}
 use Rattle.hook_base.specs.declared.file.FileEntry.{FileEntry}
@@ -41,10 +41,16 @@ use Rattle.command_line.specs.declared.line.FileChoice.TheVariants.{Changed, All
 use Rattle.command_line.specs.declared.line.FileVersion.{FileVersion}
 use Rattle.command_line.specs.declared.line.FileVersion.TheVariants.{Staged, Fixed}
 use Rattle.command_line.specs.declared.line.FileVersion.TheVariants as versions
+use Rattle.command_line.specs.declared.line.Line.{Line}
+use Rattle.command_line.specs.declared.line.Line.TheVariants as line
+use Rattle.command_line.specs.declared.line.LookUp.{LookUp}
+use Rattle.command_line.specs.declared.line.LookUp.TheVariants.{Status, Fixes, Cat, Log, Show, Memory}
+use Rattle.command_line.specs.declared.line.PathSource.{PathSource}
+use Rattle.command_line.specs.declared.line.PathSource.TheVariants.{Words}
 use Rattle.command_line.specs.declared.line.StageChoice.{StageChoice}
 use Rattle.command_line.specs.declared.line.StageChoice.TheVariants.{PreCommit, Manual}
-use Rattle.command_line.specs.declared.line.Line.{Line}
-use Rattle.command_line.specs.declared.line.Line.TheVariants.{Init, Try, Check, Explain, Add, AddAll, Remove, RemoveAll, Status, Run, Fixes, Accept, Commit, Cat, Log, Show, Memory, Forget}
+use Rattle.command_line.specs.declared.line.Update.{Update}
+use Rattle.command_line.specs.declared.line.Update.TheVariants.{Add, Remove, Run, Accept, Commit, Forget}
 use Rattle.hook_cli.specs.declared.command_ending.CommandEnding.{CommandEnding}
 use Rattle.hook_cli.specs.declared.command_ending.CommandEnding.TheVariants as ends
 use Rattle.text_output.specs.Outputs.{IsSilent, Output}
@@ -58,31 +64,30 @@ use Rattle.repository_text.specs.ShowText.{show_text}
 use Rattle.repository_text.specs.StatusText.{status_text}
 use Rattle.configuration_run.specs.TryOver.{NoneCalled}
 
+-- one word names the path
+abbrev pub IsOneWord : PathSource → Type 0
+IsOneWord (Words (path ∷ [])) = Unit {0}
+IsOneWord paths = ⊥
+
 -- the files are named in the line itself, where they are named
 abbrev pub IsNamed : FileChoice → Type 0
 IsNamed (Listed from) = ⊥
 IsNamed files = Unit {0}
 
+-- one call of the host does the update
+abbrev pub IsOneCall : Update → Type 0
+IsOneCall (Add paths mode) = IsOneWord paths
+IsOneCall (Remove paths) = IsOneWord paths
+IsOneCall (Run files only stage fresh) = IsNamed files
+IsOneCall Accept = Unit {0}
+IsOneCall (Commit message no_verify) = Unit {0}
+IsOneCall Forget = Unit {0}
+
 -- the line is a command over a repository, which one call of the host does
 abbrev pub IsOverHost : Line → Type 0
-IsOverHost Init = ⊥
-IsOverHost (Try config paths) = ⊥
-IsOverHost Check = ⊥
-IsOverHost (Explain file) = ⊥
-IsOverHost (AddAll paths mode) = ⊥
-IsOverHost (RemoveAll paths) = ⊥
-IsOverHost (Run files only stage fresh) = IsNamed files
-IsOverHost (Commit message no_verify) = Unit {0}
-IsOverHost (Add path mode) = Unit {0}
-IsOverHost (Remove path) = Unit {0}
-IsOverHost Status = Unit {0}
-IsOverHost Fixes = Unit {0}
-IsOverHost Accept = Unit {0}
-IsOverHost (Cat path version) = Unit {0}
-IsOverHost Log = Unit {0}
-IsOverHost (Show number) = Unit {0}
-IsOverHost Memory = Unit {0}
-IsOverHost Forget = Unit {0}
+IsOverHost (line.Standalone asked) = ⊥
+IsOverHost (line.LookUp asked) = Unit {0}
+IsOverHost (line.Update update) = IsOneCall update
 
 -- ---- the commands that change the repository
 
@@ -127,11 +132,6 @@ IsAcceptOver g old new out err ending =
     IsChanged g old new command.Accept (Accepted (length old.store.kept.repo.fixes)) (accepting old.store.kept) ⊥ out err ending
 
 -- ---- the remembered answers
-
--- `memory` prints how many answers are remembered, is never refused, and leaves the host as it was
-pub record IsMemoryOver {S : Type 0} (old new : Host S) (out err : Output) (ending : CommandEnding) : Type 0 where
-  pub same : new ≡ old
-  pub said : IsSaid ends.Done out (remembered_text (count_of (remembered_by old.store.kept))) err untaken_line ending
 
 -- All that is remembered is forgotten by one call of the host, whose answer is printed: how many answers there were. Refused, all
 -- of it stays remembered. The repository and the contents that are kept stay in any case. A writer's error undoes none of it.
@@ -194,7 +194,7 @@ pub record IsCommitOverHost {S : Type 0} (g : Ghosts S) (tells : List (List ℕ)
   pub one : IsHookCommand g old.store new.store (command.Commit message no_verify skip) answer
   pub replied : IsReplied out err (reply_of reply_of_ending answer) ending
 
--- ---- the commands that look something up in the repository
+-- ---- the commands that look something up
 
 -- the bytes that a version of a path has, if it has any
 abbrev pub bytes_in : Repository → FileVersion → List ℕ → Option (List ℕ)
@@ -202,26 +202,14 @@ bytes_in repo Staged path = option_map (λ (entry : FileEntry). entry.bytes) (en
 bytes_in repo Fixed path = fixed_bytes path repo.fixes
 bytes_in repo (versions.Committed number) path = option_map (λ (entry : FileEntry). entry.bytes) (entry_of path (tree_at number repo.history))
 
--- the text that a look-up prints
-abbrev pub IsAnswer : Repository → Line → List ℕ → Type 0
-IsAnswer repo Status text = text ≡ status_text repo.staged (last_tree repo.history)
-IsAnswer repo Fixes text = text ≡ fixes_text repo.fixes
-IsAnswer repo (Cat path version) text = IsLegal path × (bytes_in repo version path ≡ Some text)
-IsAnswer repo Log text = text ≡ log_text repo.history
-IsAnswer repo (Show number) text = option_map show_text (commit_at number repo.history) ≡ Some text
-IsAnswer repo Init text = ⊥
-IsAnswer repo (Try config paths) text = ⊥
-IsAnswer repo Check text = ⊥
-IsAnswer repo (Explain file) text = ⊥
-IsAnswer repo (AddAll paths mode) text = ⊥
-IsAnswer repo (RemoveAll paths) text = ⊥
-IsAnswer repo (Run files only stage fresh) text = ⊥
-IsAnswer repo (Commit message no_verify) text = ⊥
-IsAnswer repo (Add path mode) text = ⊥
-IsAnswer repo (Remove path) text = ⊥
-IsAnswer repo Accept text = ⊥
-IsAnswer repo Memory text = ⊥
-IsAnswer repo Forget text = ⊥
+-- the text that a look-up prints: `memory` how many answers are remembered, the others something of the repository
+abbrev pub IsAnswer : Kept → LookUp → List ℕ → Type 0
+IsAnswer kept Status text = text ≡ status_text kept.repo.staged (last_tree kept.repo.history)
+IsAnswer kept Fixes text = text ≡ fixes_text kept.repo.fixes
+IsAnswer kept (Cat path version) text = IsLegal path × (bytes_in kept.repo version path ≡ Some text)
+IsAnswer kept Log text = text ≡ log_text kept.repo.history
+IsAnswer kept (Show number) text = option_map show_text (commit_at number kept.repo.history) ≡ Some text
+IsAnswer kept Memory text = text ≡ remembered_text (count_of (remembered_by kept))
 
 -- why a text is no path, or memory was refused, which comes after a fault of the path
 abbrev pub IsPathRefusal : List ℕ → HostRefusal → Type 0
@@ -244,8 +232,8 @@ IsCatText repo version path text =
     ((refusal : HostRefusal) × IsPathRefusal path refusal × (text ≡ refusal_text refusal))
     ⊎ (IsLegal path × (bytes_in repo version path ≡ None) × IsMissingText repo version path text)
 
--- the text that a refused look-up tells
-abbrev pub IsRefusalText : Repository → Line → List ℕ → Type 0
+-- the text that a refused look-up tells; `memory` is never refused
+abbrev pub IsRefusalText : Repository → LookUp → List ℕ → Type 0
 IsRefusalText repo Status text = text ≡ refusal_text OutOfMemory
 IsRefusalText repo Fixes text = text ≡ refusal_text OutOfMemory
 IsRefusalText repo (Cat path version) text = IsCatText repo version path text
@@ -253,70 +241,57 @@ IsRefusalText repo Log text = text ≡ refusal_text OutOfMemory
 IsRefusalText repo (Show number) text =
     ((commit_at number repo.history ≡ None) × (text ≡ no_commit_text number))
     ⊎ (IsSome (commit_at number repo.history) × (text ≡ refusal_text OutOfMemory))
-IsRefusalText repo Init text = ⊥
-IsRefusalText repo (Try config paths) text = ⊥
-IsRefusalText repo Check text = ⊥
-IsRefusalText repo (Explain file) text = ⊥
-IsRefusalText repo (AddAll paths mode) text = ⊥
-IsRefusalText repo (RemoveAll paths) text = ⊥
-IsRefusalText repo (Run files only stage fresh) text = ⊥
-IsRefusalText repo (Commit message no_verify) text = ⊥
-IsRefusalText repo (Add path mode) text = ⊥
-IsRefusalText repo (Remove path) text = ⊥
-IsRefusalText repo Accept text = ⊥
 IsRefusalText repo Memory text = ⊥
-IsRefusalText repo Forget text = ⊥
 
 -- the look-up's text is printed
-pub record Answers (repo : Repository) (line : Line) (out err : Output) (ending : CommandEnding) : Type 0 where
+pub record Answers (kept : Kept) (look_up : LookUp) (out err : Output) (ending : CommandEnding) : Type 0 where
   pub text : List ℕ
-  pub answer : IsAnswer repo line text
+  pub answer : IsAnswer kept look_up text
   pub said : IsSaid ends.Done out text err untaken_line ending
 
 -- the look-up is refused, and nothing is printed on standard output
-pub record Refuses (repo : Repository) (line : Line) (out err : Output) (ending : CommandEnding) : Type 0 where
+pub record Refuses (kept : Kept) (look_up : LookUp) (out err : Output) (ending : CommandEnding) : Type 0 where
   pub text : List ℕ
-  pub refusal : IsRefusalText repo line text
+  pub refusal : IsRefusalText kept.repo look_up text
   pub told : IsTold ends.Refused err text ending
   pub silent : IsSilent out
 
-abbrev pub IsLookUp : Repository → Line → Output → Output → CommandEnding → Type 0
-IsLookUp repo line out err ending = Answers repo line out err ending ⊎ Refuses repo line out err ending
-
--- a look-up leaves the host as it was
-pub record IsLookedUp {S : Type 0} (old new : Host S) (line : Line) (out err : Output) (ending : CommandEnding) : Type 0 where
-  pub same : new ≡ old
-  pub answered : IsLookUp old.store.kept.repo line out err ending
+abbrev pub IsLookUp : Kept → LookUp → Output → Output → CommandEnding → Type 0
+IsLookUp kept look_up out err ending = Answers kept look_up out err ending ⊎ Refuses kept look_up out err ending
 
 -- ---- all of them
 
--- the line is done so; the bytes are those of the file that is added, and the names those of the hooks that are skipped
-abbrev pub IsEnded : {S : Type 0} → Ghosts S → (List (List ℕ) → List File → Outcome → Type 0) → Counts → Host S → Host S → Line → List ℕ → List (List ℕ) → Output → Output → CommandEnding → Type 0
-IsEnded g tells counts old new (Add path mode) bytes skip out err ending = IsAddOver g old new path bytes mode out err ending
-IsEnded g tells counts old new (Remove path) bytes skip out err ending = IsRemoveOver g old new path out err ending
-IsEnded g tells counts old new Status bytes skip out err ending = IsLookedUp old new Status out err ending
-IsEnded g tells counts old new Fixes bytes skip out err ending = IsLookedUp old new Fixes out err ending
-IsEnded g tells counts old new Accept bytes skip out err ending = IsAcceptOver g old new out err ending
-IsEnded g tells counts old new (Cat path version) bytes skip out err ending = IsLookedUp old new (Cat path version) out err ending
-IsEnded g tells counts old new Log bytes skip out err ending = IsLookedUp old new Log out err ending
-IsEnded g tells counts old new (Show number) bytes skip out err ending = IsLookedUp old new (Show number) out err ending
-IsEnded g tells counts old new Memory bytes skip out err ending = IsMemoryOver old new out err ending
-IsEnded g tells counts old new Forget bytes skip out err ending = IsForgetOver g old new out err ending
-IsEnded g tells counts old new Init bytes skip out err ending = ⊥
-IsEnded g tells counts old new (Try config paths) bytes skip out err ending = ⊥
-IsEnded g tells counts old new Check bytes skip out err ending = ⊥
-IsEnded g tells counts old new (Explain file) bytes skip out err ending = ⊥
-IsEnded g tells counts old new (AddAll paths mode) bytes skip out err ending = ⊥
-IsEnded g tells counts old new (RemoveAll paths) bytes skip out err ending = ⊥
-IsEnded g tells counts old new (Run files only stage fresh) bytes skip out err ending =
+-- the word that names a path, where one does
+abbrev pub word_of : PathSource → List ℕ
+word_of (Words (path ∷ [])) = path
+word_of paths = []
+
+-- the update is made so; the bytes are those of the file that is added, and the names those of the hooks that are skipped
+abbrev pub IsUpdated : {S : Type 0} → Ghosts S → (List (List ℕ) → List File → Outcome → Type 0) → Counts → Host S → Host S → Update → List ℕ → List (List ℕ) → Output → Output → CommandEnding → Type 0
+IsUpdated g tells counts old new (Add paths mode) bytes skip out err ending = IsAddOver g old new (word_of paths) bytes mode out err ending
+IsUpdated g tells counts old new (Remove paths) bytes skip out err ending = IsRemoveOver g old new (word_of paths) out err ending
+IsUpdated g tells counts old new (Run files only stage fresh) bytes skip out err ending =
     IsRunOverHost g tells counts old new (ask_of files only stage fresh skip) out err ending
-IsEnded g tells counts old new (Commit message no_verify) bytes skip out err ending =
+IsUpdated g tells counts old new Accept bytes skip out err ending = IsAcceptOver g old new out err ending
+IsUpdated g tells counts old new (Commit message no_verify) bytes skip out err ending =
     IsCommitOverHost g tells counts old new message no_verify skip out err ending
+IsUpdated g tells counts old new Forget bytes skip out err ending = IsForgetOver g old new out err ending
+
+-- the line is done so; a look-up leaves the host as it was
+abbrev pub IsEnded : {S : Type 0} → Ghosts S → (List (List ℕ) → List File → Outcome → Type 0) → Counts → Host S → Host S → Line → List ℕ → List (List ℕ) → Output → Output → CommandEnding → Type 0
+IsEnded g tells counts old new (line.Standalone asked) bytes skip out err ending = ⊥
+IsEnded g tells counts old new (line.LookUp asked) bytes skip out err ending = (new ≡ old) × IsLookUp old.store.kept asked out err ending
+IsEnded g tells counts old new (line.Update update) bytes skip out err ending = IsUpdated g tells counts old new update bytes skip out err ending
+
+-- the update runs no hooks
+abbrev pub IsHookless : Update → Type 0
+IsHookless (Run files only stage fresh) = ⊥
+IsHookless (Commit message no_verify) = ⊥
+IsHookless update = Unit {0}
 
 -- the line runs no hooks
 abbrev pub IsRunless : Line → Type 0
-IsRunless (Run files only stage fresh) = ⊥
-IsRunless (Commit message no_verify) = ⊥
+IsRunless (line.Update update) = IsHookless update
 IsRunless line = Unit {0}
 
 -- children are called by a line that runs hooks alone

@@ -1,19 +1,19 @@
-//! The commands that look something up in a store and print it.
+//! The commands that look something up in a repository, or in what its host remembers, and print it.
 //!
 //! The contracts cite `specs/CommandOver.antt`.
 
 ghost use Rattle.std.specs.Prelude.{◌≡◌, ℕ, List, IfOk, IfErr, OnOk};
 ghost use Rattle.std.specs.Option.{option_copied};
 ghost use Rattle.commit_flow.specs.StagedPaths.{IsLegal};
-ghost use Rattle.command_line.specs.declared.line.Line.TheVariants as line;
+ghost use Rattle.command_line.specs.declared.line.LookUp.TheVariants.{Status, Fixes, Cat, Log, Show, Memory};
 ghost use Rattle.hook_cli.specs.declared.command_ending.CommandEnding.TheVariants as ends;
 ghost use Rattle.hook_cli.specs.CommandOver.{IsLookUp, IsMissingText, IsPathRefusal, bytes_in};
 ghost use Rattle.hook_cli.specs.Printing.{IsTold};
 
 use crate::CommandEnding;
-use crate::printing::{say, tell, tell_no_commit, tell_no_file, tell_no_fixed};
-use command_line::FileVersion;
-use commit_flow::HostRefusal;
+use crate::printing::{say, say_remembered, tell, tell_no_commit, tell_no_file, tell_no_fixed};
+use command_line::{FileVersion, LookUp};
+use commit_flow::{Host, HostRefusal};
 use hook_base::{OutOfMemory, RepoPath};
 use repo_store::Store;
 use repository_text::{fixes_text, log_text, show_text, status_text};
@@ -21,14 +21,36 @@ use sqlite::Alter;
 use std::alloc::Global;
 use std::io::Write;
 
-/// `status`: how the staged files differ from those of the last commit.
-pub(crate) fn status<S: Alter, O: Write, E: Write>(
+/// Prints what is looked up in a repository, or how many answers its host remembers.
+pub(crate) fn looked_up<S: Alter, O: Write, E: Write>(
+    alloc: Global,
+    look_up: &LookUp,
+    host: &Host<S>,
+    out: &mut O,
+    err: &mut E,
+) -> CommandEnding
+    ensures { IsLookUp host.now.store.kept look_up.now (record { held = O.contents out.old; holds = O.contents out.new }) (record { held = E.contents err.old; holds = E.contents err.new }) result }
+{
+    match look_up {
+        LookUp::Status => status(alloc, host.store(), out, err),
+        LookUp::Fixes => fixes(alloc, host.store(), out, err),
+        LookUp::Cat { path, version } => {
+            cat(alloc, path.as_str(), *version, host.store(), out, err)
+        }
+        LookUp::Log => log(alloc, host.store(), out, err),
+        LookUp::Show { number } => show(alloc, *number, host.store(), out, err),
+        LookUp::Memory => memory(host, out, err),
+    }
+}
+
+// `status`: how the staged files differ from those of the last commit.
+fn status<S: Alter, O: Write, E: Write>(
     alloc: Global,
     store: &Store<S>,
     out: &mut O,
     err: &mut E,
 ) -> CommandEnding
-    ensures { IsLookUp store.now.kept.repo line.Status (record { held = O.contents out.old; holds = O.contents out.new }) (record { held = E.contents err.old; holds = E.contents err.new }) result }
+    ensures { IsLookUp store.now.kept Status (record { held = O.contents out.old; holds = O.contents out.new }) (record { held = E.contents err.old; holds = E.contents err.new }) result }
 {
     match status_text(alloc, store) {
         Ok(text) => say(out, err, text.as_slice()),
@@ -36,14 +58,14 @@ pub(crate) fn status<S: Alter, O: Write, E: Write>(
     }
 }
 
-/// `fixes`: what accepting the fixes would change.
-pub(crate) fn fixes<S: Alter, O: Write, E: Write>(
+// `fixes`: what accepting the fixes would change.
+fn fixes<S: Alter, O: Write, E: Write>(
     alloc: Global,
     store: &Store<S>,
     out: &mut O,
     err: &mut E,
 ) -> CommandEnding
-    ensures { IsLookUp store.now.kept.repo line.Fixes (record { held = O.contents out.old; holds = O.contents out.new }) (record { held = E.contents err.old; holds = E.contents err.new }) result }
+    ensures { IsLookUp store.now.kept Fixes (record { held = O.contents out.old; holds = O.contents out.new }) (record { held = E.contents err.old; holds = E.contents err.new }) result }
 {
     match fixes_text(alloc, store) {
         Ok(text) => say(out, err, text.as_slice()),
@@ -51,8 +73,8 @@ pub(crate) fn fixes<S: Alter, O: Write, E: Write>(
     }
 }
 
-/// `cat`: the bytes that a version of a path has.
-pub(crate) fn cat<S: Alter, O: Write, E: Write>(
+// `cat`: the bytes that a version of a path has.
+fn cat<S: Alter, O: Write, E: Write>(
     alloc: Global,
     path: &str,
     version: FileVersion,
@@ -60,7 +82,7 @@ pub(crate) fn cat<S: Alter, O: Write, E: Write>(
     out: &mut O,
     err: &mut E,
 ) -> CommandEnding
-    ensures { IsLookUp store.now.kept.repo (line.Cat path.now version) (record { held = O.contents out.old; holds = O.contents out.new }) (record { held = E.contents err.old; holds = E.contents err.new }) result }
+    ensures { IsLookUp store.now.kept (Cat path.now version) (record { held = O.contents out.old; holds = O.contents out.new }) (record { held = E.contents err.old; holds = E.contents err.new }) result }
 {
     match legal_path(alloc, path) {
         Ok(path) => cat_at(&path, version, store, out, err),
@@ -68,14 +90,14 @@ pub(crate) fn cat<S: Alter, O: Write, E: Write>(
     }
 }
 
-/// `log`: the commits, the newest first.
-pub(crate) fn log<S: Alter, O: Write, E: Write>(
+// `log`: the commits, the newest first.
+fn log<S: Alter, O: Write, E: Write>(
     alloc: Global,
     store: &Store<S>,
     out: &mut O,
     err: &mut E,
 ) -> CommandEnding
-    ensures { IsLookUp store.now.kept.repo line.Log (record { held = O.contents out.old; holds = O.contents out.new }) (record { held = E.contents err.old; holds = E.contents err.new }) result }
+    ensures { IsLookUp store.now.kept Log (record { held = O.contents out.old; holds = O.contents out.new }) (record { held = E.contents err.old; holds = E.contents err.new }) result }
 {
     match log_text(alloc, store) {
         Ok(text) => say(out, err, text.as_slice()),
@@ -83,21 +105,28 @@ pub(crate) fn log<S: Alter, O: Write, E: Write>(
     }
 }
 
-/// `show`: a commit's message and its paths.
-pub(crate) fn show<S: Alter, O: Write, E: Write>(
+// `show`: a commit's message and its paths.
+fn show<S: Alter, O: Write, E: Write>(
     alloc: Global,
     number: u32,
     store: &Store<S>,
     out: &mut O,
     err: &mut E,
 ) -> CommandEnding
-    ensures { IsLookUp store.now.kept.repo (line.Show number) (record { held = O.contents out.old; holds = O.contents out.new }) (record { held = E.contents err.old; holds = E.contents err.new }) result }
+    ensures { IsLookUp store.now.kept (Show number) (record { held = O.contents out.old; holds = O.contents out.new }) (record { held = E.contents err.old; holds = E.contents err.new }) result }
 {
     match show_text(alloc, store, number) {
         Ok(Some(text)) => say(out, err, text.as_slice()),
         Ok(None) => tell_no_commit(err, number),
         Err(OutOfMemory) => tell(err, &HostRefusal::OutOfMemory),
     }
+}
+
+// `memory`: how many answers are remembered.
+fn memory<S: Alter, O: Write, E: Write>(host: &Host<S>, out: &mut O, err: &mut E) -> CommandEnding
+    ensures { IsLookUp host.now.store.kept Memory (record { held = O.contents out.old; holds = O.contents out.new }) (record { held = E.contents err.old; holds = E.contents err.new }) result }
+{
+    say_remembered(out, err, host.remembered())
 }
 
 // The path that a text is.
@@ -119,7 +148,7 @@ fn cat_at<S: Alter, O: Write, E: Write>(
     err: &mut E,
 ) -> CommandEnding
     requires { IsLegal path.now }
-    ensures { IsLookUp store.now.kept.repo (line.Cat path.now version) (record { held = O.contents out.old; holds = O.contents out.new }) (record { held = E.contents err.old; holds = E.contents err.new }) result }
+    ensures { IsLookUp store.now.kept (Cat path.now version) (record { held = O.contents out.old; holds = O.contents out.new }) (record { held = E.contents err.old; holds = E.contents err.new }) result }
 {
     match bytes_of(path, version, store) {
         Some(bytes) => say(out, err, bytes),

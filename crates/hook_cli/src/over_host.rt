@@ -4,15 +4,16 @@
 
 ghost use Rattle.std.specs.Prelude.{◌≡◌, ◌⊎◌};
 ghost use Rattle.child_port.specs.Telling.{SameTells};
-ghost use Rattle.hook_cli.specs.CommandOver.{IsAcceptOver, IsAddOver, IsCalledBy, IsCommandOver, IsEnded, IsOverHost, IsRemoveOver};
+ghost use Rattle.command_line.specs.declared.line.Line.TheVariants as line;
+ghost use Rattle.hook_cli.specs.CommandOver.{IsAcceptOver, IsAddOver, IsCalledBy, IsCommandOver, IsEnded, IsOneCall, IsOneWord, IsOverHost, IsRemoveOver, IsUpdated, word_of};
 ghost use Rattle.text_output.specs.Outputs.{IsSilent, Output};
 
 use crate::command_ending::status_of;
-use crate::look_up::{cat, fixes, log, show, status};
-use crate::over_answers::{forget, memory};
+use crate::look_up::looked_up;
+use crate::over_answers::forget;
 use crate::over_runs::{ask_of, commit, run};
 use crate::printing::{say_accepted, tell};
-use crate::{CommandEnding, Line};
+use crate::{CommandEnding, Line, PathSource, Update};
 use child_port::Children;
 use commit_flow::Host;
 use hook_base::{Mode, Text};
@@ -73,9 +74,32 @@ fn end_of<S: Alter, C: Children, O: Write, E: Write>(
     ensures same { SameTells (C.tells children.old) (C.tells children.new) }
 {
     match line {
-        Line::Add { path, mode } => add(alloc, path.as_str(), bytes, *mode, host, err),
-        Line::Remove { path } => remove(alloc, path.as_str(), host, err),
-        Line::Run {
+        Line::LookUp(asked) => looked_up(alloc, asked, host, out, err),
+        Line::Update(update) => updated(alloc, update, bytes, skip, host, children, out, err),
+        // The caller has these done elsewhere.
+        Line::Standalone(_) => unreachable!(),
+    }
+}
+
+fn updated<S: Alter, C: Children, O: Write, E: Write>(
+    alloc: Global,
+    update: &Update,
+    bytes: &[u8],
+    skip: &[Text],
+    host: &mut Host<S>,
+    children: &mut C,
+    out: &mut O,
+    err: &mut E,
+) -> CommandEnding
+    requires { IsOneCall update.now }
+    ensures ended { IsUpdated S.Store (C.tells children.old) (record { calls = C.call_count children.old; calls_after = C.call_count children.new; faults = C.fault_count children.old; faults_after = C.fault_count children.new }) host.old host.new update.now bytes.now skip.now (record { held = O.contents out.old; holds = O.contents out.new }) (record { held = E.contents err.old; holds = E.contents err.new }) result }
+    ensures called { IsCalledBy (line.Update update.now) (record { calls = C.call_count children.old; calls_after = C.call_count children.new; faults = C.fault_count children.old; faults_after = C.fault_count children.new }) }
+    ensures same { SameTells (C.tells children.old) (C.tells children.new) }
+{
+    match update {
+        Update::Add { paths, mode } => add(alloc, word_of(paths), bytes, *mode, host, err),
+        Update::Remove { paths } => remove(alloc, word_of(paths), host, err),
+        Update::Run {
             files,
             only,
             stage,
@@ -84,7 +108,8 @@ fn end_of<S: Alter, C: Children, O: Write, E: Write>(
             let ask = ask_of(alloc, files, only, *stage, *fresh, skip);
             run(alloc, ask, host, children, out, err)
         }
-        Line::Commit { message, no_verify } => commit(
+        Update::Accept => accept(host, out, err),
+        Update::Commit { message, no_verify } => commit(
             alloc,
             message.as_str(),
             *no_verify,
@@ -94,23 +119,21 @@ fn end_of<S: Alter, C: Children, O: Write, E: Write>(
             out,
             err,
         ),
-        Line::Status => status(alloc, host.store(), out, err),
-        Line::Fixes => fixes(alloc, host.store(), out, err),
-        Line::Accept => accept(host, out, err),
-        Line::Cat { path, version } => {
-            cat(alloc, path.as_str(), *version, host.store(), out, err)
-        }
-        Line::Log => log(alloc, host.store(), out, err),
-        Line::Show { number } => show(alloc, *number, host.store(), out, err),
-        Line::Memory => memory(host, out, err),
-        Line::Forget => forget(host, out, err),
-        // The caller has them done elsewhere.
-        Line::Init
-        | Line::Try { .. }
-        | Line::Check
-        | Line::Explain { .. }
-        | Line::AddAll { .. }
-        | Line::RemoveAll { .. } => unreachable!(),
+        Update::Forget => forget(host, out, err),
+    }
+}
+
+// The word that names the path.
+fn word_of(paths: &PathSource) -> &str
+    requires { IsOneWord paths.now }
+    ensures { result.now ≡ word_of paths.now }
+{
+    match paths {
+        PathSource::Words(words) => match words.as_slice() {
+            [word] => word.as_str(),
+            _ => unreachable!(),
+        },
+        PathSource::Listed(_) => unreachable!(),
     }
 }
 

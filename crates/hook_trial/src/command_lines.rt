@@ -1,7 +1,9 @@
 //! What a line of words asks for.
 
 use hook_base::{Mode, Text};
-use hook_cli::{FileChoice, FileVersion, Line, PathSource, StageChoice, line_of};
+use hook_cli::{
+    FileChoice, FileVersion, Line, LookUp, PathSource, StageChoice, Standalone, Update, line_of,
+};
 use std::alloc::Global;
 use trial_rows::{Answer, Stop, texts_of};
 
@@ -21,33 +23,53 @@ fn refused(answer: Answer, error: &clap::Error) -> Answer {
 
 fn told(answer: Answer, line: &Line) -> Answer {
     match line {
-        Line::Try { config, paths } => {
+        Line::Standalone(asked) => told_alone(answer, asked),
+        Line::LookUp(asked) => told_look_up(answer, asked),
+        Line::Update(update) => told_update(answer, update),
+    }
+}
+
+fn told_alone(answer: Answer, asked: &Standalone) -> Answer {
+    match asked {
+        Standalone::Init => answer.text("init\n"),
+        Standalone::Try { config, paths } => {
             with_lines(with_line(answer.text("try\n"), config), paths.as_slice())
         }
-        Line::Explain { file } => with_name(answer.text("explain\n"), file),
-        Line::Add { path, mode } => with_line(
-            answer.texts(&["add", word_of_mode(*mode), "\n"]),
-            path,
-        ),
-        Line::AddAll { paths, mode } => with_paths(
-            answer.texts(&["add all", word_of_mode(*mode)]),
+        Standalone::Check => answer.text("check\n"),
+        Standalone::Explain { file } => with_name(answer.text("explain\n"), file),
+    }
+}
+
+fn told_look_up(answer: Answer, asked: &LookUp) -> Answer {
+    match asked {
+        LookUp::Status => answer.text("status\n"),
+        LookUp::Fixes => answer.text("fixes\n"),
+        LookUp::Cat { path, version } => with_line(with_version(answer, *version), path),
+        LookUp::Log => answer.text("log\n"),
+        LookUp::Show { number } => answer.text("show\n").shown(*number).text("\n"),
+        LookUp::Memory => answer.text("memory\n"),
+    }
+}
+
+fn told_update(answer: Answer, update: &Update) -> Answer {
+    match update {
+        Update::Add { paths, mode } => with_paths(
+            answer.texts(&["add", word_of_mode(*mode)]),
             paths,
         ),
-        Line::Remove { path } => with_line(answer.text("remove\n"), path),
-        Line::RemoveAll { paths } => with_paths(answer.text("remove all"), paths),
-        Line::Commit { message, no_verify } => with_line(
-            answer.text(word_of_commit(*no_verify)),
-            message,
-        ),
-        Line::Cat { path, version } => with_line(with_version(answer, *version), path),
-        Line::Show { number } => answer.text("show\n").shown(*number).text("\n"),
-        Line::Run {
+        Update::Remove { paths } => with_paths(answer.text("remove"), paths),
+        Update::Run {
             files,
             only,
             stage,
             fresh,
         } => with_run(answer, files, only, *stage, *fresh),
-        _ => answer.text(word_alone(line)),
+        Update::Accept => answer.text("accept\n"),
+        Update::Commit { message, no_verify } => with_line(
+            answer.text(word_of_commit(*no_verify)),
+            message,
+        ),
+        Update::Forget => answer.text("forget\n"),
     }
 }
 
@@ -56,21 +78,6 @@ fn with_version(answer: Answer, version: FileVersion) -> Answer {
         FileVersion::Staged => answer.text("cat\n"),
         FileVersion::Fixed => answer.text("cat fixed\n"),
         FileVersion::Committed(number) => answer.text("cat commit ").shown(number).text("\n"),
-    }
-}
-
-// The command that is a word alone.
-fn word_alone(line: &Line) -> &'static str {
-    match line {
-        Line::Init => "init\n",
-        Line::Check => "check\n",
-        Line::Status => "status\n",
-        Line::Fixes => "fixes\n",
-        Line::Accept => "accept\n",
-        Line::Log => "log\n",
-        Line::Memory => "memory\n",
-        Line::Forget => "forget\n",
-        _ => "another command\n",
     }
 }
 

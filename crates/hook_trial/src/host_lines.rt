@@ -5,7 +5,7 @@
 //! those of `host_asks.rt`.
 
 ghost use Rattle.std.specs.Prelude.{IfOk};
-ghost use Rattle.hook_cli.specs.CommandOver.{IsOverHost};
+ghost use Rattle.hook_cli.specs.CommandOver.{IsOneCall, IsOverHost};
 
 use crate::host_asks::{
     asked_name, chosen_files, chosen_stage, files_of, is_fresh, is_unverified, stage_of,
@@ -15,7 +15,7 @@ use crate::host_words::{Words, mode_of};
 use crate::host_writers::HabitWriter;
 use crate::turn_children::TurnChildren;
 use hook_base::{Items, Text};
-use hook_cli::{FileVersion, Line, command_over, skip_list_of};
+use hook_cli::{FileVersion, Line, LookUp, PathSource, Update, command_over, skip_list_of};
 use std::alloc::Global;
 use std::mem;
 use trial_rows::{Answer, Stop};
@@ -53,32 +53,27 @@ fn line_of(alloc: Global, command: &str, words: &mut Words<'_>) -> Result<Line, 
     ensures { IfOk result IsOverHost }
 {
     match command {
-        "add" | "add_zeros" => {
-            let mode = mode_of(words)?;
-            let path = asked_path(alloc, words)?;
-            Ok(Line::Add { path, mode })
+        "status" | "fixes" | "cat" | "cat_fixed" | "cat_commit" | "log" | "show" | "memory" => {
+            Ok(Line::LookUp(look_up_of(alloc, command, words)?))
         }
-        "rm" => Ok(Line::Remove {
-            path: asked_path(alloc, words)?,
-        }),
-        "run" => Ok(Line::Run {
-            stage: chosen_stage(stage_of(words)?),
-            files: chosen_files(files_of(alloc, words)?),
-            only: asked_name(alloc, words)?,
-            fresh: is_fresh(words)?,
-        }),
-        "commit" => Ok(Line::Commit {
-            message: Text::copy_of(alloc, words.text()?)?,
-            no_verify: is_unverified(words)?,
-        }),
-        "cat" | "cat_fixed" | "cat_commit" => Ok(Line::Cat {
+        _ => Ok(Line::Update(update_of(alloc, command, words)?)),
+    }
+}
+
+fn look_up_of(alloc: Global, command: &str, words: &mut Words<'_>) -> Result<LookUp, Stop> {
+    match command {
+        "status" => Ok(LookUp::Status),
+        "fixes" => Ok(LookUp::Fixes),
+        "cat" | "cat_fixed" | "cat_commit" => Ok(LookUp::Cat {
             version: version_of(command, words)?,
             path: asked_path(alloc, words)?,
         }),
-        "show" => Ok(Line::Show {
+        "log" => Ok(LookUp::Log),
+        "show" => Ok(LookUp::Show {
             number: words.number()?,
         }),
-        _ => line_alone(command),
+        "memory" => Ok(LookUp::Memory),
+        _ => Err(Stop::BadLine),
     }
 }
 
@@ -90,17 +85,33 @@ fn version_of(command: &str, words: &mut Words<'_>) -> Result<FileVersion, Stop>
     }
 }
 
-// The line of a command that is a word alone.
-fn line_alone(command: &str) -> Result<Line, Stop>
-    ensures { IfOk result IsOverHost }
+fn update_of(alloc: Global, command: &str, words: &mut Words<'_>) -> Result<Update, Stop>
+    ensures { IfOk result IsOneCall }
 {
     match command {
-        "status" => Ok(Line::Status),
-        "fixes" => Ok(Line::Fixes),
-        "accept" => Ok(Line::Accept),
-        "log" => Ok(Line::Log),
-        "memory" => Ok(Line::Memory),
-        "forget" => Ok(Line::Forget),
+        "add" | "add_zeros" => {
+            let mode = mode_of(words)?;
+            let path = asked_path(alloc, words)?;
+            let paths = PathSource::Words(Items::from(vec![in alloc; path]?));
+            Ok(Update::Add { paths, mode })
+        }
+        "rm" => {
+            let path = asked_path(alloc, words)?;
+            let paths = PathSource::Words(Items::from(vec![in alloc; path]?));
+            Ok(Update::Remove { paths })
+        }
+        "accept" => Ok(Update::Accept),
+        "run" => Ok(Update::Run {
+            stage: chosen_stage(stage_of(words)?),
+            files: chosen_files(files_of(alloc, words)?),
+            only: asked_name(alloc, words)?,
+            fresh: is_fresh(words)?,
+        }),
+        "commit" => Ok(Update::Commit {
+            message: Text::copy_of(alloc, words.text()?)?,
+            no_verify: is_unverified(words)?,
+        }),
+        "forget" => Ok(Update::Forget),
         _ => Err(Stop::BadLine),
     }
 }

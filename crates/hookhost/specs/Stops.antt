@@ -10,12 +10,12 @@ use Rattle.configuration_run.specs.declared.try_fault.TryFault.{TryFault}
 use Rattle.configuration_run.specs.declared.try_fault.TryFault.TheVariants.{Read, Config, Write, OutOfMemory, Spent}
 use Rattle.hook_config.specs.declared.config_fault.ConfigKind.TheVariants.{OutOfMemory as NoMemory}
 use Rattle.commit_flow.specs.declared.host_refusal.HostRefusal.TheVariants.{OutOfMemory as NoMemoryOfHost}
-use Rattle.command_line.specs.declared.line.Line.{Line}
 use Rattle.command_line.specs.declared.line.FileChoice.{FileChoice}
 use Rattle.command_line.specs.declared.line.FileChoice.TheVariants.{Listed as ListedFiles}
 use Rattle.command_line.specs.declared.line.PathSource.{PathSource}
 use Rattle.command_line.specs.declared.line.PathSource.TheVariants.{Words, Listed}
-use Rattle.command_line.specs.declared.line.Line.TheVariants.{Add, AddAll, RemoveAll, Run, Commit}
+use Rattle.command_line.specs.declared.line.Update.{Update}
+use Rattle.command_line.specs.declared.line.Update.TheVariants.{Add, Remove, Run, Accept, Commit, Forget}
 use Rattle.hook_base.specs.declared.file.File.{File}
 use Rattle.repository_files.specs.RepositoryFaults.{IsFaultOfOpening}
 use Rattle.hookhost.specs.FileTrees.{AreFilesOf}
@@ -141,17 +141,30 @@ abbrev pub IsStopOfChoice : FileChoice → Stop → Type 0
 IsStopOfChoice (ListedFiles from) stop = IsStopOfList from stop
 IsStopOfChoice files stop = ⊥
 
--- the files that a line stages can't be used, nor the file that lists its paths, or memory was refused for these or for what runs of
--- hooks need, which is then the host's refusal
-abbrev pub IsStopOfLine : Line → Stop → Type 0
-IsStopOfLine (Add path mode) stop = IsStopOfStaging stop
-IsStopOfLine (AddAll paths mode) stop = IsStopOfStaging stop ⊎ IsStopOfSource paths stop
-IsStopOfLine (RemoveAll paths) stop = IsStopOfSource paths stop
-IsStopOfLine (Run files only stage fresh) stop = (stop ≡ RefusedCommand NoMemoryOfHost) ⊎ IsStopOfChoice files stop
-IsStopOfLine (Commit message no_verify) stop = stop ≡ RefusedCommand NoMemoryOfHost
-IsStopOfLine line stop = ⊥
+-- what stops an update for the file that lists its paths
+abbrev pub IsStopOfItsList : Update → Stop → Type 0
+IsStopOfItsList (Add paths mode) stop = IsStopOfSource paths stop
+IsStopOfItsList (Remove paths) stop = IsStopOfSource paths stop
+IsStopOfItsList (Run files only stage fresh) stop = IsStopOfChoice files stop
+IsStopOfItsList Accept stop = ⊥
+IsStopOfItsList (Commit message no_verify) stop = ⊥
+IsStopOfItsList Forget stop = ⊥
 
--- what stops a command on the repository: its store, its lock, or what the line needs beside them
-abbrev pub IsStopOfCommand : Line → Stop → Type 0
-IsStopOfCommand line (NoRepository fault) = Unit {0}
-IsStopOfCommand line stop = IsStopOfLine line stop
+-- what stops an update for what it needs beside the store: the files that it stages can't be used, or memory was refused for these or
+-- for what runs of hooks need, which is then the host's refusal
+abbrev pub IsStopOfWork : Update → Stop → Type 0
+IsStopOfWork (Add paths mode) stop = IsStopOfStaging stop
+IsStopOfWork (Remove paths) stop = ⊥
+IsStopOfWork (Run files only stage fresh) stop = stop ≡ RefusedCommand NoMemoryOfHost
+IsStopOfWork Accept stop = ⊥
+IsStopOfWork (Commit message no_verify) stop = stop ≡ RefusedCommand NoMemoryOfHost
+IsStopOfWork Forget stop = ⊥
+
+-- what stops a look-up: the store can't be used, or its lock
+abbrev pub IsStopOfLookUp : Stop → Type 0
+IsStopOfLookUp (NoRepository fault) = Unit {0}
+IsStopOfLookUp stop = ⊥
+
+-- what stops an update: that, the file that lists its paths, or what it needs beside the store
+abbrev pub IsStopOfUpdate : Update → Stop → Type 0
+IsStopOfUpdate update stop = IsStopOfLookUp stop ⊎ IsStopOfItsList update stop ⊎ IsStopOfWork update stop

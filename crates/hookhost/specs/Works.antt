@@ -1,20 +1,52 @@
--- What a line asks of the store.
-use Rattle.command_line.specs.declared.line.Line.{Line}
-use Rattle.command_line.specs.declared.line.Line.TheVariants.{Init, Try, Check, Explain}
-use Rattle.hook_cli.specs.CommandOver.{IsOverHost}
+-- What a line asks of the store, with all that it needs of the working folder.
+use Rattle.std.specs.Prelude.{◌≡◌, ℕ, List}
+use Rattle.command_line.specs.declared.line.FileChoice.{FileChoice}
+use Rattle.command_line.specs.declared.line.FileChoice.TheVariants.{Named, Listed as ListedFiles}
+use Rattle.command_line.specs.declared.line.Line.TheVariants as line
+use Rattle.command_line.specs.declared.line.PathSource.{PathSource}
+use Rattle.command_line.specs.declared.line.PathSource.TheVariants.{Words, Listed}
+use Rattle.command_line.specs.declared.line.Update.{Update}
+use Rattle.command_line.specs.declared.line.Update.TheVariants.{Add, Remove, Run}
+use Rattle.hook_cli.specs.CommandOver.{IsOverHost, IsRunless}
 use Rattle.hookhost.specs.declared.work.Work.{Work}
-use Rattle.hookhost.specs.declared.work.Work.TheVariants.{Call, Stage, Unstage}
+use Rattle.hookhost.specs.declared.work.Work.TheVariants as work
 
--- the line is about a repository
-abbrev pub IsOfRepository : Line → Type 0
-IsOfRepository Init = ⊥
-IsOfRepository (Try config paths) = ⊥
-IsOfRepository Check = ⊥
-IsOfRepository (Explain file) = ⊥
-IsOfRepository line = Unit {0}
-
--- a line of its own is a command over a repository
+-- a line that has a call of its own is a command over a repository, which one call of the host does
 abbrev pub IsWork : Work → Type 0
-IsWork (Call line bytes) = IsOverHost line
-IsWork (Stage edits) = Unit {0}
-IsWork (Unstage words) = Unit {0}
+IsWork (work.Call asked bytes) = IsOverHost asked
+IsWork (work.HookCall asked skip children) = IsOverHost asked
+IsWork (work.Stage edits) = Unit {0}
+IsWork (work.Unstage words) = Unit {0}
+
+-- the files that a run is about, those that a file lists by their names
+abbrev pub named : FileChoice → List (List ℕ) → FileChoice
+named (ListedFiles from) names = Named names
+named files names = files
+
+-- the update with these names in it
+abbrev pub with_names : Update → List (List ℕ) → Update
+with_names (Run files only stage fresh) names = Run (named files names) only stage fresh
+with_names update names = update
+
+-- the words of a line, or the names that its file lists
+abbrev pub words_of : PathSource → List (List ℕ) → List (List ℕ)
+words_of (Words words) names = words
+words_of (Listed from) names = names
+
+-- the update stages files
+abbrev pub IsAdd : Update → Type 0
+IsAdd (Add paths mode) = Unit {0}
+IsAdd update = ⊥
+
+-- the update takes these words out of the staged files
+abbrev pub IsRemoveOf : Update → List (List ℕ) → List (List ℕ) → Type 0
+IsRemoveOf (Remove paths) names words = words ≡ words_of paths names
+IsRemoveOf update names words = ⊥
+
+-- What an update asks of the store: its own call, which has children where hooks run in it; or changes of the staged files. Which
+-- bytes are staged and which hooks are skipped is left open, and so is what the changes of `add` are.
+abbrev pub IsWorkOf : Update → List (List ℕ) → Work → Type 0
+IsWorkOf update names (work.Call asked bytes) = (asked ≡ line.Update (with_names update names)) × IsRunless asked
+IsWorkOf update names (work.HookCall asked skip children) = (asked ≡ line.Update (with_names update names)) × (¬ IsRunless asked)
+IsWorkOf update names (work.Stage edits) = IsAdd update
+IsWorkOf update names (work.Unstage words) = IsRemoveOf update names words

@@ -2,21 +2,20 @@
 
 ghost use Rattle.std.specs.Prelude.{◌≡◌, ◌⊎◌, false, IfErr, IfOk};
 ghost use Rattle.hook_cli.specs.CommandOver.{IsOverHost};
-ghost use Rattle.hookhost.specs.Stops.{IsStopOfCommand, IsStopOfOpening};
-ghost use Rattle.hookhost.specs.Works.{IsOfRepository, IsWork};
+ghost use Rattle.hookhost.specs.Stops.{IsStopOfLookUp, IsStopOfOpening, IsStopOfUpdate};
+ghost use Rattle.hookhost.specs.Works.{IsWork};
 
 use crate::hint::{FIXES, hint, hint_undone, is_heard};
 use crate::names::names_of;
-use crate::runs::{Runs, runs_of};
 use crate::shown_hooks::show_staged_hooks;
 use crate::stop::{Stop, tell};
 use crate::undone_fix::undone_fix;
 use crate::unstaged_words::{unstaged_below, unstaged_by};
 use crate::work::{Work, work_of};
-use child_port::TableChildren;
+use child_port::{Children, TableChildren};
 use commit_flow::{Host, HostRefusal, StagingEdit};
 use hook_base::{Items, OutOfMemory, RepoPath, Text};
-use hook_cli::{Line, command_over, stage_over};
+use hook_cli::{Line, LookUp, PathSource, Update, command_over, stage_over};
 use repo_store::Store;
 use repository_files::{
     Before, DatabaseOver, Lock, have_git_ignore, leave_database, look_at_store, open_database,
@@ -33,83 +32,82 @@ const DONE: u8 = 0;
 // The exit status of a command in which a hook failed.
 const HOOK_FAILED: u8 = 1;
 
-/// Does what a line asks of the repository, and answers the exit status, as `command_over` and `stage_over` do. The errors are, in
-/// this order: `RepositoryFault::CannotUseStore` where the store's file isn't there, what `names_of` says of the file of
-/// `--paths-from`, `RepositoryFault::CannotUseLock`, want of memory for what runs of hooks need, what `work_of` says of the files of
-/// `add`, and what the store says when it is opened. After an error or a refusal the folder is as it was, but for its lock, the
-/// folder of children, and a log of a command that was killed, which is in the database then.
-pub(crate) fn host_command(rt: &HostRuntime, line: Line) -> Result<u8, Stop>
-    requires { IsOfRepository line }
+/// Looks something up in the repository, and answers the exit status, as `command_over` does. The errors are, in this order:
+/// `RepositoryFault::CannotUseStore` where the store's file isn't there, `RepositoryFault::CannotUseLock`, and what the store says
+/// when it is opened. In any case the folder is as it was, but for its lock, and a log of a command that was killed, which is in
+/// the database then.
+pub(crate) fn look_up(rt: &HostRuntime, asked: LookUp) -> Result<u8, Stop>
     ensures status { IfOk result (λ status. (status ≡ 0) ⊎ (status ≡ 1) ⊎ (status ≡ 3)) }
-    ensures stopped { IfErr result (IsStopOfCommand line) }
+    ensures stopped { IfErr result IsStopOfLookUp }
+{
+    look_at_store(rt)?;
+    let lock = take_lock(rt)?;
+    let work = Work::Call {
+        line: Line::LookUp(asked),
+        bytes: Vec::new(rt.alloc()),
+    };
+    open_and_do(rt, &lock, work)
+}
+
+/// Makes a change of the repository, and answers the exit status, as `command_over` and `stage_over` do. The errors are, in this
+/// order: `RepositoryFault::CannotUseStore` where the store's file isn't there, what `names_of` says of the file of
+/// `--paths-from`, `RepositoryFault::CannotUseLock`, what `work_of` says of the files of `add` and of what runs of hooks need, and
+/// what the store says when it is opened. After an error or a refusal the folder is as it was, but for its lock, the folder of
+/// children, and a log of a command that was killed, which is in the database then.
+pub(crate) fn change(rt: &HostRuntime, update: Update) -> Result<u8, Stop>
+    ensures status { IfOk result (λ status. (status ≡ 0) ⊎ (status ≡ 1) ⊎ (status ≡ 3)) }
+    ensures stopped { IfErr result (IsStopOfUpdate update) }
 {
     look_at_store(rt)?;
     // Standard input may be what another command on this repository prints, so nothing is waited for under the lock.
-    let names = names_of(rt, &line)?;
+    let names = names_of(rt, &update)?;
     let lock = take_lock(rt)?;
-    command_under(rt, &lock, line, names)
+    change_under(rt, &lock, update, names)
 }
 
-// Does what a line asks while nobody else works on the repository.
-fn command_under(rt: &HostRuntime, lock: &Lock, line: Line, names: Items<Text>) -> Result<u8, Stop>
-    requires { IsOfRepository line }
+// Makes a change while nobody else works on the repository.
+fn change_under(
+    rt: &HostRuntime,
+    lock: &Lock,
+    update: Update,
+    names: Items<Text>,
+) -> Result<u8, Stop>
     ensures status { IfOk result (λ status. (status ≡ 0) ⊎ (status ≡ 1) ⊎ (status ≡ 3)) }
-    ensures stopped { IfErr result (IsStopOfCommand line) }
+    ensures stopped { IfErr result (IsStopOfUpdate update) }
 {
-    let mut runs = runs_of(rt, &line)?;
-    let is_change = is_change(&line);
-    let work = work_of(rt, line, names)?;
-    let status = open_and_do(rt, lock, &work, &mut runs)?;
-    if is_change && status == DONE {
+    let work = work_of(rt, update, names)?;
+    let status = open_and_do(rt, lock, work)?;
+    if status == DONE {
         have_git_ignore(rt);
     }
     Ok(status)
 }
 
 // Opens the database, and does what is asked of the store in it.
-fn open_and_do(
-    rt: &HostRuntime,
-    lock: &Lock,
-    work: &Work,
-    runs: &mut Option<Runs>,
-) -> Result<u8, Stop>
-    requires { IsWork work.now }
+fn open_and_do(rt: &HostRuntime, lock: &Lock, work: Work) -> Result<u8, Stop>
+    requires { IsWork work }
     ensures status { IfOk result (λ status. (status ≡ 0) ⊎ (status ≡ 1) ⊎ (status ≡ 3)) }
     ensures stopped { IfErr result IsStopOfOpening }
 {
     let before = Before::found(rt, lock)?;
     let conn = open_database(rt, &before)?;
-    do_over(rt, work, runs, &before, conn)
-}
-
-// Whether the line changes the repository where it is done.
-fn is_change(line: &Line) -> bool {
-    match line {
-        Line::Status
-        | Line::Fixes
-        | Line::Cat { .. }
-        | Line::Log
-        | Line::Show { .. }
-        | Line::Memory => false,
-        _ => true,
-    }
+    do_over(rt, work, &before, conn)
 }
 
 // Does what is asked of the store in a database, and leaves the database. This says it of files of any kind: what is said of those
 // that the program has takes the checker minutes.
 fn do_over<D: Disk + Drop>(
     rt: &HostRuntime,
-    work: &Work,
-    runs: &mut Option<Runs>,
+    work: Work,
     before: &Before,
     conn: DatabaseOver<D>,
 ) -> Result<u8, Stop>
-    requires work { IsWork work.now }
+    requires work { IsWork work }
     requires outside { conn.in_transaction ≡ false }
     ensures status { IfOk result (λ status. (status ≡ 0) ⊎ (status ≡ 1) ⊎ (status ≡ 3)) }
     ensures stopped { IfErr result IsStopOfOpening }
 {
-    match do_in(rt, work, runs, before, conn) {
+    match do_in(rt, work, before, conn) {
         Ok((status, conn)) => {
             leave_database(rt, before, conn);
             Ok(status)
@@ -121,12 +119,11 @@ fn do_over<D: Disk + Drop>(
 // Does what is asked of the store in a database, whatever that is kept in.
 fn do_in<S: Alter + Drop>(
     rt: &HostRuntime,
-    work: &Work,
-    runs: &mut Option<Runs>,
+    work: Work,
     before: &Before,
     conn: Connection<S>,
 ) -> Result<(u8, Connection<S>), Stop>
-    requires work { IsWork work.now }
+    requires work { IsWork work }
     requires outside { conn.in_transaction ≡ false }
     ensures status { IfOk result (λ done. (done.0 ≡ 0) ⊎ (done.0 ≡ 1) ⊎ (done.0 ≡ 3)) }
     ensures stopped { IfErr result IsStopOfOpening }
@@ -135,11 +132,11 @@ fn do_in<S: Alter + Drop>(
         Ok(store) => {
             let mut host = Host::over(store);
             let undone = if is_heard(rt) {
-                undone_fix(rt.alloc(), work, host.store())
+                undone_fix(rt.alloc(), &work, host.store())
             } else {
                 None
             };
-            let status = answer(rt, work, runs, &mut host);
+            let status = answer(rt, work, &mut host);
             hint_behind(rt, status, undone, host.store());
             Ok((status, host.into_store().into_connection()))
         }
@@ -156,41 +153,45 @@ fn hint_behind<S: Alter>(rt: &HostRuntime, status: u8, undone: Option<RepoPath>,
     }
 }
 
-fn answer<S: Alter + Drop>(
-    rt: &HostRuntime,
-    work: &Work,
-    runs: &mut Option<Runs>,
-    host: &mut Host<S>,
-) -> u8
-    requires { IsWork work.now }
+fn answer<S: Alter + Drop>(rt: &HostRuntime, work: Work, host: &mut Host<S>) -> u8
+    requires { IsWork work }
     ensures { (result ≡ 0) ⊎ (result ≡ 1) ⊎ (result ≡ 3) }
 {
     match work {
-        Work::Call { line, bytes } => answer_line(rt, line, bytes.as_slice(), runs, host),
+        Work::Call { line, bytes } => answer_line(rt, &line, bytes.as_slice(), host),
+        Work::HookCall {
+            line,
+            skip,
+            children,
+        } => {
+            let (skip, mut children) = (skip.as_slice(), children);
+            show_staged_hooks(rt, &line, skip, host.store(), &mut children);
+            call(rt, &line, &[], skip, host, &mut children)
+        }
         Work::Stage(edits) => stage(rt, edits.as_slice(), host),
         Work::Unstage(words) => {
-            stage_if_known(
-                rt,
-                unstaged_by(rt.alloc(), host.store(), words.as_slice()),
-                host,
-            )
+            let edits = unstaged_by(rt.alloc(), host.store(), words.as_slice());
+            stage_if_known(rt, edits, host)
         }
     }
 }
 
-// The call of a line, unless it is `rm` of a folder: that stands for the staged files below it.
+// The call of a line that runs no hooks, unless it is `rm` of a folder: that stands for the staged files below it.
 fn answer_line<S: Alter + Drop>(
     rt: &HostRuntime,
     line: &Line,
     bytes: &[u8],
-    runs: &mut Option<Runs>,
     host: &mut Host<S>,
 ) -> u8
     requires { IsOverHost line.now }
     ensures { (result ≡ 0) ⊎ (result ≡ 1) ⊎ (result ≡ 3) }
 {
-    match removed_below(rt.alloc(), line, host.store()) {
-        Ok(edits) if edits.is_empty() => call(rt, line, bytes, runs, host),
+    let alloc = rt.alloc();
+    match removed_below(alloc, line, host.store()) {
+        Ok(edits) if edits.is_empty() => {
+            let mut children = TableChildren::new(Items::new(alloc));
+            call(rt, line, bytes, &[], host, &mut children)
+        }
         edits => stage_if_known(rt, edits, host),
     }
 }
@@ -200,10 +201,41 @@ fn removed_below<S: Alter>(
     line: &Line,
     store: &Store<S>,
 ) -> Result<Vec<StagingEdit>, OutOfMemory> {
-    match line {
-        Line::Remove { path } => unstaged_below(alloc, store, path),
+    let Line::Update(
+        Update::Remove {
+            paths: PathSource::Words(words),
+        },
+    ) = line
+    else {
+        return Ok(Vec::new(alloc));
+    };
+    match words.as_slice() {
+        [word] => unstaged_below(alloc, store, word),
         _ => Ok(Vec::new(alloc)),
     }
+}
+
+fn call<S: Alter + Drop, C: Children>(
+    rt: &HostRuntime,
+    line: &Line,
+    bytes: &[u8],
+    skip: &[Text],
+    host: &mut Host<S>,
+    children: &mut C,
+) -> u8
+    requires { IsOverHost line.now }
+    ensures { (result ≡ 0) ⊎ (result ≡ 1) ⊎ (result ≡ 3) }
+{
+    command_over(
+        rt.alloc(),
+        line,
+        bytes,
+        skip,
+        host,
+        children,
+        &mut io::writer(rt),
+        &mut rt.stderr(),
+    )
 }
 
 fn stage_if_known<S: Alter + Drop>(
@@ -227,47 +259,5 @@ fn stage<S: Alter + Drop>(rt: &HostRuntime, edits: &[StagingEdit], host: &mut Ho
         DONE
     } else {
         stage_over(edits, host, &mut rt.stderr())
-    }
-}
-
-fn call<S: Alter + Drop>(
-    rt: &HostRuntime,
-    line: &Line,
-    bytes: &[u8],
-    runs: &mut Option<Runs>,
-    host: &mut Host<S>,
-) -> u8
-    requires { IsOverHost line.now }
-    ensures { (result ≡ 0) ⊎ (result ≡ 1) ⊎ (result ≡ 3) }
-{
-    let alloc = rt.alloc();
-    let (mut out, mut err) = (io::writer(rt), rt.stderr());
-    match runs {
-        Some(Runs { skip, children }) => {
-            show_staged_hooks(rt, line, skip.as_slice(), host.store(), children);
-            command_over(
-                alloc,
-                line,
-                bytes,
-                skip.as_slice(),
-                host,
-                children,
-                &mut out,
-                &mut err,
-            )
-        }
-        None => {
-            let mut children = TableChildren::new(Items::new(alloc));
-            command_over(
-                alloc,
-                line,
-                bytes,
-                &[],
-                host,
-                &mut children,
-                &mut out,
-                &mut err,
-            )
-        }
     }
 }

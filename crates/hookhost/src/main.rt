@@ -21,12 +21,12 @@ mod undone_fix;
 mod unstaged_words;
 mod work;
 
-use commands::host_command;
+use commands::{change, look_up};
 use explained::explain_file;
 use files::{read_configuration, read_tree};
 use hint::hint_at;
 use hook_base::{Items, Text, Tree};
-use hook_cli::{Line, TryFault, check_text, line_of, try_over};
+use hook_cli::{Line, Standalone, TryFault, check_text, line_of, try_over};
 use hook_config::{Stage, read_config_with_node};
 use repository_files::init;
 use runs::{RealChildren, children_of};
@@ -98,18 +98,25 @@ fn line_of_process(rt: &HostRuntime) -> Result<Option<Line>, Stop> {
 
 fn do_line(rt: &HostRuntime, line: Line) -> Result<u8, Stop> {
     match line {
-        Line::Try { config, paths } => Ok(status_of_run(try_files(rt, config, paths)?)),
-        Line::Check => {
-            check(rt).map_err(Stop::of_check)?;
-            Ok(DONE)
-        }
-        Line::Explain { file } => explain(rt, file),
-        Line::Init => {
+        Line::Standalone(asked) => do_alone(rt, asked),
+        Line::LookUp(asked) => look_up(rt, asked),
+        Line::Update(update) => change(rt, update),
+    }
+}
+
+// What needs no repository.
+fn do_alone(rt: &HostRuntime, asked: Standalone) -> Result<u8, Stop> {
+    match asked {
+        Standalone::Init => {
             init(rt).map_err(Stop::NoNewRepository)?;
             Ok(DONE)
         }
-        // What `host_command` asks of a line holds of each other one, and is proved here.
-        line => host_command(rt, line),
+        Standalone::Try { config, paths } => Ok(status_of_run(try_files(rt, config, paths)?)),
+        Standalone::Check => {
+            check(rt).map_err(Stop::of_check)?;
+            Ok(DONE)
+        }
+        Standalone::Explain { file } => explain(rt, file),
     }
 }
 

@@ -3,36 +3,41 @@
 ghost use Rattle.std.specs.Prelude.{◌≡◌, ◌⊎◌, IfErr};
 ghost use Rattle.configuration_run.specs.declared.try_fault.TryFault.TheVariants.{OutOfMemory};
 ghost use Rattle.hookhost.specs.declared.stop.Stop.TheVariants.{NotText, Refused};
-ghost use Rattle.hookhost.specs.Stops.{IsStopOfLine, IsStopOfNames};
+ghost use Rattle.hookhost.specs.Stops.{IsStopOfItsList, IsStopOfNames};
 
 use crate::files::read_up_to;
 use crate::stop::Stop;
 use hook_base::{Items, MOST_FILE_BYTES, Text};
-use hook_cli::{FileChoice, Line, PathSource};
+use hook_cli::{FileChoice, PathSource, Update};
 use std::io::{self, Read};
 
 // The name that stands for standard input.
 const STANDARD_INPUT: &str = "-";
 
-/// The names that the file of `--paths-from` lists, in their order; none for a line without. A file that can't be read, or has
+/// The names that the file of `--paths-from` lists, in their order; none for an update without. A file that can't be read, or has
 /// more than 16 MiB, is `Stop::CannotUse`, names that aren't UTF-8 are `Stop::NotText`, and want of memory is
 /// `Stop::RefusedCommand`.
-pub(crate) fn names_of(rt: &HostRuntime, line: &Line) -> Result<Items<Text>, Stop>
-    ensures { IfErr result (IsStopOfLine line.now) }
+pub(crate) fn names_of(rt: &HostRuntime, update: &Update) -> Result<Items<Text>, Stop>
+    ensures { IfErr result (IsStopOfItsList update.now) }
 {
-    match line {
-        Line::AddAll {
+    match update {
+        Update::Add {
             paths: PathSource::Listed(from),
             ..
         }
-        | Line::RemoveAll {
+        | Update::Remove {
             paths: PathSource::Listed(from),
         }
-        | Line::Run {
+        | Update::Run {
             files: FileChoice::Listed(from),
             ..
         } => read_names(rt, from).map_err(Stop::of_command),
-        _ => Ok(Items::new(rt.alloc())),
+        Update::Add { .. }
+        | Update::Remove { .. }
+        | Update::Run { .. }
+        | Update::Accept
+        | Update::Commit { .. }
+        | Update::Forget => Ok(Items::new(rt.alloc())),
     }
 }
 

@@ -6,7 +6,7 @@ use child_display::ShownHook;
 use child_port::plain_word;
 use file_tags::shebang;
 use hook_base::{FileEntry, Items, OutOfMemory, RepoPath, Text, Tree};
-use hook_cli::{Line, StageChoice};
+use hook_cli::{Line, StageChoice, Update};
 use hook_config::{CommandWords, Config, Hook, Language, Stage, read_config};
 use repo_store::Store;
 use sqlite::Alter;
@@ -47,13 +47,9 @@ pub(crate) fn show_staged_hooks<'a, S: Alter>(
     let Ok(tree) = store.staged() else {
         return;
     };
-    let (stages, only) = match line {
-        Line::Run { only, stage, .. } => (stages_of_run(*stage), only.as_ref()),
-        Line::Commit { no_verify, .. } => (stages_of_commit(*no_verify), None),
-        _ => return,
-    };
-    let asked = AskedHooks { stages, only, skip };
-    show_hooks(rt, bytes, &asked, &tree, children);
+    if let Some(asked) = asked_by(line, skip) {
+        show_hooks(rt, bytes, &asked, &tree, children);
+    }
 }
 
 /// Has the terminal name the hooks of a configuration that are run on this tree. Where it can't be read, or memory is refused, none
@@ -74,6 +70,16 @@ pub(crate) fn show_hooks(
     if let Ok(hooks) = hooks_shown(rt.alloc(), &config, asked, tree) {
         children.show_hooks(hooks);
     }
+}
+
+// The hooks that a line runs, where it runs any.
+fn asked_by<'a>(line: &'a Line, skip: &'a [Text]) -> Option<AskedHooks<'a>> {
+    let (stages, only) = match line {
+        Line::Update(Update::Run { only, stage, .. }) => (stages_of_run(*stage), only.as_ref()),
+        Line::Update(Update::Commit { no_verify, .. }) => (stages_of_commit(*no_verify), None),
+        _ => return None,
+    };
+    Some(AskedHooks { stages, only, skip })
 }
 
 fn stages_of_run(stage: StageChoice) -> &'static [Stage] {

@@ -3,7 +3,7 @@
 use crate::work::Work;
 use commit_flow::StagingEdit;
 use hook_base::{Change, RepoPath, Text};
-use hook_cli::Line;
+use hook_cli::{Line, PathSource, Update};
 use repo_store::Store;
 use sqlite::Alter;
 use std::alloc::Global;
@@ -20,11 +20,19 @@ pub(crate) fn undone_fix<S: Alter>(
     };
     match work {
         Work::Call {
-            line: Line::Add { path, .. },
+            line: Line::Update(
+                Update::Add {
+                    paths: PathSource::Words(words),
+                    ..
+                },
+            ),
             bytes,
-        } => undone_at(alloc, path, bytes.as_slice(), fixes.as_slice()),
+        } => match words.as_slice() {
+            [path] => undone_at(alloc, path, bytes.as_slice(), fixes.as_slice()),
+            _ => None,
+        },
         Work::Stage(edits) => undone_among(alloc, edits.as_slice(), fixes.as_slice()),
-        Work::Call { .. } | Work::Unstage(_) => None,
+        Work::Call { .. } | Work::HookCall { .. } | Work::Unstage(_) => None,
     }
 }
 

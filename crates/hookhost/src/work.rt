@@ -1,27 +1,43 @@
 //! What a line asks of the store, with all that it needs of the working folder.
+//!
+//! The contracts cite `specs/Works.antt`.
 
-ghost use Rattle.std.specs.Prelude.{IfErr, IfOk};
+ghost use Rattle.std.specs.Prelude.{◌≡◌, ◌∷◌, ℕ, List, [], IfErr, IfOk};
+ghost use Rattle.command_line.specs.declared.line.PathSource.TheVariants.{Words};
+ghost use Rattle.command_line.specs.declared.line.Update.TheVariants.{Add, Remove};
+ghost use Rattle.configuration_run.specs.declared.try_fault.TryFault.TheVariants.{OutOfMemory as NoMemory};
 ghost use Rattle.hook_cli.specs.CommandOver.{IsNamed};
-ghost use Rattle.hookhost.specs.Stops.{IsStopOfLine, IsStopOfReading};
-ghost use Rattle.hookhost.specs.Works.{IsOfRepository, IsWork};
+ghost use Rattle.hookhost.specs.declared.stop.Stop.TheVariants.{Refused};
+ghost use Rattle.hookhost.specs.Stops.{IsStopOfReading, IsStopOfWork};
+ghost use Rattle.hookhost.specs.Works.{IsWork, IsWorkOf, named};
 
 use crate::files::read_staged;
+use crate::runs::{RealChildren, children_of, skipped};
 use crate::staged_words::{folder_of, staged_by};
 use crate::stop::Stop;
 use commit_flow::StagingEdit;
 use hook_base::{Items, Mode, Text};
-use hook_cli::{FileChoice, Line, PathSource};
+use hook_cli::{FileChoice, Line, PathSource, Update};
 use std::rt::Files;
 
 /// What is asked of the store.
 #[derive(Drop)]
 pub(crate) enum Work {
-    /// The call of a line, with the bytes of the file that it stages.
+    /// The call of a line in which no hooks run, with the bytes of the file that it stages.
     Call {
         /// The line, whose names are all in it.
         line: Line,
         /// The bytes, none for a line that stages no file.
         bytes: Vec<u8>,
+    },
+    /// The call of a line that runs hooks.
+    HookCall {
+        /// The line, whose names are all in it.
+        line: Line,
+        /// The ids and aliases of the hooks that are skipped.
+        skip: Items<Text>,
+        /// The children that run the hooks' commands.
+        children: RealChildren,
     },
     /// Changes of the staged files, all or none. There may be none to make.
     Stage(Vec<StagingEdit>),
@@ -29,85 +45,128 @@ pub(crate) enum Work {
     Unstage(Items<Text>),
 }
 
-/// What a line asks of the store. The names are those that its `--paths-from` lists. What it stages is read, each file once and up
-/// to one byte past the limit: the host refuses one that is longer. A word that can't be used is `Stop::CannotUse`, and want of
-/// memory `Stop::RefusedCommand`.
-pub(crate) fn work_of<R: Files + AllocGlobal>(
-    rt: &R,
-    line: Line,
-    names: Items<Text>,
-) -> Result<Work, Stop>
-    requires { IsOfRepository line }
-    ensures work { IfOk result IsWork }
-    ensures stopped { IfErr result (IsStopOfLine line) }
+/// What an update asks of the store. The names are those that its `--paths-from` lists. What it stages is read, each file once and
+/// up to one byte past the limit: the host refuses one that is longer. A word that can't be used is `Stop::CannotUse`, and want of
+/// memory, for what runs of hooks need too, `Stop::RefusedCommand`.
+pub(crate) fn work_of(rt: &HostRuntime, update: Update, names: Items<Text>) -> Result<Work, Stop>
+    ensures can { IfOk result IsWork }
+    ensures work { IfOk result (IsWorkOf update names) }
+    ensures stopped { IfErr result (IsStopOfWork update) }
 {
-    match line {
-        Line::Add { path, mode } => add_work(rt, path, mode).map_err(Stop::of_command),
-        Line::AddAll { paths, mode } => stage_work(rt, words_of(paths, names), mode).map_err(
-            Stop::of_command,
-        ),
-        Line::RemoveAll { paths } => Ok(Work::Unstage(words_of(paths, names))),
-        Line::Run {
+    match update {
+        Update::Add { paths, mode } => add_work(rt, paths, names, mode).map_err(Stop::of_command),
+        Update::Remove { paths } => Ok(remove_work(rt, paths, names)),
+        Update::Run {
             files,
             only,
             stage,
             fresh,
-        } => Ok(Work::Call {
-            line: Line::Run {
-                files: named(files, names),
-                only,
-                stage,
-                fresh,
-            },
+        } => {
+            let (skip, children) = hook_needs(rt).map_err(Stop::of_command)?;
+            let files = named(files, names);
+            Ok(Work::HookCall {
+                line: Line::Update(Update::Run {
+                    files,
+                    only,
+                    stage,
+                    fresh,
+                }),
+                skip,
+                children,
+            })
+        }
+        Update::Accept => Ok(Work::Call {
+            line: Line::Update(Update::Accept),
             bytes: Vec::new(rt.alloc()),
         }),
-        line => Ok(Work::Call {
-            line,
+        Update::Commit { message, no_verify } => {
+            let (skip, children) = hook_needs(rt).map_err(Stop::of_command)?;
+            Ok(Work::HookCall {
+                line: Line::Update(Update::Commit { message, no_verify }),
+                skip,
+                children,
+            })
+        }
+        Update::Forget => Ok(Work::Call {
+            line: Line::Update(Update::Forget),
             bytes: Vec::new(rt.alloc()),
         }),
     }
 }
 
-// One word: a file is the host's own call, as ever.
-fn add_work<R: Files + AllocGlobal>(rt: &R, path: Text, mode: Option<Mode>) -> Result<Work, Stop>
-    ensures work { IfOk result IsWork }
+fn add_work<R: Files + AllocGlobal>(
+    rt: &R,
+    paths: PathSource,
+    names: Items<Text>,
+    mode: Option<Mode>,
+) -> Result<Work, Stop>
+    ensures can { IfOk result IsWork }
+    ensures work { IfOk result (IsWorkOf (Add paths mode) names) }
     ensures stopped { IfErr result IsStopOfReading }
 {
-    if folder_of(rt, path.as_str())?.is_some() {
-        return stage_work(rt, Items::from(vec![in rt.alloc(); path]?), mode);
+    match paths {
+        PathSource::Words(words) => add_words(rt, words, mode),
+        PathSource::Listed(_from) => Ok(Work::Stage(staged_by(rt, names.as_slice(), mode)?)),
     }
-    let bytes = read_staged(rt, &path)?;
-    Ok(Work::Call {
-        line: Line::Add { path, mode },
-        bytes,
-    })
 }
 
-fn stage_work<R: Files + AllocGlobal>(
+// One word that is a file is the host's own call, as ever.
+fn add_words<R: Files + AllocGlobal>(
     rt: &R,
     words: Items<Text>,
     mode: Option<Mode>,
 ) -> Result<Work, Stop>
-    ensures work { IfOk result IsWork }
+    ensures can { IfOk result IsWork }
+    ensures work { (names : List (List ℕ)) → IfOk result (IsWorkOf (Add (Words words) mode) names) }
     ensures stopped { IfErr result IsStopOfReading }
 {
-    Ok(Work::Stage(staged_by(rt, words.as_slice(), mode)?))
+    let [word] = words.as_slice() else {
+        return Ok(Work::Stage(staged_by(rt, words.as_slice(), mode)?));
+    };
+    if folder_of(rt, word.as_str())?.is_some() {
+        return Ok(Work::Stage(staged_by(rt, words.as_slice(), mode)?));
+    }
+    let bytes = read_staged(rt, word)?;
+    Ok(Work::Call {
+        line: Line::Update(Update::Add {
+            paths: PathSource::Words(words),
+            mode,
+        }),
+        bytes,
+    })
 }
 
-// The words of a line, or the names that its file lists.
-fn words_of(paths: PathSource, names: Items<Text>) -> Items<Text> {
+// One word that is no folder is the host's own call too.
+fn remove_work<R: AllocGlobal>(rt: &R, paths: PathSource, names: Items<Text>) -> Work
+    ensures can { IsWork result }
+    ensures work { IsWorkOf (Remove paths) names result }
+{
     match paths {
-        PathSource::Words(words) => words,
-        PathSource::Listed(_from) => names,
+        PathSource::Words(words) if words.len() == 1 => Work::Call {
+            line: Line::Update(Update::Remove {
+                paths: PathSource::Words(words),
+            }),
+            bytes: Vec::new(rt.alloc()),
+        },
+        PathSource::Words(words) => Work::Unstage(words),
+        PathSource::Listed(_from) => Work::Unstage(names),
     }
 }
 
 // The files that a run is about, those that its file lists by their names.
 fn named(files: FileChoice, names: Items<Text>) -> FileChoice
-    ensures { IsNamed result }
+    ensures named { result ≡ named files names }
+    ensures can { IsNamed result }
 {
     match files {
         FileChoice::Listed(_from) => FileChoice::Named(names),
         files => files,
     }
+}
+
+// What a line that runs hooks needs: the hooks that it skips, and children.
+fn hook_needs(rt: &HostRuntime) -> Result<(Items<Text>, RealChildren), Stop>
+    ensures { IfErr result (λ stop. stop ≡ Refused NoMemory) }
+{
+    Ok((skipped(rt)?, children_of(rt)?))
 }
