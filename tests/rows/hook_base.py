@@ -15,6 +15,9 @@ Others show what their line below has, and a semicolon:
     same            whether the trees are equal, and whether they are unequal
     changes         of one to other: how many, whether their copy is equal, and each behind a blank
     take            `taken` with each change that waits where their paths rise, else `given back`; none waits any longer
+
+`tree_plays` makes as many random calls as the second argument says, by the seed that is the first, on three trees and on
+plain lists of files beside them: it compares what each call answers, and behind each call every file of the tree.
 """
 
 PROGRAM = "yaml_trial"
@@ -167,6 +170,8 @@ ROWS = [
     ("trees", "change a", "change a", "take", "given back a gone a gone;"),
     ("trees", "change b 1", "change a", "take", "take", "given back b=1 a gone;taken;"),
     ("trees", "change a", "change b 1", "take", "taken a gone b=1;"),
+    # 100,000 random calls on trees that share rows are those on plain lists.
+    *(("tree_plays", str(seed), "10000", "10000 alike") for seed in range(1, 11)),
     # Copies are what was copied.
     ("copy_bytes", "abc", "abc", "3 true true"),
     ("copy_bytes", "abc", "abd", "3 true false"),

@@ -1,7 +1,8 @@
 pub mod AlikeLemmas
 pub mod Limits
-pub mod Paths
+pub mod Overlays
 pub mod PathFaults
+pub mod Paths
 pub mod Places
 pub mod Rising
 pub mod RisingLemmas

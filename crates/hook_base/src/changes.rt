@@ -1,10 +1,12 @@
 //! The changes of a tree, in the order of their paths.
 
-ghost use Rattle.std.specs.Prelude.{◌≡◌, ◌↔◌, [], length, option_to_list, IfOk, IfErr, IsTrue};
+ghost use Rattle.std.specs.Prelude.{◌≡◌, ◌↔◌, ◌++◌, [], length, option_to_list, IfOk, IfErr, OnOk, IsTrue};
 ghost use Rattle.std.specs.Option.{option_copied};
-ghost use Rattle.hook_base.specs.Trees.{IsRising, IsRisingChanges, change_to, changes_between};
+ghost use Rattle.hook_base.specs.Overlays.{UpTo};
+ghost use Rattle.hook_base.specs.Trees.{IsRisingChanges, change_to, changes_between, entry_of};
 
-use crate::{Change, File, FileEntry, OutOfMemory, SharedFile, Tree};
+use crate::place::{Place, place_from};
+use crate::{Change, File, FileEntry, OutOfMemory, RepoPath, Tree};
 use std::alloc::{AllocError, Global};
 use std::cmp::Ordering;
 use std::marker::Model;
@@ -39,17 +41,21 @@ impl Changes {
         }
     }
 
-    /// What became of the rows in `after`, or `OutOfMemory` where memory is refused.
-    pub(crate) fn between(rows: &Vec<SharedFile>, after: &Tree) -> Result<Changes, OutOfMemory>
-        requires { IsRising rows.now.items }
-        ensures { IfOk result (λ changes. changes ≡ changes_between rows.now.items after.now) }
+    /// What became of the files of a tree in `after`, or `OutOfMemory` where memory is refused.
+    pub(crate) fn between(
+        alloc: Global,
+        before: &Tree,
+        after: &Tree,
+    ) -> Result<Changes, OutOfMemory>
+        ensures { IfOk result (λ changes. changes ≡ changes_between before.now after.now) }
     {
-        let mut changes = Vec::new(*rows.allocator());
-        'rows: for row in rows {
-            let row = row.as_file();
-            if let Some(change) = change_to(row, after.get(&row.path))? {
-                changes.push(change)?;
-            }
+        let mut changes = Vec::new(alloc);
+        let mut passed = 0;
+        'rows: for index in 0..before.len() {
+            let row = before.entry(index);
+            let reached = reach(after, passed, &row.path);
+            passed = reached.index;
+            add_change(&mut changes, row, reached.entry)?;
         }
         Ok(Changes { changes })
     }
@@ -132,6 +138,42 @@ impl Eq for Changes {
     ghost use Rattle.hook_base.specs.AlikeLemmas.{equiv_from_decides, change_decides};
 
     ghost laws = { equiv_from_decides (pointwise ⟦<Change as PartialEq>⟧.eq) (pointwise_decides change_decides) };
+}
+
+// How far a walk along the files of a tree has come, and what stands at the path that it looked for.
+#[derive(Drop)]
+struct Reached<'a> {
+    index: usize,
+    entry: Option<&'a FileEntry>,
+}
+
+// Goes on to a path from an index that none of the files before it comes behind.
+fn reach<'a>(after: &'a Tree, passed: usize, path: &RepoPath) -> Reached<'a>
+    requires { UpTo path.now after.now passed }
+    ensures entry { option_copied result.entry ≡ entry_of path.now after.now }
+    ensures passed { UpTo path.now after.now result.index }
+{
+    match place_from(after, passed, path) {
+        Place::At(index) => Reached {
+            index,
+            entry: Some(&after.entry(index).entry),
+        },
+        Place::Before(index) => Reached { index, entry: None },
+    }
+}
+
+// Adds what became of a row to the changes, if anything did, where `after` is what stands at its path now.
+fn add_change(
+    changes: &mut Vec<Change>,
+    row: &File,
+    after: Option<&FileEntry>,
+) -> Result<(), OutOfMemory>
+    ensures { OnOk result (changes.new.items ≡ changes.old.items ++ change_to row.now (option_copied after.entry)) }
+{
+    if let Some(change) = change_to(row, after)? {
+        changes.push(change)?;
+    }
+    Ok(())
 }
 
 // What became of a row, where `after` is what stands at its path now.

@@ -2,14 +2,16 @@
 //!
 //! `RepoPath` is a path inside a repository (`PathFault` says why a text is none), `Tree` the files of one moment in the
 //! order of their paths (`File`, `FileEntry`, `Mode`), and `Changes` what a program did to the files of a tree (`Change`).
-//! Trees share their files (`SharedFile`), and files what they contain (`Content`). `Bytes`, `Text` and `Items` own what
-//! contracts see as lists, and `OutOfMemory` is the refusal of memory.
+//! Trees share their files (`SharedFile`) and the rows that they have in common (`Base`, of which `LiveRows` says what stands
+//! in one tree), and files what they contain (`Content`). `Bytes`, `Text` and `Items` own what contracts see as lists, and
+//! `OutOfMemory` is the refusal of memory.
 //!
 //! The contracts cite `specs/Paths.antt`, `specs/PathFaults.antt`, `specs/Rising.antt`, `specs/Trees.antt` and
-//! `specs/Limits.antt`; `specs/Places.antt` serves private functions alone. [`laws`] says that the limits of the code are
-//! those of the definitions.
+//! `specs/Limits.antt`; `specs/Places.antt` and `specs/Overlays.antt` serve private functions alone. [`laws`] says that the
+//! limits of the code are those of the definitions.
 #![tactic(auto)]
 
+mod base;
 mod bytes;
 mod change;
 mod changes;
@@ -18,11 +20,15 @@ mod file;
 mod items;
 pub mod laws;
 mod limits;
+mod live_rows;
 mod memory;
+mod merged;
 mod path_check;
 mod path_fault;
 mod place;
 mod repo_path;
+mod row_state;
+mod row_states;
 mod rows;
 mod shared_file;
 mod text;

@@ -1,10 +1,10 @@
 //! Edits of rows that rise, each at the place of one path.
 
 ghost use Rattle.std.specs.Prelude.{◌≡◌, is_some, IfOk, OnOk, OnErr};
-ghost use Rattle.hook_base.specs.Trees.{IsRising, entry_of, put_row, remove_file, rewrite_file, apply_change, apply_changes};
+ghost use Rattle.hook_base.specs.Trees.{IsRising, entry_of, put_row, remove_file};
 
 use crate::place::{Place, place_for, place_of};
-use crate::{Change, Content, File, FileEntry, OutOfMemory, RepoPath, SharedFile};
+use crate::{OutOfMemory, RepoPath, SharedFile};
 
 /// Puts a row in place of the one of its path, or adds it. A refusal leaves the rows as they were.
 pub(crate) fn put_row(rows: &mut Vec<SharedFile>, row: SharedFile) -> Result<(), OutOfMemory>
@@ -36,59 +36,9 @@ pub(crate) fn remove_row(rows: &mut Vec<SharedFile>, path: &RepoPath) -> bool
     }
 }
 
-/// Puts other bytes into the row of a path, if there is one. A refusal leaves the rows as they were.
-pub(crate) fn rewrite_row(
-    rows: &mut Vec<SharedFile>,
-    path: RepoPath,
-    bytes: Content,
-) -> Result<(), OutOfMemory>
-    requires { IsRising rows.old.items }
-    ensures rewritten { OnOk result (rows.new.items ≡ rewrite_file path bytes rows.old.items) }
-    ensures rising { IsRising rows.new.items }
-{
-    if let Place::At(index) = place_of(rows.as_slice(), &path) {
-        let mode = rows[index].as_file().entry.mode;
-        let entry = FileEntry { mode, bytes };
-        let row = SharedFile::of(*rows.allocator(), File { path, entry })?;
-        rows[index] = row;
-    }
-    Ok(())
-}
-
 /// The same rows, or `OutOfMemory` where memory is refused.
 pub(crate) fn copy_rows(rows: &Vec<SharedFile>) -> Result<Vec<SharedFile>, OutOfMemory>
     ensures { IfOk result (λ copy. copy.items ≡ rows.now.items) }
 {
     Ok(rows.clone()?)
-}
-
-/// Applies one change. A refusal leaves rows that rise.
-pub(crate) fn apply_to_row(rows: &mut Vec<SharedFile>, change: Change) -> Result<(), OutOfMemory>
-    requires { IsRising rows.old.items }
-    ensures applied { OnOk result (rows.new.items ≡ apply_change change rows.old.items) }
-    ensures rising { IsRising rows.new.items }
-{
-    let Change { path, now } = change;
-    match now {
-        Some(bytes) => rewrite_row(rows, path, bytes),
-        None => {
-            remove_row(rows, &path);
-            Ok(())
-        }
-    }
-}
-
-/// Applies changes, each to what the earlier ones left. After a refusal some may be applied.
-pub(crate) fn apply_to_rows(
-    rows: &mut Vec<SharedFile>,
-    changes: Vec<Change>,
-) -> Result<(), OutOfMemory>
-    requires { IsRising rows.old.items }
-    ensures applied { OnOk result (rows.new.items ≡ apply_changes changes.items rows.old.items) }
-    ensures rising { OnOk result (IsRising rows.new.items) }
-{
-    'changes: for change in changes {
-        apply_to_row(rows, change)?;
-    }
-    Ok(())
 }

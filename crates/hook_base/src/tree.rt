@@ -2,32 +2,38 @@
 
 ghost use Rattle.std.specs.Prelude.{◌≡◌, ◌↔◌, ◌<◌, [], length, is_some, slice_get, IfOk, OnOk, OnErr, IsTrue};
 ghost use Rattle.std.specs.Option.{option_copied};
+ghost use Rattle.hook_base.specs.Overlays.{row_found};
 ghost use Rattle.hook_base.specs.Trees.{IsRising, entry_of, put_file, put_found, put_row, remove_file, apply_changes, changes_between};
 
-use crate::place::{Place, place_of};
-use crate::rows::{apply_to_rows, copy_rows, put_row, remove_row};
+use crate::live_rows::LiveRows;
+use crate::merged::merged_row;
+use crate::place::{Place, place_among, place_of};
+use crate::rows::{copy_rows, put_row, remove_row};
 use crate::{Change, Changes, File, FileEntry, OutOfMemory, RepoPath, SharedFile};
 use std::alloc::{AllocError, Global};
 use std::marker::Model;
 
-/// The files of one moment, one a path, in the order of their paths. A tree and its copies share their files, so that a
-/// copy costs an address for each of them. Contracts see the list of its rows.
+/// The files of one moment, one a path, in the order of their paths. A tree and its copies share one base of rows, and each
+/// says what of it stands and which rows were added since: a copy of a copy costs a state and an index for each base row and
+/// an address for each added one, and no path or contents. Contracts see the list of the rows.
 #[derive(Debug, Drop)]
 pub struct Tree {
-    rows: Vec<SharedFile>,
+    base: LiveRows,
+    // Rows of paths that have none in `base`, in the order of their paths.
+    added: Vec<SharedFile>,
 }
 
 impl Model for Tree {
     ghost use Rattle.std.specs.Prelude.{List};
     ghost use Rattle.hook_base.specs.declared.file.File.{File};
+    ghost use Rattle.hook_base.specs.Overlays.{AreApart, put_rows};
+    ghost use Rattle.hook_base.specs.Trees.{IsRising};
 
     ghost Value = { List File };
 
-    ghost use Rattle.hook_base.specs.Trees.{IsRising};
+    ghost view = { λ tree. put_rows tree.added.items tree.base };
 
-    ghost view = { λ tree. tree.rows.items };
-
-    ghost invariant = { λ tree. IsRising tree.rows.items };
+    ghost invariant = { λ tree. IsRising tree.added.items × IsRising tree.base × AreApart tree.added.items tree.base };
 }
 
 impl Tree {
@@ -36,7 +42,8 @@ impl Tree {
         ensures { result ≡ [] }
     {
         Tree {
-            rows: Vec::new(alloc),
+            base: LiveRows::new(alloc),
+            added: Vec::new(alloc),
         }
     }
 
@@ -45,14 +52,14 @@ impl Tree {
         ensures count { result ≡ length self.now }
         ensures rising { IsRising self.now }
     {
-        self.rows.len()
+        self.base.len() + self.added.len()
     }
 
     /// Whether there are no files.
     pub fn is_empty(&self) -> bool
         ensures { IsTrue result ↔ (self.now ≡ []) }
     {
-        self.rows.is_empty()
+        self.len() == 0
     }
 
     /// The file at an index in the order of the paths, counted from 0.
@@ -61,7 +68,7 @@ impl Tree {
         ensures row { slice_get self.now index ≡ Some result.now }
         ensures rising { IsRising self.now }
     {
-        self.rows[index].as_file()
+        self.shared(index).as_file()
     }
 
     /// The same file, for other trees to share it.
@@ -70,16 +77,29 @@ impl Tree {
         ensures row { slice_get self.now index ≡ Some result.now }
         ensures rising { IsRising self.now }
     {
-        &self.rows[index]
+        merged_row(&self.base, self.added.as_slice(), index)
+    }
+
+    // The row of a path.
+    fn find(&self, path: &RepoPath) -> Option<&SharedFile>
+        ensures { option_copied result ≡ row_found path.now (entry_of path.now self.now) }
+    {
+        if let Place::At(index) = place_of(self.added.as_slice(), path) {
+            return Some(&self.added[index]);
+        }
+        match place_among(&self.base, path) {
+            Place::At(index) => Some(self.base.row(index)),
+            Place::Before(_) => None,
+        }
     }
 
     /// What stands at a path, or `None` where nothing does.
     pub fn get(&self, path: &RepoPath) -> Option<&FileEntry>
         ensures { option_copied result ≡ entry_of path.now self.now }
     {
-        match place_of(self.rows.as_slice(), path) {
-            Place::At(index) => Some(&self.rows[index].as_file().entry),
-            Place::Before(_) => None,
+        match self.find(path) {
+            Some(row) => Some(&row.as_file().entry),
+            None => None,
         }
     }
 
@@ -90,8 +110,8 @@ impl Tree {
         ensures kept { OnErr result (self.new ≡ self.old) }
         ensures rising { IsRising self.new }
     {
-        let row = SharedFile::of(*self.rows.allocator(), File { path, entry })?;
-        put_row(&mut self.rows, row)
+        let row = SharedFile::of(*self.added.allocator(), File { path, entry })?;
+        self.put_shared(row)
     }
 
     /// Puts a file, which is shared then, in place of the one at its path, or adds it. `OutOfMemory` where memory is refused,
@@ -101,7 +121,13 @@ impl Tree {
         ensures kept { OnErr result (self.new ≡ self.old) }
         ensures rising { IsRising self.new }
     {
-        put_row(&mut self.rows, file)
+        match place_among(&self.base, &file.as_file().path) {
+            Place::At(index) => {
+                self.base.replace(index, file);
+                Ok(())
+            }
+            Place::Before(_) => put_row(&mut self.added, file),
+        }
     }
 
     /// Puts what stands at a path of another tree, which both trees share then, in place of the file at that path, or adds
@@ -111,9 +137,11 @@ impl Tree {
         ensures kept { OnErr result (self.new ≡ self.old) }
         ensures rising { IsRising self.new }
     {
-        match place_of(other.rows.as_slice(), path) {
-            Place::At(index) => put_row(&mut self.rows, other.rows[index].clone()?),
-            Place::Before(_) => Ok(()),
+        // The invariant is known where a field is used.
+        let _ = &self.base;
+        match other.find(path) {
+            Some(row) => self.put_shared(row.clone()?),
+            None => Ok(()),
         }
     }
 
@@ -123,15 +151,27 @@ impl Tree {
         ensures removed { self.new ≡ remove_file path.now self.old }
         ensures rising { IsRising self.new }
     {
-        remove_row(&mut self.rows, path)
+        match place_among(&self.base, path) {
+            Place::At(index) => {
+                self.base.remove(index);
+                true
+            }
+            Place::Before(_) => remove_row(&mut self.added, path),
+        }
     }
 
     /// The same files, which both trees share, or `OutOfMemory` where memory is refused.
     pub fn copy(&self) -> Result<Tree, OutOfMemory>
         ensures { IfOk result (λ copy. copy ≡ self.now) }
     {
-        let rows = copy_rows(&self.rows)?;
-        Ok(Tree { rows })
+        if self.base.len() == 0 {
+            let base = LiveRows::of(copy_rows(&self.added)?)?;
+            let added = Vec::new(*self.added.allocator());
+            return Ok(Tree { base, added });
+        }
+        let base = self.base.copy()?;
+        let added = copy_rows(&self.added)?;
+        Ok(Tree { base, added })
     }
 
     /// What became of the files of this tree in `after`: their bytes where they differ, or that they are gone. Modes
@@ -139,7 +179,7 @@ impl Tree {
     pub fn changes_to(&self, after: &Tree) -> Result<Changes, OutOfMemory>
         ensures { IfOk result (λ changes. changes ≡ changes_between self.now after.now) }
     {
-        Changes::between(&self.rows, after)
+        Changes::between(*self.added.allocator(), self, after)
     }
 
     /// Applies changes, each to what the earlier ones left. Modes stay, and a change of a path that the tree lacks has
@@ -149,7 +189,7 @@ impl Tree {
         ensures kept { OnErr result (self.new ≡ self.old) }
         ensures rising { IsRising self.new }
     {
-        let changes = changes.to_vec(*self.rows.allocator())?;
+        let changes = changes.to_vec(*self.added.allocator())?;
         self.absorb(changes)
     }
 
@@ -160,14 +200,36 @@ impl Tree {
         ensures kept { OnErr result (self.new ≡ self.old) }
         ensures rising { IsRising self.new }
     {
-        let before = &self.rows;
+        let alloc = *self.added.allocator();
         if changes.is_empty() {
             return Ok(());
         }
-        let mut rows = copy_rows(before)?;
-        apply_to_rows(&mut rows, changes)?;
-        self.rows = rows;
+        let base = self.as_base()?.after(changes)?;
+        let added = Vec::new(alloc);
+        *self = Tree { base, added };
         Ok(())
+    }
+
+    // All rows as base rows. Where rows were added, these and the others make a new base.
+    fn as_base(&self) -> Result<LiveRows, OutOfMemory>
+        ensures { IfOk result (λ base. base ≡ self.now) }
+    {
+        if self.added.is_empty() {
+            self.base.copy()
+        } else {
+            LiveRows::of(self.rows()?)
+        }
+    }
+
+    // All rows in their order.
+    fn rows(&self) -> Result<Vec<SharedFile>, OutOfMemory>
+        ensures { IfOk result (λ rows. (rows.items ≡ self.now) × IsRising self.now) }
+    {
+        let mut rows = Vec::new(*self.added.allocator());
+        'rows: for index in 0..self.len() {
+            rows.push(self.shared(index).clone()?)?;
+        }
+        Ok(rows)
     }
 }
 
@@ -184,7 +246,15 @@ impl PartialEq for Tree {
         ensures value { result ≡ pointwise ⟦<File as PartialEq>⟧.eq self.now other.now }
         ensures same { IsTrue result ↔ (self.now ≡ other.now) }
     {
-        self.rows == other.rows
+        if self.len() != other.len() {
+            return false;
+        }
+        'rows: for index in 0..self.len() {
+            if self.entry(index) != other.entry(index) {
+                return false;
+            }
+        }
+        true
     }
 }
 

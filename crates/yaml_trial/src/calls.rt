@@ -2,7 +2,7 @@
 
 use crate::{
     children, contents, copies, flows, kinds, lines, path_faults, paths, read_records, records,
-    texts, trees,
+    texts, tree_plays, trees,
 };
 use std::alloc::Global;
 use trial_rows::{Answer, Answers, Row, Stop};
@@ -59,6 +59,7 @@ fn of_two(alloc: Global, name: &str, one: &[u8], other: &[u8]) -> Result<Answer,
         "copy_content" => copies::copy_content(alloc, one, other),
         "read_flow" => flows::read(alloc, one, other),
         "read_long_words" => read_records::long_words(alloc, one, other),
+        "tree_plays" => tree_plays::answer(alloc, one, other),
         _ => Err(Stop::BadLine),
     }
 }

@@ -12,10 +12,13 @@ mod kinds;
 mod lines;
 mod path_faults;
 mod paths;
+mod plain_tree;
 mod read_records;
 mod records;
 mod steps;
 mod texts;
+mod tree_pair;
+mod tree_plays;
 mod trees;
 mod yaml_nodes;
 

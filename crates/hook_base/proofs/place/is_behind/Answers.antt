@@ -1,7 +1,8 @@
 use Rattle.std.proofs.Common.{◌≡◌, ◌∙◌, ◌-◌, ◌<◌, length, get_or, arith, ap, sym, subst, ℕ, suc}
 use Rattle.hook_base.specs.declared.file.File.{File}
 use Rattle.hook_base.specs.Rising.{IsBelow, path_cmp}
-use Rattle.hook_base.proofs.PlaceLemmas.{UpTo, From-length, up_to, gap}
+use Rattle.hook_base.specs.Overlays.{UpTo}
+use Rattle.hook_base.proofs.PlaceLemmas.{From-length, up_to, gap}
 use Rattle.hook_base.proofs.place.is_behind.Goals as goal
 
 pub returns-in-Less : goal.returns-in-Less
