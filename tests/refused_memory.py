@@ -1,7 +1,7 @@
 #!/usr/bin/env python3
 """Runs the built program with each of its allocations refused in turn, until a run ends with none refused.
 
-Usage: tests/refused_memory.py [--each] [PROGRAM [STORE_TRIAL [HOOK_TRIAL]]]   (default: the built programs)
+Usage: tests/refused_memory.py [--each] [PROGRAM [STORE_TRIAL [HOOK_TRIAL [SELECTION_TRIAL]]]]   (default: the built programs)
 
 Each refused run has to say `hookhost: refused: NUMBER OutOfMemory`, write nothing to standard output and end with
 status 3, or else to answer just as with ample memory (a growth that was refused may be tried again with less). Each play
@@ -21,6 +21,9 @@ Neither may leave an empty folder in which what doesn't belong to the children's
 Of runs over one book, half of whose answers are remembered when the second begins, each allocation is refused too, by the program
 hook_trial. Whatever was put by then stays and is told, no child is started for it again, and the same run, which the next is,
 reports what it does from scratch.
+
+Of the calls on tags that are kept while files change each allocation is refused, by the program selection_trial: it answers as with
+ample memory, or says that it has none. What was refused is called again there, on tags that have to be as they were.
 
 Of the allocations of the runs with children and of the commands on a repository the first and the last are refused, and of those between one in so many; with --each, which
 takes long, each is refused in turn. The folder of the children is new for each run then: a run that gives up while it removes
@@ -45,6 +48,7 @@ WORDS = [word for word in sys.argv[1:] if word != "--each"]
 PROGRAM = os.path.abspath(WORDS[0] if WORDS else os.path.join(CRATES, "hookhost/out/hookhost"))
 STORE_TRIAL = os.path.abspath(WORDS[1] if len(WORDS) > 1 else os.path.join(CRATES, "store_trial/out/store_trial"))
 HOOK_TRIAL = os.path.abspath(WORDS[2] if len(WORDS) > 2 else os.path.join(CRATES, "hook_trial/out/hook_trial"))
+SELECTION_TRIAL = os.path.abspath(WORDS[3] if len(WORDS) > 3 else os.path.join(CRATES, "selection_trial/out/selection_trial"))
 CONFIGURATION = b"""# Three hooks in all forms of YAML that are read, and a key that nothing knows.
 shade: blue
 default_stages: [pre-commit, "push"]
@@ -455,6 +459,34 @@ def wrong_runs(ended, runs, plain):
     return None
 
 
+def kept_tags_run(line, refused, shared, folder):
+    """How the program ended on a line, and whether the allocation of this number (0: none) was refused."""
+    mark = os.path.join(folder, "refused")
+    if os.path.exists(mark):
+        os.remove(mark)
+    env = dict(os.environ, LD_PRELOAD=os.path.join(shared, "refuse.so"), REFUSE_ALLOCATION=str(refused), REFUSED_FILE=mark)
+    return end_of([SELECTION_TRIAL], folder, line, env), os.path.exists(mark)
+
+
+def refuse_kept_tags(shared):
+    """How many allocations were refused in the lines on kept tags, how often the program gave up, and what went wrong."""
+    with open(os.path.join(CRATES, "selection_trial/stdin"), "rb") as file:
+        lines = [line for line in file if line.startswith((b"follow ", b"select_kept "))]
+    count = gave_up_times = 0
+    with tempfile.TemporaryDirectory() as folder:
+        for line in lines:
+            plain, _ = kept_tags_run(line, 0, shared, folder)
+            for refused in itertools.count(1):
+                ended, is_refused = kept_tags_run(line, refused, shared, folder)
+                if not is_refused:
+                    break
+                count += 1
+                gave_up_times += ended != plain
+                if ended != plain and (ended[0] != 3 or b"out of memory" not in ended[2]):
+                    return count, gave_up_times, f"{line!r}, allocation {refused}: {ended}"
+    return count, gave_up_times, None if count else "no line on kept tags"
+
+
 def play_all(plays, shared):
     """Each play's answer, some of them side by side."""
     with ThreadPoolExecutor(os.cpu_count()) as pool:
@@ -469,17 +501,20 @@ def main():
         make_repository(folder)
         answers = play_all(PLAYS + checks, folder)
         of_book = refuse_among_remembered(folder)
+        of_kept_tags = refuse_kept_tags(folder)
     failures = [(play.name, wrong) for play, (_, _, wrong) in zip(PLAYS + checks, answers) if wrong]
     failures += [("runs over one book", of_book[2])] if of_book[2] else []
+    failures += [("tags that are kept", of_kept_tags[2])] if of_kept_tags[2] else []
     for play, (count, gave_up, wrong) in zip(PLAYS, answers):
         print(f"{play.name}: {count} allocations refused in turn, {gave_up} times the program gave up")
     of_texts = answers[len(PLAYS):]
     print(f"the check of {len(checks)} texts: {sum(each[0] for each in of_texts)} allocations refused in turn, "
           f"{sum(each[1] for each in of_texts)} times the program gave up")
     print(f"runs over one book: {of_book[0]} allocations refused in turn, {of_book[1]} times a run was refused")
+    print(f"tags that are kept: {of_kept_tags[0]} allocations refused in turn, {of_kept_tags[1]} times the program gave up")
     for name, wrong in failures:
         print(f"FAILED {name}: {wrong}")
-    print(f"memory: {len(answers) + 1 - len(failures)} passed, {len(failures)} failed")
+    print(f"memory: {len(answers) + 2 - len(failures)} passed, {len(failures)} failed")
     sys.exit(1 if failures or not checks else 0)
 
 

@@ -1,5 +1,6 @@
-"""The tags of files and the words of first lines. Each row of tags asks for every tag that is named here, so that none is
-given that isn't expected. The lists of names, extensions and interpreters are whole."""
+"""The tags of files and the words of first lines, and tags that are kept while a tree changes. Each row of tags asks for every
+tag that is named here, so that none is given that isn't expected. The lists of names, extensions and interpreters are whole."""
+import random
 
 PROGRAM = "selection_trial"
 
@@ -126,11 +127,53 @@ def script(line, expected):
     return tags("executable", "run", line, expected)
 
 
+def follow(tree, changes, *expected):
+    """A row: the tags that a tree's files have after changes. The program also compares each with `tags_of` of the file."""
+    return ("follow", "".join(f"{line}\n" for line in tree), "".join(f"{line}\n" for line in changes), *ALL, "".join(f"{line}\n" for line in expected))
+
+
 # A name's tags, from the table of names and, by what follows its last dot, from that of extensions.
 def of_name(name):
     extension = name.rpartition(".")[2] if "." in name.lstrip(".") else ""
     return f"{NAMES[name]} {EXTENSIONS.get(extension, '')}"
 
+
+# Names of files with the tags that they give, and contents with those that they give where a name gives none: to an executable
+# file, and to any.
+PLAYED_NAMES = {"Makefile": "makefile text", "e": "", "run": "", "x.plist": "plist", "x.png": "binary image png", "x.py": "python text"}
+PLAYED_CONTENTS = {"": ("", "text"), "x": ("", "text"), "\0": ("", "binary"), "#!/bin/sh": ("sh shell", "text"), "#!/usr/bin/env python3": ("python python3", "text"), "#!/bin/zsh \0": ("shell zsh", "binary")}
+PLAYED_PATHS = [f"{folder}{name}" for folder in ["", "a/", "a-b/", "b/"] for name in PLAYED_NAMES]
+
+
+def played_tags(path, mode, contents):
+    """The line of a file: its path and its tags."""
+    script, encoding = PLAYED_CONTENTS[contents]
+    told = PLAYED_NAMES[path.rpartition("/")[2]].split() or (script.split() if mode == "x" else [])
+    own = [] if {"text", "binary"} & {*told} else [encoding]
+    return " ".join([path, *sorted({"file", "executable" if mode == "x" else "non-executable", *told, *own})])
+
+
+def random_follow(source):
+    """A row of a tree and changes: half of the lists of changes have each path once and in order, others any and repeated."""
+    tree = {path: (source.choice("-x"), source.choice([*PLAYED_CONTENTS])) for path in source.sample(PLAYED_PATHS, source.randrange(13))}
+    paths = source.choices(PLAYED_PATHS, k=source.randrange(9))
+    if source.random() < 0.5:
+        paths = sorted({*paths})
+    changes = [(path, source.choice([None, *PLAYED_CONTENTS])) for path in paths]
+    after = dict(tree)
+    for path, contents in changes:
+        if contents is None:
+            after.pop(path, None)
+        elif path in after:
+            after[path] = (after[path][0], contents)
+    return follow(
+        [f"{mode} {path} {contents}" for path, (mode, contents) in tree.items()],
+        [f"- {path}" if contents is None else f"+ {path} {contents}" for path, contents in changes],
+        *(played_tags(path, *after[path]) for path in sorted(after)),
+    )
+
+
+SOURCE = random.Random(10)
 
 ROWS = [
     # Every row of the tables. Neither the bytes nor the mode change what a name gives.
@@ -250,4 +293,24 @@ ROWS = [
     words(b"#!" + b"a" * 1024 + b"\r\n"),
     words(b"#!a\n" + b"a" * 2000, "a"),
     ("most_shebang_bytes", "1024"),
+
+    # Tags that are kept while a tree changes.
+    follow(["- e x"], [], "e file non-executable text"),
+    follow(["- e x"], ["+ e \0"], "e binary file non-executable"),
+    follow(["- e \0"], ["+ e x"], "e file non-executable text"),
+    follow(["- e x"], ["- e"]),
+    follow([], ["+ e x"]),
+    follow([], []),
+    follow(["x e x"], ["+ e #!/bin/sh"], "e executable file sh shell text"),
+    follow(["x e #!/bin/sh"], ["+ e x"], "e executable file text"),
+    # a file that isn't there, a file that is gone and written again, a file that is written twice
+    follow(["- e x"], ["+ d \0", "- f"], "e file non-executable text"),
+    follow(["- e x", "- f x"], ["- e", "+ e \0"], "f file non-executable text"),
+    follow(["- e x", "- f x"], ["+ e \0", "+ e x", "+ e \0"], "e binary file non-executable", "f file non-executable text"),
+    # changes in order, out of order, and of the first and the last file alone
+    follow(["- a x", "- b x", "- c x", "- d x"], ["+ a \0", "- b", "+ d \0"], "a binary file non-executable", "c file non-executable text", "d binary file non-executable"),
+    follow(["- a x", "- b x", "- c x", "- d x"], ["+ d \0", "- b", "+ a \0"], "a binary file non-executable", "c file non-executable text", "d binary file non-executable"),
+    follow(["- a x", "- b \0", "- c x"], ["- a"], "b binary file non-executable", "c file non-executable text"),
+    follow(["- a x", "- b \0", "- c x"], ["- c"], "a file non-executable text", "b binary file non-executable"),
+    *(random_follow(SOURCE) for _row in range(1_000)),
 ]

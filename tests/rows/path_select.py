@@ -1,5 +1,8 @@
-"""Patterns over paths, and the selection of a hook's files. Every selection is played twice by the program, among all
-candidates and among those that pass the patterns of the whole configuration first."""
+"""Patterns over paths, and the selection of a hook's files. Every selection is played four times by the program, among all
+candidates and among those that pass the patterns of the whole configuration first, by tags that are made and by tags that are
+kept. What is selected after changes by tags that followed them is compared with what is selected by tags that are made."""
+import random
+import re
 
 PROGRAM = "selection_trial"
 
@@ -39,6 +42,12 @@ def select(candidates, tree, want, top_files="", top_exclude="^$", files="", exc
     lines = "".join(f"{line}\n" for line in tree)
     wanted = "".join(f"{path}\n" for path in want.split())
     return ("select", top_files, top_exclude, files, exclude, types, types_or, exclude_types, "\n".join(candidates.split()), lines, wanted)
+
+
+def select_kept(candidates, tree, changes, want, **rules):
+    """A selection of the tree that changes leave: they are a list of lines."""
+    call, *arguments, wanted = select(candidates, tree, want, **rules)
+    return ("select_kept", *arguments, "".join(f"{line}\n" for line in changes), wanted)
 
 
 # Lines of a mode, a path and bytes.
@@ -91,9 +100,69 @@ SELECTIONS = [
     select(ALL, TREE, ALL, exclude_types="no-such-tag"),
 ]
 
+# The contents of files whose names give no tags, with the tag that they give.
+ENCODINGS = {"x": "text", "\0": "binary"}
+PLAYED_PATHS = ["a", "a-b", "a/c", "b", "b/a", "b/c", "c"]
+PLAYED_PATTERNS = ["", "^$", "^a", "c$", "/"]
+
+
+def random_selection(source):
+    """A row of a tree, changes and rules: candidates and changes in any order, and some repeated."""
+    tree = {path: source.choice([*ENCODINGS]) for path in source.sample(PLAYED_PATHS, source.randrange(8))}
+    changes = [(path, source.choice([None, *ENCODINGS])) for path in source.choices(PLAYED_PATHS, k=source.randrange(6))]
+    if source.random() < 0.5:
+        changes = sorted(dict(changes).items())
+    after = dict(tree)
+    for path, contents in changes:
+        if contents is None:
+            after.pop(path, None)
+        elif path in after:
+            after[path] = contents
+    candidates = source.choices(PLAYED_PATHS, k=source.randrange(9))
+    patterns = {key: source.choice(PLAYED_PATTERNS if "files" in key else ["^$", "^$", *PLAYED_PATTERNS]) for key in ["top_files", "top_exclude", "files", "exclude"]}
+    types = {"types": source.choice(["", "file", "text", "binary"]), "types_or": source.choice(["", "text", "binary executable"]), "exclude_types": source.choice(["", "", "binary"])}
+
+    def is_wanted(path):
+        tags = {"file", "non-executable", ENCODINGS[after[path]]}
+        return (
+            all(re.search(patterns[key], path) for key in ["top_files", "files"])
+            and not any(re.search(patterns[key], path) for key in ["top_exclude", "exclude"])
+            and tags >= {*types["types"].split()}
+            and (not types["types_or"] or tags & {*types["types_or"].split()})
+            and not tags & {*types["exclude_types"].split()}
+        )
+
+    return select_kept(
+        " ".join(candidates),
+        [f"- {path} {contents}" for path, contents in tree.items()],
+        [f"- {path}" if contents is None else f"+ {path} {contents}" for path, contents in changes],
+        " ".join(path for path in sorted(after) if path in candidates and is_wanted(path)),
+        **patterns,
+        **types,
+    )
+
+
+SOURCE = random.Random(10)
+
+AFTER_CHANGES = [
+    # one file, text until it changes
+    select_kept("e", ["- e x"], [], "e", files="^e$", types="text"),
+    select_kept("e", ["- e x"], ["+ e \0"], "", files="^e$", types="text"),
+    select_kept("e", ["- e x"], ["+ e \0"], "e", files="^e$", types="binary"),
+    select_kept("e", ["- e \0"], ["+ e x"], "e", files="^e$", types="text"),
+    select_kept("e", ["- e x"], ["- e"], "", files="^e$"),
+    # files that are gone before others
+    select_kept(ALL, TREE, ["- README.md", "- run"], "src/a.py src/b.py src/c.txt x.py"),
+    select_kept(ALL, TREE, ["- README.md", "+ src/c.txt \0"], "src/b.py", types="executable", exclude_types="sh python3"),
+    select_kept(" ".join(MANY), [f"- {path} x" for path in MANY], [f"- {path}" for path in MANY[::2]], " ".join(MANY[1::2]), types="text"),
+    select_kept(" ".join(MANY[::9]), [f"- {path} x" for path in MANY], [f"+ {path} \0" for path in MANY[::6]], " ".join(sorted({*MANY[::6]} & {*MANY[::9]})), types="binary"),
+    *(random_selection(SOURCE) for _row in range(1_000)),
+]
+
 ROWS = [
     *(("pattern", text, text) for text in PATTERNS + LONG),
     *(("pattern", text, NO_PATTERN) for text in REFUSED),
     *(select(path, [f"- {path} "], path if found else "", files=pattern) for pattern, path, found in FOUND),
     *SELECTIONS,
+    *AFTER_CHANGES,
 ]

@@ -1,8 +1,11 @@
+pub mod ChangedFiles
 pub mod Contents
 pub mod Cuts
 pub mod FileTags
 pub mod LastCuts
+pub mod PathOrderLemmas
 pub mod Reasons
 pub mod Shebangs
 pub mod TableRules
 pub mod TagTables
+pub mod TreeTags

@@ -1,5 +1,5 @@
+pub mod IndexLemmas
 pub mod KeptLemmas
-pub mod OrderLemmas
 pub mod PatternLemmas
 pub mod SelectionLemmas
 pub mod TypeLemmas

@@ -1,11 +1,10 @@
 -- Lemmas: candidates looked up in a tree one by one are the files of the tree that are candidates.
-use Rattle.std.proofs.Common.{◌≡◌, ℕ, zero, suc, slice_get, Bool, true, false, ◌&&◌, if◌then◌else◌, List, [], ◌∷◌, Some, map, filter, refl, ap, sym, ◌∙◌, inl, inr, subst}
-use Rattle.std.specs.declared.cmp.Ordering.TheVariants.{Equal}
+use Rattle.std.proofs.Common.{◌≡◌, ℕ, Bool, true, false, ◌&&◌, if◌then◌else◌, List, [], ◌∷◌, map, filter, refl, ap, sym, ◌∙◌, inl, inr, subst}
 use Rattle.hook_base.specs.declared.file.File.{File}
-use Rattle.hook_base.specs.Rising.{IsBelow, IsBelowAll, path_cmp}
-use Rattle.hook_base.specs.RisingLemmas.{path_tied, below_all_later, below_differs, above_differs, bytes_same, path_cases}
-use Rattle.hook_base.specs.Trees.{IsRising, entry_of, path_of}
-use Rattle.hook_base.specs.TreeLemmas.{entry_of-first, entry_of-later, entry_of-rest}
+use Rattle.hook_base.specs.Rising.{IsBelowAll}
+use Rattle.hook_base.specs.RisingLemmas.{below_all_later, below_differs, above_differs, bytes_same, path_cases}
+use Rattle.hook_base.specs.Trees.{IsRising, path_of}
+use Rattle.hook_base.specs.TreeLemmas.{entry_of-first, entry_of-later}
 use Rattle.path_select.specs.Candidates.{AreRisingPaths, is_candidate}
 use Rattle.path_select.specs.Chosen.{fits_at, fits_entry}
 use Rattle.path_select.specs.Selection.{RuleTexts, fits_hook, selected_among}
@@ -20,20 +19,6 @@ no_candidate path (other ∷ paths) below = rw (above_differs other path below.0
 
 with_path : (rules : RuleTexts) (path : List ℕ) (row : File) → path ≡ row.path → fits_hook rules (record { path = path; entry = row.entry }) ≡ fits_hook rules row
 with_path rules path row same = ap (λ (p : List ℕ). fits_hook rules (record { path = p; entry = row.entry })) same
-
-below_held : (path : List ℕ) (rows : List File) (k : ℕ) (row : File) → IsBelowAll path_of path rows → slice_get rows k ≡ Some row → IsBelow path row.path
-below_held path [] k row below held = cc
-below_held path (first ∷ rows) zero row below held = let same : first ≡ row = cc in subst (λ (r : File). IsBelow path r.path) same below.0
-below_held path (first ∷ rows) (suc k) row below held = below_held path rows k row below.1 held
-
-held_at : (rows : List File) (k : ℕ) (row : File) → IsRising rows → slice_get rows k ≡ Some row → entry_of row.path rows ≡ Some row.entry
-held_at [] k row rising held = cc
-held_at (first ∷ rows) zero row rising held = let same : first ≡ row = cc in subst (λ (r : File). entry_of r.path (first ∷ rows) ≡ Some r.entry) same (entry_of-first first.path first rows refl)
-held_at (first ∷ rows) (suc k) row rising held = entry_of-rest row.path first rows (below_held first.path rows k row rising.0 held) ∙ held_at rows k row rising.1 held
-
--- a row of a tree is what it holds at the row's path
-pub entry_of_held : (rows : List File) (k : ℕ) (row : File) (path : List ℕ) → IsRising rows → slice_get rows k ≡ Some row → path_cmp row.path path ≡ Equal → entry_of path rows ≡ Some row.entry
-entry_of_held rows k row path rising held tied = subst (λ (p : List ℕ). entry_of p rows ≡ Some row.entry) (path_tied row.path path tied) (held_at rows k row rising held)
 
 module _ (rules : RuleTexts) where
   abbrev keeps : List (List ℕ) → File → Bool

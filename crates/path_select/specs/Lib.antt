@@ -1,5 +1,6 @@
 pub mod Candidates
 pub mod Chosen
+pub mod KeptTags
 pub mod PatternFaults
 pub mod Patterns
 pub mod Regexes

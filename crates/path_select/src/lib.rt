@@ -3,14 +3,17 @@
 //! [`Pattern`] is a pattern in the syntax of `regex` (`PatternFault` says why a text is none). [`select`] gives the files
 //! that [`Rules`] select: candidates whose paths pass the patterns of the whole configuration and of the hook, and that
 //! have the tags that the hook asks for. A run with many hooks makes the [`Candidates`] once and calls [`select_among`] for
-//! each hook; [`laws`] says that this selects the same.
+//! each hook; [`laws`] says that this selects the same. [`select_kept`] and [`select_kept_among`] do so by tags that are kept
+//! in `KeptTags` of the crate `file_tags`.
 //!
 //! The contracts cite `specs/Patterns.antt`, `specs/PatternFaults.antt`, `specs/Candidates.antt` and
-//! `specs/Selection.antt`; `specs/SelectionLaws.antt` is for callers' proofs, and `specs/Regexes.antt` and
-//! `specs/Chosen.antt` serve private fields and functions alone.
+//! `specs/Selection.antt`; `specs/SelectionLaws.antt` is for callers' proofs, and `specs/Regexes.antt`, `specs/Chosen.antt`
+//! and `specs/KeptTags.antt` serve private fields and functions alone.
 #![tactic(auto)]
 
 mod candidates;
+mod index;
+mod kept_selection;
 pub mod laws;
 mod near;
 mod ordered;
@@ -23,6 +26,7 @@ mod selection;
 mod type_rules;
 
 pub use candidates::Candidates;
+pub use kept_selection::{select_kept, select_kept_among};
 pub use pattern::Pattern;
 pub use pattern_fault::PatternFault;
 pub use rules::Rules;

@@ -1,9 +1,11 @@
 //! The files of a tree at paths that rise.
 
-ghost use Rattle.std.specs.Prelude.{◌≡◌};
-ghost use Rattle.std.specs.Option.{option_copied};
+ghost use Rattle.std.specs.Prelude.{◌≡◌, None};
+ghost use Rattle.std.specs.Option.{MatchOption, option_copied};
+ghost use Rattle.hook_base.specs.Places.{IsAt};
 ghost use Rattle.hook_base.specs.Trees.{entry_of};
 
+use crate::index::index_of;
 use hook_base::{FileEntry, RepoPath, Tree};
 use std::cmp::Ordering;
 
@@ -12,7 +14,6 @@ const NEAR: usize = 8;
 
 /// What the tree holds at the path, or `None` where it holds nothing. Where one path after another is asked for in their
 /// order, `next` is the place of the file after the last that was found: the file is looked for there first.
-#[tactic(auto, using(crate::proofs::SelectionLemmas::entry_of_held))]
 pub(crate) fn entry_near<'t>(
     tree: &'t Tree,
     next: &mut usize,
@@ -20,19 +21,29 @@ pub(crate) fn entry_near<'t>(
 ) -> Option<&'t FileEntry>
     ensures { option_copied result ≡ entry_of path.now tree.now }
 {
+    match index_near(tree, next, path) {
+        Some(index) => Some(&tree.entry(index).entry),
+        None => None,
+    }
+}
+
+/// The same file's index in the order of the tree.
+pub(crate) fn index_near(tree: &Tree, next: &mut usize, path: &RepoPath) -> Option<usize>
+    ensures { MatchOption result (entry_of path.now tree.now ≡ None) (IsAt path.now tree.now) }
+{
     'near: for _ in 0..NEAR {
         if *next >= tree.len() {
             break;
         }
-        let row = tree.entry(*next);
-        match row.path.cmp(path) {
+        let index = *next;
+        match tree.entry(index).path.cmp(path) {
             Ordering::Less => *next += 1,
             Ordering::Equal => {
                 *next += 1;
-                return Some(&row.entry);
+                return Some(index);
             }
             Ordering::Greater => break,
         }
     }
-    tree.get(path)
+    index_of(tree, path)
 }

@@ -27,11 +27,16 @@ pub(crate) fn fits_types(
         return Ok(true);
     }
     let tags = tags_of(alloc, path, entry)?;
-    Ok(
-        has_all(&tags, rules.types)
-            && has_one_if_any(&tags, rules.types_or)
-            && !has_one(&tags, rules.exclude_types),
-    )
+    Ok(have_types(rules, &tags))
+}
+
+/// Whether the tags are those that the hook asks for.
+pub(crate) fn have_types(rules: &Rules, tags: &Tags) -> bool
+    ensures { result ≡ fits_types (texts_of_rules rules.now) tags.now }
+{
+    has_all(tags, rules.types)
+        && has_one_if_any(tags, rules.types_or)
+        && !has_one(tags, rules.exclude_types)
 }
 
 // Whether the hook asks for nothing but what every file has.

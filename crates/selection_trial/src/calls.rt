@@ -1,6 +1,6 @@
 //! The calls by their names.
 
-use crate::{commands, greps, paths, tags};
+use crate::{commands, greps, kept, paths, tags};
 use std::alloc::Global;
 use trial_rows::{Answer, Answers, Row, Stop};
 
@@ -13,7 +13,7 @@ impl Answers for Calls {
     }
 }
 
-// The calls stand in two functions, of which the first knows the second, since one with many arms takes the checker long.
+// The calls stand in three functions, each of which knows the next, since one with many arms takes the checker long.
 fn of_selections(alloc: Global, call: &str, arguments: &[Vec<u8>]) -> Result<Answer, Stop> {
     match call {
         "tags_of" => tags::among(alloc, arguments),
@@ -21,6 +21,14 @@ fn of_selections(alloc: Global, call: &str, arguments: &[Vec<u8>]) -> Result<Ans
         "most_shebang_bytes" => Ok(tags::most_bytes(alloc)),
         "pattern" => paths::built(alloc, arguments),
         "select" => paths::selected(alloc, arguments),
+        _ => of_kept_tags(alloc, call, arguments),
+    }
+}
+
+fn of_kept_tags(alloc: Global, call: &str, arguments: &[Vec<u8>]) -> Result<Answer, Stop> {
+    match call {
+        "follow" => kept::tags_after(alloc, arguments),
+        "select_kept" => kept::selected_after(alloc, arguments),
         _ => of_commands(alloc, call, arguments),
     }
 }

@@ -1,6 +1,6 @@
 //! The paths and the trees of arguments.
 
-use hook_base::{Content, FileEntry, Mode, RepoPath, Tree};
+use hook_base::{Change, Content, FileEntry, Mode, RepoPath, Tree};
 use std::alloc::Global;
 use trial_rows::{Stop, text_of};
 
@@ -27,6 +27,27 @@ pub(crate) fn tree_of(alloc: Global, argument: &[u8]) -> Result<Tree, Stop> {
         put_file(alloc, &mut tree, mode_of(mode)?, path, bytes.as_bytes())?;
     }
     Ok(tree)
+}
+
+/// The changes of an argument: lines of `+`, a path and bytes, or of `-` and a path that is gone, parted by blanks.
+pub(crate) fn changes_of(alloc: Global, argument: &[u8]) -> Result<Vec<Change>, Stop> {
+    let mut changes = Vec::new(alloc);
+    for line in text_of(argument)?.lines() {
+        changes.push(change_of(alloc, line)?)?;
+    }
+    Ok(changes)
+}
+
+fn change_of(alloc: Global, line: &str) -> Result<Change, Stop> {
+    let (kind, rest) = parted(line);
+    let (path, bytes) = parted(rest);
+    let path = RepoPath::read(alloc, path)?;
+    let now = match kind {
+        "+" => Some(Content::copy_of(alloc, bytes.as_bytes())?),
+        "-" => None,
+        _ => return Err(Stop::BadLine),
+    };
+    Ok(Change { path, now })
 }
 
 // The two parts of a line around its first blank, the whole and nothing where it has none.

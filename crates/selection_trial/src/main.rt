@@ -7,6 +7,7 @@ mod calls;
 mod commands;
 mod files;
 mod greps;
+mod kept;
 mod paths;
 mod rules;
 mod tags;

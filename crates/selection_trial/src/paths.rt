@@ -2,8 +2,11 @@
 
 use crate::files::{paths_of, tree_of};
 use crate::rules::{patterns_of, rules_of, tag_lists_of};
+use file_tags::KeptTags;
 use hook_base::{Items, RepoPath, Tree};
-use path_select::{Candidates, Pattern, PatternFault, Rules, select, select_among};
+use path_select::{
+    Candidates, Pattern, PatternFault, Rules, select, select_among, select_kept, select_kept_among,
+};
 use std::alloc::Global;
 use trial_rows::{Answer, Stop, only, text_of};
 
@@ -34,7 +37,8 @@ pub(crate) fn selected(alloc: Global, arguments: &[Vec<u8>]) -> Result<Answer, S
     Ok(lines_of(alloc, chosen.as_slice()))
 }
 
-fn lines_of(alloc: Global, paths: &[RepoPath]) -> Answer {
+/// The paths, a line each.
+pub(crate) fn lines_of(alloc: Global, paths: &[RepoPath]) -> Answer {
     let mut answer = Answer::new(alloc);
     for path in paths {
         answer = answer.texts(&[path.as_str(), "\n"]);
@@ -54,11 +58,12 @@ fn selected_by(
     let patterns = patterns_of(alloc, patterns)?;
     let lists = tag_lists_of(alloc, lists)?;
     let rules = rules_of(patterns.as_slice(), lists.as_slice())?;
-    both_ways(alloc, &rules, paths, tree)
+    all_ways(alloc, &rules, paths, tree)
 }
 
-// What is selected, among all candidates and among those that pass first: both must be the same.
-fn both_ways(
+// What is selected, among all candidates and among those that pass first, by tags that are made and by tags that are kept:
+// all must be the same.
+fn all_ways(
     alloc: Global,
     rules: &Rules,
     paths: &[RepoPath],
@@ -66,7 +71,11 @@ fn both_ways(
 ) -> Result<Items<RepoPath>, Stop> {
     let chosen = select(alloc, rules, paths, tree)?;
     let among = Candidates::passing(alloc, rules.top_files, rules.top_exclude, paths)?;
-    if select_among(alloc, rules, &among, tree)? == chosen {
+    let tags = KeptTags::of(alloc, tree)?;
+    if select_among(alloc, rules, &among, tree)? == chosen
+        && select_kept(alloc, rules, paths, tree, &tags)? == chosen
+        && select_kept_among(alloc, rules, &among, tree, &tags)? == chosen
+    {
         Ok(chosen)
     } else {
         Err(Stop::TwoAnswers)

@@ -1,30 +1,31 @@
--- Lemmas: sorting paths and leaving repetitions out keeps which paths there are.
+-- Lemmas, also for the crates above: sorting paths and leaving repetitions out keeps which paths there are.
 use Rattle.std.proofs.Common.{◌≡◌, ℕ, Bool, true, false, ◌||◌, if◌then◌else◌, List, [], ◌∷◌, refl, ap, ◌∙◌}
 use Rattle.std.specs.List.{list_any, dedup, dedup_from, AllByRecursion}
 use Rattle.std.specs.List.Sorted.{IsStrictlySortedBy}
 use Rattle.std.specs.Str.{bytes_eq}
 use Rattle.std.specs.declared.cmp.Ordering.{Ordering}
 use Rattle.std.specs.declared.cmp.Ordering.TheVariants.{Less}
-use Rattle.hook_base.specs.Rising.{path_cmp, IsBelowAll}
-use Rattle.path_select.specs.Candidates.{AreRisingPaths, is_candidate, paths_of}
+use Rattle.hook_base.specs.Rising.{path_cmp, IsBelowAll, IsRisingBy}
+use Rattle.file_tags.specs.ChangedFiles.{is_among}
+use Rattle.file_tags.specs.TagTables.{texts_of}
 use denote.Ref.{Bor}
 
 abbrev reference_cmp : Bor (List ℕ) → Bor (List ℕ) → Ordering
 reference_cmp first second = path_cmp first.now second.now
 
-below_all-of_sorted : (path : Bor (List ℕ)) (paths : List (Bor (List ℕ))) → AllByRecursion (λ other. reference_cmp path other ≡ Less) paths → IsBelowAll (λ other. other) path.now (paths_of paths)
+below_all-of_sorted : (path : Bor (List ℕ)) (paths : List (Bor (List ℕ))) → AllByRecursion (λ other. reference_cmp path other ≡ Less) paths → IsBelowAll (λ other. other) path.now (texts_of paths)
 below_all-of_sorted path [] all = tt
 below_all-of_sorted path (other ∷ paths) all = (record { is_less = all.0 }, below_all-of_sorted path paths all.1)
 
-pub AreRisingPaths-of_sorted : (paths : List (Bor (List ℕ))) → IsStrictlySortedBy reference_cmp paths → AreRisingPaths (paths_of paths)
+pub rising-of_sorted : (paths : List (Bor (List ℕ))) → IsStrictlySortedBy reference_cmp paths → IsRisingBy (λ path. path) (texts_of paths)
 unfolding IsStrictlySortedBy
-AreRisingPaths-of_sorted [] sorted = tt
-AreRisingPaths-of_sorted (path ∷ paths) sorted = (below_all-of_sorted path paths sorted.0, AreRisingPaths-of_sorted paths sorted.1)
+rising-of_sorted [] sorted = tt
+rising-of_sorted (path ∷ paths) sorted = (below_all-of_sorted path paths sorted.0, rising-of_sorted paths sorted.1)
 
 -- a path is among the referred ones where a reference refers to it
-pub is_candidate-paths_of : (path : List ℕ) (paths : List (Bor (List ℕ))) → is_candidate (paths_of paths) path ≡ list_any (λ other. bytes_eq other.now path) paths
-is_candidate-paths_of path [] = refl
-is_candidate-paths_of path (other ∷ paths) = ap (λ rest. bytes_eq other.now path || rest) (is_candidate-paths_of path paths)
+pub is_among-texts_of : (path : List ℕ) (paths : List (Bor (List ℕ))) → is_among (texts_of paths) path ≡ list_any (λ other. bytes_eq other.now path) paths
+is_among-texts_of path [] = refl
+is_among-texts_of path (other ∷ paths) = ap (λ rest. bytes_eq other.now path || rest) (is_among-texts_of path paths)
 
 once : (a b c : Bool) → a ≡ b → (b || c) ≡ (b || (a || c))
 once true true c same = refl

@@ -1,0 +1,125 @@
+//! Calls on tags that are kept while a tree changes.
+
+ghost use Rattle.std.specs.Prelude.{◌≡◌, IfOk};
+ghost use Rattle.file_tags.specs.TreeTags.{tags_of_tree};
+
+use crate::files::{changes_of, paths_of, tree_of};
+use crate::paths::lines_of;
+use crate::rules::{patterns_of, rules_of, tag_lists_of};
+use file_tags::{KeptTags, Tags, tags_of};
+use hook_base::{Change, File, Items, OutOfMemory, RepoPath, Tree};
+use path_select::{Rules, select, select_kept};
+use std::alloc::Global;
+use trial_rows::{Answer, Stop, texts_of};
+
+// A tree that changes have been applied to, and the tags that have followed them.
+#[derive(Drop)]
+struct Followed {
+    tree: Tree,
+    tags: KeptTags,
+}
+
+/// `follow TREE CHANGES TAG..`: of each file that the changes leave of the tree its path and those of the given tags that it
+/// has, each behind a blank, a line each. `TwoAnswers` where the tags that followed the changes aren't those of the file. A
+/// line of the changes is `+ PATH BYTES`, or `- PATH` where the file is gone, and one of the tree as `select` takes it.
+pub(crate) fn tags_after(alloc: Global, arguments: &[Vec<u8>]) -> Result<Answer, Stop> {
+    let [tree, changes, asked @ ..] = arguments else {
+        return Err(Stop::BadLine);
+    };
+    let tree = tree_of(alloc, tree.as_slice())?;
+    let changes = changes_of(alloc, changes.as_slice())?;
+    let followed = follow(alloc, &tree, changes.as_slice())?;
+    tags_shown(alloc, &followed, texts_of(alloc, asked)?.as_slice())
+}
+
+fn follow(alloc: Global, old: &Tree, changes: &[Change]) -> Result<Followed, OutOfMemory>
+    ensures { IfOk result (λ followed. followed.tags ≡ tags_of_tree followed.tree) }
+{
+    let mut tags = KeptTags::of(alloc, old)?;
+    let mut tree = old.copy()?;
+    tree.apply(changes)?;
+    // A refusal leaves the tags as they were, so that the call may be made again.
+    if tags.follow(old, &tree, changes).is_err() {
+        tags.follow(old, &tree, changes)?;
+    }
+    Ok(Followed { tree, tags })
+}
+
+fn tags_shown(alloc: Global, followed: &Followed, asked: &[&str]) -> Result<Answer, Stop> {
+    let tree = &followed.tree;
+    let tags = &followed.tags;
+    if tags.len() != tree.len() {
+        return Err(Stop::TwoAnswers);
+    }
+    let mut answer = Answer::new(alloc);
+    for index in 0..tree.len() {
+        answer = file_shown(alloc, answer, tree.entry(index), tags.get(index), asked)?;
+    }
+    Ok(answer)
+}
+
+fn file_shown(
+    alloc: Global,
+    answer: Answer,
+    file: &File,
+    kept: &Tags,
+    asked: &[&str],
+) -> Result<Answer, Stop> {
+    let made = tags_of(alloc, &file.path, &file.entry)?;
+    let mut answer = answer.text(file.path.as_str());
+    for tag in asked {
+        if kept.has(*tag) != made.has(*tag) {
+            return Err(Stop::TwoAnswers);
+        }
+        if kept.has(*tag) {
+            answer = answer.texts(&[" ", *tag]);
+        }
+    }
+    Ok(answer.text("\n"))
+}
+
+/// `select_kept TOP_FILES TOP_EXCLUDE FILES EXCLUDE TYPES TYPES_OR EXCLUDE_TYPES CANDIDATES TREE CHANGES`: what is selected of
+/// the tree that the changes leave, by the tags that followed them. `TwoAnswers` where `select` gives other paths.
+pub(crate) fn selected_after(alloc: Global, arguments: &[Vec<u8>]) -> Result<Answer, Stop> {
+    let [rules @ .., paths, tree, changes] = arguments else {
+        return Err(Stop::BadLine);
+    };
+    let paths = paths_of(alloc, paths.as_slice())?;
+    let tree = tree_of(alloc, tree.as_slice())?;
+    let changes = changes_of(alloc, changes.as_slice())?;
+    let chosen = selected_by(alloc, rules, paths.as_slice(), &tree, changes.as_slice())?;
+    Ok(lines_of(alloc, chosen.as_slice()))
+}
+
+fn selected_by(
+    alloc: Global,
+    arguments: &[Vec<u8>],
+    paths: &[RepoPath],
+    tree: &Tree,
+    changes: &[Change],
+) -> Result<Items<RepoPath>, Stop> {
+    let Some((patterns, lists)) = arguments.split_at_checked(4) else {
+        return Err(Stop::BadLine);
+    };
+    let patterns = patterns_of(alloc, patterns)?;
+    let lists = tag_lists_of(alloc, lists)?;
+    let rules = rules_of(patterns.as_slice(), lists.as_slice())?;
+    by_both(alloc, &rules, paths, tree, changes)
+}
+
+// What is selected by the tags that followed the changes and by those that are made: both must be the same.
+fn by_both(
+    alloc: Global,
+    rules: &Rules,
+    paths: &[RepoPath],
+    tree: &Tree,
+    changes: &[Change],
+) -> Result<Items<RepoPath>, Stop> {
+    let followed = follow(alloc, tree, changes)?;
+    let chosen = select_kept(alloc, rules, paths, &followed.tree, &followed.tags)?;
+    if select(alloc, rules, paths, &followed.tree)? == chosen {
+        Ok(chosen)
+    } else {
+        Err(Stop::TwoAnswers)
+    }
+}
