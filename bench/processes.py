@@ -3,8 +3,9 @@
 
 Usage: bench/processes.py [CHILD_TRIAL]   (default: crates/child_trial/out/child_trial)
 
-A second child over a tree that the first left as it was, beside cat of all its files; and a child with 1 MiB of output,
-beyond one without, beside the same from one cat to another. Each time is wall time in milliseconds, the least of several.
+A second child over a tree that the first left as it was, beside cat of all its files, and the same where each child costs a
+reading of all files; a child that changes one file of many, both ways; and a child with 1 MiB of output, beyond one without,
+beside the same from one cat to another. Each time is wall time in milliseconds, the least of several.
 """
 import os
 import subprocess
@@ -13,7 +14,7 @@ import time
 
 HERE = os.path.dirname(os.path.abspath(__file__))
 sys.path[:1] = [os.path.join(HERE, "..", "tests"), HERE]
-from children import MIB, Trial, digits
+from children import MIB, READS, Trial, digits
 from timing import show
 
 
@@ -27,17 +28,27 @@ def least(action, times=25):
     return best
 
 
+def filled(files, size):
+    trial = Trial()
+    for at in range(files):
+        trial.ask("letters", digits(f"d{at % 50}/f{at}"), digits(str(size)))
+    return trial
+
+
 def time_second_children():
     for files, size in ((1, 400), (1000, 400), (10_000, 400), (4, 16 * MIB)):
-        trial = Trial()
-        for at in range(files):
-            trial.ask("letters", digits(f"d{at % 50}/f{at}"), digits(str(size)))
-        first = least(lambda: trial.run("true"), 1)
-        ours = least(lambda: trial.run("true"))
-        cat = least(lambda: subprocess.run("find . -type f -print0 | xargs -0 cat > /dev/null", shell=True, cwd=f"{trial.top}/h/scratch", check=True))
-        show(f"a second child, {files} files of {size} bytes", ours, cat, "cat")
-        print(f"{'':44} the first child, which writes the folder, {first:.2f} ms; peak memory {trial.peak() / (files * size):.1f} times the tree")
-        trial.end()
+        for reads in READS:
+            Trial.reads = READS[reads]
+            trial = filled(files, size)
+            first = least(lambda: trial.run("true"), 1)
+            second = least(lambda: trial.run("true"), 1)
+            ours = least(lambda: trial.run("true"))
+            changed = least(lambda: trial.ask("measure", *map(digits, ("sh", "-c", "echo y >> d0/f0"))))
+            cat = least(lambda: subprocess.run("find . -type f -print0 | xargs -0 cat > /dev/null", shell=True, cwd=f"{trial.top}/h/scratch", check=True))
+            show(f"a child, {files} files of {size} bytes", ours, cat, "cat")
+            print(f"{'':44} reading {reads}; one that changes a file {changed:.2f} ms; the first child, which writes the folder, {first:.2f} ms, the second {second:.2f} ms; peak memory {trial.peak() / (files * size):.1f} times the tree")
+            trial.end()
+    Trial.reads = {}
 
 
 def time_output():

@@ -1,13 +1,22 @@
 #!/usr/bin/env python3
 """Runs real children by the built program child_trial: hostile ones, and what they leave for the next.
 
-Usage: tests/children.py [-v] [PROGRAM]   (default: crates/child_trial/out/child_trial; -v: the seconds of each case)
+Usage: tests/children.py [-v] [--settled] [--in FOLDER] [PROGRAM]   (default: crates/child_trial/out/child_trial)
+
+  -v            the seconds of each case
+  --settled     only the cases of files that nobody has changed for as long as the system takes to write them to the disk,
+                which take that long: some minutes
+  --in FOLDER   plays below this folder, as on another file system
 
 Each case has a folder of its own, in which the children's folder is h/scratch. As root, what hangs on modes is played as
 nobody too. What the next child sees is told by the next child itself, and compared with a folder that is made anew.
+
+Each case is played twice: by children of which only those files are read that they can have changed, and by children of
+which all files are. Both have to tell the same.
 """
 import atexit
 import os
+import random
 import re
 import shutil
 import signal
@@ -19,10 +28,12 @@ from pathlib import Path
 
 HERE = Path(__file__).resolve().parent
 # Everything lies here, a copy of the program too, which nobody may run where the repository is closed to all but its owner.
-BASE = tempfile.mkdtemp(prefix="children-")
+WORDS = sys.argv[1:] if __name__ == "__main__" else []
+PLACE = WORDS[WORDS.index("--in") + 1] if "--in" in WORDS else None
+BASE = tempfile.mkdtemp(prefix="children-", dir=PLACE)
 os.chmod(BASE, 0o777)
 atexit.register(shutil.rmtree, BASE, True)
-GIVEN = [word for word in sys.argv[1:] if word != "-v"]
+GIVEN = [word for word in sys.argv[1:] if word not in ("-v", "--settled", "--in", PLACE)]
 PROGRAM = shutil.copy(GIVEN[0] if GIVEN else HERE.parent / "crates/child_trial/out/child_trial", Path(BASE, "child_trial"))
 os.chmod(PROGRAM, 0o755)
 # The signals whose default is to end a process.
@@ -38,6 +49,8 @@ MIB = 1 << 20
 NAMES = ["NotStarted", "WaitFailed", "Signal", "OutputTooLong", "ScratchFailed"]
 # What a child sees: each entry's kind, mode, links and path, and what each file contains.
 SEEN = "find . -printf '%y %m %n %U %P\\n' | sed 's/^d \\([0-7]*\\) [0-9]*/d \\1/' | LC_ALL=C sort; find . -type f -print0 | LC_ALL=C sort -z | xargs -0r sha256sum"
+# What the program reads of the files, by what its environment says.
+READS = {"what may have changed": {}, "everything": {"CHILD_TRIAL_READS": "everything"}}
 TREE = {"a.txt": b"one\n", "b.txt": b"two\n", "d/c.txt": b"three\n", "d/e/f.txt": b"", "d-e": b"x", "é/日本": b"y"}
 
 
@@ -62,12 +75,17 @@ def digits(data):
 class Trial:
     """A child_trial in a new folder, with a tree."""
 
+    # What the programs are told to read, and the words and outcomes of all children, in their order.
+    reads = READS["what may have changed"]
+    told = []
+
     def __init__(self, tree=(), user=None, keep=None, **how):
         self.top = keep or tempfile.mkdtemp(prefix="children-", dir=BASE)
         os.chmod(self.top, 0o777)
         self.tree = {}
         self.calls = self.faults = 0
         as_user = {"user": user, "group": user, "extra_groups": []} if user is not None and os.getuid() == 0 else {}
+        how["env"] = how.get("env", os.environ) | Trial.reads
         self.process = subprocess.Popen([PROGRAM, "h/scratch"], cwd=self.top, stdin=subprocess.PIPE, stdout=subprocess.PIPE, stderr=subprocess.DEVNULL, **as_user, **how)
         for path, data in dict(tree).items():
             self.file(path, data)
@@ -88,6 +106,11 @@ class Trial:
 
     def run(self, *words):
         """What became of a child: a fault's name, or (status, output, changes)."""
+        outcome = self.outcome(*words)
+        Trial.told.append((words, outcome))
+        return outcome
+
+    def outcome(self, *words):
         text = self.ask("run", *map(digits, words))
         check(text is not None, f"the program ends at {words!r}")
         calls, faults, *rest = text.split(" ")
@@ -120,6 +143,13 @@ class Trial:
     def peak(self):
         """The most memory that the program has had, in bytes."""
         return int(re.search(r"VmHWM:\s*(\d+) kB", Path(f"/proc/{self.process.pid}/status").read_text())[1]) * 1024
+
+    def reads_of(self, *words):
+        """How many bytes the program reads of a child of these words and of its files."""
+        counted = lambda: int(re.search(r"rchar: (\d+)", Path(f"/proc/{self.process.pid}/io").read_text())[1])
+        before = counted()
+        self.run(*words)
+        return counted() - before
 
     def end(self):
         self.process.stdin.close()
@@ -171,7 +201,8 @@ def nothing_but_the_tree_is_given():
     # The shell lists its own numbers by a pattern, which opens the folder for a moment.
     numbers = trial.run("python3", "-c", "import os\nfor n in range(1000):\n  try: os.fstat(n); print(n)\n  except OSError: pass")
     equal(numbers, (0, b"0\n1\n2\n", {}), "open files")
-    equal(trial.run("env"), (0, "".join(f"{k}={v}\n" for k, v in environment.items()).encode(), {}), "environment")
+    given = environment | Trial.reads
+    equal(trial.run("env"), (0, "".join(f"{k}={v}\n" for k, v in given.items()).encode(), {}), "environment")
     equal(trial.sh("ls -l /proc/self/fd | wc -l"), (0, b"5\n", {}), "/proc/self/fd: a total, three, and the folder that ls lists")
 
 
@@ -488,7 +519,7 @@ def refused_memory_is_told_as_such():
     for number in range(0, 2_000):
         top = tempfile.mkdtemp(prefix="refused-", dir=BASE)
         refused = Path(top, "refused")
-        environment = os.environ | {"LD_PRELOAD": str(library), "REFUSE_ALLOCATION": str(number), "REFUSED_FILE": str(refused)}
+        environment = os.environ | {"LD_PRELOAD": str(library), "REFUSE_ALLOCATION": str(number), "REFUSED_FILE": str(refused)} | Trial.reads
         done = subprocess.run([PROGRAM, "h/scratch"], cwd=top, input="\n".join(rows).encode() + b"\n", env=environment, capture_output=True)
         answers = [bytes.fromhex(line).decode() for line in done.stdout.decode().split("\n")[:-1]]
         outcomes = [re.sub(r"^calls=\d+ faults=\d+ ", "", a) for a in answers if a]
@@ -507,6 +538,359 @@ def refused_memory_is_told_as_such():
     check(number > 50 and told > 20, f"only {number} allocations, {told} of them told of")
 
 
+# ---- what is read
+
+# Files that are known once a child has run: behind them others are written, so that the clock of the file system goes on
+# before the first child.
+FILLED = TREE | {f"z/{i}": b"z" * 400 for i in range(300)}
+
+# A process that writes through memory, which the system calls a shared mapping of the file. It reads there first. `end`:
+# it writes one letter and ends. `stay`: another process has the file mapped and goes on when this one ends: it has written
+# the first letter, and writes each further one once there is a file go.N beside the folder, behind which it makes done.N.
+MAPS = r"""
+#include <fcntl.h>
+#include <stdio.h>
+#include <string.h>
+#include <sys/mman.h>
+#include <sys/stat.h>
+#include <unistd.h>
+
+static char place[4096];
+
+static const char *at(const char *top, const char *name, int number) {
+    sprintf(place, "%s/%s.%d", top, name, number);
+    return place;
+}
+
+/* It ends too once the folder is gone, so that none outlives its test. */
+static void wait_for(const char *top, const char *name, int number) {
+    while (access(at(top, name, number), F_OK) != 0) {
+        if (access(top, F_OK) != 0) _exit(0);
+        usleep(200);
+    }
+}
+
+int main(int count, char **words) {
+    const char *how = words[1], *letters = words[3], *top = words[4];
+    struct stat found;
+    int file = open(words[2], O_RDWR);
+    if (file < 0 || fstat(file, &found) != 0) return 9;
+    char *bytes = mmap(NULL, found.st_size, PROT_READ | PROT_WRITE, MAP_SHARED, file, 0);
+    if (bytes == MAP_FAILED) return 9;
+    close(file);
+    volatile char *first = bytes;
+    char seen = *first;
+    (void)seen;
+    if (strcmp(how, "end") == 0) {
+        *first = letters[0];
+        return 0;
+    }
+    if (fork() != 0) {
+        wait_for(top, "done", 0);
+        return 0;
+    }
+    setsid();
+    for (int number = 0; number < 3; number++) close(number);
+    for (int number = 0; letters[number] != 0; number++) {
+        if (number > 0) wait_for(top, "go", number);
+        *first = letters[number];
+        close(open(at(top, "done", number), O_WRONLY | O_CREAT, 0644));
+    }
+    wait_for(top, "go", 99);
+    return 0;
+}
+"""
+
+# A process that writes a file twice at once, and leaves another that writes it a third time after so many microseconds.
+RACES = r"""
+#include <fcntl.h>
+#include <stdlib.h>
+#include <time.h>
+#include <unistd.h>
+
+static long long now(void) {
+    struct timespec at;
+    clock_gettime(CLOCK_MONOTONIC, &at);
+    return at.tv_sec * 1000000000LL + at.tv_nsec;
+}
+
+int main(int count, char **words) {
+    int file = open(words[1], O_WRONLY);
+    long long until = now() + atoll(words[3]) * 1000;
+    close(open(words[4], O_WRONLY | O_CREAT, 0644));
+    pwrite(file, &words[2][0], 1, 0);
+    pwrite(file, &words[2][1], 1, 0);
+    if (fork() != 0) return 0;
+    for (int number = 0; number < 3; number++) close(number);
+    while (now() < until) {}
+    pwrite(file, &words[2][2], 1, 0);
+    unlink(words[4]);
+    return 0;
+}
+"""
+
+
+def built(name, text):
+    """The program of a text in C."""
+    program = Path(BASE, name)
+    if not program.exists():
+        subprocess.run(["cc", "-O1", "-x", "c", "-o", program, "-"], input=text.encode(), check=True)
+        program.chmod(0o755)
+    return str(program)
+
+
+def known_trial(user=None, **how):
+    """A trial whose files are known, where they can be: two children have run."""
+    trial = Trial(FILLED, user=user, **how)
+    for _ in range(2):
+        equal(trial.run("true"), (0, b"", {}), "a child that changes nothing")
+    return trial
+
+
+def wait_for(place):
+    until = time.monotonic() + 60
+    while not os.path.exists(place):
+        check(time.monotonic() < until, f"{place} isn't there")
+        time.sleep(0.0005)
+
+
+def takes(trial, outcome):
+    """Gives the trial the tree that a child left."""
+    for path, data in outcome[2].items():
+        trial.file(path, data)
+
+
+# What a child does to a.txt, by which its bytes get others of the same length, and what it leaves there: b'two\n' each.
+QUIET_WRITES = {
+    "the same length": ["sh", "-c", "printf 'two\n' > a.txt"],
+    "in place": ["sh", "-c", "printf tw | dd of=a.txt conv=notrunc 2> /dev/null; printf 'two\n' 1<> a.txt"],
+    "its time set back": ["python3", "-c", "import os\ns = os.stat('a.txt')\nopen('a.txt', 'w').write('two\\n')\nos.utime('a.txt', ns=(s.st_atime_ns, s.st_mtime_ns))"],
+    "renamed over, its time set back": ["python3", "-c", "import os\ns = os.stat('a.txt')\nopen('new', 'w').write('two\\n')\nos.utime('new', ns=(s.st_atime_ns, s.st_mtime_ns))\nos.rename('new', 'a.txt')"],
+    "removed and made": ["sh", "-c", "rm a.txt; printf 'two\n' > a.txt"],
+    "copied with its times": ["sh", "-c", "printf 'two\n' > new; touch -r a.txt new; cp -p new a.txt; rm new"],
+    "by another name": ["python3", "-c", "import os\ns = os.stat('a.txt')\nos.link('a.txt', '../../other')\nopen('../../other', 'w').write('two\\n')\nos.unlink('../../other')\nos.utime('a.txt', ns=(s.st_atime_ns, s.st_mtime_ns))"],
+    "through memory": ["MAPS", "end", "a.txt", "t"],
+    "through memory, its time set back": ["sh", "-c", "touch -r a.txt ../../time; MAPS end a.txt t; touch -r ../../time a.txt"],
+    "a folder of the same names": ["sh", "-c", "mkdir -p ../../e; printf 'two\n' > ../../e/a.txt; mv ../../e/a.txt ."],
+}
+
+
+def a_quiet_write_is_read_back():
+    maps = built("maps", MAPS)
+    for user in users():
+        for name, words in QUIET_WRITES.items():
+            trial = known_trial(user=user)
+            words = [word.replace("MAPS", maps) for word in words]
+            wanted = b"tne\n" if "memory" in name else b"two\n"
+            equal(trial.run(*words), (0, b"", {"a.txt": wanted}), f"{name} as {user}")
+            trial.sees_the_tree(name)
+            equal(trial.run(*words), (0, b"", {"a.txt": wanted}), f"{name}, again, as {user}")
+            trial.file("a.txt", wanted)
+            equal(trial.sh("cat a.txt"), (0, wanted, {}), f"the child after {name} that keeps the change")
+            trial.sees_the_tree(f"{name}, kept")
+            trial.end()
+
+
+def a_file_is_known_by_more_than_its_bytes():
+    for user in users():
+        trial = known_trial(user=user)
+        equal(trial.sh("chmod 600 a.txt"), (0, b"", {}), "a mode alone")
+        trial.sees_the_tree("a mode alone")
+        equal(trial.sh("ln a.txt ../../second"), (0, b"", {}), "a second name outside")
+        trial.sees_the_tree("a second name outside")
+        equal(trial.sh("printf 'two\n' > ../../second; cat a.txt"), (0, b"one\n", {}), "a write by the second name of before")
+        for text in ("rm a.txt; mkdir a.txt", "rm a.txt; ln -s b.txt a.txt", "rm a.txt; mkfifo a.txt", "rm -r d; ln -s e d"):
+            equal(trial.sh(text), "ScratchFailed", text)
+            trial.sees_the_tree(text)
+        equal(trial.sh("mkdir n; mv d n/; mv n/d d; mv b.txt n/; mv n/b.txt ."), (0, b"", {}), "moved away and back")
+        equal(trial.sh("mv a.txt n; mv b.txt a.txt; mv n b.txt"), (0, b"", {"a.txt": b"two\n", "b.txt": b"one\n"}), "two files changed for one another")
+        trial.sees_the_tree("two files changed for one another")
+        equal(trial.sh("mkdir n; cp -r z n/; cp -rp z n/y; mv z n/x; mv n/z z; echo y > z/1"), (0, b"", {"z/1": b"y\n"}), "a copied folder in a folder's place")
+        trial.sees_the_tree("a copied folder")
+        trial.end()
+
+
+def folders_that_change_places_are_seen():
+    trial = Trial({f"{folder}/f": folder.encode() * 4 for folder in "pq"} | FILLED)
+    trial.run("true")
+    trial.run("true")
+    equal(trial.sh("mv p n; mv q p; mv n q"), (0, b"", {"p/f": b"qqqq", "q/f": b"pppp"}), "two folders changed for one another")
+    trial.sees_the_tree("two folders changed for one another")
+    equal(trial.sh("mv p n; mv q p; mv n q"), (0, b"", {"p/f": b"qqqq", "q/f": b"pppp"}), "and again")
+    takes(trial, (0, b"", {"p/f": b"qqqq", "q/f": b"pppp"}))
+    trial.sees_the_tree("two folders changed for one another, kept")
+
+
+def a_tree_that_changes_is_known_by_its_bytes():
+    trial = known_trial()
+    for data in (b"two\n", b"one\n", b"one", b""):
+        trial.file("a.txt", data)
+        equal(trial.sh("cat a.txt"), (0, data, {}), f"a tree that has {data!r}")
+        trial.sees_the_tree(f"a tree that has {data!r}")
+    trial.remove("a.txt")
+    trial.sees_the_tree("a tree without it")
+    trial.file("a.txt", b"one\n")
+    trial.sees_the_tree("a tree with it")
+
+
+def a_process_left_behind_with_a_mapping_is_seen():
+    maps = built("maps", MAPS)
+    for letters in ("abcd", "oxyo"):
+        trial = known_trial()
+        top = trial.top
+        left = trial.run(maps, "stay", "a.txt", letters, top)
+        first = letters[0].encode() + b"ne\n"
+        equal(left, (0, b"", {} if first == b"one\n" else {"a.txt": first}), "a file that stays mapped")
+        takes(trial, left)
+        time.sleep(0.02)
+        equal(trial.sh("cat a.txt"), (0, first, {}), "the child after it")
+        # During a child, without a look of the system at the file in between.
+        second = letters[1].encode() + b"ne\n"
+        changed = trial.sh(f"touch {top}/go.1; until [ -e {top}/done.1 ]; do sleep 0.001; done")
+        equal(changed, (0, b"", {"a.txt": second}), "a write through the mapping during a later child")
+        takes(trial, changed)
+        equal(trial.sh("cat a.txt"), (0, second, {}), "the child after that")
+        # Between two children.
+        for number in range(2, len(letters)):
+            Path(top, f"go.{number}").touch()
+            wait_for(f"{top}/done.{number}")
+            trial.sees_the_tree("a write through the mapping between two children")
+        Path(top, "go.99").touch()
+        trial.end()
+
+
+def a_mapping_that_an_ended_program_left_is_seen():
+    maps = built("maps", MAPS)
+    trial = known_trial()
+    top = trial.top
+    left = trial.run(maps, "stay", "a.txt", "oxy", top)
+    equal(left, (0, b"", {}), "a file that stays mapped")
+    trial.end()
+    time.sleep(0.02)
+    trial = Trial(FILLED, keep=top)
+    changed = trial.sh(f"touch {top}/go.1; until [ -e {top}/done.1 ]; do sleep 0.001; done")
+    equal(changed, (0, b"", {"a.txt": b"xne\n"}), "a write through the mapping during a child of the next program")
+    takes(trial, changed)
+    equal(trial.sh("cat a.txt"), (0, b"xne\n", {}), "the child after that")
+    Path(top, "go.2").touch()
+    wait_for(f"{top}/done.2")
+    trial.sees_the_tree("a write through the mapping between two children")
+    Path(top, "go.99").touch()
+    trial.end()
+
+
+def a_process_left_behind_that_writes_is_seen():
+    trial = known_trial()
+    top = trial.top
+    late = f"exec > /dev/null 2>&1 < /dev/null; for n in 1 2 3; do until [ -e {top}/go.$n ]; do sleep 0.001; done; printf \"$n\" | dd of=$PWD/a.txt conv=notrunc; touch {top}/done.$n; done"
+    equal(trial.sh(f"({late}) & :"), (0, b"", {}), "a process left behind")
+    changed = trial.sh(f"touch {top}/go.1; until [ -e {top}/done.1 ]; do sleep 0.001; done")
+    equal(changed, (0, b"", {"a.txt": b"1ne\n"}), "a late write during a child")
+    for number in (2, 3):
+        Path(top, f"go.{number}").touch()
+        wait_for(f"{top}/done.{number}")
+        trial.sees_the_tree("a late write between two children")
+
+
+def tries():
+    """How often a race is played."""
+    return 2_000 if Trial.reads == {} else 200
+
+
+def a_rewrite_right_behind_a_look_is_seen():
+    trial = known_trial()
+    place = Path(trial.top, "h/scratch/a.txt")
+    times = place.stat()
+    for turn in range(tries()):
+        # Between two children, as soon as the first is told, with its old time of writing.
+        with open(place, "r+b") as file:
+            file.write(b"two\n" if turn % 2 else b"eno\n")
+        os.utime(place, ns=(times.st_atime_ns, times.st_mtime_ns))
+        equal(trial.run("cat", "a.txt"), (0, b"one\n", {}), f"the child behind rewrite {turn}")
+        # By a child, over what the look before it saw.
+        if turn % 4 == 0:
+            equal(trial.sh("printf 'two\n' 1<> a.txt"), (0, b"", {"a.txt": b"two\n"}), f"rewrite {turn} by a child")
+
+
+def a_rewrite_around_a_look_is_seen():
+    races = built("races", RACES)
+    random.seed(1)
+    trial = known_trial()
+    busy = f"{trial.top}/busy"
+    told = {}
+    for turn in range(tries()):
+        letters = "".join(random.sample("abcdefgh", 3))
+        outcome = trial.outcome(races, "a.txt", letters, str(random.randrange(0, 3_000)), busy)
+        check(outcome[0] == 0, f"race {turn} is told as {outcome!r}")
+        takes(trial, outcome)
+        told[outcome[2].get("a.txt", b"-")[:1] == letters[2].encode()] = True
+        while os.path.exists(busy):
+            pass
+        equal(trial.outcome("cat", "a.txt"), (0, trial.tree["a.txt"], {}), f"the child behind race {turn}")
+    check(len(told) == 2, f"the third write always comes on one side of the look: {told}")
+
+
+def times_tell(trial):
+    """Whether times of files tell anything where the trial plays."""
+    found = os.stat(trial.top)
+    device = found.st_dev
+    wanted = f"{os.major(device)}:{os.minor(device)}"
+    kinds = [line.split(" - ")[1].split()[0] for line in Path("/proc/self/mountinfo").read_text().splitlines() if line.split()[2] == wanted]
+    return kinds[:1] == ["ext4"] and found.st_ctime_ns % 1_000_000 != 0 and Trial.reads == {}
+
+
+def what_no_child_can_have_changed_is_not_read():
+    tree = {f"n{i % 7}/f{i}": b"x" * 10_000 for i in range(300)}
+    trial = Trial(tree)
+    all_bytes = 10_000 * len(tree)
+    check(trial.reads_of("true") >= all_bytes, "a first child reads back what it was given")
+    for words in (["true"], ["touch", "n1/new"], ["sh", "-c", "echo y >> n1/f1"], ["sh", "-c", "rm -r n2; echo > n3/f3"], ["true"]):
+        read = trial.reads_of(*words)
+        if times_tell(trial):
+            check(read < all_bytes / 3, f"{read} bytes are read of {words!r}")
+        else:
+            check(read >= all_bytes, f"only {read} bytes are read of {words!r}")
+    trial.sees_the_tree("what is known")
+    trial.end()
+    # What another program wrote just before may still be in its hands.
+    trial = Trial(tree, keep=trial.top)
+    for _ in range(2):
+        check(trial.reads_of("true") >= 2 * all_bytes, "files that were changed just before the program are read at each look")
+
+
+def hundredths(name):
+    return int(Path(f"/proc/sys/vm/{name}_centisecs").read_text())
+
+
+def files_that_have_settled_are_read_once():
+    maps = built("maps", MAPS)
+    tree = {f"n{i % 7}/f{i}": b"x" * 10_000 for i in range(300)} | TREE
+    all_bytes = 10_000 * 300
+    trial = Trial(tree)
+    top = trial.top
+    equal(trial.run(maps, "stay", "a.txt", "oxy", top), (0, b"", {}), "a file that stays mapped")
+    trial.end()
+    seconds = (hundredths("dirty_expire") + hundredths("dirty_writeback")) * 4 // 100 + 5
+    time.sleep(seconds if Trial.reads == {} else 0.1)
+    trial = Trial(tree, keep=top)
+    read = trial.reads_of("true")
+    if times_tell(trial):
+        check(all_bytes <= read < all_bytes * 4 / 3, f"{read} bytes are read of a first child")
+    else:
+        check(read >= 2 * all_bytes, f"{read} bytes are read of a first child")
+    read = trial.reads_of("true")
+    check(read < all_bytes / 10 if times_tell(trial) else read >= 2 * all_bytes, f"{read} bytes are read of a second child")
+    changed = trial.sh(f"touch {top}/go.1; until [ -e {top}/done.1 ]; do sleep 0.001; done")
+    equal(changed, (0, b"", {"a.txt": b"xne\n"}), "a write through a mapping of an ended program")
+    Path(top, "go.2").touch()
+    wait_for(f"{top}/done.2")
+    trial.sees_the_tree("a write through the mapping between two children")
+    equal(trial.sh("printf 'two\n' 1<> b.txt; rm n1/f1; printf y 1<> n2/f2"), (0, b"", {"n1/f1": None, "n2/f2": b"y" + b"x" * 9_999}), "changes of settled files")
+    trial.sees_the_tree("changes of settled files")
+    Path(top, "go.99").touch()
+    trial.end()
+
+
 # ---- memory
 
 def memory_is_in_proportion_to_the_tree():
@@ -519,17 +903,36 @@ def memory_is_in_proportion_to_the_tree():
 
 
 CASES = [case for name, case in list(globals().items()) if callable(case) and getattr(case, "__module__", "") == __name__ and "_" in name and case.__code__.co_argcount == 0]
+# What hangs on when a process is at work, or on how much is read.
+UNLIKE = [a_killed_program_leaves_no_harm, a_rewrite_right_behind_a_look_is_seen, a_rewrite_around_a_look_is_seen]
+SETTLED = [files_that_have_settled_are_read_once]
+
+
+def played(case, reads):
+    """What the children of a case were told, each by its words and its outcome, without the names of folders."""
+    Trial.reads, Trial.told = READS[reads], []
+    start = time.monotonic()
+    try:
+        case()
+    except Wrong as wrong:
+        raise Wrong(f"reading {reads}: {wrong}") from None
+    finally:
+        if "-v" in WORDS:
+            print(f"children: {case.__name__}, reading {reads}: {time.monotonic() - start:.1f} s", flush=True)
+    named = re.compile(re.escape(BASE) + r"/[a-z]+-[a-z0-9_]+|CHILD_TRIAL_READS=everything\\n")
+    return [named.sub("", repr(each)) for each in Trial.told]
+
 
 if __name__ == "__main__":
     failed = 0
-    for case in CASES:
-        start = time.monotonic()
+    cases = SETTLED if "--settled" in WORDS else [case for case in CASES if case not in SETTLED]
+    for case in cases:
         try:
-            case()
+            told = [played(case, reads) for reads in READS]
+            if case not in UNLIKE:
+                check(told[0] == told[1], f"children tell {next((pair for pair in zip(*told) if pair[0] != pair[1]), [len(each) for each in told])}")
         except Wrong as wrong:
             failed += 1
             print(f"children: {case.__name__}: {wrong}")
-        if "-v" in sys.argv:
-            print(f"children: {case.__name__}: {time.monotonic() - start:.1f} s")
-    print(f"children: {len(CASES) - failed} passed, {failed} failed")
+    print(f"children: {len(cases) - failed} passed, {failed} failed")
     sys.exit(1 if failed else 0)

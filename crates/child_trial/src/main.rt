@@ -2,6 +2,7 @@
 //! each as a line of standard input says, and answers each by a line. `tests/children.py` drives it.
 //!
 //! How a line is written says the crate `trial_rows`. At a line that is no call the program ends with the exit status 2.
+//! Where the variable `CHILD_TRIAL_READS` is `everything`, no file is taken for unchanged by its times.
 #![tactic(auto)]
 
 mod calls;
@@ -10,10 +11,14 @@ mod runs;
 
 use calls::Play;
 use process_children::ProcessChildren;
+use std::alloc::AllocError;
 use std::io::{BufRead, BufReader, Write};
 use std::process::ExitCode;
 use std::{env, io};
 use trial_rows::{Row, Stop, answer_line};
+
+// The variable that says how much is read.
+const READS: &str = "CHILD_TRIAL_READS";
 
 fn main(rt: HostRuntime) -> ExitCode {
     match play(&rt) {
@@ -25,6 +30,20 @@ fn main(rt: HostRuntime) -> ExitCode {
     }
 }
 
+// Children, of which each costs a reading of all files where the environment says so.
+fn children_of(
+    rt: &HostRuntime,
+    folder: String,
+) -> Result<ProcessChildren<HostRuntime>, AllocError> {
+    let runtime = rt.clone()?;
+    match env::var(rt, READS) {
+        Ok(reads) if reads.as_str() == "everything" => {
+            Ok(ProcessChildren::reading_everything(runtime, folder))
+        }
+        _ => Ok(ProcessChildren::new(runtime, folder)),
+    }
+}
+
 fn play(rt: &HostRuntime) -> Result<(), Stop> {
     let mut words = env::args(rt)?;
     let _program = words.next();
@@ -32,7 +51,7 @@ fn play(rt: &HostRuntime) -> Result<(), Stop> {
         return Err(Stop::BadLine);
     };
     let alloc = rt.alloc();
-    let mut play = Play::new(alloc, ProcessChildren::new(rt.clone()?, folder));
+    let mut play = Play::new(alloc, children_of(rt, folder)?);
     for line in BufReader::new(alloc, rt.reader())?.lines(alloc) {
         let row = Row::read(alloc, line?.as_str())?;
         let answer = play.answer_of(&row)?;

@@ -2,29 +2,39 @@
 
 ghost use Rattle.std.specs.Io.{ReadsAtMost};
 
+use crate::stamp::Stamp;
 use hook_base::MOST_FILE_BYTES;
 use std::alloc::Global;
-use std::fs::{Files, OpenOptions};
+use std::fs::{Files, OpenFile, OpenOptions};
 use std::io::{ErrorKind, Read, Write};
 use std::{fs, io};
 
 /// How many bytes are read at once.
 pub(crate) const PIECE_BYTES: usize = 65_536;
 
-/// Whether a file begins with these bytes, where its length is theirs: whether it contains them.
-pub(crate) fn contains<R: Files>(
+/// The stamp of a file, from before it was read, where it contains these bytes. `None` where it doesn't.
+pub(crate) fn stamp_where_equal<R: Files>(
     files: &R,
     place: &str,
     bytes: &[u8],
     piece: &mut [u8],
-) -> io::Result<bool> {
+) -> io::Result<Option<Stamp>> {
     let mut file = fs::open(files, place)?;
+    let stamp = Stamp::of(&file.metadata()?);
+    if stamp.length() == bytes.len() as u64 && begins_with(&mut file, bytes, piece)? {
+        Ok(Some(stamp))
+    } else {
+        Ok(None)
+    }
+}
+
+fn begins_with<F: Read>(file: &mut F, bytes: &[u8], piece: &mut [u8]) -> io::Result<bool> {
     let mut left = bytes;
     for _ in 0..u64::MAX {
         if left.is_empty() {
             return Ok(true);
         }
-        let count = read_some(&mut file, piece)?;
+        let count = read_some(file, piece)?;
         match left.split_at_checked(count) {
             Some((first, rest)) if count > 0 && are_equal(first, &piece[..count]) => left = rest,
             _ => return Ok(false),
@@ -33,9 +43,9 @@ pub(crate) fn contains<R: Files>(
     Ok(false)
 }
 
-// Whether two slices of one length are equal. It doesn't stop at the first difference, so that many bytes are compared at
-// once.
-fn are_equal(a: &[u8], b: &[u8]) -> bool {
+/// Whether two slices of one length are equal. It doesn't stop at the first difference, so that many bytes are compared at
+/// once.
+pub(crate) fn are_equal(a: &[u8], b: &[u8]) -> bool {
     let pairs = a.iter().zip(b);
     pairs.fold(0u8, |differing, (x, y)| differing | (*x ^ *y)) == 0
 }
@@ -62,11 +72,12 @@ pub(crate) fn read_file<R: Files>(
     Err(io::Error::from(ErrorKind::FileTooLarge))
 }
 
-/// Makes a new file, where none may stand, with these bytes.
-pub(crate) fn write_new<R: Files>(files: &R, place: &str, bytes: &[u8]) -> io::Result<()> {
+/// Makes a new file, where none may stand, with these bytes. Its stamp afterwards.
+pub(crate) fn write_new<R: Files>(files: &R, place: &str, bytes: &[u8]) -> io::Result<Stamp> {
     let mut options = OpenOptions::new();
     let mut file = options.write(true).create_new(true).open(files, place)?;
-    file.write_all(bytes)
+    file.write_all(bytes)?;
+    Ok(Stamp::of(&file.metadata()?))
 }
 
 /// Reads once, and again where a signal came first. 0 at the end.

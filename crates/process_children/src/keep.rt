@@ -1,22 +1,25 @@
 //! The scratch folder, made to hold the files of a tree and nothing else.
 
-use crate::contents::{contains, write_new};
+use crate::contents::{stamp_where_equal, write_new};
 use crate::folders::{folder_at, shared_bytes};
 use crate::fresh::Fresh;
+use crate::known_files::KnownFiles;
 use crate::place::{link_refused, place_in, standing};
+use crate::stamp::Stamp;
 use crate::stop::{Stop, is_want_of_memory};
 use crate::strays::{Belonging, empty_trash, take_strays};
 use crate::trash::Trash;
 use child_port::Fault;
-use hook_base::Tree;
+use hook_base::{SharedFile, Tree};
 use std::alloc::Global;
-use std::fs::{Files, Permissions};
+use std::fs::{Files, Metadata, Permissions};
 use std::os::unix::fs::{PermissionsExt, lchown};
 use std::path::{AsPath, Path};
 use std::{fs, io};
 
 /// Makes the folder, with its missing parents, and makes it hold the files of the tree and nothing else. What is as it
-/// would be written stays; where that can't be told or mended, all of the folder is written anew.
+/// would be written stays; where that can't be told or mended, all of the folder is written anew. Of files that are known
+/// none is read, and those are known afterwards that were read and can be.
 ///
 /// `ScratchFailed` where neither can be done, or where the folder or the one that it stands in is a link: then nothing
 /// behind it is touched.
@@ -25,12 +28,13 @@ pub(crate) fn keep_as<R: Files>(
     alloc: Global,
     folder: &str,
     tree: &Tree,
+    known: &mut KnownFiles,
     piece: &mut [u8],
 ) -> Result<(), Stop> {
-    match settle(files, alloc, folder, tree, piece) {
+    match settle(files, alloc, folder, tree, known, piece) {
         Ok(()) => Ok(()),
         Err(e) if is_want_of_memory(&e) => Err(Stop::OutOfMemory),
-        Err(_) => match write_anew(files, alloc, folder, tree, piece) {
+        Err(_) => match write_anew(files, alloc, folder, tree, known, piece) {
             Ok(()) => Ok(()),
             Err(e) => Err(Stop::of(&e, Fault::ScratchFailed)),
         },
@@ -42,16 +46,18 @@ fn write_anew<R: Files>(
     alloc: Global,
     folder: &str,
     tree: &Tree,
+    known: &mut KnownFiles,
     piece: &mut [u8],
 ) -> io::Result<()> {
     empty(files, alloc, folder)?;
-    settle(files, alloc, folder, tree, piece)
+    settle(files, alloc, folder, tree, known, piece)
 }
 
 /// Makes the folder hold nothing. An error where that can't be done, or where the folder or the one that it stands in is a
 /// link.
 pub(crate) fn empty<R: Files>(files: &R, alloc: Global, folder: &str) -> io::Result<()> {
-    settle(files, alloc, folder, &Tree::new(alloc), &mut [])
+    let mut known = KnownFiles::none_ever(alloc);
+    settle(files, alloc, folder, &Tree::new(alloc), &mut known, &mut [])
 }
 
 fn settle<R: Files>(
@@ -59,23 +65,26 @@ fn settle<R: Files>(
     alloc: Global,
     folder: &str,
     tree: &Tree,
+    known: &mut KnownFiles,
     piece: &mut [u8],
 ) -> io::Result<()> {
     make_folder(files, folder)?;
     let trash = Trash::make_in(files, alloc, folder)?;
-    let fresh = match fs::symlink_metadata(files, trash.place()) {
-        Ok(found) => Fresh::of(&found),
+    let found = match fs::symlink_metadata(files, trash.place()) {
+        Ok(found) => found,
         Err(e) => {
             trash.leave(files);
             return Err(e);
         }
     };
+    known.begin_to_note(files, alloc, &found, piece);
     let mut keeping = Keeping {
         files,
         alloc,
         folder,
         trash,
-        fresh,
+        fresh: Fresh::of(&found),
+        known,
     };
     let settled = keeping.settle(tree, piece);
     if settled.is_err() {
@@ -118,6 +127,7 @@ struct Keeping<'a, R: Files> {
     folder: &'a str,
     trash: Trash,
     fresh: Fresh,
+    known: &'a mut KnownFiles,
 }
 
 impl<'a, R: Files> Keeping<'a, R> {
@@ -131,10 +141,10 @@ impl<'a, R: Files> Keeping<'a, R> {
     fn settle_files(&mut self, tree: &Tree, piece: &mut [u8]) -> io::Result<()> {
         let mut before = "";
         for index in 0..tree.len() {
-            let file = tree.entry(index);
-            let path = file.path.as_str();
+            let file = tree.shared(index);
+            let path = file.as_file().path.as_str();
             self.settle_folders(tree, path, shared_bytes(before, path))?;
-            self.settle_file(path, file.entry.bytes.as_slice(), piece)?;
+            self.settle_file(file, piece)?;
             before = path;
         }
         Ok(())
@@ -178,18 +188,41 @@ impl<'a, R: Files> Keeping<'a, R> {
     }
 
     // A file that differs in anything is replaced by a new one, so that no other name of it changes.
-    fn settle_file(&mut self, path: &str, bytes: &[u8], piece: &mut [u8]) -> io::Result<()> {
-        let place = place_in(self.alloc, self.folder, path)?;
+    fn settle_file(&mut self, file: &SharedFile, piece: &mut [u8]) -> io::Result<()> {
+        let (path, bytes) = (&file.as_file().path, &file.as_file().entry.bytes);
+        let place = place_in(self.alloc, self.folder, path.as_str())?;
         let place = place.as_str();
         if let Some(found) = standing(self.files, place)? {
-            if self.fresh.is_file(&found, bytes.len())
-                && contains(self.files, place, bytes, piece)?
-            {
+            if self.fresh.is_file(&found, bytes.len()) && self.holds(place, file, &found, piece)? {
                 return Ok(());
             }
             self.trash.take(place.as_bytes())?;
         }
-        write_new(self.files, place, bytes)
+        let stamp = write_new(self.files, place, bytes.as_slice())?;
+        self.known.note_written(file, stamp)?;
+        Ok(())
+    }
+
+    // Whether what stands at a place contains what the file does: it is known to, or it is read.
+    fn holds(
+        &mut self,
+        place: &str,
+        file: &SharedFile,
+        found: &Metadata,
+        piece: &mut [u8],
+    ) -> io::Result<bool> {
+        if self.known.are_equal(file.as_file(), found) {
+            self.known.note(file, Stamp::of(found))?;
+            return Ok(true);
+        }
+        let bytes = file.as_file().entry.bytes.as_slice();
+        match stamp_where_equal(self.files, place, bytes, piece)? {
+            Some(stamp) => {
+                self.known.note_read(file, stamp)?;
+                Ok(true)
+            }
+            None => Ok(false),
+        }
     }
 
     fn finish(&mut self) -> io::Result<()> {
@@ -200,6 +233,8 @@ impl<'a, R: Files> Keeping<'a, R> {
             lchown(self.files, self.folder, Some(owner), Some(group))?;
         }
         let mode = Permissions::from_mode(self.fresh.folder_mode());
-        fs::set_permissions(self.files, self.folder, mode)
+        fs::set_permissions(self.files, self.folder, mode)?;
+        self.known.end_to_note(self.alloc);
+        Ok(())
     }
 }

@@ -5,6 +5,10 @@
 //! started in it (`start`). Both outputs are read side by side to their ends, and the child is waited for (`outputs`,
 //! `ending`). The files are read back (`read_back`). The first fault decides.
 //!
+//! Both walks over the files read only those that a process can have changed since they were read (`known_files`): by what
+//! the system tells of each (`stamp`), and by what the times of files tell in this run (`file_ages`) and on this file system
+//! (`file_system`).
+//!
 //! Before the first call a folder is taken that no other run uses (`scratch_folder`; `mark` for the file that says so,
 //! `removal` for what a run left that a signal ended, `input` for a child of it that lives on).
 //!
@@ -14,10 +18,13 @@
 
 mod contents;
 mod ending;
+mod file_ages;
+mod file_system;
 mod folders;
 mod fresh;
 mod input;
 mod keep;
+mod known_files;
 mod mark;
 mod outputs;
 mod place;
@@ -26,6 +33,7 @@ mod read_back;
 mod removal;
 mod scratch_folder;
 mod search;
+mod stamp;
 mod start;
 mod stop;
 mod strays;

@@ -5,12 +5,14 @@ ghost use Rattle.std.specs.Prelude.{◌≡◌, ◌+◌, ◌<◌, ◌^◌};
 use crate::contents::PIECE_BYTES;
 use crate::ending::ending_of;
 use crate::keep::keep_as;
+use crate::known_files::KnownFiles;
 use crate::read_back::read_back;
 use crate::scratch_folder::ScratchFolder;
 use crate::start::start;
 use crate::stop::Stop;
 use child_port::{Answer, Children, Fault, Outcome};
 use hook_base::{OutOfMemory, Text, Tree};
+use std::fs;
 use std::fs::{File, Files};
 use std::os::fd::AsRawFd;
 use std::process::{OpenProcess, Processes, SystemProcess};
@@ -23,6 +25,7 @@ pub struct ProcessChildren<R: Files<File = File> + AllocGlobal + Drop> {
     runtime: R,
     folder: String,
     scratch: Option<ScratchFolder>,
+    known: KnownFiles,
     completed: u64,
     failed: u64,
     ghost countable: { completed + failed < 2 ^ 64 },
@@ -38,10 +41,29 @@ impl<
         ensures no_calls { ⟦<ProcessChildren<R> as Children>⟧.call_count result ≡ 0 }
         ensures no_faults { ⟦<ProcessChildren<R> as Children>⟧.fault_count result ≡ 0 }
     {
+        let known = KnownFiles::new(runtime.alloc());
         ProcessChildren {
             runtime,
             folder,
             scratch: None,
+            known,
+            completed: 0,
+            failed: 0,
+        }
+    }
+
+    /// The same children, of which each costs a reading of all files: none is taken for unchanged by its times. For trials
+    /// of that.
+    pub fn reading_everything(runtime: R, folder: String) -> ProcessChildren<R>
+        ensures no_calls { ⟦<ProcessChildren<R> as Children>⟧.call_count result ≡ 0 }
+        ensures no_faults { ⟦<ProcessChildren<R> as Children>⟧.fault_count result ≡ 0 }
+    {
+        let known = KnownFiles::none_ever(runtime.alloc());
+        ProcessChildren {
+            runtime,
+            folder,
+            scratch: None,
+            known,
             completed: 0,
             failed: 0,
         }
@@ -54,6 +76,7 @@ impl<R: Files<File = File> + AllocGlobal + Drop> Drop for ProcessChildren<R> {
             runtime,
             folder: _,
             scratch,
+            known: _,
             completed: _,
             failed: _,
         } = self;
@@ -69,6 +92,7 @@ fn answer_of<R: Files<File = File> + Processes<Started = SystemProcess> + AllocG
     runtime: &R,
     folder: &str,
     scratch: &mut Option<ScratchFolder>,
+    known: &mut KnownFiles,
     words: &[Text],
     tree: &Tree,
 ) -> Result<Answer, Stop> {
@@ -76,7 +100,7 @@ fn answer_of<R: Files<File = File> + Processes<Started = SystemProcess> + AllocG
         Some(taken) => taken,
         None => take_scratch(runtime, folder)?,
     };
-    let answer = answer_in(runtime, &taken, words, tree);
+    let answer = answer_in(runtime, &taken, known, words, tree);
     *scratch = Some(taken);
     answer
 }
@@ -95,16 +119,18 @@ fn take_scratch<R: Files<File = File> + AllocGlobal>(
 fn answer_in<R: Files<File = File> + Processes<Started = SystemProcess> + AllocGlobal>(
     runtime: &R,
     scratch: &ScratchFolder,
+    known: &mut KnownFiles,
     words: &[Text],
     tree: &Tree,
 ) -> Result<Answer, Stop> {
     let (alloc, folder) = (runtime.alloc(), scratch.place());
     let mut piece = vec![in alloc; 0u8; PIECE_BYTES]?;
     let piece = piece.as_mut_slice();
-    keep_as(runtime, alloc, folder, tree, piece)?;
+    keep_as(runtime, alloc, folder, tree, known, piece)?;
+    known.child_starts(fs::symlink_metadata(runtime, folder).ok().as_ref());
     let child = start(runtime, alloc, scratch, words)?;
     let ending = ending_of(alloc, child, piece)?;
-    let changes = read_back(runtime, alloc, folder, tree, piece)?;
+    let changes = read_back(runtime, alloc, folder, tree, known, piece)?;
     Ok(Answer {
         status: ending.status,
         output: ending.output,
@@ -128,7 +154,8 @@ impl<R: Files<File = File> + Processes<Started = SystemProcess> + AllocGlobal + 
 
     fn run(&mut self, words: &[Text], tree: &Tree, _seen: &Tree) -> Result<Outcome, OutOfMemory> {
         let (runtime, folder) = (&self.runtime, self.folder.as_str());
-        match answer_of(runtime, folder, &mut self.scratch, words, tree) {
+        let (scratch, known) = (&mut self.scratch, &mut self.known);
+        match answer_of(runtime, folder, scratch, known, words, tree) {
             Ok(answer) => {
                 self.completed += 1;
                 Ok(Outcome::Done(answer))

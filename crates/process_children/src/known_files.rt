@@ -1,0 +1,175 @@
+//! Files of the scratch folder whose bytes are known without being read.
+
+use crate::contents::are_equal;
+use crate::file_ages::Times;
+use crate::stamp::Stamp;
+use hook_base::{File, SharedFile};
+use std::alloc::{AllocError, Global};
+use std::fs::{Files, Metadata};
+use std::mem;
+
+// How a file came to be noted.
+#[derive(Clone, Copy, Debug, PartialEq, Eq)]
+enum Noted {
+    // It was written, before the first child, and wasn't read yet.
+    Written,
+    // It was read.
+    Read,
+}
+
+// A file that was written, or read, with these bytes. It has them as long as its stamp is this.
+#[derive(Debug, Drop)]
+struct KnownFile {
+    file: SharedFile,
+    stamp: Stamp,
+    noted: Noted,
+}
+
+impl KnownFile {
+    fn path(&self) -> &str {
+        self.file.as_file().path.as_str()
+    }
+
+    fn has_bytes_of(&self, file: &File) -> bool {
+        let (known, bytes) = (&self.file.as_file().entry.bytes, &file.entry.bytes);
+        known.len() == bytes.len()
+            && known.digest() == bytes.digest()
+            && are_equal(known.as_slice(), bytes.as_slice())
+    }
+}
+
+/// Files that were read and found to contain what a tree's do, and that no process can have changed since without a sign
+/// that the next look at them shows. They are gone through in the order of their paths.
+#[derive(Debug, Drop)]
+pub(crate) struct KnownFiles {
+    times: Times,
+    files: Vec<KnownFile>,
+    at: usize,
+    noted: Vec<KnownFile>,
+}
+
+impl KnownFiles {
+    /// None yet.
+    pub(crate) fn new(alloc: Global) -> KnownFiles {
+        KnownFiles::with_times(alloc, Times::Unasked)
+    }
+
+    /// None, now and later, so that everything is read.
+    pub(crate) fn none_ever(alloc: Global) -> KnownFiles {
+        KnownFiles::with_times(alloc, Times::Mute)
+    }
+
+    fn with_times(alloc: Global, times: Times) -> KnownFiles {
+        KnownFiles {
+            times,
+            files: Vec::new(alloc),
+            at: 0,
+            noted: Vec::new(alloc),
+        }
+    }
+
+    /// Begins a walk over the files in which they are noted anew. Something was made in their folder just before.
+    pub(crate) fn begin_to_note<R: Files>(
+        &mut self,
+        files: &R,
+        alloc: Global,
+        made: &Metadata,
+        piece: &mut [u8],
+    ) {
+        self.times.ask(files, alloc, made, piece);
+        self.noted = Vec::new(alloc);
+        self.at = 0;
+    }
+
+    /// Ends such a walk: the files that were noted in it are those that are known.
+    pub(crate) fn end_to_note(&mut self, alloc: Global) {
+        self.files = mem::replace(&mut self.noted, Vec::new(alloc));
+        self.at = 0;
+    }
+
+    /// Begins a walk over the files.
+    pub(crate) fn begin(&mut self) {
+        self.at = 0;
+    }
+
+    /// A child is about to be started. The folder was changed just before.
+    pub(crate) fn child_starts(&mut self, folder: Option<&Metadata>) {
+        self.times.child_starts(folder);
+    }
+
+    /// Whether what was found at a file's place is known to contain what the file does.
+    pub(crate) fn are_equal(&mut self, file: &File, found: &Metadata) -> bool {
+        self.are_unchanged(file, found)
+            && self
+                .known_at(file.path.as_str())
+                .is_some_and(|known| known.has_bytes_of(file))
+    }
+
+    /// The same of a file that the last walk found as the tree has it.
+    pub(crate) fn are_unchanged(&mut self, file: &File, found: &Metadata) -> bool {
+        let stamp = Stamp::of(found);
+        let tells = self.times.are_settled(&stamp) || self.times.precede_children(&stamp);
+        tells
+            && self
+                .known_at(file.path.as_str())
+                .is_some_and(|known| known.noted == Noted::Read && known.stamp == stamp)
+    }
+
+    // What is known at a path. It comes behind those that were asked for in this walk.
+    fn known_at(&mut self, path: &str) -> Option<&mut KnownFile> {
+        let rest = self.files.as_slice().get(self.at..)?;
+        let passed = rest.iter().take_while(|known| known.path() < path).count();
+        self.at = self.at.saturating_add(passed);
+        let known = self.files.get_mut(self.at)?;
+        if known.path() == path {
+            Some(known)
+        } else {
+            None
+        }
+    }
+
+    /// Notes a file that is known.
+    pub(crate) fn note(&mut self, file: &SharedFile, stamp: Stamp) -> Result<(), AllocError> {
+        self.push(file, stamp, Noted::Read)
+    }
+
+    /// Notes a file that was just written, where no child was started yet that could have it open.
+    pub(crate) fn note_written(
+        &mut self,
+        file: &SharedFile,
+        stamp: Stamp,
+    ) -> Result<(), AllocError> {
+        if self.times.is_before_children() {
+            self.push(file, stamp, Noted::Written)
+        } else {
+            Ok(())
+        }
+    }
+
+    /// Notes a file that was read, where it can be known.
+    pub(crate) fn note_read(&mut self, file: &SharedFile, stamp: Stamp) -> Result<(), AllocError> {
+        if self.times.are_settled(&stamp) || self.confirm(file.as_file(), &stamp) {
+            self.push(file, stamp, Noted::Read)
+        } else {
+            Ok(())
+        }
+    }
+
+    /// A file was read. It is known from now on if it was written before the first child. Answers whether it is.
+    pub(crate) fn confirm(&mut self, file: &File, stamp: &Stamp) -> bool {
+        let precedes = self.times.precede_children(stamp);
+        match self.known_at(file.path.as_str()) {
+            Some(known) if precedes && known.stamp == *stamp => {
+                known.noted = Noted::Read;
+                true
+            }
+            _ => false,
+        }
+    }
+
+    fn push(&mut self, file: &SharedFile, stamp: Stamp, noted: Noted) -> Result<(), AllocError> {
+        let file = file.clone()?;
+        self.noted.push(KnownFile { file, stamp, noted })?;
+        Ok(())
+    }
+}
