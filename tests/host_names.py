@@ -95,6 +95,16 @@ def stages_no_name_that_is_not_text(folder):
     check(do(folder, "status") == b"A dir/sub/a\n", "the folder isn't staged")
 
 
+def explains_beside_names_that_are_not_text(folder):
+    """Why a configuration is refused is told whatever else lies in the folder."""
+    write(folder, "config.yaml", b"repos: x\n")
+    status, out, err = plain = run(folder, "explain", "config.yaml")
+    check(status == 1 and out.startswith(b"config.yaml:1: ") and err == b"", f"it says {plain!r}")
+    write(os.fsencode(os.path.join(folder, "dir")), b"\xff", b"1")
+    write(os.fsencode(folder), b"\xfe", b"1")
+    check((told := run(folder, "explain", "config.yaml")) == plain, f"it says {told!r}")
+
+
 def stages_what_git_and_find_list(folder):
     """All files, with hard names among them, by the lists of paths that other programs write."""
     do(folder, "init")
@@ -130,5 +140,6 @@ def takes_no_mode_from_the_working_file(folder):
 
 
 CASES = [keeps_files_of_hard_names, keeps_the_longest_path_that_the_system_opens, refuses_control_bytes,
-         tells_a_refused_name_on_one_line, stages_no_name_that_is_not_text, stages_what_git_and_find_list,
+         tells_a_refused_name_on_one_line, stages_no_name_that_is_not_text,
+         explains_beside_names_that_are_not_text, stages_what_git_and_find_list,
          reads_a_list_that_another_command_prints, takes_no_mode_from_the_working_file]

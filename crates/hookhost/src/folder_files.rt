@@ -21,6 +21,8 @@ struct Below {
     files: Vec<String>,
     // Those that weren't looked into yet.
     folders: Vec<String>,
+    // Whether each file is wanted, so that what can't be read stops the walk. Else it is left out.
+    is_whole: bool,
 }
 
 /// The paths of the regular files below a folder, in the order of their bytes; below the working folder where the folder's path is
@@ -29,9 +31,24 @@ struct Below {
 pub(crate) fn files_below<R: Files + AllocGlobal>(rt: &R, folder: &str) -> Result<Vec<String>, Stop>
     ensures { IfErr result IsStopOfReading }
 {
+    walk(rt, folder, true)
+}
+
+/// The same of the working folder, but for folders that can't be read and names that aren't UTF-8: they are left out, and so is
+/// what lies below them.
+pub(crate) fn readable_files<R: Files + AllocGlobal>(rt: &R) -> Result<Vec<String>, Stop>
+    ensures { IfErr result IsStopOfReading }
+{
+    walk(rt, "", false)
+}
+
+fn walk<R: Files + AllocGlobal>(rt: &R, folder: &str, is_whole: bool) -> Result<Vec<String>, Stop>
+    ensures { IfErr result IsStopOfReading }
+{
     let mut below = Below {
         files: Vec::new(rt.alloc()),
         folders: Vec::new(rt.alloc()),
+        is_whole,
     };
     if !is_of_repository(folder) {
         below.folders.push(String::from_str(rt.alloc(), folder)?)?;
@@ -56,7 +73,7 @@ fn look_into<R: Files + AllocGlobal>(rt: &R, folder: &str, below: &mut Below) ->
 {
     match look_at_names(rt, folder, below) {
         Ok(done) => done,
-        Err(error) => Err(stop_at(rt, &error, folder)),
+        Err(error) => stop_or_leave(below, stop_at(rt, &error, folder)),
     }
 }
 
@@ -95,7 +112,7 @@ fn take_names<R: Files + AllocGlobal>(
         match str::from_utf8(name) {
             Ok("" | "." | ".." | GIT) => {}
             Ok(name) => take_name(rt, folder, name, below)?,
-            Err(_) => return Err(unusable(rt, folder)),
+            Err(_) => stop_or_leave(below, unusable(rt, folder))?,
         }
     }
     Ok(())
@@ -117,9 +134,20 @@ fn take_name<R: Files + AllocGlobal>(
         Ok(found) if found.is_dir() => below.folders.push(path)?,
         Ok(found) if found.is_file() => below.files.push(path)?,
         Ok(_) => {}
-        Err(error) => return Err(Stop::of_file(&error, Text::from(path))),
+        Err(error) => return stop_or_leave(below, Stop::of_file(&error, Text::from(path))),
     }
     Ok(())
+}
+
+// What can't be used stops the walk where each file is wanted.
+fn stop_or_leave(below: &Below, stop: Stop) -> Result<(), Stop>
+    requires { IsStopOfReading stop }
+    ensures { IfErr result IsStopOfReading }
+{
+    match stop {
+        Stop::CannotUse(_) if !below.is_whole => Ok(()),
+        stop => Err(stop),
+    }
 }
 
 // The path of a name in a folder.
