@@ -314,12 +314,12 @@ TOO_LARGE, TOO_MANY = "refused\t6\tTooLarge\tcontents, a message or a record of 
 # What is done to the file of FILLING, how it is refused then, and what takes it back.
 PLANTS = [
     ("no version", "DELETE FROM meta", NOT_A_STORE, "INSERT INTO meta VALUES ('version', 1)"),
-    ("another version", "UPDATE meta SET value = 2", NOT_A_STORE, "UPDATE meta SET value = 1"),
+    ("another version", "UPDATE meta SET value = 7", NOT_A_STORE, "UPDATE meta SET value = 1"),
     ("a second number", "INSERT INTO meta VALUES ('edition', 1)", NOT_A_STORE, "DELETE FROM meta WHERE name = 'edition'"),
     ("a version under another name", "UPDATE meta SET name = 'edition'", NOT_A_STORE, "UPDATE meta SET name = 'version'"),
     ("a blob under another digest", "INSERT INTO blobs VALUES (x'00', x'33')", DAMAGED, "DELETE FROM blobs WHERE digest = x'00'"),
     ("other bytes under a digest", f"UPDATE blobs SET bytes = x'33' WHERE digest = x'{ONE}'", DAMAGED, f"UPDATE blobs SET bytes = x'31' WHERE digest = x'{ONE}'"),
-    ("an illegal staged path", f"INSERT INTO staged VALUES ('../x', 0, x'{ONE}')", DAMAGED, "DELETE FROM staged WHERE path = '../x'"),
+    ("an illegal staged path", f"INSERT INTO staged VALUES ('a/../b', 0, x'{ONE}')", DAMAGED, "DELETE FROM staged WHERE path = 'a/../b'"),
     ("an illegal committed path", f"INSERT INTO entries VALUES (1, '../x', 0, x'{ONE}')", DAMAGED, "DELETE FROM entries WHERE path = '../x'"),
     ("an illegal path of a fix", "INSERT INTO fixes VALUES ('../x', 1, NULL)", DAMAGED, "DELETE FROM fixes WHERE path = '../x'"),
     ("a staged path of the repository's own", f"INSERT INTO staged VALUES ('.git/COMMIT_EDITMSG', 0, x'{ONE}')", DAMAGED,
