@@ -32,9 +32,6 @@ SCHEMAS = [
     "PRAGMA writable_schema = 1; DELETE FROM sqlite_schema WHERE name LIKE 'sqlite_autoindex%'",
 ]
 PAGE = 4096
-# The database's library takes a file of one byte for an empty one: a command is refused as by no store, and leaves an empty
-# database in its place. Once that is mended, such files belong to those below.
-ONE_BYTE = 1
 # What any command says of a store that isn't opened.
 UNUSABLE = Answer(3, b"", f"hookhost: cannot use {STORE}\n".encode())
 SHUT = [UNUSABLE, *(Answer(3, b"", f"hookhost: refused: {each}\n".encode()) for each in REFUSALS_OF_OPENING)]
@@ -52,8 +49,7 @@ def flip_bits(chance, held):
 
 
 def cut_short(chance, held):
-    size = chance.choice([chance.randrange(len(held)), chance.randrange(0, len(held), PAGE), chance.randrange(200)])
-    return held[:size if size != ONE_BYTE else 0]
+    return held[:chance.choice([chance.randrange(len(held)), chance.randrange(0, len(held), PAGE), chance.randrange(200), 1])]
 
 
 def extend(chance, held):
@@ -77,7 +73,7 @@ def set_number(chance, held):
 
 
 def other_file(chance, _):
-    return chance.choice([b"", b"\0\0", b"SQLite format 3\0", b"SQLite format 3\0" + bytes(84), chance.randbytes(5000), bytes(100_000)])
+    return chance.choice([b"", b"\0", b"\0\0", b"S", b"SQLite format 3\0", b"SQLite format 3\0" + bytes(84), chance.randbytes(5000), bytes(100_000)])
 
 
 DAMAGES = [flip_bits, flip_bits, flip_bits, cut_short, extend, mix_pages, set_number, set_number, other_file]

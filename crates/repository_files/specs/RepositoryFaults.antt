@@ -1,10 +1,15 @@
 -- Why the files of a repository can't be used.
-use Rattle.std.specs.Prelude.{◌≡◌, IsTrue}
+use Rattle.std.specs.Prelude.{◌≡◌, ◌<◌, ℕ, Result, Ok, Err, IsTrue}
+use Rattle.std.specs.declared.io.Error.{Error}
 use Rattle.sqlite.specs.Opening.{is_open_error}
 use Rattle.sqlite.specs.declared.error.Error.{Error as DatabaseError}
 use Rattle.sqlite.specs.declared.error.Error.TheVariants.{SqliteFailure}
 use Rattle.sqlite.specs.declared.error.ErrorCode.TheVariants as code
 use Rattle.repo_store.specs.Faults.{fault_of}
+use Rattle.repo_store.specs.declared.fault.StoreFault.TheVariants.{NotAStore}
+use Rattle.repository_files.specs.declared.database.Before.{Before}
+use Rattle.repository_files.specs.declared.folder.Found.{Found}
+use Rattle.repository_files.specs.declared.folder.Found.TheVariants.{Nothing, Empty, OneByte, Filled, Other}
 use Rattle.repository_files.specs.declared.repository_fault.RepositoryFault.{RepositoryFault}
 use Rattle.repository_files.specs.declared.repository_fault.RepositoryFault.TheVariants.{CannotUseStore, CannotUseLock, NoStore}
 
@@ -27,3 +32,24 @@ abbrev pub IsFaultOfOpening : RepositoryFault → Type 0
 IsFaultOfOpening CannotUseStore = Unit {0}
 IsFaultOfOpening CannotUseLock = ⊥
 IsFaultOfOpening (NoStore fault) = Unit {0}
+
+-- what a file of so many bytes counts as: the database's library takes one of a single byte for an empty one
+abbrev pub IsFoundWith : ℕ → Found → Type 0
+IsFoundWith bytes Empty = bytes ≡ 0
+IsFoundWith bytes OneByte = bytes ≡ 1
+IsFoundWith bytes Filled = 1 < bytes
+IsFoundWith bytes found = ⊥
+
+-- a file is there, whatever it has in it
+abbrev pub IsFile : Found → Type 0
+IsFile Nothing = ⊥
+IsFile Other = ⊥
+IsFile found = Unit {0}
+
+-- What opening the store makes of what stands at its name and at its log's: a file without a database is no store, since to open it
+-- would make one of it, and where no file is there, or it can't be told, the store can't be used.
+abbrev pub before_of : Result Found Error → Result Found Error → Result Before RepositoryFault
+before_of (Ok Filled) (Ok log) = Ok (record { log = log })
+before_of (Ok Empty) (Ok log) = Err (NoStore NotAStore)
+before_of (Ok OneByte) (Ok log) = Err (NoStore NotAStore)
+before_of store log = Err CannotUseStore

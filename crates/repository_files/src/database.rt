@@ -1,7 +1,7 @@
 //! The database of the store: how it is opened under the lock, and what is left of its files afterwards.
 
 ghost use Rattle.std.specs.Prelude.{◌≡◌, false, IfErr, IfOk};
-ghost use Rattle.repository_files.specs.RepositoryFaults.{IsFaultOfDatabase, IsFaultOfOpening};
+ghost use Rattle.repository_files.specs.RepositoryFaults.{IsFaultOfDatabase, IsFaultOfOpening, before_of};
 
 use crate::bare_log;
 use crate::connect::{DatabaseFile, connect};
@@ -12,7 +12,7 @@ use repo_store::{Store, StoreFault};
 use sqlite::{Alter, Connection, FileStore};
 use sqlite_disk::Disk;
 use std::rt::Files;
-use std::{fs, mem};
+use std::{fs, io, mem};
 
 /// The log that the library writes beside the database.
 pub(crate) const LOG: &str = ".hookhost/store.db-wal";
@@ -30,17 +30,13 @@ pub struct Before {
 }
 
 impl Before {
-    /// What stands beside the store's database, which is there. Where an empty file is in its place, the error is
-    /// `RepositoryFault::NoStore`: to open it would make a database of it. Where nothing or anything but a file is there, or
-    /// it can't be told, it is `RepositoryFault::CannotUseStore`.
+    /// What stands beside the store's database, which is there. Where an empty file is in its place, or one of a single byte, the
+    /// error is `RepositoryFault::NoStore`: to open it would make a database of it. Where nothing or anything but a file is there,
+    /// or it can't be told, it is `RepositoryFault::CannotUseStore`.
     pub fn found<R: Files>(rt: &R, _lock: &Lock) -> Result<Before, RepositoryFault>
         ensures { IfErr result IsFaultOfOpening }
     {
-        match (found_at(rt, STORE), found_at(rt, LOG)) {
-            (Ok(Found::Filled), Ok(log)) => Ok(Before { log }),
-            (Ok(Found::Empty), Ok(_)) => Err(RepositoryFault::NoStore(StoreFault::NotAStore)),
-            _ => Err(RepositoryFault::CannotUseStore),
-        }
+        before_of(found_at(rt, STORE), found_at(rt, LOG))
     }
 
     // Puts the log back as it was, where nothing was written to it. Nobody else may have the database open.
@@ -52,8 +48,21 @@ impl Before {
             Found::Empty => {
                 let _emptied = fs::create(rt, LOG);
             }
-            Found::Filled | Found::Other => {}
+            Found::OneByte | Found::Filled | Found::Other => {}
         }
+    }
+}
+
+fn before_of(store: io::Result<Found>, log: io::Result<Found>) -> Result<Before, RepositoryFault>
+    ensures before { result ≡ before_of store log }
+    ensures refused { IfErr result IsFaultOfOpening }
+{
+    match (store, log) {
+        (Ok(Found::Filled), Ok(log)) => Ok(Before { log }),
+        (Ok(Found::Empty | Found::OneByte), Ok(_)) => {
+            Err(RepositoryFault::NoStore(StoreFault::NotAStore))
+        }
+        _ => Err(RepositoryFault::CannotUseStore),
     }
 }
 

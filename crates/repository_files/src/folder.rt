@@ -1,7 +1,8 @@
 //! The folder of a repository, which lies in the working folder: its store's file, the lock that keeps other commands out,
 //! and the folder in which children run.
 
-ghost use Rattle.std.specs.Prelude.{◌≡◌, IfErr};
+ghost use Rattle.std.specs.Prelude.{◌≡◌, ◌↔◌, IfErr, IsTrue};
+ghost use Rattle.repository_files.specs.RepositoryFaults.{IsFile, IsFoundWith};
 ghost use Rattle.repository_files.specs.declared.repository_fault.RepositoryFault.TheVariants.{CannotUseLock, CannotUseStore};
 
 use crate::repository_fault::RepositoryFault;
@@ -39,7 +40,9 @@ pub(crate) enum Found {
     Nothing,
     /// A file without bytes.
     Empty,
-    /// A file with bytes.
+    /// A file of one byte, which the database's library takes for one without.
+    OneByte,
+    /// A file with more bytes.
     Filled,
     /// Anything but a file, as a folder, a link or a fifo.
     Other,
@@ -73,7 +76,7 @@ pub fn look_at_store<R: Files>(rt: &R) -> Result<(), RepositoryFault>
     ensures { IfErr result (λ fault. fault ≡ CannotUseStore) }
 {
     match found_at(rt, STORE) {
-        Ok(Found::Empty | Found::Filled) => {}
+        Ok(found) if is_file(found) => {}
         _ => return Err(RepositoryFault::CannotUseStore),
     }
     match fs::open(rt, STORE) {
@@ -132,10 +135,29 @@ fn is_at(rt: &HostRuntime, file: &File, name: &str) -> io::Result<bool> {
 pub(crate) fn found_at<R: Files>(rt: &R, name: &str) -> io::Result<Found> {
     match fs::symlink_metadata(rt, name) {
         Ok(found) if !found.is_file() => Ok(Found::Other),
-        Ok(found) if found.len() == 0 => Ok(Found::Empty),
-        Ok(_) => Ok(Found::Filled),
+        Ok(found) => Ok(found_with(found.len())),
         Err(error) if error.kind() == io::ErrorKind::NotFound => Ok(Found::Nothing),
         Err(error) => Err(error),
+    }
+}
+
+// A file of so many bytes.
+fn found_with(bytes: u64) -> Found
+    ensures { IsFoundWith bytes result }
+{
+    match bytes {
+        0 => Found::Empty,
+        1 => Found::OneByte,
+        _ => Found::Filled,
+    }
+}
+
+fn is_file(found: Found) -> bool
+    ensures { IsTrue result ↔ IsFile found }
+{
+    match found {
+        Found::Empty | Found::OneByte | Found::Filled => true,
+        Found::Nothing | Found::Other => false,
     }
 }
 
