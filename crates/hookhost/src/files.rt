@@ -8,7 +8,8 @@ use crate::file_tree::{plain_file, tree_of};
 use crate::stop::Stop;
 use hook_base::{File, Items, MOST_FILE_BYTES, PathFault, RepoPath, Text, Tree};
 use hook_cli::{MOST_CONFIGURATION_BYTES, TryFault};
-use std::io::Read;
+use std::fs::OpenFile;
+use std::io::{ErrorKind, Read};
 use std::os::unix::fs::FileTypeExt;
 use std::rt::Files;
 use std::{fs, io};
@@ -62,39 +63,77 @@ pub(crate) fn read_configuration<R: Files + AllocGlobal>(
 }
 
 /// The bytes of a file that is staged, up to one past the limit: the host refuses one that is longer. A file that isn't there or
-/// can't be read is `Stop::CannotUse`, and want of memory `Stop::Refused`.
+/// can't be read, any pipe among them, is `Stop::CannotUse`, and want of memory `Stop::Refused`.
 pub(crate) fn read_staged<R: Files + AllocGlobal>(rt: &R, path: &Text) -> Result<Vec<u8>, Stop>
     ensures { IfErr result (IsStopOfFile path.now) }
 {
     let word = path.clone()?;
-    // To open it would wait for a writer, while the lock keeps other commands out.
-    if is_fifo(rt, word.as_str()) {
-        return Err(Stop::CannotUse(word));
-    }
-    match read_up_to(rt, word.as_str(), MOST_FILE_BYTES + 1) {
+    // A pipe would be waited for while the lock keeps other commands out.
+    match read_from(rt, open_file(rt, word.as_str()), MOST_FILE_BYTES + 1) {
         Ok(bytes) => Ok(bytes),
         Err(error) => Err(Stop::of_file(&error, word)),
     }
 }
 
-fn is_fifo<R: Files>(rt: &R, path: &str) -> bool {
+/// The bytes of a file, at most so many. A fifo, a pipe with a name, isn't opened, since that would wait for its other end: the
+/// error is `ErrorKind::Unsupported`. A pipe without one is read, as a shell hands it on by `/dev/stdin` or `/dev/fd/63`.
+pub(crate) fn read_up_to<R: Files + AllocGlobal>(
+    rt: &R,
+    path: &str,
+    most: usize,
+) -> io::Result<Vec<u8>> {
+    read_from(rt, open_file_or_pipe(rt, path), most)
+}
+
+fn read_from<R: Files + AllocGlobal>(
+    rt: &R,
+    opened: io::Result<R::File>,
+    most: usize,
+) -> io::Result<Vec<u8>> {
+    let mut bytes = Vec::new(rt.alloc());
+    opened?.take(most as u64).read_to_end(&mut bytes)?;
+    // A run keeps the bytes of all its files, and reading leaves room behind them.
+    bytes.shrink_to_fit();
+    Ok(bytes)
+}
+
+fn open_file<R: Files>(rt: &R, path: &str) -> io::Result<R::File> {
+    if is_pipe(rt, path) {
+        return Err(ErrorKind::Unsupported.into());
+    }
+    open_seen_file(rt, path)
+}
+
+fn open_file_or_pipe<R: Files + AllocGlobal>(rt: &R, path: &str) -> io::Result<R::File> {
+    if !is_pipe(rt, path) {
+        return open_seen_file(rt, path);
+    }
+    if has_name(rt, path) {
+        return Err(ErrorKind::Unsupported.into());
+    }
+    fs::open(rt, path)
+}
+
+// Opens what was no pipe when it was looked at. A fifo that has taken the name since isn't waited for, once it is open.
+fn open_seen_file<R: Files>(rt: &R, path: &str) -> io::Result<R::File> {
+    let file = fs::open(rt, path)?;
+    if file.metadata()?.file_type().is_fifo() {
+        return Err(ErrorKind::Unsupported.into());
+    }
+    Ok(file)
+}
+
+fn is_pipe<R: Files>(rt: &R, path: &str) -> bool {
     match fs::metadata(rt, path) {
         Ok(found) => found.file_type().is_fifo(),
         Err(_) => false,
     }
 }
 
-/// The bytes of a file, at most so many.
-pub(crate) fn read_up_to<R: Files + AllocGlobal>(
-    rt: &R,
-    path: &str,
-    most: usize,
-) -> io::Result<Vec<u8>> {
-    let mut bytes = Vec::new(rt.alloc());
-    fs::open(rt, path)?
-        .take(most as u64)
-        .read_to_end(&mut bytes)?;
-    // A run keeps the bytes of all its files, and reading leaves room behind them.
-    bytes.shrink_to_fit();
-    Ok(bytes)
+// Whether the file stands at a name: what is reached by the process's own descriptors alone stands at none.
+fn has_name<R: Files + AllocGlobal>(rt: &R, path: &str) -> bool {
+    match fs::canonicalize(rt, path) {
+        Ok(_) => true,
+        Err(error) => error.kind() != ErrorKind::NotFound,
+    }
 }
