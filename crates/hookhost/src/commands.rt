@@ -10,7 +10,7 @@ use crate::names::names_of;
 use crate::shown_hooks::show_staged_hooks;
 use crate::stop::{Stop, tell};
 use crate::undone_fix::undone_fix;
-use crate::unstaged_words::{unstaged_below, unstaged_by};
+use crate::unstaged_words::{is_folder_of_none, unstaged_below, unstaged_by};
 use crate::work::{Work, work_of};
 use child_port::{Children, TableChildren};
 use commit_flow::{Host, HostRefusal, StagingEdit};
@@ -169,8 +169,23 @@ fn answer<S: Alter + Drop>(rt: &HostRuntime, work: Work, host: &mut Host<S>) -> 
             call(rt, &line, &[], skip, host, &mut children)
         }
         Work::Stage(edits) => stage(rt, edits.as_slice(), host),
-        Work::Unstage(words) => {
-            let edits = unstaged_by(rt.alloc(), host.store(), words.as_slice());
+        Work::Unstage(words) => unstage(rt, words.as_slice(), host),
+    }
+}
+
+// Takes out what the words name. Where the first names the working folder, and nothing is staged, that is refused first.
+fn unstage<S: Alter + Drop>(rt: &HostRuntime, words: &[Text], host: &mut Host<S>) -> u8
+    ensures { (result ≡ 0) ⊎ (result ≡ 3) }
+{
+    match words.first() {
+        Some(word) if is_folder_of_none(word, host.store()) => {
+            let name = word.as_str();
+            let status = tell(rt, &Stop::RefusedCommand(HostRefusal::NotStaged));
+            let _said = eprintln!(rt; "hookhost: at {name}");
+            status
+        }
+        _ => {
+            let edits = unstaged_by(rt.alloc(), host.store(), words);
             stage_if_known(rt, edits, host)
         }
     }
@@ -187,6 +202,9 @@ fn answer_line<S: Alter + Drop>(
     ensures { (result ≡ 0) ⊎ (result ≡ 1) ⊎ (result ≡ 3) }
 {
     let alloc = rt.alloc();
+    if removed_word(line).is_some_and(|word| is_folder_of_none(word, host.store())) {
+        return tell(rt, &Stop::RefusedCommand(HostRefusal::NotStaged));
+    }
     match removed_below(alloc, line, host.store()) {
         Ok(edits) if edits.is_empty() => {
             let mut children = TableChildren::new(Items::new(alloc));
@@ -201,17 +219,25 @@ fn removed_below<S: Alter>(
     line: &Line,
     store: &Store<S>,
 ) -> Result<Vec<StagingEdit>, OutOfMemory> {
+    match removed_word(line) {
+        Some(word) => unstaged_below(alloc, store, word),
+        None => Ok(Vec::new(alloc)),
+    }
+}
+
+// The word of an `rm` that has one alone.
+fn removed_word(line: &Line) -> Option<&Text> {
     let Line::Update(
         Update::Remove {
             paths: PathSource::Words(words),
         },
     ) = line
     else {
-        return Ok(Vec::new(alloc));
+        return None;
     };
     match words.as_slice() {
-        [word] => unstaged_below(alloc, store, word),
-        _ => Ok(Vec::new(alloc)),
+        [word] => Some(word),
+        _ => None,
     }
 }
 

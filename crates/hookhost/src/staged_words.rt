@@ -49,7 +49,7 @@ pub(crate) fn staged_by<R: Files + AllocGlobal>(
 pub(crate) fn folder_of<R: Files + AllocGlobal>(rt: &R, word: &str) -> Result<Option<String>, Stop>
     ensures { IfErr result IsStopOfReading }
 {
-    if word == "." || word == "./" {
+    if is_working_folder(word) {
         return Ok(Some(String::new(rt.alloc())));
     }
     let path = word.trim_end_matches('/');
@@ -62,6 +62,11 @@ pub(crate) fn folder_of<R: Files + AllocGlobal>(rt: &R, word: &str) -> Result<Op
         Err(PathFault::OutOfMemory) => Err(Stop::Refused(TryFault::OutOfMemory)),
         Err(_) => Ok(None),
     }
+}
+
+/// Whether a word names the working folder, behind which slashes may stand.
+pub(crate) fn is_working_folder(word: &str) -> bool {
+    word.trim_end_matches('/') == "."
 }
 
 fn gather_word<R: Files + AllocGlobal>(

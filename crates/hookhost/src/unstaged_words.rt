@@ -1,5 +1,6 @@
 //! The staged files that the words of `rm` stand for.
 
+use crate::staged_words::is_working_folder;
 use commit_flow::StagingEdit;
 use hook_base::{OutOfMemory, PathFault, RepoPath, Text};
 use repo_store::{MOST_FILES, Store};
@@ -55,6 +56,12 @@ pub(crate) fn unstaged_below<S: Alter>(
     Ok(gathered.edits)
 }
 
+/// Whether a word names the working folder while no file is staged. The store would be asked for a file of that name then, which is
+/// no path.
+pub(crate) fn is_folder_of_none<S: Alter>(word: &Text, store: &Store<S>) -> bool {
+    is_working_folder(word.as_str()) && store.staged_file(0).is_none()
+}
+
 fn is_staged<S: Alter>(alloc: Global, store: &Store<S>, word: &str) -> Result<bool, OutOfMemory> {
     match RepoPath::read(alloc, word) {
         Ok(path) => Ok(store.is_staged(&path)),
@@ -86,7 +93,7 @@ fn gather_below<S: Alter>(
 
 // How the paths below a folder begin. Slashes may stand behind the word already.
 fn head_of(alloc: Global, word: &str) -> Result<String, OutOfMemory> {
-    if word == "." || word == "./" {
+    if is_working_folder(word) {
         return Ok(String::new(alloc));
     }
     let mut head = String::from_str(alloc, word.trim_end_matches('/'))?;
