@@ -21,6 +21,10 @@ module _ {D : Type 0} {g : Ghosts D} where
   abbrev pub uncut_of : LazyDisk D g → Option ℕ
   uncut_of f = uncut_len f.cut f.known_len
 
+  -- the most bytes that its file gets
+  abbrev pub most_of : LazyDisk D g → ℕ
+  most_of f = f.most_len
+
   -- it has failed no call by itself
   abbrev pub IsFresh : LazyDisk D g → Type 0
   IsFresh f = (f.refused ≡ 0) × (f.is_sync_refused ≡ false)

@@ -1,9 +1,9 @@
 //! The disk that hands on only what has to be done.
 
-ghost use Rattle.std.specs.Prelude.{◌≡◌, ◌≤◌, ◌+◌, ◌↔◌, ◌&&◌, not, false, length, List, ℕ, None, IsTrue, IsOk, IfSome, OnOk};
+ghost use Rattle.std.specs.Prelude.{◌≡◌, ◌≤◌, ◌+◌, ◌↔◌, ◌&&◌, not, false, length, List, ℕ, None, IsTrue, IsOk, IfErr, IfSome, OnOk};
 ghost use Rattle.sqlite_disk.specs.Disk.{CountsFault, Only};
 ghost use Rattle.sqlite_disk.specs.Tally.{CountsRefusal};
-ghost use Rattle.sqlite_disk.specs.Refusal.{finds_no_room};
+ghost use Rattle.sqlite_disk.specs.Refusal.{finds_no_room, is_no_room};
 ghost use Rattle.lazy_disk.specs.DueCut.{shown_bytes, MayLeaveDue, EndsWithin, shown_len};
 ghost use Rattle.lazy_disk.specs.DueCutLemmas.{shown_may_stay};
 
@@ -15,6 +15,8 @@ use std::io;
 /// It hands a sync on only where something may have been written since the last one that passed. Where nothing was, the disk
 /// below has just what a read returns, so to wait for it again tells nothing new: such a sync answers `Ok`.
 ///
+/// It refuses what would make the file longer than it may get, before anything of it is handed on ([`LazyDisk::up_to`]).
+///
 /// It puts a cut of the file off: a length that the file is known to have is only kept as due, and is handed on before the next
 /// write, a longer length or a sync. Each answer is as if the file were cut. Where nothing more is written or synced, the file
 /// below stays longer, which is what a cut that wasn't synced may leave anyway.
@@ -25,6 +27,8 @@ pub struct LazyDisk<D: Disk> {
     known_len: usize,
     // The length to which it is still to be cut.
     cut: Option<usize>,
+    // The most bytes that the file may get.
+    most_len: usize,
     // The calls that failed here, and not below.
     refused: u64,
     // A sync failed before it reached the disk below.
@@ -38,7 +42,7 @@ pub struct LazyDisk<D: Disk> {
 }
 
 impl<D: Disk> LazyDisk<D> {
-    ghost use Rattle.lazy_disk.specs.LazyDisk.{inner_of, is_dirty, cut_of, uncut_of, IsFresh};
+    ghost use Rattle.lazy_disk.specs.LazyDisk.{inner_of, is_dirty, cut_of, uncut_of, most_of, IsFresh};
 
     /// Over a disk of which it isn't known what is written: the first sync is handed on. Its torn writes mix in all of its
     /// states or in none: a write may bring a cut with it here, and no contract says that a cut leaves this as it was.
@@ -53,6 +57,7 @@ impl<D: Disk> LazyDisk<D> {
             inner,
             known_len: 0,
             cut: None,
+            most_len: usize::MAX,
             refused: 0,
             is_sync_refused: false,
             is_dirty: true,
@@ -73,9 +78,32 @@ impl<D: Disk> LazyDisk<D> {
             inner,
             known_len: 0,
             cut: None,
+            most_len: usize::MAX,
             refused: 0,
             is_sync_refused: false,
             is_dirty: false,
+        }
+    }
+
+    /// The same disk, whose file gets no longer than this: a write past it, or such a length, is `ErrorKind::FileTooLarge`. Where the
+    /// process has a limit for the length of its files, to hand such a call on would end it by a signal.
+    pub fn up_to(self, most_len: usize) -> Self
+        ensures inner { inner_of result ≡ inner_of self }
+        ensures dirty { is_dirty result ≡ is_dirty self }
+        ensures cut { cut_of result ≡ cut_of self }
+        ensures uncut { uncut_of result ≡ uncut_of self }
+        ensures fresh { IsFresh self → IsFresh result }
+        ensures usable { ⟦<LazyDisk<D> as Disk>⟧.is_usable result ≡ ⟦<LazyDisk<D> as Disk>⟧.is_usable self }
+        ensures most { most_of result ≡ most_len }
+    {
+        LazyDisk {
+            inner: self.inner,
+            known_len: self.known_len,
+            cut: self.cut,
+            most_len,
+            refused: self.refused,
+            is_sync_refused: self.is_sync_refused,
+            is_dirty: self.is_dirty,
         }
     }
 
@@ -146,6 +174,19 @@ fn keep_within(cut: Option<usize>, at: usize, len: usize, refused: &mut u64) -> 
     Ok(())
 }
 
+// What would end past the most bytes that the file may get fails.
+fn keep_up_to(most: usize, at: usize, len: usize, refused: &mut u64) -> io::Result<()>
+    ensures within { IsOk result ↔ at + len ≤ most }
+    ensures kind { IfErr result (λ error. is_no_room error ≡ false) }
+    ensures faults { CountsFault result refused.old refused.new }
+{
+    if at > most || len > most - at {
+        *refused = refused.saturating_add(1);
+        return Err(io::ErrorKind::FileTooLarge.into());
+    }
+    Ok(())
+}
+
 // Never frozen: on a frozen disk each call fails, and a cut that is put off or a sync that isn't handed on passes. No bytes are promised to be damaged,
 // since no contract says that a cut leaves the damage as it was.
 impl<D: Disk> Disk for LazyDisk<D> {
@@ -205,6 +246,7 @@ impl<D: Disk> Disk for LazyDisk<D> {
     }
 
     fn write_at(&mut self, at: usize, bytes: &[u8]) -> io::Result<()> {
+        keep_up_to(self.most_len, at, bytes.len(), &mut self.refused)?;
         self.settle()?;
         // Before the call, since a write that fails may have changed its range.
         self.is_dirty = true;
@@ -220,6 +262,7 @@ impl<D: Disk> Disk for LazyDisk<D> {
             self.cut = Some(len);
             return Ok(());
         }
+        keep_up_to(self.most_len, 0, len, &mut self.refused)?;
         self.settle()?;
         self.is_dirty = true;
         self.inner.set_len(len)?;

@@ -251,6 +251,27 @@ fn reads_only_what_is_not_cut(rt: HostRuntime) -> Result<(), Fail> {
     Ok(())
 }
 
+#[test]
+fn hands_nothing_on_that_ends_past_the_most_bytes(rt: HostRuntime) -> Result<(), Fail> {
+    let calls = [
+        Write(0, "abcd"),
+        Write(3, "ef"),
+        Write(4, "x"),
+        SetLen(5),
+        SetLen(2),
+        Write(4, "x"),
+        SetLen(4),
+        Sync,
+        Read(0),
+    ];
+    let told = played(rt.alloc(), unknown(rt.alloc(), 9).up_to(4), &calls)?;
+    assert_eq!(rt;
+        told.as_slice(),
+        b".w ! ! ! . ! .cc .s .r/ab none due".as_slice()
+    );
+    Ok(())
+}
+
 // Writes bytes, waits for the disk, reads them beside their digest, and waits again.
 fn read_beside_a_digest<D: Disk>(disk: &mut D) -> io::Result<()>
     requires { IsTrue (D.Disk.is_usable disk.old) }

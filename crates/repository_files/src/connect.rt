@@ -6,6 +6,7 @@ ghost use Rattle.sqlite.specs.Opening.{is_open_error};
 use crate::bare_log::fit;
 use crate::folder::bytes_at;
 use lazy_disk::{LazyDisk, settled_files};
+use libc::types::rlimit;
 use sqlite::{
     Connection, Error, ErrorCode, FileFrom, FileStore, Files as DatabaseFiles, Leftover, Options,
     Wary,
@@ -21,6 +22,9 @@ use std::io::ErrorKind;
 /// the bytes that a write leaves where the power fails within it; a library that supposes more prepares its log for many
 /// commits, and a command makes one.
 pub type DatabaseFile = LazyDisk<FileFrom<Wary>>;
+
+// The limit of the process for its files' length, by POSIX's RLIMIT_FSIZE.
+const FILE_BYTES: i32 = 1;
 
 /// The bytes of a page of the databases that the library makes.
 const PAGE_BYTES: u64 = 4_096;
@@ -52,7 +56,13 @@ pub(crate) fn connect(
         Ok(files) => files,
         Err(error) => return Err((error_of(error), None)),
     };
-    connect_over(rt.alloc(), settled_files(files), options)
+    let settled = settled_files(files);
+    let most = most_file_bytes();
+    let files = DatabaseFiles {
+        log: settled.log.up_to(most),
+        db: settled.db.up_to(most),
+    };
+    connect_over(rt.alloc(), files, options)
 }
 
 // Opens the database in its files, or makes it where they are empty.
@@ -72,6 +82,19 @@ fn connect_over<D: Disk + Drop>(
         Ok(conn) => Ok(conn),
         Err((error, left)) => Err((error, Some(left))),
     }
+}
+
+// The most bytes that a file of this process may get. To write past them, or to ask for such a length, would end the process by the
+// signal SIGXFSZ, which the kit has no call to ignore.
+fn most_file_bytes() -> usize {
+    let mut limit = rlimit {
+        rlim_cur: u64::MAX,
+        rlim_max: u64::MAX,
+    };
+    if libc::getrlimit(FILE_BYTES, &mut limit) < 0 {
+        return usize::MAX;
+    }
+    limit.rlim_cur as usize
 }
 
 fn random_number(rt: &HostRuntime) -> Result<u64, std::io::Error> {
