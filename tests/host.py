@@ -8,12 +8,12 @@ What one program alone prints stands in tests/sessions/. Here stands what no ses
 keeps, another user, fifos, programs side by side. Each kill is a SIGKILL at a random moment of a command on a copy of a
 repository, which then has to be the one before the command or the one after it, and what its hooks had answered by then is
 remembered. The commits are made by store_trial. The cases of runs whose children outlive them, of runs side by side, and of
-many and large answers stand in tests/host_runs.py, those of hard names in tests/host_names.py.
+many and large answers stand in tests/host_runs.py, those of hard names in tests/host_names.py, and those of pipes, streams and modes in
+tests/host_files.py.
 """
 import collections
 import os
 import random
-import resource
 import shutil
 import signal
 import subprocess
@@ -23,28 +23,18 @@ import time
 from concurrent.futures import ThreadPoolExecutor
 from pathlib import Path
 
+import host_files
 import host_names
 import host_runs
-from host_program import IGNORE_FILE, LOCK, PROGRAM, STORE, STORE_TRIAL, Wrong, check, do, paths_in, play, refuses, rows, run, staged_rows, write
+from host_program import IGNORE_FILE, LOCK, PROGRAM, STORE, STORE_TRIAL, Wrong, check, do, owned_by_nobody, paths_in, play, refuses, rows, run, staged_rows, write
 from host_runs import PUT_FILES, RUN_ANSWERS
 from kept_answers import SELECT_ROWS, KeptAnswer, contents_of, digest, row_of
 from store_cases import MESSAGE
 
 KILLS = int(sys.argv[1]) if len(sys.argv) > 1 else 30
-NOBODY = 65534
 
 
 # ---- what can't be used
-
-def owned_by_nobody(folder):
-    """A copy of the program that anyone may run, and how to run it as a user whom permissions hold back."""
-    if os.geteuid() != 0:
-        return PROGRAM, {}
-    program = shutil.copy(PROGRAM, os.path.join(folder, "program"))
-    for path in (folder, program):
-        os.chmod(path, 0o755)
-    return program, {"user": NOBODY, "group": NOBODY, "extra_groups": []}
-
 
 def refuses_what_may_not_be_read_or_written(folder):
     program, user = owned_by_nobody(folder)
@@ -107,16 +97,12 @@ def refuses_fifos_and_waits_for_none(folder):
 def leaves_nothing_of_an_init_that_fails(folder):
     """An init whose files may have only so many bytes, as on a full disk, makes a store or leaves the folder as it was, also
     where what a killed one left lies in it."""
-    def limited(most):
-        signal.signal(signal.SIGXFSZ, signal.SIG_IGN)
-        resource.setrlimit(resource.RLIMIT_FSIZE, (most, most))
-
     ends = []
     for at, most in enumerate((0, 1, 100, 4096, 10_000, 40_000, 60_000, 100_000, 200_000)):
         work = os.path.join(folder, str(at))
         os.mkdir(work)
         for wanted in ([], [".hookhost", ".hookhost/lock"]):
-            status, out, err = run(work, "init", preexec_fn=lambda: limited(most))
+            status, out, err = run(work, "init", preexec_fn=host_files.limited(most))
             ends.append(status)
             if status == 0:
                 break
@@ -317,6 +303,14 @@ def state_of_rows(folder):
     return staged_rows(folder), *(rows(folder, text) for text in others)
 
 
+def found_alone(folder):
+    """What sqlite3 reads of a copy of the store's file, without its log."""
+    with tempfile.TemporaryDirectory() as copy:
+        os.mkdir(os.path.join(copy, ".hookhost"))
+        shutil.copyfile(os.path.join(folder, STORE), os.path.join(copy, STORE))
+        return state_of_rows(copy)
+
+
 def filled(folder):
     """A repository with a commit, staged files and a fix, and files that aren't staged yet."""
     base, chance = os.path.join(folder, "base"), random.Random(3)
@@ -333,15 +327,18 @@ def filled(folder):
 
 def check_kills(killed, words, wanted, look=lambda work: None):
     """A command that changes the repository and ends with the wanted status leaves it, killed, as it was before or after.
-    Then this looks at the folder."""
+    What a command shows then, which only reads, stands in the store's file alone. Then this looks at the folder."""
     before = state(killed.copy())
     work = killed.copy()
     status, _, err = run(work, *words)
     check((status, err) == (wanted, b""), f"{words!r} ends with {status} and says {err!r}")
     after = state(work)
     check(before != after, f"{words!r} changes nothing")
-    for work, is_ended, _ in killed.each([PROGRAM, *words]):
+    for at, (work, is_ended, _) in enumerate(killed.each([PROGRAM, *words])):
+        do(work, ("status", "log", "fixes", "memory")[at % 4])
+        alone = found_alone(work)
         found = state(work)
+        check(alone == found[1:], f"after a kill of {words!r} and a look the store's file alone has {alone!r:.1000}, and with its log {found!r:.1000}")
         check(found == after or (found == before and not is_ended), f"after a kill of {words!r} it shows {found!r:.1000}")
         look(work)
 
@@ -712,7 +709,7 @@ CASES = [*host_names.CASES, refuses_what_may_not_be_read_or_written, refuses_fif
          is_left_whole_by_kills_of_many_files_at_once, is_left_whole_by_kills_of_commits, is_left_whole_by_kills_of_runs_and_commits, is_left_whole_by_kills_of_forget,
          keeps_what_was_answered_before_a_kill_of_a_run, keeps_what_was_answered_before_a_kill_of_a_commit,
          waits_for_the_disk_only_where_something_is_written, takes_a_store_with_pages_of_another_size,
-         leaves_a_log_without_a_change, cuts_the_long_log_of_a_change_that_was_not_made, *host_runs.CASES]
+         leaves_a_log_without_a_change, cuts_the_long_log_of_a_change_that_was_not_made, *host_files.CASES, *host_runs.CASES]
 
 
 def main():

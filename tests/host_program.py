@@ -1,5 +1,6 @@
 """The built program in folders of its own, for tests/host.py: what it answers, and what lies in a repository then."""
 import os
+import shutil
 import subprocess
 import sys
 from pathlib import Path
@@ -8,6 +9,7 @@ CRATES = Path(__file__).resolve().parent.parent / "crates"
 PROGRAM = os.path.abspath(sys.argv[2] if len(sys.argv) > 2 else CRATES / "hookhost/out/hookhost")
 STORE_TRIAL = os.path.abspath(sys.argv[3] if len(sys.argv) > 3 else CRATES / "store_trial/out/store_trial")
 STORE, LOCK, IGNORE_FILE = ".hookhost/store.db", ".hookhost/lock", ".hookhost/.gitignore"
+NOBODY = 65534
 
 
 class Wrong(Exception):
@@ -23,7 +25,8 @@ def check(holds, text):
 
 def run(folder, *words, **how):
     """The exit status and what was printed on both outputs, of the program with these words in the folder."""
-    done = subprocess.run([how.pop("program", PROGRAM), *words], cwd=folder, stdin=subprocess.DEVNULL, capture_output=True, timeout=120, **how)
+    program, seconds = how.pop("program", PROGRAM), how.pop("timeout", 120)
+    done = subprocess.run([program, *words], cwd=folder, stdin=subprocess.DEVNULL, capture_output=True, timeout=seconds, **how)
     return done.returncode, done.stdout, done.stderr
 
 
@@ -38,6 +41,16 @@ def refuses(folder, words, text, **how):
     answer = run(folder, *words, **how)
     wanted = (3, b"", b"hookhost: " + text.encode() + b"\n")
     check(answer == wanted, f"{words!r} is answered {answer!r}, wanted {wanted!r}")
+
+
+def owned_by_nobody(folder):
+    """A copy of the program that anyone may run, and how to run it as a user whom permissions hold back."""
+    if os.geteuid() != 0:
+        return PROGRAM, {}
+    program = shutil.copy(PROGRAM, os.path.join(folder, "program"))
+    for path in (folder, program):
+        os.chmod(path, 0o755)
+    return program, {"user": NOBODY, "group": NOBODY, "extra_groups": []}
 
 
 def play(folder, lines):
