@@ -1,5 +1,6 @@
 -- What a line asks of the store, with all that it needs of the working folder.
-use Rattle.std.specs.Prelude.{◌≡◌, ℕ, List}
+use Rattle.std.specs.Prelude.{◌≡◌, ℕ, List, [], Result, Ok, Err, String, string_bytes}
+use Rattle.std.specs.declared.env.VarError.{VarError}
 use Rattle.command_line.specs.declared.line.FileChoice.{FileChoice}
 use Rattle.command_line.specs.declared.line.FileChoice.TheVariants.{Named, Listed as ListedFiles}
 use Rattle.command_line.specs.declared.line.Line.TheVariants as line
@@ -7,6 +8,7 @@ use Rattle.command_line.specs.declared.line.PathSource.{PathSource}
 use Rattle.command_line.specs.declared.line.PathSource.TheVariants.{Words, Listed}
 use Rattle.command_line.specs.declared.line.Update.{Update}
 use Rattle.command_line.specs.declared.line.Update.TheVariants.{Add, Remove, Run}
+use Rattle.configuration_run.specs.SkipList.{skip_list}
 use Rattle.hook_cli.specs.CommandOver.{IsOverHost, IsRunless}
 use Rattle.hookhost.specs.declared.work.Work.{Work}
 use Rattle.hookhost.specs.declared.work.Work.TheVariants as work
@@ -50,3 +52,8 @@ IsWorkOf update names (work.Call asked bytes) = (asked ≡ line.Update (with_nam
 IsWorkOf update names (work.HookCall asked skip children) = (asked ≡ line.Update (with_names update names)) × (¬ IsRunless asked)
 IsWorkOf update names (work.Stage edits) = IsAdd update
 IsWorkOf update names (work.Unstage words) = IsRemoveOf update names words
+
+-- the hooks that a variable of the environment skips: none where it isn't set, or isn't text
+abbrev pub skipped_by : {A : Type 0} → Result (String A) VarError → List (List ℕ)
+skipped_by (Ok text) = skip_list (string_bytes text)
+skipped_by (Err error) = []
