@@ -1,5 +1,6 @@
 pub mod IndexLemmas
 pub mod KeptLemmas
+pub mod KnownLemmas
 pub mod PatternLemmas
 pub mod SelectionLemmas
 pub mod TypeLemmas

@@ -1,6 +1,7 @@
 pub mod Candidates
 pub mod Chosen
 pub mod KeptTags
+pub mod KnownTags
 pub mod PatternFaults
 pub mod Patterns
 pub mod Regexes

@@ -2,15 +2,17 @@
 //!
 //! [`Pattern`] is a pattern in the syntax of `regex` (`PatternFault` says why a text is none). [`select`] gives the files
 //! that [`Rules`] select: candidates whose paths pass the patterns of the whole configuration and of the hook, and that
-//! have the tags that the hook asks for. A run with many hooks makes the [`Candidates`] once and calls [`select_among`] for
-//! each hook; [`laws`] says that this selects the same. [`select_kept`] and [`select_kept_among`] do so by tags that are kept
-//! in `KeptTags` of the crate `file_tags`.
+//! have the tags that the hook asks for. A run with many hooks makes the [`Candidates`] once and calls [`select_tagged`] for
+//! each hook: what it learns of the tags of their files stays in [`CandidateTags`] until a file changes. [`select_among`]
+//! makes them anew; [`laws`] says that both select what [`select`] does. [`select_kept`] and [`select_kept_among`] go by tags
+//! that are kept for all files of a tree, in `KeptTags` of the crate `file_tags`.
 //!
-//! The contracts cite `specs/Patterns.antt`, `specs/PatternFaults.antt`, `specs/Candidates.antt` and
-//! `specs/Selection.antt`; `specs/SelectionLaws.antt` is for callers' proofs, and `specs/Regexes.antt`, `specs/Chosen.antt`
-//! and `specs/KeptTags.antt` serve private fields and functions alone.
+//! The contracts cite `specs/Patterns.antt`, `specs/PatternFaults.antt`, `specs/Candidates.antt`, `specs/Selection.antt`
+//! and `specs/KnownTags.antt`; `specs/SelectionLaws.antt` is for callers' proofs, and `specs/Regexes.antt`,
+//! `specs/Chosen.antt` and `specs/KeptTags.antt` serve private fields and functions alone.
 #![tactic(auto)]
 
+mod candidate_tags;
 mod candidates;
 mod index;
 mod kept_selection;
@@ -18,16 +20,20 @@ pub mod laws;
 mod near;
 mod ordered;
 mod path_filter;
+mod path_place;
 mod pattern;
 mod pattern_fault;
 mod rules;
 mod search;
 mod selection;
+mod tagged_selection;
 mod type_rules;
 
+pub use candidate_tags::CandidateTags;
 pub use candidates::Candidates;
 pub use kept_selection::{select_kept, select_kept_among};
 pub use pattern::Pattern;
 pub use pattern_fault::PatternFault;
 pub use rules::Rules;
 pub use selection::{select, select_among};
+pub use tagged_selection::select_tagged;
