@@ -8,6 +8,7 @@ use Rattle.report_text.specs.Report.{columns_of, report_text, width_of}
 use Rattle.report_text.specs.declared.hook_result.Ending.{Ending}
 use Rattle.hook_config.specs.declared.configuration.Hook.{Hook}
 use Rattle.path_select.specs.Candidates.{ArePassing}
+use Rattle.path_select.specs.KnownTags.{AreTagsOf}
 use Rattle.report_text.specs.declared.hook_result.HookResult.{HookResult}
 use Rattle.hook_run.specs.declared.course.Course.{Course}
 use Rattle.hook_run.specs.declared.gathered.Gathered.{Gathered}
@@ -105,10 +106,11 @@ FitsAt course (Over report) = Unit {0}
 -- ---- a plan
 
 -- what a plan's fields are to each other
-pub record IsPlanned (course : Course) (done : Progress) (standing : Standing) : Type 0 where
+pub record IsPlanned (course : Course) (done : Progress) (tags : List (Option (List (List ℕ)))) (standing : Standing) : Type 0 where
   pub fits : FitsResults course done.results
   pub fits_at : FitsAt course standing
   pub planned : IsCourse course
+  pub known : AreTagsOf done.tree course.among tags
   pub stored : IsStored course.config.now course.ask.now done standing
 
 -- ---- how a hook goes on

@@ -4,6 +4,7 @@ ghost use Rattle.std.specs.Prelude.{◌≡◌, ◌<◌, ◌≤◌, ◌+◌, ◌-
 ghost use Rattle.hook_run.specs.PlanBounds.{most_left, most_of_hooks};
 ghost use Rattle.hook_run.specs.Plans.{hooks_after};
 ghost use Rattle.hook_run.specs.StageRun.{is_last};
+ghost use Rattle.path_select.specs.KnownTags.{AreTagsOf};
 ghost use Rattle.hook_run.specs.Standing.{FitsName, FitsResults, IsCourse, IsPlanFrom, hooks_from};
 
 use crate::RunPlan;
@@ -15,6 +16,7 @@ use crate::report::report_of;
 use crate::standing::Standing;
 use hook_base::{Bytes, OutOfMemory};
 use hook_config::{Config, Hook};
+use path_select::CandidateTags;
 use report_text::Ending;
 use std::alloc::Global;
 
@@ -23,23 +25,27 @@ pub(crate) fn advance<'a>(
     alloc: Global,
     course: Course<'a>,
     done: Progress,
+    tags: CandidateTags,
     place: usize,
 ) -> Result<RunPlan<'a>, OutOfMemory>
     requires course { IsCourse course }
     requires fits { FitsResults course done.results }
+    requires known { AreTagsOf done.tree course.among tags }
     ensures from { IfOk result (IsPlanFrom course.entry done place) }
     ensures within { IfOk result (λ plan. most_left plan ≤ most_of_hooks (hooks_from course.entry place) done.tree) }
 {
     let mut done = done;
+    let mut tags = tags;
     let mut place = place;
     'hooks: while place < course.hooks.len() {
         let hook = hook_at(&course, place);
         place += 1;
-        match begin_hook(alloc, &course, hook, &done.tree)? {
+        match begin_hook(alloc, &course, hook, &done.tree, &mut tags)? {
             Begun::Waits(waiting) => {
                 return Ok(RunPlan {
                     course,
                     done,
+                    tags,
                     place,
                     standing: Standing::Waits(waiting),
                 });
@@ -50,7 +56,7 @@ pub(crate) fn advance<'a>(
             }
         }
     }
-    over(alloc, course, done, place)
+    over(alloc, course, done, tags, place)
 }
 
 // The hook at a place.
@@ -86,10 +92,12 @@ fn over<'a>(
     alloc: Global,
     course: Course<'a>,
     done: Progress,
+    tags: CandidateTags,
     place: usize,
 ) -> Result<RunPlan<'a>, OutOfMemory>
     requires course { IsCourse course }
     requires fits { FitsResults course done.results }
+    requires known { AreTagsOf done.tree course.among tags }
     requires none { length course.hooks.items ≤ place }
     ensures from { IfOk result (IsPlanFrom course.entry done place) }
     ensures within { IfOk result (λ plan. most_left plan ≤ most_of_hooks (hooks_from course.entry place) done.tree) }
@@ -98,6 +106,7 @@ fn over<'a>(
     Ok(RunPlan {
         course,
         done,
+        tags,
         place,
         standing: Standing::Over(Bytes::from(report)),
     })

@@ -1,6 +1,7 @@
 //! The plan of a run.
 
 ghost use Rattle.std.specs.Prelude.{◌≡◌, ◌≢◌, ◌↔◌, ◌+◌, ◌<◌, ◌≤◌, IfOk, IfErr, Some, length, true, false};
+ghost use Rattle.path_select.specs.KnownTags.{AreTagsOf};
 ghost use Rattle.hook_run.specs.Asks.{names_no_hook};
 ghost use Rattle.hook_run.specs.PlanBounds.{most_left, most_of_hooks, parts_at};
 ghost use Rattle.hook_run.specs.Plans.{IsPlanAfter, IsPlanOf, need_of, out_of_plan, seen_of_plan, tree_of_plan, words_of};
@@ -11,7 +12,7 @@ use crate::advance::{advance, place_behind};
 use crate::asked::{hooks_of_run, names_no_hook};
 use crate::begun::Begun;
 use crate::course::Course;
-use crate::progress::{Progress, progress_after, progress_with};
+use crate::progress::{Progress, progress_after, progress_with, tags_after};
 use crate::report::has_passed;
 use crate::standing::Standing;
 use crate::waiting::Waiting;
@@ -20,7 +21,7 @@ use crate::{Need, RunAsk, RunOut, RunRefusal};
 use child_port::Outcome;
 use hook_base::{Items, OutOfMemory, Text, Tree};
 use hook_config::{Config, Hook};
-use path_select::Candidates;
+use path_select::{CandidateTags, Candidates};
 use report_text::Ending;
 use std::alloc::Global;
 use std::marker::Model;
@@ -32,6 +33,8 @@ use std::marker::Model;
 pub struct RunPlan<'a> {
     pub(crate) course: Course<'a>,
     pub(crate) done: Progress,
+    /// The tags of the candidates' files in the tree of `done`, as far as hooks asked for them.
+    pub(crate) tags: CandidateTags,
     pub(crate) place: usize,
     pub(crate) standing: Standing<'a>,
 }
@@ -44,7 +47,7 @@ impl<'a> Model for RunPlan<'a> {
 
     ghost view = { λ plan. record { config = plan.course.config.now; ask = plan.course.ask.now; done = plan.done; waiting = waiting_at plan.standing; hooks = hooks_from plan.course plan.place } };
 
-    ghost invariant = { λ plan. IsPlanned plan.course plan.done plan.standing };
+    ghost invariant = { λ plan. IsPlanned plan.course plan.done plan.tags plan.standing };
 }
 
 impl<'a> RunPlan<'a> {
@@ -137,6 +140,7 @@ impl<'a> RunPlan<'a> {
         let RunPlan {
             course,
             done,
+            tags,
             place,
             standing,
         } = self;
@@ -144,7 +148,7 @@ impl<'a> RunPlan<'a> {
             Standing::Waits(waiting) => waiting,
             Standing::Over(_) => unreachable!(),
         };
-        told(course, done, place, waiting, outcome, unsteady)
+        told(course, done, tags, place, waiting, outcome, unsteady)
     }
 
     /// What the run gives. It takes no memory.
@@ -197,13 +201,14 @@ fn plan_of<'a>(
         unsteady: Items::new(alloc),
         tree,
     };
-    advance(alloc, course, done, 0)
+    advance(alloc, course, done, CandidateTags::new(alloc), 0)
 }
 
 // The plan behind an outcome for the hook that waits.
 fn told<'a>(
     course: Course<'a>,
     done: Progress,
+    tags: CandidateTags,
     place: usize,
     waiting: Waiting<'a>,
     outcome: Outcome,
@@ -211,6 +216,7 @@ fn told<'a>(
 ) -> Result<RunPlan<'a>, OutOfMemory>
     requires course { IsCourse course }
     requires fits { FitsResults course done.results }
+    requires known { AreTagsOf done.tree course.among tags }
     requires fits_at { FitsName course waiting.work.hook.now.name }
     ensures from { IfOk result (IsToldFrom course.entry done place waiting.entry outcome unsteady) }
     ensures fewer { IfOk result (λ plan. most_left plan < parts_at (Some (at_part waiting.entry)) + most_of_hooks (hooks_from course.entry place) done.tree) }
@@ -218,8 +224,9 @@ fn told<'a>(
     let alloc = *course.hooks.allocator();
     let Waiting { work, .. } = waiting;
     let work = work_with(work, &outcome, unsteady)?;
+    let tags = tags_after(tags, &course.among, &outcome);
     let done = progress_after(done, outcome)?;
-    plan_at(alloc, course, done, place, work)
+    plan_at(alloc, course, done, tags, place, work)
 }
 
 // The plan of a hook that goes on from here.
@@ -227,11 +234,13 @@ fn plan_at<'a>(
     alloc: Global,
     course: Course<'a>,
     done: Progress,
+    tags: CandidateTags,
     place: usize,
     work: Work<'a>,
 ) -> Result<RunPlan<'a>, OutOfMemory>
     requires course { IsCourse course }
     requires fits { FitsResults course done.results }
+    requires known { AreTagsOf done.tree course.among tags }
     requires fits_at { FitsName course work.hook.now.name }
     ensures from { IfOk result (IsPlanAt course.entry done place (at_work work.entry)) }
     ensures within { IfOk result (λ plan. most_left plan ≤ length (at_work work.entry).commands + most_of_hooks (hooks_from course.entry place) done.tree) }
@@ -241,11 +250,12 @@ fn plan_at<'a>(
         Begun::Waits(waiting) => Ok(RunPlan {
             course,
             done,
+            tags,
             place,
             standing: Standing::Waits(waiting),
         }),
         Begun::Ended(ending, unsteady) => {
-            plan_behind_hook(alloc, course, done, place, hook, ending, unsteady)
+            plan_behind_hook(alloc, course, done, tags, place, hook, ending, unsteady)
         }
     }
 }
@@ -255,6 +265,7 @@ fn plan_behind_hook<'a>(
     alloc: Global,
     course: Course<'a>,
     done: Progress,
+    tags: CandidateTags,
     place: usize,
     hook: &Hook,
     ending: Ending,
@@ -262,11 +273,12 @@ fn plan_behind_hook<'a>(
 ) -> Result<RunPlan<'a>, OutOfMemory>
     requires course { IsCourse course }
     requires fits { FitsResults course done.results }
+    requires known { AreTagsOf done.tree course.among tags }
     requires fits_at { FitsName course hook.now.name }
     ensures from { IfOk result (IsPlanBehindHook course.entry done place hook.now ending unsteady) }
     ensures within { IfOk result (λ plan. most_left plan ≤ most_of_hooks (hooks_from course.entry place) done.tree) }
 {
     let place = place_behind(&course, hook, &ending, place);
     let done = progress_with(alloc, done, hook, ending, unsteady)?;
-    advance(alloc, course, done, place)
+    advance(alloc, course, done, tags, place)
 }

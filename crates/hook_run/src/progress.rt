@@ -1,13 +1,16 @@
 //! What the hooks of a run that are done left.
 
-ghost use Rattle.std.specs.Prelude.{◌≡◌, IfOk};
+ghost use Rattle.std.specs.Prelude.{◌≡◌, IfOk, List};
+ghost use Rattle.hook_base.specs.declared.file.File.{File};
 ghost use Rattle.child_port.specs.Outcomes.{after_outcome};
+ghost use Rattle.path_select.specs.KnownTags.{AreTagsOf};
 ghost use Rattle.hook_run.specs.Plans.{progress_with, result_of};
 ghost use Rattle.hook_run.specs.Standing.{id_if, on_tree};
 
 use child_port::Outcome;
 use hook_base::{Items, OutOfMemory, Text, Tree};
 use hook_config::Hook;
+use path_select::{CandidateTags, Candidates};
 use report_text::{Ending, HookResult};
 use std::alloc::Global;
 
@@ -77,4 +80,19 @@ pub(crate) fn progress_after(done: Progress, outcome: Outcome) -> Result<Progres
         unsteady,
         tree,
     })
+}
+
+/// The tags that stay known behind a part with this outcome: those of the files that it names are forgotten.
+pub(crate) fn tags_after(
+    tags: CandidateTags,
+    among: &Candidates,
+    outcome: &Outcome,
+) -> CandidateTags
+    ensures { (tree : List File) → AreTagsOf tree among.now tags → AreTagsOf (after_outcome tree outcome.now) among.now result }
+{
+    let mut tags = tags;
+    if let Outcome::Done(answer) = outcome {
+        tags.forget(among, answer.changes.as_slice());
+    }
+    tags
 }

@@ -1,19 +1,22 @@
 use Rattle.std.proofs.Common.{sym, subst, arith}
+use Rattle.path_select.specs.KnownTags.{AreTagsOf}
+use Rattle.hook_run.specs.declared.progress.Progress.{Progress}
 use Rattle.hook_run.specs.HookRun.{IsEnding}
 use Rattle.hook_run.specs.Standing.{FitsName}
 use Rattle.hook_config.specs.declared.configuration.Hook.{Hook}
-use Rattle.hook_run.proofs.AdvanceLemmas.{begun-ended, begun-waits, leads_on-ended, leads_on-waits, within-waits}
+use Rattle.hook_run.proofs.AdvanceLemmas.{begun-ended, begun-waits, leads_on-ended, leads_on-none, leads_on-waits, within-waits}
 use Rattle.hook_run.proofs.advance.advance.Goals as goal
 
 pub invariant_of-result : goal.invariant_of-result
 invariant_of-result c =
     let hook = c.hook_at-hook.result.now in
     let is = begun-waits (IsEnding c.args.course.config.now c.args.course.ask.now c.hooks.done.tree hook) hook c.hooks.done.tree c.in_ok-waiting.field-0
-    c.in-Waits.waiting c.in-Waits.is c.in_ok-waiting.ensures in
+    c.in-Waits.waiting c.in-Waits.is c.in_ok-waiting.ensures.begun in
     record {
-      fits = c.hooks.invariant.fits;
+      fits = c.hooks.invariant.0.fits;
       fits_at = subst (λ (h : Hook). FitsName c.args.course h.name) (sym is.0.of_hook) c.hook_at-hook.ensures.fits;
       planned = c.requires.course;
+      known = c.begin_hook.ensures.known;
       stored = is.1;
     }
 
@@ -21,16 +24,19 @@ pub returns-in-Waits-clause-from : goal.returns-in-Waits-clause-from
 returns-in-Waits-clause-from c =
     let hook = c.hook_at-hook.result.now in
     let is = begun-waits (IsEnding c.args.course.config.now c.args.course.ask.now c.hooks.done.tree hook) hook c.hooks.done.tree c.in_ok-waiting.field-0
-    c.in-Waits.waiting c.in-Waits.is c.in_ok-waiting.ensures in
-    λ parts out on. leads_on-waits c.args.course c.args.done c.args.place c.hooks.done c.hooks.place hook _ parts out c.hooks.invariant
+    c.in-Waits.waiting c.in-Waits.is c.in_ok-waiting.ensures.begun in
+    λ parts out on. leads_on-waits c.args.course c.args.done c.args.place c.hooks.done c.hooks.place hook _ parts out c.hooks.invariant.0
     c.hook_at-hook.ensures.left is.0 on
 
 pub returns-in-Waits-clause-within : goal.returns-in-Waits-clause-within
 returns-in-Waits-clause-within c =
     let hook = c.hook_at-hook.result.now in
     let is = begun-waits (IsEnding c.args.course.config.now c.args.course.ask.now c.hooks.done.tree hook) hook c.hooks.done.tree c.in_ok-waiting.field-0
-    c.in-Waits.waiting c.in-Waits.is c.in_ok-waiting.ensures in
-    within-waits c.args.course c.args.done c.args.place c.hooks.done c.hooks.place hook c.in-Waits.waiting c.hooks.invariant c.hook_at-hook.ensures.left is.0
+    c.in-Waits.waiting c.in-Waits.is c.in_ok-waiting.ensures.begun in
+    within-waits c.args.course c.args.done c.args.place c.hooks.done c.hooks.place hook c.in-Waits.waiting c.hooks.invariant.0 c.hook_at-hook.ensures.left is.0
+
+pub hooks-init : goal.hooks-init
+hooks-init c = (leads_on-none c.args.course c.args.done c.args.place c.requires.fits, c.requires.known)
 
 pub hooks-smaller : goal.hooks-smaller
 hooks-smaller c = let later = c.place_behind-place.ensures.later in omega arith
@@ -39,7 +45,9 @@ pub hooks-preserved : goal.hooks-preserved
 hooks-preserved c =
     let hook = c.hook_at-hook.result.now in
     let is = begun-ended (IsEnding c.args.course.config.now c.args.course.ask.now c.hooks.done.tree hook) hook c.hooks.done.tree c.in_ok-waiting.field-0
-    c.in-Ended.ending c.in-Ended.unsteady c.in-Ended.is c.in_ok-waiting.ensures in
-    leads_on-ended c.args.course c.args.done c.args.place c.hooks.done c.in_ok-done-in-Ended.done c.hooks.place c.place_behind-place.result hook
-    c.in-Ended.ending c.in-Ended.unsteady c.hooks.invariant c.hook_at-hook.ensures.left c.hook_at-hook.ensures.fits is.0 is.1
-    c.place_behind-place.ensures.left c.in_ok-done-in-Ended.ensures
+    c.in-Ended.ending c.in-Ended.unsteady c.in-Ended.is c.in_ok-waiting.ensures.begun in (
+      leads_on-ended c.args.course c.args.done c.args.place c.hooks.done c.in_ok-done-in-Ended.done c.hooks.place c.place_behind-place.result hook
+          c.in-Ended.ending c.in-Ended.unsteady c.hooks.invariant.0 c.hook_at-hook.ensures.left c.hook_at-hook.ensures.fits is.0 is.1
+          c.place_behind-place.ensures.left c.in_ok-done-in-Ended.ensures,
+      subst (λ (p : Progress). AreTagsOf p.tree c.args.course.among c.begin_hook.new.tags) (sym c.in_ok-done-in-Ended.ensures) c.begin_hook.ensures.known,
+    )

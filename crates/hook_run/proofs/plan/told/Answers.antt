@@ -1,4 +1,5 @@
 use Rattle.std.proofs.Common.{sym, subst}
+use Rattle.path_select.specs.KnownTags.{AreTagsOf}
 use Rattle.hook_run.specs.declared.progress.Progress.{Progress}
 use Rattle.hook_run.specs.Plans.{AtHook}
 use Rattle.hook_run.specs.Standing.{FitsName, FitsResults}
@@ -10,6 +11,11 @@ plan_at-requires-clause-fits c = subst (λ (p : Progress). FitsResults c.args.co
 
 pub plan_at-requires-clause-fits_at : goal.plan_at-requires-clause-fits_at
 plan_at-requires-clause-fits_at c = subst (λ (at : AtHook). FitsName c.args.course at.hook.name) (sym c.in_ok-work.ensures) c.requires.fits_at
+
+pub plan_at-requires-clause-known : goal.plan_at-requires-clause-known
+plan_at-requires-clause-known c =
+    subst (λ (p : Progress). AreTagsOf p.tree c.args.course.among c.tags_after-tags.result) (sym c.in_ok-done.ensures)
+    (c.tags_after-tags.ensures c.args.done.tree c.requires.known)
 
 pub returns-clause-from : goal.returns-clause-from
 returns-clause-from c =
