@@ -389,4 +389,5 @@ def main():
     sys.exit(1 if differing or not ends["started"] or not ends["replayed"] else 0)
 
 
-main()
+if __name__ == "__main__":
+    main()
