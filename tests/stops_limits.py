@@ -10,7 +10,7 @@ user. And what may not be written: the folder, its files, and a disk that is rea
 What is left is judged as behind a kill (tests/stops_repository.py): the repository before the command or the one after it, a refusal
 that is told, and the same command, with nothing in its way, works. A limit holds for the children of a run too, which may then tell
 something else than they do without it; there only what the command is asked for once more is compared, once it was forgotten what
-they told. The kinds that need root, a disk and another user, are told where they can't be played.
+they told. What needs root, a disk of its own and another user, is told where it can't be played.
 
 Without --all it plays of bytes and memory one in several limits, always the same ones.
 """
@@ -229,11 +229,20 @@ def is_played(name, limit):
 def disk_in(folder):
     """A disk of its own."""
     disk = tempfile.mkdtemp(dir=folder)
-    subprocess.run(["mount", "-t", "tmpfs", "-o", "size=2m", "tmpfs", disk], check=True)
+    subprocess.run(["mount", "-t", "tmpfs", "-o", "size=2m", "tmpfs", disk], check=True, stderr=subprocess.DEVNULL)
     try:
         yield disk
     finally:
         subprocess.run(["umount", disk], check=True)
+
+
+def can_have_disks(folder):
+    """Whether a disk can be mounted here: a container may not let root do it."""
+    try:
+        with disk_in(folder):
+            return IS_ROOT
+    except (subprocess.CalledProcessError, FileNotFoundError):
+        return False
 
 
 def tried(case):
@@ -261,9 +270,12 @@ def main():
         os.chmod(program, 0o755)
         SCENES = {scene.name: scene for scene in scenes_of(program, folder, ONLY, SMALL_HOOKS)}
         least = least_memory(program, folder)
-        cases = [(name, limit) for name in SCENES for limit in (*limits(least), *(disk_limits() if IS_ROOT else ())) if is_played(name, limit)]
+        has_disks = can_have_disks(folder)
+        cases = [(name, limit) for name in SCENES for limit in (*limits(least), *(disk_limits() if has_disks else ())) if is_played(name, limit)]
         with ProcessPoolExecutor(WORKERS, multiprocessing.get_context("fork"), initializer=adopt_orphans) as pool:
             results = list(map(show, pool.map(tried, cases, chunksize=4)))
+    if not has_disks:
+        print("stops_limits: not played, since no disk can be mounted here: a full disk, a disk that is read alone")
     tell(results, time.monotonic() - begin)
 
 
@@ -282,7 +294,7 @@ def tell(results, seconds):
         counts = collections.Counter(place for _, limit, place, _ in results if limit.name == name)
         print(f"{name}: " + ", ".join(f"{count} {place}" for place, count in sorted(counts.items())))
     if not IS_ROOT:
-        print("stops_limits: not played, since that needs root: a full disk, a disk that is read alone, another user")
+        print("stops_limits: not played, since that needs root: processes of a user, and what a user may not write")
     took = sum(resource.getrusage(who).ru_utime + resource.getrusage(who).ru_stime for who in (resource.RUSAGE_SELF, resource.RUSAGE_CHILDREN))
     print(f"stops_limits: {len(results)} limits, {wrong} failed, {took:.0f} processor seconds, {seconds:.0f} s")
     sys.exit(1 if wrong or not results else 0)
