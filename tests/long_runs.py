@@ -61,6 +61,8 @@ class LongPlay(Play):
         self.chance, self.seconds = random.Random(f"kills {seed}"), 0.05
 
     def step(self, command):
+        if len(self.commands) % 1000 == 999:
+            print(f"long_runs: {len(self.commands) + 1} commands, {self.ends['killed']} killed", flush=True)
         if self.chance.randrange(KILLED) == 0 and not self.kill(command):
             return self.step_after_kill(command)
         begin = time.monotonic()
