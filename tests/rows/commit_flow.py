@@ -164,8 +164,11 @@ def beside(staged, clash, path):
     return (*plays, added + ended() + files("staged", *(("plain", each, "") for each in standing)))
 
 
+# A repository has no commit of the number 0, and none behind its last one.
+NEITHER = "no files\n" * 2
+
 ROWS = [
-    *(("play", *beside(*each)) for each in AMONG),
+    *(("play", *row, answer + NEITHER) for *row, answer in [*(beside(*each) for each in AMONG), *PLAYS]),
     *(("cleaned_message", message, cleaned) for message, cleaned in CLEANED),
     ("begun_message", "", ""),
     ("begun_message", "\n", "\n"),
@@ -173,5 +176,4 @@ ROWS = [
     ("begun_message", "a\n", "a\n"),
     ("begun_message", "a\nb", "a\nb\n"),
     ("begun_message", "a \n\n\n", "a \n\n\n"),
-    *(("play", *play) for play in PLAYS),
 ]

@@ -7,7 +7,7 @@ use child_port::Children;
 use trial_rows::Answer;
 
 /// Adds how many children were asked and how many of them failed, and how many answers are remembered.
-pub(crate) fn with_counts(answer: Answer, children: &TurnChildren, host: &Played) -> Answer {
+pub(crate) fn with_counts(answer: Answer, children: &impl Children, host: &Played) -> Answer {
     let answer = answer.shown(children.calls()).text(" calls, ");
     let answer = answer.shown(children.faults()).text(" faults, ");
     answer.shown(host.remembered()).text(" remembered\n")

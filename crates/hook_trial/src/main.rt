@@ -18,6 +18,7 @@ mod config_texts;
 mod configurations;
 mod fault_texts;
 mod fused_book;
+mod fused_children;
 mod host_asks;
 mod host_commands;
 mod host_counts;

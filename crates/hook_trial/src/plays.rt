@@ -1,11 +1,11 @@
 //! Lists of commands that a host makes at one call, and what the host answers of itself then.
 //!
-//! A row's arguments may begin with the table of its children (`child_tables.rt`). Then come the commands, `add MODE PATH CONTENTS`,
+//! A row's arguments may begin with its children (`fused_children.rt`). Then come the commands, `add MODE PATH CONTENTS`,
 //! `rm PATH`, `accept`, `run STAGE FILES ONLY HOW SKIP`, `commit MESSAGE HOW SKIP` (`host_lines.rt`) and `forget`, on a repository
 //! that is empty at first. They are answered by what `replies.rt` tells of each, by a line on the children and on what is
 //! remembered, and by the repository.
 
-use crate::child_tables::children_of;
+use crate::fused_children::fused_children_of;
 use crate::host_asks::{asked_name, files_of, is_fresh, is_unverified, stage_of};
 use crate::host_commands::{Played, empty_store};
 use crate::host_counts::{with_counts, with_forgotten};
@@ -20,7 +20,7 @@ use trial_rows::{Answer, Stop};
 /// `play COMMAND..`: the replies, the counts, and the repository.
 pub(crate) fn played(alloc: Global, arguments: &[Vec<u8>]) -> Result<Answer, Stop> {
     let mut words = Words { left: arguments };
-    let mut children = children_of(alloc, &mut words)?;
+    let mut children = fused_children_of(alloc, &mut words)?;
     let commands = commands_of(alloc, &mut words)?;
     let mut host = Host::over(empty_store(alloc)?);
     let replies = host.play(alloc, &mut children, commands.as_slice())?;
@@ -97,7 +97,14 @@ fn with_commits(answer: Answer, host: &Played) -> Result<Answer, Stop> {
         answer = with_length(answer, entry.message.as_slice());
         answer = with_committed(answer, &host.tree_of(entry.number)?);
     }
-    Ok(answer)
+    with_no_commits(answer, host)
+}
+
+// No commit has the number 0, and none the one behind the last.
+fn with_no_commits(answer: Answer, host: &Played) -> Result<Answer, Stop> {
+    let last = host.store().count_commits();
+    let answer = with_committed(answer, &host.tree_of(0)?);
+    Ok(with_committed(answer, &host.tree_of(last.saturating_add(1))?))
 }
 
 fn with_committed(answer: Answer, tree: &Option<Tree>) -> Answer {
