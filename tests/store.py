@@ -21,13 +21,13 @@ from concurrent.futures import ThreadPoolExecutor
 
 from kept_answers import SELECT_ROWS, contents_of, digest, planting, records_of, row_of
 from store_cases import (ANSWER_ROWS, ANSWER_ROWS_LEFT, ANSWERS_LEFT, ANSWERS_STORY, BAD_LINES, CHILDREN, COMMITTED_ROWS,
-                         CONFIG, DAMAGED, EDITABLE, EDITABLE_COUNTS, EDITED, EDITED_COUNTS, EDITS, FACTS, FAULTS, FILLING,
-                         FIXES_AFTER, HOOKS_STORY, HOST_STORY, KEPT_ROWS, LARGE_CHILDREN, LARGE_EDITS, LARGE_STORY,
+                         DAMAGED, EDITABLE, EDITABLE_COUNTS, EDITED, EDITED_COUNTS, EDITS, FACTS, FAULTS, FILLING,
+                         FIXES_AFTER, FOUR_CHILDREN, FOUR_STAGES, FOUR_STORY, HOOKS_STORY, HOST_STORY, KEPT_ROWS, LARGE_CHILDREN, LARGE_EDITS, LARGE_STORY,
                          LATER_REFUSED_EDITS, META_ROWS, NOT_A_STORE, ONE, ONE_STAGED, OTHER_SCHEMAS, OTHER_TABLES,
-                         PLANTED_ANSWERS, PLANTS, RECALLED, REFUSED_EDITS, REFUSED_ROWS, REPLACED_META_ROWS, SCHEMA, SHOWN, SQL,
-                         STOPPED_CALLS, STOPPED_COMMANDS, STORY, TAKEN_ROWS, TOO_LARGE, TOO_MANY, UNSTAGED_STORY,
+                         PLANTED_ANSWERS, PLANTS, RECALLED, REFUSED_EDITS, REFUSED_ROWS, REPLACED_META_ROWS, RUN_CHILDREN, RUN_STORY, SCHEMA, SHOWN, SQL,
+                         STOPPED_CALLS, STOPPED_COMMANDS, STOPPED_RUNS, STORY, TAKEN_ROWS, TOO_LARGE, TOO_MANY, UNSTAGED_STORY,
                          damaged_answers, largest_answers)
-from store_model import Model, random_play, unescaped
+from store_model import Model, key_of, lines_behind, model_of, random_play, recalled_by, unescaped
 
 HERE = os.path.dirname(os.path.abspath(__file__))
 PROGRAM = os.path.abspath(sys.argv[1] if len(sys.argv) > 1 else os.path.join(HERE, "..", "crates/store_trial/out/store_trial"))
@@ -127,13 +127,6 @@ def check_file(path, store):
         check(found[table] == wanted[table], f"the rows of {table} are {found[table]!r}, wanted {wanted[table]!r}")
 
 
-def model_of(lines):
-    model = Model()
-    for line in lines:
-        model.play(line)
-    return model
-
-
 # ---- the cases
 
 def plays_the_story(folder):
@@ -199,13 +192,14 @@ def makes_none_of_several_changes_where_one_is_refused(folder):
         check_file(path, model.store)
 
 
-def plays_the_story_of_hooks(folder):
-    path, model = os.path.join(folder, "store.db"), Model()
-    story = [*((line, "ok") for line in CHILDREN), *HOOKS_STORY]
-    given = answers(path, [line for line, _ in story])
-    for (line, wanted), answer in zip(story, given):
-        check(answer == wanted, f"{line!r} is answered {answer!r}, wanted {wanted!r}")
-        check(model.play(line) == wanted, f"the model answers {line!r} otherwise")
+def plays_the_stories_of_hooks(folder):
+    for at, (children, told) in enumerate([(CHILDREN, HOOKS_STORY), (FOUR_CHILDREN, FOUR_STORY), (RUN_CHILDREN, RUN_STORY)]):
+        path, model = os.path.join(folder, f"{at}.db"), Model()
+        story = [*((line, "ok") for line in children), *told]
+        given = answers(path, [line for line, _ in story])
+        for (line, wanted), answer in zip(story, given):
+            check(answer == wanted, f"{line!r} is answered {answer!r}, wanted {wanted!r}")
+            check(model.play(line) == wanted, f"the model answers {line!r} otherwise")
 
 
 def keeps_fixes_of_staged_files_until_the_next_stage(folder):
@@ -315,6 +309,20 @@ def remembers_answers(folder):
     check_file(path, model.store)
 
 
+def remembers_many_answers(_folder):
+    """More than anyone would think a book has to make room for."""
+    keys = [f"c | a.txt={number}" for number in range(1100)]
+    lines = ["create", *(f"remember {key} | a.txt=x | 0 | {key[-3:]}" for key in keys), *(f"recall {key}" for key in keys), "answers", "crash",
+             "open", "answers", *(f"recall {key}" for key in keys), "forget", "answers"]
+    model = Model()
+    wanted = ["ok" if line == "crash" else model.play(line) for line in lines]
+    given, status, said = run_words(["log", str(2 ** 63)], lines)
+    check(status == 0 and len(given) == len(lines), f"status {status} after {len(given)} of {len(lines)} answers: {said!r}")
+    for line, answer, right in zip(lines, given, wanted):
+        check(answer == right, f"{line!r} is answered {answer!r}, wanted {right!r}")
+    check(f"ok\t{len(keys)}" in wanted, "not all answers are remembered")
+
+
 def finds_answers_that_another_program_wrote(folder):
     """Rows and records that are put together here are opened, and found."""
     path = os.path.join(folder, "store.db")
@@ -410,11 +418,6 @@ def refuses_what_is_too_large(folder):
     digest = hashlib.sha256(b"0 0 ".ljust(16777216, b".")).hexdigest()
     check(given == ["ok", f"ok\t{digest}", "ok", "ok\t2\t16777217", "ok\t1", "ok"], f"16 MiB: answered {[line[:80] for line in given]!r}")
     check(answers(path, ["open", "weigh"]) == ["ok", "ok\t2\t16777217"], "16 MiB aren't there when it is opened again")
-
-
-def key_of(line):
-    """The words and the seen files of an answer's line."""
-    return "|".join(line.split("|")[:2])
 
 
 def refuses_answers_that_are_too_large(folder):
@@ -517,9 +520,11 @@ def is_left_whole_by_a_kill(folder):
 
 # ---- memory that is refused
 
-REFUSED_PLAY = [*CHILDREN, "create", "stage plain a.txt 1", "fix a.txt 2", "set", "accept", "commit m\\n", "blob abc", "remember c a | a=1 | a=2 | 3 | one", "recall c a | a=1", "forget", "add - h 1", "remove h",
+# Of the commands of a host all that may be refused are made again at once, as far as they leave something to be made.
+REFUSED_PLAY = [*FOUR_CHILDREN, "create", "stage plain a.txt 1", "fix a.txt 2", "set", "accept", "commit m\\n", "blob abc", "remember c a | a=1 | a=2 | 3 | one", "recall c a | a=1", "forget", "add - h 1", "remove h",
                 "fix a.txt 3", "set", "stage-all add - h 1 | add executable h 2 | remove h | add - i 3", "edit-all add - i 4 | add - j/k 5 | remove i | remove j/k", "unstage a.txt",
-                f"stage plain {CONFIG}", "add - b.txt 1", "run-hooks all", "accept-fixes", "commit-verified m", "close", "open", *SHOWN, "tree 1"]
+                f"stage plain {FOUR_STAGES}", "add - b.txt 1", *["run-hooks all"] * 2, *["forget-answers"] * 2, *["accept-fixes"] * 2, *["commit-verified m"] * 2,
+                "close", "open", *SHOWN, "tree 1", "tree 0", "tree 3"]
 
 
 def refusing_library(folder):
@@ -628,40 +633,69 @@ def state_of(model):
     return None if model.store is None else [*model.shown(), counts_of(model.store)]
 
 
-def state_after_the_stop(played, which, number, answered, before):
+def state_and_store(model):
+    return state_of(model), copy.deepcopy(model.store)
+
+
+def state_after_the_stop(played, which, number, answered, before, lines_on):
     """What a store shows, and how many rows it has, that is opened after a crash behind the lines that were played, and
-    crashes again before its rows are counted. Until the first crash it has to show this, unless there is no store."""
+    crashes again before its rows are counted; and what is answered to further lines then. Until the first crash it has to show
+    what it did before, unless there is no store; then it is made for these lines."""
     lines = [*played, *(SHOWN if before else []), "crash", "open", *SHOWN, "crash", "read-tables"]
-    given, status, _ = run_words([which, str(number)], lines)
-    check(status == 0 and len(given) == len(lines) and given[:len(played)] == answered, f"{which} {number}: played again it answers {given!r}, status {status}")
+    given, status, _ = run_words([which, str(number)], [*lines, *lines_on])
+    check(status == 0 and len(given) == len(lines + lines_on) and given[:len(played)] == answered, f"{which} {number}: played again it answers {given!r}, status {status}")
+    given, given_on = given[:len(lines)], given[len(lines):]
     shown = given[len(played):-len(SHOWN) - 4]
     crashed, opened, *found, crashed_again, counts = given[-len(SHOWN) - 4:]
     check(crashed == crashed_again == "ok", f"{which} {number}: the crashes are answered {crashed!r} and {crashed_again!r}")
     check(before is None or shown == before[:-1], f"{which} {number}: a call that was stopped left {shown!r} in place of {before!r}")
     check(opened == "ok" or opened.startswith(NOT_A_STORE), f"{which} {number}: opened again: {opened!r}")
     if opened == "ok":
-        return [*found, counts]
-    made, _, _ = run_words([which, str(number)], [*played, "crash", "create"])
-    check(made[-1:] == ["ok"], f"{which} {number}: where there is no store, none can be made: {made[-1:]!r}")
-    return None
+        return [*found, counts], given_on
+    made, _, _ = run_words([which, str(number)], [*played, "crash", "create", *lines_on[1:]])
+    check(made[len(played):][:2] == ["ok", "ok"], f"{which} {number}: where there is no store, none can be made: {made[len(played):][:2]!r}")
+    return None, made[len(played) + 1:]
+
+
+def check_lines_behind(play, place, lines, given, model):
+    """What stood in the model's store remembers what was told and nothing else, and all lines are answered as by the model, which runs
+    hooks from scratch wherever no row is remembered."""
+    told = recalled_by(play)
+    # A fix that waited for the line that was stopped waits no more.
+    model.is_open, model.waiting = False, {}
+    wanted = [model.play("create" if line == "open" and model.store is None else line) for line in lines]
+    for line, answer, right in zip(lines, given, wanted):
+        check(answer == right, f"{place}: then {line!r} is answered {answer!r}, wanted {right!r}")
+    check(len(given) == len(lines), f"{place}: {len(given)} of {len(lines)} lines are answered then")
+    for at in (1, len(lines) - len(told) - 1):
+        answered = dict(zip(told, given[at + 1:]))
+        kept = [line for line, answer in answered.items() if answer != "ok\tnone"]
+        check(given[at] == f"ok\t{len(kept)}", f"{place}: of {given[at]!r} answers the children tell {len(kept)}")
+        check(all(answered[line] in told[line] for line in kept), f"{place}: the answers {answered!r} aren't those of the children")
 
 
 def play_stopped(play, which, number):
-    """Plays up to the line at which the disk stops, crashes, and opens the store again. Answers how many lines stand before
+    """Plays up to the line at which the disk stops, crashes, opens the store again, and plays on. Answers how many lines stand before
     that one, or none where no line was stopped."""
     given, status, _ = run_words([which, str(number)], play)
     check(status == 0 and len(given) == len(play), f"{which} {number}: status {status} after {len(given)} answers")
     model, count, is_behind = model_before_the_stop(play, which, number, given)
-    states = [state_of(model)]
+    states = [state_and_store(model)]
     if count < len(play):
         model.play(play[count])
-        states += model.states(state_of)
+        states += model.states(state_and_store)
     if is_behind:
         # The commit is told, so nothing loses it.
-        states = [state for state in states if state[:-1] == states[-1][:-1]]
-    found = state_after_the_stop(play[:count + 1], which, number, given[:count + 1], states[0])
-    check(found in states, f"{which} {number}: {found!r} is none of {states!r}")
-    return None if count == len(play) else count
+        states = [(state, store) for state, store in states if state[:-1] == states[-1][0][:-1]]
+    lines = lines_behind(play, count)
+    found, given_on = state_after_the_stop(play[:count + 1], which, number, given[:count + 1], states[0][0], lines)
+    stores = [store for state, store in states if state == found]
+    check(stores, f"{which} {number}: {found!r} is none of {[state for state, _ in states]!r}")
+    if count == len(play):
+        return None
+    model.store = stores[0]
+    check_lines_behind(play, f"{which} {number}, behind {play[count]!r}", lines, given_on, model)
+    return count
 
 
 def stops_of(play, which):
@@ -675,11 +709,22 @@ def stops_of(play, which):
     return stops[:ended]
 
 
+def writes(play):
+    """Which of the lines of a play change what stands in the store, but for the one that makes it."""
+    model, found = Model(), set()
+    for at, line in enumerate(play):
+        before = copy.deepcopy(model.store)
+        model.play(line)
+        if before != model.store:
+            found.add(at)
+    return found
+
+
 def is_left_before_or_after_a_line_by_a_stop(play):
     """The disk stops at each operation on the log, and at each on the database file, and loses what wasn't synchronized. Each
     line that writes to the disk has to be stopped."""
     stops = {which: stops_of(play, which) for which in ("log", "database")}
-    unstopped = [line for at, line in enumerate(play) if at not in stops["log"] and line.partition(" ")[0] not in ("child", "fix", "fix-gone")]
+    unstopped = [play[at] for at in writes(play) if at not in stops["log"]]
     check(not unstopped, f"lines that no stop met: {unstopped!r}")
     check(len(stops["log"]) > 40 and len(stops["database"]) > 10, f"too few stops: {stops!r}")
     print(f"stops: at {len(stops['log'])} operations on the log and {len(stops['database'])} on the database file")
@@ -693,14 +738,19 @@ def is_left_before_or_after_a_command_by_a_stop(_folder):
     is_left_before_or_after_a_line_by_a_stop(STOPPED_COMMANDS)
 
 
+def is_left_before_or_after_a_run_by_a_stop(_folder):
+    is_left_before_or_after_a_line_by_a_stop(STOPPED_RUNS)
+
+
 CASES = [plays_the_story, plays_the_story_of_an_unstaged_file, plays_the_story_of_a_host, makes_several_changes_at_once,
-         makes_none_of_several_changes_where_one_is_refused, plays_the_story_of_hooks, keeps_fixes_of_staged_files_until_the_next_stage,
+         makes_none_of_several_changes_where_one_is_refused, plays_the_stories_of_hooks, keeps_fixes_of_staged_files_until_the_next_stage,
          numbers_and_says_each_refusal, reads_rows_in_the_order_of_their_keys, keeps_each_content_once, plays_as_the_model,
-         refuses_bad_lines, refuses_a_second_store, refuses_planted_files, remembers_answers, finds_answers_that_another_program_wrote, refuses_planted_answers, refuses_rows_of_contents_and_commits_that_are_not_there,
+         refuses_bad_lines, refuses_a_second_store, refuses_planted_files, remembers_answers, remembers_many_answers, finds_answers_that_another_program_wrote, refuses_planted_answers, refuses_rows_of_contents_and_commits_that_are_not_there,
          refuses_files_that_hold_no_store, refuses_files_with_other_tables, refuses_what_is_too_large,
          refuses_answers_that_are_too_large, stops_at_an_answer_that_is_too_large,
          refuses_more_files_than_a_tree_may_have, refuses_more_commits_than_a_store_may_have, is_left_whole_by_a_kill,
-         is_left_before_or_after_a_call_by_a_stop, is_left_before_or_after_a_command_by_a_stop, refuses_for_want_of_memory]
+         is_left_before_or_after_a_call_by_a_stop, is_left_before_or_after_a_command_by_a_stop, is_left_before_or_after_a_run_by_a_stop,
+         refuses_for_want_of_memory]
 
 
 def main():

@@ -152,18 +152,25 @@ LATER_REFUSED_EDITS = [
     # Of two that are refused it is the first.
     ("add - one 4 | remove missing | add - /x 5", "4\tNotStaged\tnone", "NotStaged\tnone", 1),
 ]
-# A configuration with a hook of each stage that counts, and by the stages before a commit the word of its hook and how the
-# paths end that this gets. What the hook behind a commit does is told and no more.
 CONFIG_PATH, MESSAGE = ".pre-commit-config.yaml", ".git/COMMIT_EDITMSG"
-CONFIG = CONFIG_PATH + " " + "".join(line + "\\n" for line in [
-    "repos:",
-    "- repo: local",
-    "  hooks:",
-    "  - {id: tidy, name: Tidy, language: system, entry: tidy, files: '[.]txt$', stages: [pre-commit]}",
-    "  - {id: sign, name: Sign, language: system, entry: sign, stages: [commit-msg]}",
-    "  - {id: tell, name: Tell, language: system, entry: tell, always_run: true, stages: [post-commit]}",
-])
-HOOKS = {"pre-commit": ("tidy", ".txt"), "commit-msg": ("sign", MESSAGE)}
+
+
+def configured(*hooks):
+    """A configuration of hooks, each the word of its children, its stage, and how the paths end that it gets: a text, or none where
+    it gets no paths and always runs. It is as a line writes it."""
+    rows = [f"  - {{id: {word}, name: {word.capitalize()}, language: system, entry: {word}, stages: [{stage}], "
+            + ("always_run: true}" if ending is None else f"files: '{ending.replace('.', '[.]')}$'}}") for word, stage, ending in hooks]
+    return "".join(line + "\\n" for line in ["repos:", "- repo: local", "  hooks:", *rows])
+
+
+# Hooks of the stages of a commit. What the hook behind a commit does is told and no more.
+OF_A_COMMIT = [("tidy", "pre-commit", ".txt"), ("sign", "commit-msg", MESSAGE), ("tell", "post-commit", None)]
+# One more, so that each of the four stages has a hook; and two that get the same files in turn.
+OF_FOUR_STAGES = [*OF_A_COMMIT, ("mark", "prepare-commit-msg", MESSAGE)]
+OF_A_RUN = [("trim", "pre-commit", ".txt"), ("look", "pre-commit", ".txt")]
+# The hooks by the text of their configuration.
+HOOKS = {configured(*hooks): hooks for hooks in (OF_A_COMMIT, OF_FOUR_STAGES, OF_A_RUN)}
+CONFIG, FOUR_STAGES, RUN_CONFIG = (f"{CONFIG_PATH} {text}" for text in HOOKS)
 # What the children of the hooks answer: the words, the seen files, which are plain, the changes and the status.
 CHILDREN = [
     "child tidy b.txt | b.txt=0 | | 0",
@@ -229,14 +236,56 @@ HOOKS_STORY = [
     ("add executable b.txt 1", "ok"),
     ("run-hooks changed", "ok\tfailed"),
 ]
-# Plays in which a disk stops: of the store's calls, and of a host's commands.
+# What the children of the hooks of four stages answer beside that, and those of a run whose first hook takes blanks from a file.
+MARKED = "m\\nmarked\\n"
+FOUR_CHILDREN = [
+    *CHILDREN,
+    f"child mark {MESSAGE} | {MESSAGE}=m\\n | {MESSAGE}={MARKED} | 0",
+    f"child mark {MESSAGE} | {MESSAGE}=n\\n | | 0",
+    f"child sign {MESSAGE} | {MESSAGE}={MARKED} | {MESSAGE}={MARKED}signed\\n | 0",
+]
+RUN_CHILDREN = ["child trim a.txt | a.txt=x\\t\\n | a.txt=x\\n | 0", "child trim a.txt | a.txt=x\\n | | 0", "child look a.txt | a.txt=x\\n | | 0"]
+# What the hooks of each stage of a commit leave to the next one, and of the runs what each starts, by what is remembered.
+FOUR_STORY = [
+    ("create", "ok"),
+    (f"stage plain {FOUR_STAGES}", "ok"),
+    ("add - b.txt 0", "ok"),
+    ("commit-verified m", "ok\tcommitted\t1\ttold"),
+    ("log", f"ok\t1\t{MARKED}signed\\n"),
+    ("answers", "ok\t4"),
+    ("forget-answers", "ok\t4"),
+    ("forget-answers", "ok\t0"),
+    ("add - b.txt 1", "ok"),
+    ("commit-unverified m", "ok\tcommitted\t2\ttold"),
+    ("log", f"ok\t1\t{MARKED}signed\\n\t2\t{MARKED}"),
+    ("answers", "ok\t2"),
+    ("add - b.txt 0", "ok"),
+    ("commit-verified 1", "ok\tfailed\tprepare-commit-msg"),
+    ("answers", "ok\t3"),
+]
+RUN_STORY = [
+    ("create", "ok"),
+    (f"stage plain {RUN_CONFIG}", "ok"),
+    ("add - a.txt x\\t\\n", "ok"),
+    ("run-hooks changed", "ok\tfailed\ta.txt\tnow\tx\\n"),
+    ("answers", "ok\t2"),
+    ("accept-fixes", "ok\t1"),
+    ("run-hooks changed", "ok\tpassed"),
+    ("answers", "ok\t3"),
+    ("run-hooks changed", "ok\tpassed"),
+    ("forget-answers", "ok\t3"),
+]
+# Plays in which a disk stops: of the store's calls, of a host's commands, the last of which needs a child in each stage of a commit,
+# and of runs of two hooks, of which the first keeps a fix and the last start no child.
 STOPPED_CALLS = ["create", "stage plain a.txt 1", "stage executable tools/run 2", "blob 3", "fix a.txt 4", "set", "accept", "commit m\\n",
                  "remember c a.txt | a.txt=6 | a.txt=7 | 0 | one", "remember c a.txt | a.txt=6 | | 1", "unstage a.txt", "fix-gone tools/run", "set",
                  "stage plain tools/run 5", "commit n\\n", "forget", "remember d | | | 0",
                  "fix tools/run 8", "set", "stage-all add - b.txt 9 | add executable b.txt 10 | remove tools/run | add - dir/c 2 | add - dir/d "]
-STOPPED_COMMANDS = [*CHILDREN, "create", f"stage plain {CONFIG}", "add - b.txt 1", "commit-verified m", "commit-unverified n", "run-hooks all",
+STOPPED_COMMANDS = [*FOUR_CHILDREN, "create", f"stage plain {FOUR_STAGES}", "add - b.txt 1", "commit-verified m", "commit-unverified n", "run-hooks all",
                     "run-hooks changed", "run-hooks all", "edit-all add - a 8 | remove a | add executable dir/c 9 | add - dir/c 10", "run-hooks all",
-                    "accept-fixes", "commit-verified m"]
+                    "accept-fixes", "remove dir/c", "forget-answers", "commit-verified m"]
+STOPPED_RUNS = [*RUN_CHILDREN, "create", f"stage plain {RUN_CONFIG}", "add - a.txt x\\t\\n", "run-hooks changed", "accept-fixes", "run-hooks changed",
+                "run-hooks changed", "forget-answers", "run-hooks changed"]
 # Paths that clash with those of the random plays, and texts that are none.
 OTHER_PATHS = ["a/b", "dir", "dir/c/x", "b.txt.old", "", "/a", "a/", "./a", ".git/a", "e\x7f"]
 # Calls on a store that has a.txt staged, and the fixes that it has then.

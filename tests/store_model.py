@@ -40,6 +40,22 @@ def escaped(contents):
     return contents.decode().replace("\\", "\\\\").replace("\n", "\\n").replace("\t", "\\t")
 
 
+def changed(tree, changes):
+    """The tree with changes applied, in which a file keeps its mode."""
+    after = dict(tree)
+    for path, now in changes:
+        if now is None:
+            after.pop(path, None)
+        elif path in after:
+            after[path] = (after[path][0], escaped(now))
+    return after
+
+
+def tracked(tree):
+    """The tree's files but for the message."""
+    return {path: file for path, file in tree.items() if path != MESSAGE}
+
+
 def begun_message(message):
     return message if not message or message.endswith("\\n") else message + "\\n"
 
@@ -186,24 +202,31 @@ class Model:
         count, self.store["answers"] = len(self.store["answers"]), {}
         return f"ok\t{count}"
 
+    def forget_answers(self):
+        return self.forget()
+
     def child(self, text):
         words, seen, changes, status = (part.split() for part in text.split("|"))
         self.children.append((words, files_in(seen), files_in(changes), int(status[0])))
         return "ok"
 
-    def hook(self, stage, files):
-        """What the hook of a stage changes that may get these files, and whether it passes: where it gets none it does, else
-        its child has to end with 0 and to change no file but the message's. A child that has no row isn't started; the rows
-        are of plain files."""
-        word, ending = HOOKS[stage]
-        seen = {path: file for path, file in sorted(files.items()) if path.endswith(ending)}
-        if not seen:
-            return {}, True
-        answer = self.answered([word, *seen], seen)
-        if answer is None:
-            return {}, False
-        changes = {path: None if now is None else escaped(now) for path, now in answer.changes}
-        return changes, answer.status == 0 and (stage == "commit-msg" or not changes)
+    def hooks_of(self, stage):
+        return [(word, ending) for word, at, ending in HOOKS[self.store["staged"][CONFIG_PATH][1]] if at == stage]
+
+    def run_stage(self, stage, paths, tree):
+        """The tree that the hooks of a stage leave, of which each gets those of these paths that end as it says, and whether all pass:
+        one that gets none does, else its child has to end with 0 and to change no file but the message's. A child that has no
+        row isn't started; the rows are of plain files."""
+        is_passed = True
+        for word, ending in self.hooks_of(stage):
+            seen = {path: tree[path] for path in sorted(paths) if path in tree and path.endswith(ending)}
+            answer = self.answered([word, *seen], seen) if seen else None
+            if answer is None:
+                is_passed = is_passed and not seen
+                continue
+            before, tree = tree, changed(tree, answer.changes)
+            is_passed = is_passed and answer.status == 0 and tracked(tree) == tracked(before)
+        return tree, is_passed
 
     def answered(self, words, seen):
         """What is remembered for the words and the seen files, or else the answer of a child, which is remembered then; none where
@@ -221,25 +244,30 @@ class Model:
         return self.store["answers"][key]
 
     def candidates(self, which):
-        """The staged files that the hooks of a run may get."""
+        """The paths of the staged files that the hooks of a run may get."""
         head = self.last_tree()
-        return {path: file for path, file in self.store["staged"].items() if which == "all" or file != head.get(path)}
+        return [path for path, file in self.store["staged"].items() if which == "all" or file != head.get(path)]
+
+    def keep_fixes(self, tree):
+        """Sets as fixes what became of the staged files in a tree."""
+        after = {path: tree.get(path, (None, None))[1] for path in self.store["staged"]}
+        self.set_fixes({path: now for path, now in after.items() if now != self.store["staged"][path][1]})
 
     def run_hooks(self, which):
         if CONFIG_PATH not in self.store["staged"]:
             return NO_CONFIG
-        changes, is_passed = self.hook("pre-commit", self.candidates(which))
-        self.set_fixes(changes)
+        tree, is_passed = self.run_stage("pre-commit", self.candidates(which), self.store["staged"])
+        self.keep_fixes(tree)
         return ("ok\tpassed" if is_passed else "ok\tfailed") + self.fixes().removeprefix("ok")
 
     def accept_fixes(self):
         return self.accept() if self.store["fixes"] else NO_FIXES
 
     def commit_verified(self, message):
-        return self.uncommittable() or self.commit_behind_hooks(begun_message(message))
+        return self.uncommittable() or self.commit_behind_hooks(message, ["pre-commit", "prepare-commit-msg", "commit-msg"])
 
     def commit_unverified(self, message):
-        return self.uncommittable() or self.commit_filled(begun_message(message))
+        return self.uncommittable() or self.commit_behind_hooks(message, ["prepare-commit-msg"])
 
     def uncommittable(self):
         """The refusal of a commit before its hooks, or none."""
@@ -247,16 +275,18 @@ class Model:
             return NOTHING_STAGED
         return None if CONFIG_PATH in self.store["staged"] else NO_CONFIG
 
-    def commit_behind_hooks(self, message):
-        changes, is_passed = self.hook("pre-commit", self.candidates("changed"))
-        if not is_passed:
-            self.set_fixes(changes)
-            return "ok\tfailed\tpre-commit"
-        changes, is_passed = self.hook("commit-msg", {MESSAGE: ("plain", message)})
-        if not is_passed:
-            self.set_fixes({})
-            return "ok\tfailed\tcommit-msg"
-        return self.commit_filled(changes.get(MESSAGE, message) or "")
+    def commit_behind_hooks(self, message, stages):
+        """Commits behind the hooks of these stages, between which the files and the message pass on."""
+        message, tree = begun_message(message), self.store["staged"]
+        for stage in stages:
+            is_of_message = stage != "pre-commit"
+            paths = [MESSAGE] if is_of_message else self.candidates("changed")
+            tree, is_passed = self.run_stage(stage, paths, tree | ({MESSAGE: ("plain", message)} if is_of_message else {}))
+            message, tree = tree.get(MESSAGE, ("plain", "" if is_of_message else message))[1], tracked(tree)
+            if not is_passed:
+                self.keep_fixes(tree)
+                return f"ok\tfailed\t{stage}"
+        return self.commit_filled(message)
 
     def commit_filled(self, message):
         """Commits, unless the message is blank. The plays have no message but those, in which there is nothing to clean."""
@@ -264,7 +294,8 @@ class Model:
             return EMPTY_MESSAGE
         made = self.commit(message)
         self.passed.append(copy.deepcopy(self.store))
-        self.answered(["tell"], {})
+        for word, _ in self.hooks_of("post-commit"):
+            self.answered([word], {})
         return made.replace("ok", "ok\tcommitted") + "\ttold"
 
     def blob(self, content):
@@ -335,6 +366,36 @@ class Model:
         for self.store in [*self.passed, end]:
             found.append(state_of(self))
         return found
+
+
+def model_of(lines):
+    model = Model()
+    for line in lines:
+        model.play(line)
+    return model
+
+
+def key_of(line):
+    """The words and the seen files of an answer's line."""
+    return "|".join(line.split("|")[:2])
+
+
+def recalled_by(play):
+    """The lines that recall each answer that a play's children or its lines tell, each with all that is told to it."""
+    told = {}
+    for line in play:
+        word, _, row = line.partition(" ")
+        if word in ("child", "remember"):
+            recall = f"recall {key_of(row)}"
+            told.setdefault(recall, []).append(model_of(["create", f"remember {row}"]).play(recall))
+    return told
+
+
+def lines_behind(play, count):
+    """The lines that open a store behind a stop, have told what is remembered, go on with the line of the play that was stopped, and
+    have told what stands and is remembered then. None where no line was."""
+    told = recalled_by(play)
+    return ["open", "answers", *told, *play[count + (play[count] == "create"):], *SHOWN, "answers", *told] if count < len(play) else []
 
 
 def random_answer(chance, paths, contents):

@@ -12,9 +12,10 @@ use hook_base::{Items, Text};
 use hook_config::Stage;
 use sqlite::Alter;
 use std::alloc::Global;
+use std::fmt::Display;
 
-/// The command that is a line by itself.
-pub(crate) const COMMANDS: &[&str] = &["accept-fixes"];
+/// The commands that are a line by themselves.
+pub(crate) const COMMANDS: &[&str] = &["accept-fixes", "forget-answers"];
 
 /// The commands whose word something follows.
 pub(crate) const COMMANDS_OF: &[&str] = &[
@@ -43,7 +44,11 @@ pub(crate) fn play_command<S: Alter>(
         }
         "edit-all" => edit_all(host, rest, answer),
         "accept-fixes" => {
-            accept(host, answer);
+            numbered(host.accept(), answer);
+            Ok(())
+        }
+        "forget-answers" => {
+            numbered(host.forget(), answer);
             Ok(())
         }
         "run-hooks" => run(host, rows, rest, answer),
@@ -70,8 +75,8 @@ fn done(given: Result<(), HostRefusal>, answer: &mut Answer) {
     }
 }
 
-fn accept<S: Alter>(host: &mut Host<S>, answer: &mut Answer) {
-    match host.accept() {
+fn numbered(given: Result<impl Display + Drop, HostRefusal>, answer: &mut Answer) {
+    match given {
         Ok(number) => {
             answer.begin("ok");
             answer.show(number)
