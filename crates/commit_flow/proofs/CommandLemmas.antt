@@ -1,5 +1,5 @@
 -- What a command leaves, from what the store's call leaves.
-use Rattle.std.proofs.Common.{◌≡◌, ℕ, List, [], length, Option, Ok, Err, inl, refl, sym, subst, arith}
+use Rattle.std.proofs.Common.{◌≡◌, ℕ, List, length, Option, Ok, Err, inl, refl, sym, subst, arith}
 use Rattle.std.proofs.lemmas.List.{length-map}
 use Rattle.sqlite_trees.specs.declared.store.Store.{Ghosts}
 use Rattle.sqlite_trees.specs.Tree.{Trees}
@@ -22,11 +22,12 @@ use Rattle.commit_flow.specs.declared.command.Command.{Command}
 use Rattle.commit_flow.specs.declared.command.Command.TheVariants.{Add, Remove, Accept, Forget}
 use Rattle.commit_flow.specs.declared.host_refusal.HostRefusal.{HostRefusal}
 use Rattle.commit_flow.specs.declared.host_refusal.HostRefusal.TheVariants.{Collision}
-use Rattle.commit_flow.specs.declared.reply.Reply.TheVariants.{Added, Removed, Accepted, Forgot}
-use Rattle.commit_flow.specs.Crashes.{IsOneCommand, LeavesDone}
+use Rattle.commit_flow.specs.declared.reply.Reply.{Reply}
+use Rattle.commit_flow.specs.declared.reply.Reply.TheVariants.{Added, Removed, Accepted, Forgot, Refused}
 use Rattle.commit_flow.specs.Refusals.{of_store}
 use Rattle.commit_flow.specs.StagedPaths.{IsLegal, IsStaged}
 use Rattle.commit_flow.specs.Steps.{HasFixes, IsAddable, entry_to_add, mode_to_add}
+use Rattle.commit_flow.specs.Stops.{IsOneCommand, LeavesDone}
 
 -- where nothing happens, a crash leaves what it could leave
 pub survives_itself : (s : State) (P : Trees → Type 0) → Survives s s P
@@ -40,16 +41,16 @@ survives_itself s P = record {
 }
 
 -- a command that asks the store for one change
-module _ {S : Type 0} (g : Ghosts S) (old new : Shown S) (command : Command) (asked after : Kept) (is : asked ≡ after) (reached : (trees : Trees) → Leaves after trees → LeavesDone old.kept.repo command trees) where
-  leaves_done : Survives (state g old.conn) (state g new.conn) (Leaves asked) → Survives (state g old.conn) (state g new.conn) (LeavesDone old.kept.repo command)
+module _ {S : Type 0} (g : Ghosts S) (old new : Shown S) (command : Command) (asked after : Kept) (is : asked ≡ after) (reached : (trees : Trees) → Leaves after trees → LeavesDone old.kept command trees) where
+  leaves_done : Survives (state g old.conn) (state g new.conn) (Leaves asked) → Survives (state g old.conn) (state g new.conn) (LeavesDone old.kept command)
   leaves_done =
-      survives_weaker (state g old.conn) (state g new.conn) (Leaves asked) (LeavesDone old.kept.repo command) (λ _ trees leaves. reached trees (subst (λ (kept : Kept). Leaves kept trees) is leaves))
+      survives_weaker (state g old.conn) (state g new.conn) (Leaves asked) (LeavesDone old.kept command) (λ _ trees leaves. reached trees (subst (λ (kept : Kept). Leaves kept trees) is leaves))
 
-  pub refused_command : {A B E : Type 0} (fault : E) (refusal : HostRefusal) → IsOneTransaction {A = A} g old new (Err fault) asked → IsOneCommand {A = B} g old new command (Err refusal)
-  refused_command fault refusal one = record { stands = λ _. one.stands; crash = leaves_done one.crash; durable = tt }
+  pub refused_command : {A E : Type 0} (fault : E) (refusal : HostRefusal) → IsOneTransaction {A = A} g old new (Err fault) asked → IsOneCommand g old new command (Refused refusal)
+  refused_command fault refusal one = record { stands = λ _. one.stands; crash = leaves_done one.crash; durable = λ done. absurd done }
 
-  pub done_command : {A B E : Type 0} (x : A) (y : B) → new.kept ≡ asked → IsOneTransaction {E = E} g old new (Ok x) asked → IsOneCommand {A = B} g old new command (Ok y)
-  done_command x y same one = record { stands = λ _. one.stands; crash = leaves_done one.crash; durable = subst (LeavesOnly g new.conn) (sym same) one.durable }
+  pub done_command : {A E : Type 0} (x : A) (reply : Reply) → new.kept ≡ asked → IsOneTransaction {E = E} g old new (Ok x) asked → IsOneCommand g old new command reply
+  done_command x reply same one = record { stands = λ _. one.stands; crash = leaves_done one.crash; durable = λ _. subst (LeavesOnly g new.conn) (sym same) one.durable }
 
 -- the store refuses a file by contents that collide
 pub add_collides : (path bytes : List ℕ) (mode : Mode) (kept : Kept) (fault : StoreFault)
@@ -69,33 +70,33 @@ pub same_staging : (kept : Kept) (path bytes : List ℕ) (asked : Option Mode) (
     → staging taken (record { mode = mode; bytes = bytes }) kept ≡ staging path (entry_to_add kept.repo path bytes asked) kept
 same_staging kept path bytes asked taken mode same is = let moded = rw same at is in rw (same, moded) refl
 
-pub add_reached : (kept : Kept) (path bytes : List ℕ) (asked : Option Mode) → IsAddable kept.repo path bytes → (trees : Trees) → Leaves (staging path (entry_to_add kept.repo path bytes asked) kept) trees → LeavesDone kept.repo (Add path bytes asked) trees
+pub add_reached : (kept : Kept) (path bytes : List ℕ) (asked : Option Mode) → IsAddable kept.repo path bytes → (trees : Trees) → Leaves (staging path (entry_to_add kept.repo path bytes asked) kept) trees → LeavesDone kept (Add path bytes asked) trees
 add_reached kept path bytes asked addable trees leaves = record {
   kept = staging path (entry_to_add kept.repo path bytes asked) kept;
   reply = Added;
   done = tt;
-  parts = [];
   step = (record { addable = addable; fits = leaves.complete.sound.staged_fit; made = refl }, refl);
+  remembers = refl;
   leaves = leaves;
 }
 
-pub remove_reached : (kept : Kept) (path : List ℕ) → IsLegal path → IsStaged path kept.repo → (trees : Trees) → Leaves (unstaging path kept) trees → LeavesDone kept.repo (Remove path) trees
+pub remove_reached : (kept : Kept) (path : List ℕ) → IsLegal path → IsStaged path kept.repo → (trees : Trees) → Leaves (unstaging path kept) trees → LeavesDone kept (Remove path) trees
 remove_reached kept path legal staged trees leaves = record {
   kept = unstaging path kept;
   reply = Removed;
   done = tt;
-  parts = [];
   step = (record { legal = legal; staged = staged; made = refl }, refl);
+  remembers = refl;
   leaves = leaves;
 }
 
-accept_reached : (kept : Kept) → HasFixes kept.repo → (trees : Trees) → Leaves (accepting kept) trees → LeavesDone kept.repo Accept trees
+accept_reached : (kept : Kept) → HasFixes kept.repo → (trees : Trees) → Leaves (accepting kept) trees → LeavesDone kept Accept trees
 accept_reached kept some trees leaves = record {
   kept = accepting kept;
   reply = Accepted (length kept.repo.fixes);
   done = tt;
-  parts = [];
   step = (record { some = some; counted = refl; made = refl }, refl);
+  remembers = refl;
   leaves = leaves;
 }
 
@@ -104,33 +105,33 @@ module _ {S : Type 0} (g : Ghosts S) (before old new : Shown S) (is : old ≡ be
   kept_fixes : HasFixes old.kept.repo
   kept_fixes = subst (λ (at : Shown S). HasFixes at.kept.repo) (sym is) some
 
-  pub accept_refused : {A B E : Type 0} (fault : E) (refusal : HostRefusal) → IsOneTransaction {A = A} g old new (Err fault) (accepting old.kept) → IsOneCommand {A = B} g before new Accept (Err refusal)
-  accept_refused {B = B} fault refusal one =
-      subst (λ (at : Shown S). IsOneCommand {A = B} g at new Accept (Err refusal)) is
+  pub accept_refused : {A E : Type 0} (fault : E) (refusal : HostRefusal) → IsOneTransaction {A = A} g old new (Err fault) (accepting old.kept) → IsOneCommand g before new Accept (Refused refusal)
+  accept_refused fault refusal one =
+      subst (λ (at : Shown S). IsOneCommand g at new Accept (Refused refusal)) is
       (refused_command g old new Accept (accepting old.kept) (accepting old.kept) refl (accept_reached old.kept kept_fixes) fault refusal one)
 
-  pub accept_done : {A B E : Type 0} (x : A) → new.kept ≡ accepting old.kept → IsOneTransaction {E = E} g old new (Ok x) (accepting old.kept) → (y : B) → IsOneCommand {A = B} g before new Accept (Ok y)
-  accept_done {B = B} x same one y =
-      subst (λ (at : Shown S). IsOneCommand {A = B} g at new Accept (Ok y)) is
-      (done_command g old new Accept (accepting old.kept) (accepting old.kept) refl (accept_reached old.kept kept_fixes) x y same one)
+  pub accept_done : {A E : Type 0} (x : A) → new.kept ≡ accepting old.kept → IsOneTransaction {E = E} g old new (Ok x) (accepting old.kept) → (number : ℕ) → IsOneCommand g before new Accept (Accepted number)
+  accept_done x same one number =
+      subst (λ (at : Shown S). IsOneCommand g at new Accept (Accepted number)) is
+      (done_command g old new Accept (accepting old.kept) (accepting old.kept) refl (accept_reached old.kept kept_fixes) x (Accepted number) same one)
 
-forget_reached : (kept : Kept) (trees : Trees) → Leaves (forgetting kept) trees → LeavesDone kept.repo Forget trees
+forget_reached : (kept : Kept) (trees : Trees) → Leaves (forgetting kept) trees → LeavesDone kept Forget trees
 forget_reached kept trees leaves = record {
   kept = forgetting kept;
   reply = Forgot (length kept.answers);
   done = tt;
-  parts = [];
   step = (refl, refl);
+  remembers = record { none = refl };
   leaves = leaves;
 }
 
 -- the answers are forgotten, whatever number is answered
 module _ {S : Type 0} (g : Ghosts S) (old new : Shown S) where
-  pub forget_refused : {A B E : Type 0} (fault : E) (refusal : HostRefusal) → IsOneTransaction {A = A} g old new (Err fault) (forgetting old.kept) → IsOneCommand {A = B} g old new Forget (Err refusal)
+  pub forget_refused : {A E : Type 0} (fault : E) (refusal : HostRefusal) → IsOneTransaction {A = A} g old new (Err fault) (forgetting old.kept) → IsOneCommand g old new Forget (Refused refusal)
   forget_refused fault refusal one = refused_command g old new Forget (forgetting old.kept) (forgetting old.kept) refl (forget_reached old.kept) fault refusal one
 
-  pub forget_done : {A B E : Type 0} (x : A) (y : B) → new.kept ≡ forgetting old.kept → IsOneTransaction {E = E} g old new (Ok x) (forgetting old.kept) → IsOneCommand {A = B} g old new Forget (Ok y)
-  forget_done x y same one = done_command g old new Forget (forgetting old.kept) (forgetting old.kept) refl (forget_reached old.kept) x y same one
+  pub forget_done : {A E : Type 0} (x : A) (number : ℕ) → new.kept ≡ forgetting old.kept → IsOneTransaction {E = E} g old new (Ok x) (forgetting old.kept) → IsOneCommand g old new Forget (Forgot number)
+  forget_done x number same one = done_command g old new Forget (forgetting old.kept) (forgetting old.kept) refl (forget_reached old.kept) x (Forgot number) same one
 
 -- as many are remembered as the store has answers, and none once they are forgotten
 pub count_remembered : (kept : Kept) → length kept.answers ≡ count_of (remembered_by kept)

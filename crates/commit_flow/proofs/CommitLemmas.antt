@@ -1,5 +1,5 @@
 -- A commit as a step between two moments: one lemma for each of its ends.
-use Rattle.std.proofs.Common.{◌≡◌, ◌∙◌, ap, inl, inr, sym, subst, refl, ℕ, ◌+◌, ◌-◌, ◌^◌, Bool, false, List, [], ◌++◌, length}
+use Rattle.std.proofs.Common.{◌≡◌, ◌∙◌, ap, append_assoc, inl, inr, sym, subst, refl, ℕ, ◌+◌, ◌-◌, ◌^◌, Bool, false, List, [], ◌++◌, length}
 use Rattle.std.proofs.lemmas.List.{append-nil}
 use Rattle.hook_base.specs.declared.change.Change.{Change}
 use Rattle.hook_base.specs.declared.file.File.{File}
@@ -142,6 +142,11 @@ module _ (tells : List (List ℕ) → List File → Outcome → Type 0) (repo : 
 
 -- ---- the ends
 
+-- these parts are a first stretch of all that was answered for the commit: of those of its reply, and those that it leaves out
+pub record IsFront (front all : List Part) : Type 0 where
+  pub behind : List Part
+  pub joined : all ≡ front ++ behind
+
 module _ (tells : List (List ℕ) → List File → Outcome → Type 0) (from to : Moment) (before : Repository) (message : List ℕ) (no_verify : Bool) (skip : List (List ℕ)) where
   -- the reply stands on all that was answered
   step_on_all : (reply : Reply) (after : Kept) (parts : List Part) → Step before (Commit message no_verify skip) reply parts after.repo → AreLeftOut tells to to before message no_verify skip [] after.contents reply
@@ -247,6 +252,25 @@ module _ (tells : List (List ℕ) → List File → Outcome → Type 0) (before 
           step_unfixed after same EmptyMessage why = absurd why
           step_unfixed after same Clash why = absurd why
 
+          pub step_unfixed-front : (after : Kept) (same : after.repo ≡ before) (refusal : HostRefusal) (why : IsUnfixed after.contents (changes_between before.staged left.tree) refusal)
+              → IsFront (parts_of over.told) ((step_unfixed after same refusal why).parts ++ (step_unfixed after same refusal why).left_out)
+          unfolding step_unfixed step_lost step_halted step_unstored step_on_none halted_for_memory
+          step_unfixed-front after same OutOfMemory why = record { behind = []; joined = sym (append-nil (parts_of over.told)) }
+          step_unfixed-front after same (Store fault) why = record { behind = []; joined = sym (append-nil (parts_of over.told)) }
+          step_unfixed-front after same Collision why = record { behind = []; joined = sym (append-nil (parts_of over.told)) }
+          step_unfixed-front after same Spent why = absurd why
+          step_unfixed-front after same NoConfig why = absurd why
+          step_unfixed-front after same (BadConfig fault) why = absurd why
+          step_unfixed-front after same (BadPath fault) why = absurd why
+          step_unfixed-front after same NotStaged why = absurd why
+          step_unfixed-front after same TooLarge why = absurd why
+          step_unfixed-front after same TooMany why = absurd why
+          step_unfixed-front after same NoSuchHook why = absurd why
+          step_unfixed-front after same NothingStaged why = absurd why
+          step_unfixed-front after same NoFixes why = absurd why
+          step_unfixed-front after same EmptyMessage why = absurd why
+          step_unfixed-front after same Clash why = absurd why
+
           -- a hook failed, and the fixes are set
           pub step_failed : (after : Kept) → after.repo ≡ fixing (changes_between before.staged left.tree) before
               → IsCommitStep tells from to before message no_verify skip (HooksFailed stage reports) after
@@ -254,6 +278,11 @@ module _ (tells : List (List ℕ) → List File → Outcome → Type 0) (before 
               step_on_all tells from to before message no_verify skip (HooksFailed stage reports) after (parts_of over.told)
               (record { config = config; told = over.told; last = left; committable = committable; configured = configured; run = over.ran_so; reported = over.reported; traced = refl; made = made })
               (refl, refl) (λ says. says) over.answered
+
+          pub step_failed-front : (after : Kept) (made : after.repo ≡ fixing (changes_between before.staged left.tree) before)
+              → IsFront (parts_of over.told) ((step_failed after made).parts ++ (step_failed after made).left_out)
+          unfolding step_failed step_on_all
+          step_failed-front after made = record { behind = []; joined = refl }
 
         module _ (left : Course) (over : AreStagesOver tells from to reports (λ told. HavePassed config (changed_paths before) skip (stages_before_commit no_verify) (course_of before message) told left)) where
           verified : IsVerified before message no_verify skip config over.told left.message
@@ -284,6 +313,25 @@ module _ (tells : List (List ℕ) → List File → Outcome → Type 0) (before 
           step_uncommitted after same Collision why = absurd why
           step_uncommitted after same Spent why = absurd why
           step_uncommitted after same Clash why = absurd why
+
+          pub step_uncommitted-front : (after : Kept) (same : after.repo ≡ before) (refusal : HostRefusal) (why : IsUncommitted before (cleaned_message left.message) refusal)
+              → IsFront (parts_of over.told) ((step_uncommitted after same refusal why).parts ++ (step_uncommitted after same refusal why).left_out)
+          unfolding step_uncommitted step_lost step_halted step_unstored step_on_none step_on_all halted_for_memory
+          step_uncommitted-front after same EmptyMessage why = record { behind = []; joined = refl }
+          step_uncommitted-front after same TooMany why = record { behind = []; joined = refl }
+          step_uncommitted-front after same (Store fault) why = record { behind = []; joined = sym (append-nil (parts_of over.told)) }
+          step_uncommitted-front after same OutOfMemory why = record { behind = []; joined = sym (append-nil (parts_of over.told)) }
+          step_uncommitted-front after same NoConfig why = absurd why
+          step_uncommitted-front after same (BadConfig fault) why = absurd why
+          step_uncommitted-front after same (BadPath fault) why = absurd why
+          step_uncommitted-front after same NotStaged why = absurd why
+          step_uncommitted-front after same TooLarge why = absurd why
+          step_uncommitted-front after same NoSuchHook why = absurd why
+          step_uncommitted-front after same NothingStaged why = absurd why
+          step_uncommitted-front after same NoFixes why = absurd why
+          step_uncommitted-front after same Collision why = absurd why
+          step_uncommitted-front after same Spent why = absurd why
+          step_uncommitted-front after same Clash why = absurd why
 
           module _ (next : List (List ℕ) → List File → Outcome → Type 0) (end : Moment) (number : ℕ) (after : Kept) (same : SameTells tells next)
               (may : MayCommit before (cleaned_message left.message)) (counted : number ≡ length before.history + 1) (made : after.repo ≡ with_new_commit (cleaned_message left.message) before) where
@@ -327,3 +375,9 @@ module _ (tells : List (List ℕ) → List File → Outcome → Type 0) (before 
               put = λ says. so-far-back_to-last tells next same false to end behind.parts behind.answered ∙ behind.put (says_stopped number reports refusal says);
               spent = λ says. behind.spent (says_stopped number reports refusal says);
             }
+
+            pub step_committed-front : (post : PostCommit) (behind : IsPostOver next to end config before.staged skip post)
+                → IsFront (parts_of over.told) ((step_committed post behind).parts ++ (step_committed post behind).left_out)
+            unfolding step_committed step_on_all
+            step_committed-front (Told report) behind = record { behind = all_parts behind.told.trace ++ []; joined = append_assoc (parts_of over.told) (all_parts behind.told.trace) [] }
+            step_committed-front (Stopped refusal) behind = record { behind = behind.parts; joined = append_assoc (parts_of over.told) [] behind.parts }

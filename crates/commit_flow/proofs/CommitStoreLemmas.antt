@@ -1,6 +1,7 @@
 -- What a commit leaves in the store's tables, from what the store's call leaves.
 use Rattle.std.proofs.Common.{◌≡◌, ◌≢◌, ◌∙◌, ℕ, ◌+◌, ◌≤◌, Bool, true, false, List, [], ◌∷◌, ◌++◌, length, length-append, Ok, Err, refl, sym, subst, ap, arith}
 use Rattle.std.specs.List.{AllByRecursion}
+use Rattle.std.proofs.lemmas.List.{append-nil}
 use Rattle.std.specs.Bool.{Decides}
 use Rattle.std.specs.Cmp.Lexicographic.{pointwise, pointwise_decides}
 use Rattle.sqlite_trees.specs.declared.store.Store.{Ghosts}
@@ -14,6 +15,7 @@ use Rattle.hook_base.specs.Trees.{changes_between}
 use Rattle.hook_config.specs.declared.configuration.Config.{Config}
 use Rattle.hook_config.specs.declared.stage.Stage.{Stage}
 use Rattle.hook_run.specs.declared.run_refusal.RunRefusal.TheVariants as run
+use Rattle.hook_run.specs.Parts.{Part}
 use Rattle.store_tables.specs.declared.rows.CommitRow.{CommitRow}
 use Rattle.repo_store.specs.declared.fault.StoreFault.{StoreFault}
 use Rattle.repo_store.specs.declared.fault.StoreFault.TheVariants as store
@@ -23,7 +25,6 @@ use Rattle.repo_store.specs.Limits.{IsSmall, most_commits}
 use Rattle.repo_store.specs.Repository.{Commit as Entry, Repository, last_tree, staged_changes, with_fixes, with_new_commit}
 use Rattle.repo_store.specs.Rows.{commit_rows}
 use Rattle.repo_store.specs.Shown.{IsOneTransaction, Leaves, LeavesOnly, Shown}
-use Rattle.result_book.specs.StoreBooks.{LeavesRepository}
 use Rattle.commit_flow.specs.declared.command.Command.TheVariants.{Commit}
 use Rattle.commit_flow.specs.declared.course.Course.{Course}
 use Rattle.commit_flow.specs.declared.host_refusal.HostRefusal.{HostRefusal}
@@ -33,10 +34,10 @@ use Rattle.commit_flow.specs.CommitCalls.{IsOneChange, IsUncommitted, IsUnfixed}
 use Rattle.commit_flow.specs.CommitStages.{FailedAt, StageTold, course_of, parts_of, reports_of, stages_before_commit}
 use Rattle.commit_flow.specs.Commits.{HasNothingNew, IsCommittable, IsVerified, MayCommit}
 use Rattle.commit_flow.specs.Configured.{IsConfigured}
-use Rattle.commit_flow.specs.Crashes.{LeavesDone}
 use Rattle.commit_flow.specs.Messages.{cleaned_message}
 use Rattle.commit_flow.specs.Refusals.{of_store}
 use Rattle.commit_flow.specs.Runs.{changed_paths, fixing}
+use Rattle.commit_flow.specs.Stops.{Reaches}
 use Rattle.commit_flow.proofs.CommandLemmas.{survives_itself}
 use Rattle.commit_flow.proofs.FixLemmas.{changes_are_staged}
 
@@ -74,83 +75,65 @@ last_small : (n : ℕ) (history : List Entry) (entry : Entry) → AllByRecursion
 last_small n [] entry all = all.0
 last_small n (first ∷ history) entry all = last_small (n + 1) history entry all.1
 
-pub commit_reached : (kept : Kept) (message : List ℕ) (no_verify : Bool) (skip : List (List ℕ)) (config : Config) (told : List StageTold) (last : List ℕ)
-    → IsVerified kept.repo message no_verify skip config told last → (cleaned_message last ≡ [] → ⊥)
-    → (trees : Trees) → Leaves (committing (cleaned_message last) kept) trees → LeavesDone kept.repo (Commit message no_verify skip) trees
-commit_reached kept message no_verify skip config told last verified some trees leaves =
-    let numbered = leaves.complete.sound.numbered in
-    let long = length-append kept.repo.history (record { message = cleaned_message last; tree = kept.repo.staged } ∷ []) in
-    record {
-      kept = committing (cleaned_message last) kept;
-      reply = Committed (length kept.repo.history + 1) (reports_of told) (Stopped run.OutOfMemory);
-      done = tt;
-      parts = parts_of told ++ [];
-      step = record {
-        config = config;
-        told = told;
-        last = last;
-        post_parts = [];
-        verified = verified;
-        some = some;
-        small = last_small 1 kept.repo.history (record { message = cleaned_message last; tree = kept.repo.staged }) leaves.obeys.commits.messages_small;
-        room = omega arith;
-        counted = refl;
-        reported = refl;
-        behind = (λ is. cc, tt, refl);
-        traced = refl;
-        made = refl;
-      };
-      leaves = leaves;
-    }
+-- the parts of the stages are a first stretch of all that was answered
+module _ (message : List ℕ) (no_verify : Bool) (skip : List (List ℕ)) (config : Config) (told : List StageTold) (behind : List Part) where
+  -- so a commit that may be made is reached
+  pub commit_made : (before : Repository) (last : List ℕ) → IsVerified before message no_verify skip config told last → MayCommit before (cleaned_message last)
+      → Reaches before (Commit message no_verify skip) (parts_of told ++ behind) (with_new_commit (cleaned_message last) before)
+  commit_made before last verified may = record {
+    first = parts_of told;
+    others = behind;
+    stretch = refl;
+    reply = Committed (length before.history + 1) (reports_of told) (Stopped run.OutOfMemory);
+    done = tt;
+    step = record {
+      config = config;
+      told = told;
+      last = last;
+      post_parts = [];
+      verified = verified;
+      some = may.some;
+      small = may.small;
+      room = may.room;
+      counted = refl;
+      reported = refl;
+      behind = (λ is. cc, tt, refl);
+      traced = sym (append-nil (parts_of told));
+      made = refl;
+    };
+  }
 
--- and so is what is left of it behind the commit
-pub commit_left : (before : Repository) (message : List ℕ) (no_verify : Bool) (skip : List (List ℕ)) (config : Config) (told : List StageTold) (last : List ℕ)
-    → IsVerified before message no_verify skip config told last → MayCommit before (cleaned_message last)
-    → (trees : Trees) → LeavesRepository (with_new_commit (cleaned_message last) before) trees → LeavesDone before (Commit message no_verify skip) trees
-commit_left before message no_verify skip config told last verified may trees left = record {
-  kept = left.kept;
-  reply = Committed (length before.history + 1) (reports_of told) (Stopped run.OutOfMemory);
-  done = tt;
-  parts = parts_of told ++ [];
-  step = record {
-    config = config;
-    told = told;
-    last = last;
-    post_parts = [];
-    verified = verified;
-    some = may.some;
-    small = may.small;
-    room = may.room;
-    counted = refl;
-    reported = refl;
-    behind = (λ is. cc, tt, refl);
-    traced = refl;
-    made = left.same;
-  };
-  leaves = left.leaves;
-}
+  -- and one that the store has taken may be made
+  pub commit_reached : (kept : Kept) (last : List ℕ) → IsVerified kept.repo message no_verify skip config told last → (cleaned_message last ≡ [] → ⊥)
+      → (trees : Trees) → Leaves (committing (cleaned_message last) kept) trees → Reaches kept.repo (Commit message no_verify skip) (parts_of told ++ behind) (committing (cleaned_message last) kept).repo
+  commit_reached kept last verified some trees leaves =
+      let numbered = leaves.complete.sound.numbered in
+      let long = length-append kept.repo.history (record { message = cleaned_message last; tree = kept.repo.staged } ∷ []) in
+      let small = last_small 1 kept.repo.history (record { message = cleaned_message last; tree = kept.repo.staged }) leaves.obeys.commits.messages_small in
+      commit_made kept.repo last verified (record { some = λ none. some none; small = small; room = omega arith })
 
-pub fix_reached : (kept : Kept) (message : List ℕ) (no_verify : Bool) (skip : List (List ℕ)) (config : Config) (told : List StageTold) (failed : Stage) (last : Course)
-    → IsCommittable kept.repo message → IsConfigured kept.repo config → FailedAt config (changed_paths kept.repo) skip (stages_before_commit no_verify) (course_of kept.repo message) told failed last
-    → (trees : Trees) → Leaves (setting (changes_between kept.repo.staged last.tree) kept) trees → LeavesDone kept.repo (Commit message no_verify skip) trees
-fix_reached kept message no_verify skip config told failed last committable configured run trees leaves = record {
-  kept = setting (changes_between kept.repo.staged last.tree) kept;
-  reply = HooksFailed failed (reports_of told);
-  done = tt;
-  parts = parts_of told;
-  step = record {
-    config = config;
-    told = told;
-    last = last;
-    committable = committable;
-    configured = configured;
-    run = run;
-    reported = refl;
-    traced = refl;
-    made = same_fixing kept.repo last.tree;
-  };
-  leaves = leaves;
-}
+  -- so are the fixes where a hook failed
+  pub fix_reached : (kept : Kept) (failed : Stage) (last : Course) → IsCommittable kept.repo message → IsConfigured kept.repo config
+      → FailedAt config (changed_paths kept.repo) skip (stages_before_commit no_verify) (course_of kept.repo message) told failed last
+      → Reaches kept.repo (Commit message no_verify skip) (parts_of told ++ behind) (setting (changes_between kept.repo.staged last.tree) kept).repo
+  fix_reached kept failed last committable configured ran = record {
+    first = parts_of told;
+    others = behind;
+    stretch = refl;
+    reply = HooksFailed failed (reports_of told);
+    done = tt;
+    step = record {
+      config = config;
+      told = told;
+      last = last;
+      committable = committable;
+      configured = configured;
+      run = ran;
+      reported = refl;
+      traced = refl;
+      made = same_fixing kept.repo last.tree;
+    };
+  }
 
 -- ---- why the store refuses
 

@@ -3,11 +3,13 @@ pub mod CommandLemmas
 pub mod CommitAnswerLemmas
 pub mod CommitEnds
 pub mod CommitLemmas
+pub mod CommitSafe
 pub mod CommitStoreLemmas
 pub mod ConfigLemmas
 pub mod EditStepLemmas
 pub mod FixLemmas
 pub mod HookCommandLemmas
+pub mod LeftLemmas
 pub mod MessageLemmas
 pub mod PathLemmas
 pub mod PlayAnswerLemmas
@@ -16,7 +18,10 @@ pub mod PlayLemmas
 pub mod PlayStartLemmas
 pub mod RefusalLemmas
 pub mod RunAnswerLemmas
+pub mod RunEnds
 pub mod RunLemmas
+pub mod SafeLemmas
 pub mod StageAnswerLemmas
 pub mod StagesLemmas
 pub mod StepLemmas
+pub mod StopLawLemmas

@@ -6,7 +6,7 @@ use Rattle.hook_base.specs.declared.file.File.{File}
 use Rattle.child_port.specs.declared.answer.Outcome.{Outcome}
 use Rattle.child_port.specs.declared.answer.Outcome.TheVariants.{Done}
 use Rattle.child_port.specs.Telling.{SameTells}
-use Rattle.child_port.specs.TellingLemmas.{SameTells-refl}
+use Rattle.result_book.specs.ToldLemmas.{told-adds}
 use Rattle.result_book.specs.Told.{IsTold}
 use Rattle.hook_run.specs.AnswerLemmas.{told-back_to}
 use Rattle.hook_run.specs.Answers.{AreAnswered}
@@ -28,7 +28,7 @@ use Rattle.commit_flow.specs.Steps.{Step}
 use Rattle.commit_flow.specs.TwoHosts.{IsSteady, IsUnhindered, IsUnhinderedPlay, IsUnhinderedRun, without_memory, without_number}
 use Rattle.commit_flow.proofs.CommitAnswerLemmas.{same_commit}
 use Rattle.commit_flow.proofs.PlayLawLemmas.{faults_at_least}
-use Rattle.commit_flow.proofs.PlayLemmas.{more_played, none_played}
+use Rattle.commit_flow.proofs.PlayLemmas.{one_adds}
 use Rattle.commit_flow.proofs.RunAnswerLemmas.{AreAlike, same_run}
 use Rattle.commit_flow.proofs.StageAnswerLemmas.{AreClear, clear_as, clear_back, clear_front}
 use Rattle.commit_flow.proofs.StepLemmas.{one_answer}
@@ -123,7 +123,7 @@ module _ (tells : List (List ℕ) → List File → Outcome → Type 0) (alone :
 
   still_told : (from to : Moment) (before after : Repository) (command : Command) (reply : Reply) → IsPlayed tells from to before command reply after → IsTold tells from.remembered → IsTold tells to.remembered
   still_told from to before after command reply played book =
-      (more_played tells tells from from to before before after [] [] command reply (SameTells-refl tells) (none_played tells from before) played).told_then book
+      told-adds tells from.remembered to.remembered book (one_adds tells from to before command reply after played)
 
   steady_replies : (from to : Moment) (before after : Repository) (commands : List Command) (replies : List Reply) (parts : List Part)
       → ArePlayed tells from to before commands replies parts after → IsTold tells from.remembered → All IsSteady replies

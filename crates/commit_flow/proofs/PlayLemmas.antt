@@ -1,6 +1,5 @@
 -- What a command that is played comes to, and a list of them.
-use Rattle.std.proofs.Common.{◌≡◌, ◌⊎◌, ◌∙◌, inl, inr, sym, subst, refl, ap, append_assoc, ℕ, ◌-◌, ◌^◌, Bool, List, [], ◌∷◌, ◌++◌, map}
-use Rattle.std.proofs.lemmas.List.{append-nil}
+use Rattle.std.proofs.Common.{◌≡◌, ◌⊎◌, ◌∙◌, inl, inr, sym, subst, refl, ap, ℕ, ◌-◌, ◌^◌, Bool, List, [], ◌∷◌, map}
 use Rattle.hook_base.specs.declared.change.Change.{Change}
 use Rattle.hook_base.specs.declared.file.File.{File}
 use Rattle.child_port.specs.declared.answer.Outcome.{Outcome}
@@ -63,13 +62,13 @@ module _ (tells : List (List ℕ) → List File → Outcome → Type 0) (from to
 
 -- by children that tell the same
 module _ (tells next : List (List ℕ) → List File → Outcome → Type 0) (same : SameTells tells next) (from to : Moment) where
-  made_back : (command : Command) (reply : Reply) (parts : List Part) → Makes next from to command reply parts → Makes tells from to command reply parts
+  pub made_back : (command : Command) (reply : Reply) (parts : List Part) → Makes next from to command reply parts → Makes tells from to command reply parts
   made_back Forget reply parts makes = makes
   made_back command reply parts makes = answered-back_to tells next same (is_fresh command) from to parts makes
 
 -- ---- a command that runs no hooks
 
-unspent : (before after : Repository) (command : Command) (reply : Reply) (parts : List Part) → Step before command reply parts after → (¬ RunsHooks command) → SaysSpent reply → ⊥
+pub unspent : (before after : Repository) (command : Command) (reply : Reply) (parts : List Part) → Step before command reply parts after → (¬ RunsHooks command) → SaysSpent reply → ⊥
 unspent before after (Run ask) reply parts step runless says = runless tt
 unspent before after (Commit message no_verify skip) reply parts step runless says = runless tt
 unspent before after (Add path bytes asked) (Refused Spent) parts step runless says = step.0.0
@@ -82,7 +81,7 @@ unspent before after Accept (Committed number reports (Stopped run.Spent)) parts
 unspent before after Forget (Committed number reports (Stopped run.Spent)) parts step runless says = step
 unspent before after command reply parts step runless says = says
 
-pub runless_played : (tells : List (List ℕ) → List File → Outcome → Type 0) (from to : Moment) (before after : Repository) (command : Command) (reply : Reply)
+unfoldable pub runless_played : (tells : List (List ℕ) → List File → Outcome → Type 0) (from to : Moment) (before after : Repository) (command : Command) (reply : Reply)
     → (¬ RunsHooks command) → Step before command reply [] after → Makes tells from to command reply [] → IsPlayed tells from to before command reply after
 runless_played tells from to before after command reply runless step makes = record {
   parts = [];
@@ -109,7 +108,7 @@ unmade_of tells fresh calls faults book book_after same = none_answered tells (m
 
 -- ---- a run
 
-pub run_played : (tells : List (List ℕ) → List File → Outcome → Type 0) (from to : Moment) (before after : Repository) (ask : HostAsk) (ran : StagedRun)
+unfoldable pub run_played : (tells : List (List ℕ) → List File → Outcome → Type 0) (from to : Moment) (before after : Repository) (ask : HostAsk) (ran : StagedRun)
     → IsRunStep tells from to before ask ran after → IsPlayed tells from to before (Run ask) (reply_of_run ran) after
 run_played tells from to before after ask ran over = record {
   parts = over.parts;
@@ -126,18 +125,18 @@ run_played tells from to before after ask ran over = record {
 }
 
 module _ (tells : List (List ℕ) → List File → Outcome → Type 0) (from to : Moment) (before : Repository) (ask : HostAsk) (parts : List Part) (contents : List (List ℕ)) where
-  none_left : (refusal : HostRefusal) → IsStoppedAt tells from to before ask parts contents refusal → StandsOnAll (Refused refusal) → IsUnrun from to parts
+  pub none_left : (refusal : HostRefusal) → IsStoppedAt tells from to before ask parts contents refusal → StandsOnAll (Refused refusal) → IsUnrun from to parts
   none_left OutOfMemory stopped stands = absurd stands
   none_left (Store fault) stopped stands = absurd stands
   none_left Collision stopped stands = absurd stands
   none_left Spent stopped stands = absurd stands
   none_left refusal stopped stands = stopped
 
-  run_spent : (refusal : HostRefusal) → IsStoppedAt tells from to before ask parts contents refusal → SaysSpent (Refused refusal) → to.calls ≡ 2 ^ 64 - 1
+  pub run_spent : (refusal : HostRefusal) → IsStoppedAt tells from to before ask parts contents refusal → SaysSpent (Refused refusal) → to.calls ≡ 2 ^ 64 - 1
   run_spent Spent stopped says = stopped.1
   run_spent refusal stopped says = absurd says
 
-  run_needed : (refusal : HostRefusal) → IsStoppedAt tells from to before ask parts contents refusal → SaysSpent (Refused refusal) → HasFurther before ask to.remembered parts
+  pub run_needed : (refusal : HostRefusal) → IsStoppedAt tells from to before ask parts contents refusal → SaysSpent (Refused refusal) → HasFurther before ask to.remembered parts
   run_needed Spent stopped says = stopped.0
   run_needed refusal stopped says = absurd says
 
@@ -151,7 +150,7 @@ module _ (tells : List (List ℕ) → List File → Outcome → Type 0) (from to
   store_begun reason (inl behind) = ran_begun reason behind.0
   store_begun reason (inr begun) = begun
 
-  run_begun : (refusal : HostRefusal) → IsStoppedAt tells from to before ask parts contents refusal → IsUnrun from to parts ⊎ HasBegun before ask parts
+  pub run_begun : (refusal : HostRefusal) → IsStoppedAt tells from to before ask parts contents refusal → IsUnrun from to parts ⊎ HasBegun before ask parts
   run_begun OutOfMemory stopped = stopped
   run_begun Spent stopped =
       let further = stopped.0 in
@@ -160,7 +159,7 @@ module _ (tells : List (List ℕ) → List File → Outcome → Type 0) (from to
   run_begun (Store fault) stopped = inr (store_begun (IsUnset fault) stopped)
   run_begun refusal stopped = inl stopped
 
-pub stopped_played : (tells : List (List ℕ) → List File → Outcome → Type 0) (from to : Moment) (before : Repository) (ask : HostAsk) (after : Kept) (refusal : HostRefusal)
+unfoldable pub stopped_played : (tells : List (List ℕ) → List File → Outcome → Type 0) (from to : Moment) (before : Repository) (ask : HostAsk) (after : Kept) (refusal : HostRefusal)
     → IsStoppedStep tells from to before ask after refusal → IsPlayed tells from to before (Run ask) (Refused refusal) after.repo
 stopped_played tells from to before ask after refusal over = record {
   parts = [];
@@ -179,7 +178,7 @@ stopped_played tells from to before ask after refusal over = record {
 -- ---- a commit
 
 module _ (tells : List (List ℕ) → List File → Outcome → Type 0) (from to : Moment) (before : Repository) (message : List ℕ) (no_verify : Bool) (skip : List (List ℕ)) (parts : List Part) (contents : List (List ℕ)) where
-  none_left_out : (reply : Reply) → AreLeftOut tells from to before message no_verify skip parts contents reply → StandsOnAll reply → IsUnrun from to parts
+  pub none_left_out : (reply : Reply) → AreLeftOut tells from to before message no_verify skip parts contents reply → StandsOnAll reply → IsUnrun from to parts
   none_left_out (Refused OutOfMemory) why stands = absurd stands
   none_left_out (Refused (Store fault)) why stands = absurd stands
   none_left_out (Refused Collision) why stands = absurd stands
@@ -187,7 +186,7 @@ module _ (tells : List (List ℕ) → List File → Outcome → Type 0) (from to
   none_left_out (Committed number reports (Stopped refusal)) why stands = absurd stands
   none_left_out reply why stands = why
 
-  commit_needed : (reply : Reply) → AreLeftOut tells from to before message no_verify skip parts contents reply → SaysSpent reply → HooksNeedChild before (Commit message no_verify skip) reply to.remembered parts
+  pub commit_needed : (reply : Reply) → AreLeftOut tells from to before message no_verify skip parts contents reply → SaysSpent reply → HooksNeedChild before (Commit message no_verify skip) reply to.remembered parts
   commit_needed (Refused Spent) why says = why
   commit_needed (Committed number reports (Stopped run.Spent)) why says = why
   commit_needed reply why says = absurd says
@@ -222,7 +221,7 @@ module _ (tells : List (List ℕ) → List File → Outcome → Type 0) (from to
   store_begun_before behind begins (inl whole) = begins whole.0
   store_begun_before behind begins (inr begun) = begun
 
-  commit_begun : (reply : Reply) → AreLeftOut tells from to before message no_verify skip parts contents reply → IsUnrun from to parts ⊎ HooksBegin before (Commit message no_verify skip) reply parts
+  pub commit_begun : (reply : Reply) → AreLeftOut tells from to before message no_verify skip parts contents reply → IsUnrun from to parts ⊎ HooksBegin before (Commit message no_verify skip) reply parts
   commit_begun (Refused OutOfMemory) why = why
   commit_begun (Refused Spent) why = inr (further_begun before message no_verify skip parts to.remembered why)
   commit_begun (Refused (Store fault)) why =
@@ -239,7 +238,7 @@ module _ (tells : List (List ℕ) → List File → Outcome → Type 0) (from to
   commit_begun (Committed number reports (Stopped run.NoSuchHook)) why = inr why
   commit_begun reply why = inl why
 
-pub commit_played : (tells : List (List ℕ) → List File → Outcome → Type 0) (from to : Moment) (before : Repository) (message : List ℕ) (no_verify : Bool) (skip : List (List ℕ)) (reply : Reply) (after : Kept)
+unfoldable pub commit_played : (tells : List (List ℕ) → List File → Outcome → Type 0) (from to : Moment) (before : Repository) (message : List ℕ) (no_verify : Bool) (skip : List (List ℕ)) (reply : Reply) (after : Kept)
     → IsCommitStep tells from to before message no_verify skip reply after → IsPlayed tells from to before (Commit message no_verify skip) reply after.repo
 commit_played tells from to before message no_verify skip reply after over = record {
   parts = over.parts;
@@ -261,7 +260,7 @@ module _ (tells : List (List ℕ) → List File → Outcome → Type 0) (from to
   one_told : IsTold tells from.remembered → AllTold tells one.parts
   one_told book = made_told tells from one.between command reply one.parts one.makes book
 
-  one_adds : AddsTold tells from.remembered to.remembered
+  pub one_adds : AddsTold tells from.remembered to.remembered
   one_adds = adds-then tells from.remembered one.between.remembered to.remembered (made_adds tells from one.between command reply one.parts one.makes)
       (so-far-adds tells (is_fresh command) one.between to one.left_out one.answered_then)
 
@@ -284,7 +283,7 @@ module _ (tells : List (List ℕ) → List File → Outcome → Type 0) (to : Mo
       (played_adds played.between played.repo_between commands replies played.further played.rest)
   played_adds from before commands replies parts played = absurd played
 
-  play_of : (from : Moment) (before : Repository) (commands : List Command) (replies : List Reply) (parts : List Part)
+  pub play_of : (from : Moment) (before : Repository) (commands : List Command) (replies : List Reply) (parts : List Part)
       → ArePlayed tells from to before commands replies parts after → IsPlay tells from to before commands replies after
   play_of from before commands replies parts played = record {
     parts = parts;
@@ -294,63 +293,19 @@ module _ (tells : List (List ℕ) → List File → Outcome → Type 0) (to : Mo
     adds = played_adds from before commands replies parts played;
   }
 
-one_more : (tells : List (List ℕ) → List File → Outcome → Type 0) (from at to : Moment) (before now after : Repository)
-    (commands : List Command) (replies : List Reply) (command : Command) (reply : Reply) (parts : List Part)
-    → ArePlayed tells from at before commands replies parts now
-    → (last : IsPlayed tells at to now command reply after)
-    → ArePlayed tells from to before (commands ++ command ∷ []) (replies ++ reply ∷ []) (parts ++ last.parts) after
-one_more tells from at to before now after [] [] command reply parts so_far last = record {
-  between = to;
-  repo_between = after;
-  further = [];
-  first = record {
-    parts = last.parts;
-    left_out = last.left_out;
-    between = last.between;
-    step = subst (λ (repo : Repository). Step repo command reply last.parts after) so_far.same last.step;
-    makes = subst (λ (start : Moment). Makes tells start last.between command reply last.parts) so_far.unmade last.makes;
-    answered_then = last.answered_then;
-    none = last.none;
-    begun = subst (λ (repo : Repository). IsUnrun last.between to last.left_out ⊎ HooksBegin repo command reply last.left_out) so_far.same last.begun;
-    put = last.put;
-    spent = last.spent;
-    needed = λ says. subst (λ (repo : Repository). HooksNeedChild repo command reply to.remembered last.left_out) so_far.same (last.needed says);
-  };
-  rest = record { unmade = refl; no_parts = refl; same = refl };
-  joined = ap (λ (front : List Part). front ++ last.parts) so_far.no_parts ∙ sym (append-nil last.parts);
+-- a command that is played by children that tell the same
+unfoldable pub played_back : (tells next : List (List ℕ) → List File → Outcome → Type 0) → SameTells tells next → (from to : Moment) (before after : Repository) (command : Command) (reply : Reply)
+    → IsPlayed next from to before command reply after → IsPlayed tells from to before command reply after
+played_back tells next same from to before after command reply it = record {
+  parts = it.parts;
+  left_out = it.left_out;
+  between = it.between;
+  step = it.step;
+  makes = made_back tells next same from it.between command reply it.parts it.makes;
+  answered_then = so-far-back_to tells next same (is_fresh command) it.between to it.left_out it.answered_then;
+  none = it.none;
+  begun = it.begun;
+  put = λ says. so-far-back_to-last tells next same (is_fresh command) it.between to it.left_out it.answered_then ∙ it.put says;
+  spent = it.spent;
+  needed = it.needed;
 }
-one_more tells from at to before now after (first ∷ commands) (reply_first ∷ replies) command reply parts so_far last = record {
-  between = so_far.between;
-  repo_between = so_far.repo_between;
-  further = so_far.further ++ last.parts;
-  first = so_far.first;
-  rest = one_more tells so_far.between at to so_far.repo_between now after commands replies command reply so_far.further so_far.rest last;
-  joined = ap (λ (front : List Part). front ++ last.parts) so_far.joined ∙ append_assoc so_far.first.parts so_far.further last.parts;
-}
-one_more tells from at to before now after commands replies command reply parts so_far last = absurd so_far
-
-pub none_played : (tells : List (List ℕ) → List File → Outcome → Type 0) (at : Moment) (before : Repository) → IsPlay tells at at before [] [] before
-none_played tells at before = play_of tells at before at before [] [] [] (record { unmade = refl; no_parts = refl; same = refl })
-
--- commands are played, and then one more, by children that tell the same
-pub more_played : (tells next : List (List ℕ) → List File → Outcome → Type 0) (from at to : Moment) (before now after : Repository)
-    (commands : List Command) (replies : List Reply) (command : Command) (reply : Reply) → SameTells tells next
-    → IsPlay tells from at before commands replies now
-    → IsPlayed next at to now command reply after
-    → IsPlay tells from to before (commands ++ command ∷ []) (replies ++ reply ∷ []) after
-more_played tells next from at to before now after commands replies command reply same so_far last =
-    let last_as_first : IsPlayed tells at to now command reply after = record {
-      parts = last.parts;
-      left_out = last.left_out;
-      between = last.between;
-      step = last.step;
-      makes = made_back tells next same at last.between command reply last.parts last.makes;
-      answered_then = so-far-back_to tells next same (is_fresh command) last.between to last.left_out last.answered_then;
-      none = last.none;
-      begun = last.begun;
-      put = λ says. so-far-back_to-last tells next same (is_fresh command) last.between to last.left_out last.answered_then ∙ last.put says;
-      spent = last.spent;
-      needed = last.needed;
-    } in
-    play_of tells to after from before (commands ++ command ∷ []) (replies ++ reply ∷ []) (so_far.parts ++ last.parts)
-    (one_more tells from at to before now after commands replies command reply so_far.parts so_far.played last_as_first)

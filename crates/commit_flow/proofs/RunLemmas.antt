@@ -24,8 +24,6 @@ use Rattle.repo_store.specs.declared.fault.StoreFault.TheVariants as store
 use Rattle.repo_store.specs.Faults.{IsRefusal}
 use Rattle.repo_store.specs.Kept.{FixCollides, HasLarge, Kept, setting}
 use Rattle.repo_store.specs.Repository.{Repository, staged_changes}
-use Rattle.repo_store.specs.Shown.{Leaves}
-use Rattle.sqlite_trees.specs.Tree.{Trees}
 use Rattle.commit_flow.specs.declared.command.Command.TheVariants.{Run}
 use Rattle.commit_flow.specs.declared.host_ask.HostAsk.{HostAsk}
 use Rattle.commit_flow.specs.declared.host_refusal.HostRefusal.{HostRefusal}
@@ -33,11 +31,11 @@ use Rattle.commit_flow.specs.declared.host_refusal.HostRefusal.TheVariants.{OutO
 use Rattle.commit_flow.specs.declared.prepared.Prepared.{Prepared}
 use Rattle.commit_flow.specs.declared.staged_run.StagedRun.{StagedRun}
 use Rattle.commit_flow.specs.Configured.{HasReadableConfig}
-use Rattle.commit_flow.specs.Crashes.{LeavesDone}
 use Rattle.commit_flow.specs.Preparations.{HasRunOnStaged, HasRunReady, HasStoppedReady, HaveRun, HaveStopped, IsConfigRefusal, IsPrepared, IsUnprepared}
 use Rattle.commit_flow.specs.Refusals.{of_run, of_store}
 use Rattle.commit_flow.specs.RunRefusals.{IsRunRefusal}
 use Rattle.commit_flow.specs.RunSteps.{HasBegun, HasRunBut, IsRunStep, IsStoppedAt, IsStoppedStep, IsUnset, StoreStopsRun, reply_of_run}
+use Rattle.commit_flow.specs.Stops.{Reaches}
 use Rattle.commit_flow.specs.Runs.{IsNameRefusal, IsNamesRefusal, IsRan, IsRunnable, fixing, names_in, run_ask_of}
 use Rattle.commit_flow.proofs.FixLemmas.{changes_are_staged, setting_is_fixing}
 use Rattle.commit_flow.proofs.RefusalLemmas.{by_stop, run_spent}
@@ -159,6 +157,16 @@ prepared_with config ask tree = record { config = config; ask = ask; tree = tree
 same_prepared : (config : Config) (first second : RunAsk) (tree other : List File) → first ≡ second → tree ≡ other → prepared_with config first tree ≡ prepared_with config second other
 same_prepared config first second tree other asked same = cc
 
+-- A run is refused behind its hooks. Done, it would have made this of the repository.
+pub record IsStoppedShort (tells : List (List ℕ) → List File → Outcome → Type 0) (from to : Moment) (before : Repository) (ask : HostAsk) (after : Kept) (refusal : HostRefusal) (made : Repository) : Type 0 where
+  pub over : IsStoppedStep tells from to before ask after refusal
+  pub reaches : Reaches before (Run ask) over.parts made
+
+-- a run that isn't refused reaches what it makes
+pub ran_reaches : (tells : List (List ℕ) → List File → Outcome → Type 0) (from to : Moment) (before : Repository) (ask : HostAsk) (ran : StagedRun) (after : Repository) (over : IsRunStep tells from to before ask ran after)
+    → Reaches before (Run ask) over.parts after
+ran_reaches tells from to before ask ran after over = record { first = over.parts; others = []; stretch = sym (append-nil over.parts); reply = reply_of_run ran; done = tt; step = over.step }
+
 module _ (tells : List (List ℕ) → List File → Outcome → Type 0) (from to : Moment) (before : Repository) (ask : HostAsk) (ready : Prepared) (is : IsPrepared before ask ready) where
   abbrev whole : Prepared
   whole = prepared_with ready.config (run_ask_of ask before) before.staged
@@ -214,11 +222,6 @@ module _ (tells : List (List ℕ) → List File → Outcome → Type 0) (from to
         adds = answered-adds tells ask.fresh from to (all_parts w.run.over.trace) w.run.over.answered;
       }
 
-  pub run_reached : (ran : StagedRun) → HasRunReady tells from to ready ran → (between : Kept) → between.repo ≡ before → (trees : Trees) → Leaves (setting ran.changes between) trees → LeavesDone before (Run ask) trees
-  run_reached ran has between same trees leaves =
-      let s = run_step ran has between same in
-      record { kept = setting ran.changes between; reply = reply_of_run ran; done = tt; parts = s.parts; step = s.step; leaves = leaves }
-
   begun_all : (ran : StagedRun) (has : HasRunReady tells from to whole ran) → HasBegun before ask (all_parts has.run.over.trace)
   begun_all ran has =
       let over = has.run.over in
@@ -255,19 +258,29 @@ module _ (tells : List (List ℕ) → List File → Outcome → Type 0) (from to
 
   pub set_refused : (ran : StagedRun) → HasRunReady tells from to ready ran → (after : Kept) → after.repo ≡ before → (fault : StoreFault)
       → IsRefusal (HasLarge (staged_changes ran.changes after.repo.staged)) ⊥ (FixCollides (staged_changes ran.changes after.repo.staged) after.contents) fault
-      → IsStoppedStep tells from to before ask after (of_store fault)
+      → IsStoppedShort tells from to before ask after (of_store fault) (setting ran.changes after).repo
   set_refused ran has after left fault why =
       let w = ran_whole ran has in
       let p = at_store ran w after.contents fault
       (subst (λ (repo : Repository). IsRefusal (HasLarge (staged_changes ran.changes repo.staged)) ⊥ (FixCollides (staged_changes ran.changes repo.staged) after.contents) fault) left why) in
       record {
-        parts = all_parts w.run.over.trace;
-        step = ((p.0, refl), left);
-        answered = all_so_far tells ask.fresh from to (all_parts w.run.over.trace) w.run.over.answered;
-        told = w.run.over.told;
-        adds = answered-adds tells ask.fresh from to (all_parts w.run.over.trace) w.run.over.answered;
-        stopped = p.1;
-        put = λ _. all_so_far-last tells ask.fresh from to (all_parts w.run.over.trace) w.run.over.answered;
+        over = record {
+          parts = all_parts w.run.over.trace;
+          step = ((p.0, refl), left);
+          answered = all_so_far tells ask.fresh from to (all_parts w.run.over.trace) w.run.over.answered;
+          told = w.run.over.told;
+          adds = answered-adds tells ask.fresh from to (all_parts w.run.over.trace) w.run.over.answered;
+          stopped = p.1;
+          put = λ _. all_so_far-last tells ask.fresh from to (all_parts w.run.over.trace) w.run.over.answered;
+        };
+        reaches = record {
+          first = all_parts w.run.over.trace;
+          others = [];
+          stretch = sym (append-nil (all_parts w.run.over.trace));
+          reply = reply_of_run ran;
+          done = tt;
+          step = is_ran ran w (setting ran.changes after).repo (made_so ran has after left);
+        };
       }
 
   -- so their run may be refused that were stopped

@@ -185,7 +185,7 @@ module _ (refuses : BookFault → Type 0) (tells : List (List ℕ) → List File
   }
 
   -- memory is refused behind these parts
-  pub halted_for_memory : (begins further : List Part → Type 0) (parts : List Part) → begins parts → AreAnswered tells false from to parts → IsHalted refuses tells from to begins further OutOfMemory
+  unfoldable pub halted_for_memory : (begins further : List Part → Type 0) (parts : List Part) → begins parts → AreAnswered tells false from to parts → IsHalted refuses tells from to begins further OutOfMemory
   halted_for_memory begins further parts begun answered = record {
     parts = parts;
     answered = so-far tells false from to parts answered;

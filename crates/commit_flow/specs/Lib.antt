@@ -4,7 +4,6 @@ pub mod CommitStages
 pub mod CommitSteps
 pub mod Commits
 pub mod Configured
-pub mod Crashes
 pub mod EditSteps
 pub mod KeptByHooks
 pub mod MachineRuns
@@ -19,4 +18,6 @@ pub mod Runs
 pub mod StagedPaths
 pub mod Steps
 pub mod StepLaws
+pub mod StoppedPlays
+pub mod Stops
 pub mod TwoHosts

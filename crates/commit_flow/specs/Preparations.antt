@@ -6,6 +6,8 @@ use Rattle.hook_base.specs.Trees.{IsRising, changes_between}
 use Rattle.child_port.specs.declared.answer.Outcome.{Outcome}
 use Rattle.hook_config.specs.declared.configuration.Config.{Config}
 use Rattle.result_book.specs.declared.book_fault.BookFault.{BookFault}
+use Rattle.result_book.specs.Contents.{Contents}
+use Rattle.result_book.specs.Told.{AddsTold}
 use Rattle.hook_run.specs.Moments.{Moment}
 use Rattle.hook_run.specs.declared.run_ask.RunAsk.{RunAsk}
 use Rattle.hook_run.specs.declared.run_out.RunOut.{RunOut}
@@ -63,6 +65,10 @@ abbrev pub IsUnprepared : Repository → HostAsk → HostRefusal → Type 0
 IsUnprepared repo ask refusal = IsConfigRefusal repo refusal ⊎ (HasReadableConfig repo × IsNamesFault repo (names_in ask.which) refusal)
 
 -- ---- a run of hooks, between two moments
+
+-- what a stop leaves remembered then, it could leave before, or else each answer of it was remembered before, or told
+abbrev pub LeavesTold : (List (List ℕ) → List File → Outcome → Type 0) → Contents → (Contents → Type 0) → (Contents → Type 0) → Type 0
+LeavesTold tells before could can = (left : Contents) → can left → could left ⊎ AddsTold tells before left
 
 -- hooks of the stage have the name that is asked for, and were run
 pub record HaveRun (tells : List (List ℕ) → List File → Outcome → Type 0) (from to : Moment) (config : Config) (ask : RunAsk) (tree : List File) (out : RunOut) : Type 0 where

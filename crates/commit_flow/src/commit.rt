@@ -2,14 +2,15 @@
 
 ghost use Rattle.std.specs.Prelude.{IfOk, IfErr};
 ghost use Rattle.child_port.specs.Telling.{SameTells};
-ghost use Rattle.result_book.specs.StoreBooks.{IsAtRest, remembered_by};
+ghost use Rattle.result_book.specs.StoreBooks.{IsAtRest, MayRemember, remembered_by};
 ghost use Rattle.hook_run.specs.Moments.{moment};
 ghost use Rattle.commit_flow.specs.declared.command.Command.TheVariants.{Commit};
 ghost use Rattle.commit_flow.specs.Commands.{reply_of, reply_of_ending};
 ghost use Rattle.commit_flow.specs.CommitCalls.{IsThrough, IsUnthrough};
 ghost use Rattle.commit_flow.specs.KeptByHooks.{KeepsForCommit};
-ghost use Rattle.commit_flow.specs.Crashes.{IsHookCommand};
 ghost use Rattle.commit_flow.specs.CommitSteps.{IsCommitStep};
+ghost use Rattle.commit_flow.specs.Preparations.{LeavesTold};
+ghost use Rattle.commit_flow.specs.Stops.{IsPlayedSafely};
 
 use crate::commit_begun::{CommitBegun, begin_commit};
 use crate::commit_ending::{run_post_commit, set_fixes_to};
@@ -60,7 +61,7 @@ impl<S: Alter> Host<S> {
     ) -> Result<CommitEnding, HostRefusal>
         ensures step { IsCommitStep (C.tells children.old) (moment (C.call_count children.old) (C.fault_count children.old) (remembered_by self.old.store.kept)) (moment (C.call_count children.new) (C.fault_count children.new) (remembered_by self.new.store.kept)) self.old.store.kept.repo message.now no_verify skip.now (reply_of reply_of_ending result) self.new.store.kept }
         ensures kept { KeepsForCommit self.old.store.kept self.new.store.kept result }
-        ensures command { IsHookCommand S.Store self.old.store self.new.store (Commit message.now no_verify skip.now) result }
+        ensures command { IsPlayedSafely S.Store (C.tells children.old) (moment (C.call_count children.old) (C.fault_count children.old) (remembered_by self.old.store.kept)) (moment (C.call_count children.new) (C.fault_count children.new) (remembered_by self.new.store.kept)) self.old.store self.new.store (Commit message.now no_verify skip.now) (reply_of reply_of_ending result) }
         ensures same { SameTells (C.tells children.old) (C.tells children.new) }
     {
         commit_in(alloc, children, &mut self.store, message, no_verify, skip)
@@ -78,7 +79,7 @@ fn commit_in<C: Children, S: Alter>(
 ) -> Result<CommitEnding, HostRefusal>
     ensures step { IsCommitStep (C.tells children.old) (moment (C.call_count children.old) (C.fault_count children.old) (remembered_by store.old.kept)) (moment (C.call_count children.new) (C.fault_count children.new) (remembered_by store.new.kept)) store.old.kept.repo message.now no_verify skip.now (reply_of reply_of_ending result) store.new.kept }
     ensures kept { KeepsForCommit store.old.kept store.new.kept result }
-    ensures command { IsHookCommand S.Store store.old store.new (Commit message.now no_verify skip.now) result }
+    ensures command { IsPlayedSafely S.Store (C.tells children.old) (moment (C.call_count children.old) (C.fault_count children.old) (remembered_by store.old.kept)) (moment (C.call_count children.new) (C.fault_count children.new) (remembered_by store.new.kept)) store.old store.new (Commit message.now no_verify skip.now) (reply_of reply_of_ending result) }
     ensures same { SameTells (C.tells children.old) (C.tells children.new) }
 {
     let through = go_through(alloc, children, store, message, no_verify, skip)?;
@@ -115,6 +116,7 @@ fn go_through<C: Children, S: Alter>(
 ) -> Result<Through, HostRefusal>
     ensures through { IfOk result (IsThrough (C.tells children.old) (moment (C.call_count children.old) (C.fault_count children.old) (remembered_by store.old.kept)) (moment (C.call_count children.new) (C.fault_count children.new) (remembered_by store.new.kept)) store.old.kept.repo message.now no_verify skip.now) }
     ensures refused { IfErr result (IsUnthrough (C.tells children.old) (moment (C.call_count children.old) (C.fault_count children.old) (remembered_by store.old.kept)) (moment (C.call_count children.new) (C.fault_count children.new) (remembered_by store.new.kept)) store.old.kept.repo message.now no_verify skip.now) }
+    ensures left { LeavesTold (C.tells children.old) (remembered_by store.old.kept) (MayRemember S.Store store.old) (MayRemember S.Store store.new) }
     ensures rest { IsAtRest S.Store store.old store.new }
     ensures same { SameTells (C.tells children.old) (C.tells children.new) }
 {

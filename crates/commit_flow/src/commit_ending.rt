@@ -5,11 +5,11 @@ ghost use Rattle.child_port.specs.Telling.{SameTells};
 ghost use Rattle.hook_base.specs.Trees.{changes_between};
 ghost use Rattle.repo_store.specs.AllOrNothing.{IsAllOrNothing};
 ghost use Rattle.repo_store.specs.Kept.{setting};
-ghost use Rattle.result_book.specs.StoreBooks.{IsAtRest, RefusesAnswers, remembered_by};
+ghost use Rattle.result_book.specs.StoreBooks.{IsAtRest, MayRemember, RefusesAnswers, remembered_by};
 ghost use Rattle.hook_run.specs.Moments.{moment};
 ghost use Rattle.commit_flow.specs.CommitCalls.{IsOneChange, IsPostOver, IsRunStopped, IsUnfixed};
 ghost use Rattle.commit_flow.specs.CommitStages.{ask_in};
-ghost use Rattle.commit_flow.specs.Preparations.{HaveRun};
+ghost use Rattle.commit_flow.specs.Preparations.{HaveRun, LeavesTold};
 
 use crate::commit_stages::run_hooks_of;
 use crate::{HostRefusal, PostCommit};
@@ -65,6 +65,7 @@ pub(crate) fn run_post_commit<C: Children, S: Alter>(
     skip: &[Text],
 ) -> PostCommit
     ensures post { IsPostOver (C.tells children.old) (moment (C.call_count children.old) (C.fault_count children.old) (remembered_by store.old.kept)) (moment (C.call_count children.new) (C.fault_count children.new) (remembered_by store.new.kept)) config.now store.old.kept.repo.staged skip.now result }
+    ensures left { LeavesTold (C.tells children.old) (remembered_by store.old.kept) (MayRemember S.Store store.old) (MayRemember S.Store store.new) }
     ensures rest { IsAtRest S.Store store.old store.new }
     ensures same { SameTells (C.tells children.old) (C.tells children.new) }
 {
@@ -91,6 +92,7 @@ fn run_on_staged<C: Children, S: Alter>(
 ) -> Result<RunOut, RunRefusal>
     ensures run { IfOk result (HaveRun (C.tells children.old) (moment (C.call_count children.old) (C.fault_count children.old) (remembered_by store.old.kept)) (moment (C.call_count children.new) (C.fault_count children.new) (remembered_by store.new.kept)) config.now (ask_in [] skip.now Stage.PostCommit) store.old.kept.repo.staged) }
     ensures stopped { IfErr result (IsRunStopped RefusesAnswers (C.tells children.old) (moment (C.call_count children.old) (C.fault_count children.old) (remembered_by store.old.kept)) (moment (C.call_count children.new) (C.fault_count children.new) (remembered_by store.new.kept)) config.now (ask_in [] skip.now Stage.PostCommit) store.old.kept.repo.staged) }
+    ensures left { LeavesTold (C.tells children.old) (remembered_by store.old.kept) (MayRemember S.Store store.old) (MayRemember S.Store store.new) }
     ensures rest { IsAtRest S.Store store.old store.new }
     ensures same { SameTells (C.tells children.old) (C.tells children.new) }
 {

@@ -7,7 +7,7 @@ ghost use Rattle.hook_run.specs.RunOuts.{IsBegun, NeedsChild};
 ghost use Rattle.hook_run.specs.Moments.{moment};
 ghost use Rattle.commit_flow.specs.CommitCalls.{AreRunOver, IsHalted, IsRunStopped, IsStageOver};
 ghost use Rattle.commit_flow.specs.CommitStages.{HaveBegun, HaveFurther, ask_in, candidates_in, stages_before_commit, tree_in};
-ghost use Rattle.commit_flow.specs.Preparations.{HaveRun};
+ghost use Rattle.commit_flow.specs.Preparations.{HaveRun, LeavesTold};
 
 use crate::HostRefusal;
 use crate::course::Course;
@@ -75,6 +75,7 @@ pub(crate) fn run_stages<C: Children, B: Book>(
 ) -> Result<StagesEnd, HostRefusal>
     ensures run { IfOk result (AreRunOver (C.tells children.old) (moment (C.call_count children.old) (C.fault_count children.old) (B.contents book.old)) (moment (C.call_count children.new) (C.fault_count children.new) (B.contents book.new)) config.now changed.now skip.now stages.now course) }
     ensures halted { IfErr result (IsHalted B.refuses (C.tells children.old) (moment (C.call_count children.old) (C.fault_count children.old) (B.contents book.old)) (moment (C.call_count children.new) (C.fault_count children.new) (B.contents book.new)) (HaveBegun config.now changed.now skip.now stages.now course) (HaveFurther (B.contents book.new) config.now changed.now skip.now stages.now course)) }
+    ensures left { LeavesTold (C.tells children.old) (B.contents book.old) (B.leaves book.old) (B.leaves book.new) }
     ensures rest { B.rests book.old book.new }
     ensures same { SameTells (C.tells children.old) (C.tells children.new) }
 {
@@ -123,6 +124,7 @@ fn run_stage<C: Children, B: Book>(
 ) -> Result<StageEnd, HostRefusal>
     ensures run { IfOk result (IsStageOver (C.tells children.old) (moment (C.call_count children.old) (C.fault_count children.old) (B.contents book.old)) (moment (C.call_count children.new) (C.fault_count children.new) (B.contents book.new)) config.now changed.now skip.now stage course) }
     ensures halted { IfErr result (IsHalted B.refuses (C.tells children.old) (moment (C.call_count children.old) (C.fault_count children.old) (B.contents book.old)) (moment (C.call_count children.new) (C.fault_count children.new) (B.contents book.new)) (IsBegun config.now (ask_in changed.now skip.now stage) (tree_in stage course)) (NeedsChild (B.contents book.new) config.now (ask_in changed.now skip.now stage) (tree_in stage course))) }
+    ensures left { LeavesTold (C.tells children.old) (B.contents book.old) (B.leaves book.old) (B.leaves book.new) }
     ensures rest { B.rests book.old book.new }
     ensures same { SameTells (C.tells children.old) (C.tells children.new) }
 {
@@ -165,6 +167,7 @@ pub(crate) fn run_hooks_of<C: Children, B: Book>(
 ) -> Result<RunOut, RunRefusal>
     ensures run { IfOk result (HaveRun (C.tells children.old) (moment (C.call_count children.old) (C.fault_count children.old) (B.contents book.old)) (moment (C.call_count children.new) (C.fault_count children.new) (B.contents book.new)) config.now (ask_in changed.now skip.now stage) tree.now) }
     ensures stopped { IfErr result (IsRunStopped B.refuses (C.tells children.old) (moment (C.call_count children.old) (C.fault_count children.old) (B.contents book.old)) (moment (C.call_count children.new) (C.fault_count children.new) (B.contents book.new)) config.now (ask_in changed.now skip.now stage) tree.now) }
+    ensures left { LeavesTold (C.tells children.old) (B.contents book.old) (B.leaves book.old) (B.leaves book.new) }
     ensures rest { B.rests book.old book.new }
     ensures same { SameTells (C.tells children.old) (C.tells children.new) }
 {

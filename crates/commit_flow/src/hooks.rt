@@ -1,7 +1,7 @@
 //! A run of hooks over children and what is remembered of them.
 
 ghost use Rattle.hook_run.specs.Moments.{moment};
-ghost use Rattle.commit_flow.specs.Preparations.{HaveRun, HaveStopped};
+ghost use Rattle.commit_flow.specs.Preparations.{HaveRun, HaveStopped, LeavesTold};
 ghost use Rattle.child_port.specs.Telling.{SameTells};
 ghost use Rattle.std.specs.Prelude.{IfOk, IfErr};
 
@@ -24,6 +24,7 @@ pub(crate) fn run_with_book<C: Children, B: Book>(
 ) -> Result<RunOut, RunRefusal>
     ensures run { IfOk result (HaveRun (C.tells children.old) (moment (C.call_count children.old) (C.fault_count children.old) (B.contents book.old)) (moment (C.call_count children.new) (C.fault_count children.new) (B.contents book.new)) config.now ask.now tree.now) }
     ensures stopped { IfErr result (HaveStopped B.refuses (C.tells children.old) (moment (C.call_count children.old) (C.fault_count children.old) (B.contents book.old)) (moment (C.call_count children.new) (C.fault_count children.new) (B.contents book.new)) config.now ask.now tree.now) }
+    ensures left { LeavesTold (C.tells children.old) (B.contents book.old) (B.leaves book.old) (B.leaves book.new) }
     ensures rest { B.rests book.old book.new }
     ensures same { SameTells (C.tells children.old) (C.tells children.new) }
 {

@@ -15,9 +15,9 @@ ghost use Rattle.result_book.specs.StoreBooks.{remembered_by};
 ghost use Rattle.commit_flow.specs.declared.command.Command.TheVariants.{Add, Remove, Accept, Forget};
 ghost use Rattle.commit_flow.specs.declared.reply.Reply.TheVariants.{Added, Removed, Accepted, Forgot};
 ghost use Rattle.commit_flow.specs.Commands.{reply_of};
-ghost use Rattle.commit_flow.specs.Crashes.{IsOneCommand};
 ghost use Rattle.commit_flow.specs.EditSteps.{AreOneCommand, AreSteps, CollidesAt, IsStagingStop, NoEditCollides};
 ghost use Rattle.commit_flow.specs.StagedPaths.{IsLegal, IsStaged};
+ghost use Rattle.commit_flow.specs.Stops.{IsOneCommand};
 ghost use Rattle.commit_flow.specs.Steps.{IsAddable, IsRemoveRefusal, IsUnaddable, Step, entry_to_add, mode_to_add};
 
 use crate::{HostRefusal, StagingStop};
@@ -77,7 +77,7 @@ impl<S: Alter> Host<S> {
     ) -> Result<(), HostRefusal>
         ensures step { Step self.old.store.kept.repo (Add path.now bytes.now mode) (reply_of (λ _. Added) result) [] self.new.store.kept.repo }
         ensures change { IsAllOrNothing self.old.store.kept self.new.store.kept result (staging path.now (entry_to_add self.old.store.kept.repo path.now bytes.now mode) self.old.store.kept) }
-        ensures command { IsOneCommand S.Store self.old.store self.new.store (Add path.now bytes.now mode) result }
+        ensures command { IsOneCommand S.Store self.old.store self.new.store (Add path.now bytes.now mode) (reply_of (λ _. Added) result) }
         ensures apart { OnOk result (¬ Collides bytes.now self.old.store.kept.contents) }
         ensures collides { IfErr result (λ refusal. refusal ≡ HostRefusal.Collision → Collides bytes.now self.old.store.kept.contents) }
     {
@@ -93,7 +93,7 @@ impl<S: Alter> Host<S> {
     pub fn remove(&mut self, alloc: Global, path: &str) -> Result<(), HostRefusal>
         ensures step { Step self.old.store.kept.repo (Remove path.now) (reply_of (λ _. Removed) result) [] self.new.store.kept.repo }
         ensures change { IsAllOrNothing self.old.store.kept self.new.store.kept result (unstaging path.now self.old.store.kept) }
-        ensures command { IsOneCommand S.Store self.old.store self.new.store (Remove path.now) result }
+        ensures command { IsOneCommand S.Store self.old.store self.new.store (Remove path.now) (reply_of (λ _. Removed) result) }
     {
         let path = self.removable(alloc, path)?;
         self.store.unstage(&path)?;
@@ -123,7 +123,7 @@ impl<S: Alter> Host<S> {
     pub fn accept(&mut self) -> Result<u32, HostRefusal>
         ensures step { Step self.old.store.kept.repo Accept (reply_of Accepted result) [] self.new.store.kept.repo }
         ensures change { IsAllOrNothing self.old.store.kept self.new.store.kept result (accepting self.old.store.kept) }
-        ensures command { IsOneCommand S.Store self.old.store self.new.store Accept result }
+        ensures command { IsOneCommand S.Store self.old.store self.new.store Accept (reply_of Accepted result) }
     {
         if self.has_no_fixes() {
             return Err(HostRefusal::NoFixes);
@@ -138,7 +138,7 @@ impl<S: Alter> Host<S> {
     pub fn forget(&mut self) -> Result<u64, HostRefusal>
         ensures step { Step self.old.store.kept.repo Forget (reply_of Forgot result) [] self.new.store.kept.repo }
         ensures change { IsAllOrNothing self.old.store.kept self.new.store.kept result (forgetting self.old.store.kept) }
-        ensures command { IsOneCommand S.Store self.old.store self.new.store Forget result }
+        ensures command { IsOneCommand S.Store self.old.store self.new.store Forget (reply_of Forgot result) }
         ensures number { IfOk result (λ number. number ≡ count_of (remembered_by self.old.store.kept)) }
         ensures forgotten { OnOk result (AfterForget (remembered_by self.old.store.kept) (remembered_by self.new.store.kept)) }
         ensures refused { OnErr result (remembered_by self.new.store.kept ≡ remembered_by self.old.store.kept) }

@@ -8,7 +8,11 @@ ghost use Rattle.hook_run.specs.Answers.{IsCounted};
 ghost use Rattle.hook_run.specs.Moments.{Moment};
 ghost use Rattle.hook_run.specs.OneAnswer.{OneAnswer};
 ghost use Rattle.hook_run.specs.Parts.{Part, faults_of};
+ghost use Rattle.repo_store.specs.Kept.{Kept};
 ghost use Rattle.repo_store.specs.Repository.{Repository};
+ghost use Rattle.repo_store.specs.Shown.{Leaves};
+ghost use Rattle.result_book.specs.StoreBooks.{remembered_by};
+ghost use Rattle.sqlite_trees.specs.Tree.{Trees};
 ghost use Rattle.commit_flow.specs.declared.command.Command.{Command};
 ghost use Rattle.commit_flow.specs.declared.host_refusal.HostRefusal.{HostRefusal};
 ghost use Rattle.commit_flow.specs.declared.reply.PostCommit.{PostCommit};
@@ -19,9 +23,12 @@ ghost use Rattle.commit_flow.specs.PlayLaws.{HasCommitted, PlayStarts, SaysCommi
 ghost use Rattle.commit_flow.specs.Plays.{ArePlayed, IsPlay, RunsHooks};
 ghost use Rattle.commit_flow.specs.StepLaws.{IsDecided, IsRunless};
 ghost use Rattle.commit_flow.specs.Steps.{Step};
+ghost use Rattle.commit_flow.specs.StoppedPlays.{AreSessions, LeavesSessions, Session};
 ghost use Rattle.commit_flow.specs.TwoHosts.{IsSteady, IsUnhinderedPlay, IsUnhinderedRun, without_memory, without_number};
 
 use child_port::Children;
+use repo_store::Store;
+use sqlite::Alter;
 
 /// A command that neither runs hooks nor forgets has at most one reply and leaves at most one repository, unless memory or the
 /// database refuses, or contents collide. So the refusals of a command come in one order, and none in place of what could be
@@ -92,4 +99,16 @@ pub fn commands_have_one_answer<C: Children, D: Children>(children: &C, others: 
 pub fn two_hosts_give_one_answer<C: Children, D: Children>(children: &C, others: &D)
     ensures same { SameTells (C.tells children.now) (D.tells others.now) → OneAnswer (C.tells children.now) → (from to start end : Moment) (before after other : Repository) (commands : List Command) (replies seconds : List Reply) → IsUnhinderedPlay (C.tells children.now) from to before commands replies after → IsUnhinderedPlay (D.tells others.now) start end before commands seconds other → (map without_number replies ≡ map without_number seconds) × (after ≡ other) }
     ensures steady { OneAnswer (C.tells children.now) → (from to : Moment) (before after : Repository) (commands : List Command) (replies : List Reply) → IsPlay (C.tells children.now) from to before commands replies after → IsTold (C.tells children.now) from.remembered → All IsSteady replies }
+{}
+
+/// However often a list of commands is stopped, and goes on once the store is opened again, nothing is half done, and nothing that
+/// was done is lost. Each session makes a first stretch of its commands of the repository that the one before it left, with the
+/// replies that it gave, and then the next command or not, by parts that were answered for it; a commit among these only where each
+/// stage before it passed. And each answer that is remembered in the end was told.
+///
+/// A session opens what a stop left of the one before it, plays commands as [`Host::play`](crate::Host::play) does, and is stopped
+/// within a command, between two, or not at all. The law holds on a disk that returns what was written to it, and where what is
+/// remembered at first was told.
+pub fn stopped_sessions_lose_nothing<C: Children, S: Alter>(children: &C, store: &Store<S>)
+    ensures { (found left : Trees) (sessions : List Session) (kept : Kept) → Leaves kept found → IsTold (C.tells children.now) (remembered_by kept) → AreSessions S.Store (C.tells children.now) found sessions left → LeavesSessions (C.tells children.now) kept.repo sessions left }
 {}

@@ -7,16 +7,16 @@
 //! [`StagingEdit`]s, and a [`StagingStop`] says which of them is refused.
 //!
 //! The contracts cite `Step` of `specs/Steps.antt` (what each command may answer, and what it makes of the repository),
-//! `specs/Commands.antt` (the reply that a call's answer is), `IsOneCommand` and `IsHookCommand` of `specs/Crashes.antt` (what
-//! a crash leaves), `specs/EditSteps.antt` (several changes as steps, and at which they are refused), `IsRunStep` and
+//! `specs/Commands.antt` (the reply that a call's answer is), `IsOneCommand` and `IsPlayedSafely` of `specs/Stops.antt` (what a
+//! stop leaves), `specs/EditSteps.antt` (several changes as steps, and at which they are refused), `IsRunStep` and
 //! `IsStoppedStep` of `specs/RunSteps.antt` and `IsCommitStep` of `specs/CommitSteps.antt` (how a run and a commit stand to
 //! what was remembered and what children told), `specs/Runs.antt`, `specs/Commits.antt` and `specs/CommitStages.antt` (the
 //! cases of runs and of commits, and the stages of these), `specs/KeptByHooks.antt` (what runs and commits make of what is
 //! kept), `specs/Messages.antt` (how the message of a commit is cleaned) and `specs/Refusals.antt`; of the repository, its
 //! files and what is remembered they cite definitions of `repo_store`, `hook_base` and `result_book`. [`Host::play`] makes a
 //! list of commands, and its contract cites `specs/Plays.antt` (a run of the machine of `Step`, and what it makes of the
-//! children's counts and of what is remembered). `specs/Preparations.antt` and `specs/CommitCalls.antt` serve private functions
-//! alone. [`laws`] says that a step has one answer at most, and what follows for a list of commands.
+//! children's counts and of what is remembered) and `specs/StoppedPlays.antt` (what a stop leaves of the list). `specs/Preparations.antt` and `specs/CommitCalls.antt` serve private functions
+//! alone. [`laws`] says that a step has one answer at most, and what follows for a list of commands, stopped and gone on with too.
 #![tactic(auto)]
 
 mod candidates;

@@ -7,7 +7,9 @@ ghost use Rattle.repo_store.specs.Shown.{Stands};
 ghost use Rattle.result_book.specs.StoreBooks.{remembered_by};
 ghost use Rattle.commit_flow.specs.declared.command.Command.TheVariants.{Add, Remove, Accept, Run, Commit, Forget};
 ghost use Rattle.commit_flow.specs.Commands.{reply_of_ending};
-ghost use Rattle.commit_flow.specs.Plays.{HasForgotten, IsPlay, IsPlayed};
+ghost use Rattle.commit_flow.specs.Plays.{HasForgotten, IsPlay};
+ghost use Rattle.commit_flow.specs.StoppedPlays.{IsSafePlay};
+ghost use Rattle.commit_flow.specs.Stops.{IsOneCommand, IsPlayedSafely};
 ghost use Rattle.commit_flow.specs.Steps.{Step};
 
 use crate::{Command, CommitEnding, Host, HostAsk, Reply, StagedRun};
@@ -28,6 +30,7 @@ impl<S: Alter> Host<S> {
         commands: &[Command],
     ) -> Result<Vec<Reply>, OutOfMemory>
         ensures run { IfOk result (λ replies. IsPlay (C.tells children.old) (moment (C.call_count children.old) (C.fault_count children.old) (remembered_by self.old.store.kept)) (moment (C.call_count children.new) (C.fault_count children.new) (remembered_by self.new.store.kept)) self.old.store.kept.repo commands.now replies.items self.new.store.kept.repo) }
+        ensures safe { IfOk result (λ replies. IsSafePlay S.Store (C.tells children.old) (moment (C.call_count children.old) (C.fault_count children.old) (remembered_by self.old.store.kept)) (moment (C.call_count children.new) (C.fault_count children.new) (remembered_by self.new.store.kept)) self.old.store self.new.store commands.now replies.items) }
         ensures stands { Stands S.Store self.old.store.conn self.old.store.kept → Stands S.Store self.new.store.conn self.new.store.kept }
         ensures refused { OnErr result (self.new ≡ self.old) }
         ensures uncalled { OnErr result (children.new ≡ children.old) }
@@ -43,8 +46,7 @@ impl<S: Alter> Host<S> {
 
     // Makes a command.
     fn played<C: Children>(&mut self, alloc: Global, children: &mut C, command: &Command) -> Reply
-        ensures played { IsPlayed (C.tells children.old) (moment (C.call_count children.old) (C.fault_count children.old) (remembered_by self.old.store.kept)) (moment (C.call_count children.new) (C.fault_count children.new) (remembered_by self.new.store.kept)) self.old.store.kept.repo command.now result self.new.store.kept.repo }
-        ensures stands { Stands S.Store self.old.store.conn self.old.store.kept → Stands S.Store self.new.store.conn self.new.store.kept }
+        ensures played { IsPlayedSafely S.Store (C.tells children.old) (moment (C.call_count children.old) (C.fault_count children.old) (remembered_by self.old.store.kept)) (moment (C.call_count children.new) (C.fault_count children.new) (remembered_by self.new.store.kept)) self.old.store self.new.store command.now result }
         ensures same { SameTells (C.tells children.old) (C.tells children.new) }
     {
         match command {
@@ -63,7 +65,7 @@ impl<S: Alter> Host<S> {
 
     fn play_add(&mut self, alloc: Global, path: &Text, bytes: &Bytes, mode: Option<Mode>) -> Reply
         ensures step { Step self.old.store.kept.repo (Add path.now bytes.now mode) result [] self.new.store.kept.repo }
-        ensures stands { Stands S.Store self.old.store.conn self.old.store.kept → Stands S.Store self.new.store.conn self.new.store.kept }
+        ensures one { IsOneCommand S.Store self.old.store self.new.store (Add path.now bytes.now mode) result }
         ensures answers { self.new.store.kept.answers ≡ self.old.store.kept.answers }
     {
         match self.add(alloc, path.as_str(), bytes.as_slice(), mode) {
@@ -74,7 +76,7 @@ impl<S: Alter> Host<S> {
 
     fn play_remove(&mut self, alloc: Global, path: &Text) -> Reply
         ensures step { Step self.old.store.kept.repo (Remove path.now) result [] self.new.store.kept.repo }
-        ensures stands { Stands S.Store self.old.store.conn self.old.store.kept → Stands S.Store self.new.store.conn self.new.store.kept }
+        ensures one { IsOneCommand S.Store self.old.store self.new.store (Remove path.now) result }
         ensures answers { self.new.store.kept.answers ≡ self.old.store.kept.answers }
     {
         match self.remove(alloc, path.as_str()) {
@@ -85,7 +87,7 @@ impl<S: Alter> Host<S> {
 
     fn play_accept(&mut self) -> Reply
         ensures step { Step self.old.store.kept.repo Accept result [] self.new.store.kept.repo }
-        ensures stands { Stands S.Store self.old.store.conn self.old.store.kept → Stands S.Store self.new.store.conn self.new.store.kept }
+        ensures one { IsOneCommand S.Store self.old.store self.new.store Accept result }
         ensures answers { self.new.store.kept.answers ≡ self.old.store.kept.answers }
     {
         match self.accept() {
@@ -95,8 +97,7 @@ impl<S: Alter> Host<S> {
     }
 
     fn play_run<C: Children>(&mut self, alloc: Global, children: &mut C, ask: &HostAsk) -> Reply
-        ensures played { IsPlayed (C.tells children.old) (moment (C.call_count children.old) (C.fault_count children.old) (remembered_by self.old.store.kept)) (moment (C.call_count children.new) (C.fault_count children.new) (remembered_by self.new.store.kept)) self.old.store.kept.repo (Run ask.now) result self.new.store.kept.repo }
-        ensures stands { Stands S.Store self.old.store.conn self.old.store.kept → Stands S.Store self.new.store.conn self.new.store.kept }
+        ensures played { IsPlayedSafely S.Store (C.tells children.old) (moment (C.call_count children.old) (C.fault_count children.old) (remembered_by self.old.store.kept)) (moment (C.call_count children.new) (C.fault_count children.new) (remembered_by self.new.store.kept)) self.old.store self.new.store (Run ask.now) result }
         ensures same { SameTells (C.tells children.old) (C.tells children.new) }
     {
         match self.run(alloc, children, ask) {
@@ -125,8 +126,7 @@ impl<S: Alter> Host<S> {
         no_verify: bool,
         skip: &Items<Text>,
     ) -> Reply
-        ensures played { IsPlayed (C.tells children.old) (moment (C.call_count children.old) (C.fault_count children.old) (remembered_by self.old.store.kept)) (moment (C.call_count children.new) (C.fault_count children.new) (remembered_by self.new.store.kept)) self.old.store.kept.repo (Commit message.now no_verify skip.now) result self.new.store.kept.repo }
-        ensures stands { Stands S.Store self.old.store.conn self.old.store.kept → Stands S.Store self.new.store.conn self.new.store.kept }
+        ensures played { IsPlayedSafely S.Store (C.tells children.old) (moment (C.call_count children.old) (C.fault_count children.old) (remembered_by self.old.store.kept)) (moment (C.call_count children.new) (C.fault_count children.new) (remembered_by self.new.store.kept)) self.old.store self.new.store (Commit message.now no_verify skip.now) result }
         ensures same { SameTells (C.tells children.old) (C.tells children.new) }
     {
         match self.commit(
@@ -143,8 +143,8 @@ impl<S: Alter> Host<S> {
 
     fn play_forget(&mut self) -> Reply
         ensures step { Step self.old.store.kept.repo Forget result [] self.new.store.kept.repo }
+        ensures one { IsOneCommand S.Store self.old.store self.new.store Forget result }
         ensures forgotten { HasForgotten (remembered_by self.old.store.kept) (remembered_by self.new.store.kept) result }
-        ensures stands { Stands S.Store self.old.store.conn self.old.store.kept → Stands S.Store self.new.store.conn self.new.store.kept }
     {
         match self.forget() {
             Ok(number) => Reply::Forgot(number),

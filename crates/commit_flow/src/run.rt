@@ -2,13 +2,14 @@
 
 ghost use Rattle.std.specs.Prelude.{◌≡◌, IfOk, IfErr};
 ghost use Rattle.child_port.specs.Telling.{SameTells};
-ghost use Rattle.result_book.specs.StoreBooks.{IsAtRest, remembered_by};
+ghost use Rattle.result_book.specs.StoreBooks.{IsAtRest, MayRemember, remembered_by};
 ghost use Rattle.hook_run.specs.Moments.{moment};
 ghost use Rattle.commit_flow.specs.declared.command.Command.TheVariants.{Run};
-ghost use Rattle.commit_flow.specs.Crashes.{IsHookCommand};
+ghost use Rattle.commit_flow.specs.Commands.{reply_of};
 ghost use Rattle.commit_flow.specs.KeptByHooks.{KeepsForRun};
-ghost use Rattle.commit_flow.specs.Preparations.{HasRunOnStaged, HasRunReady, HasStoppedReady};
-ghost use Rattle.commit_flow.specs.RunSteps.{IsRunStep, IsStoppedStep};
+ghost use Rattle.commit_flow.specs.Preparations.{HasRunOnStaged, HasRunReady, HasStoppedReady, LeavesTold};
+ghost use Rattle.commit_flow.specs.RunSteps.{IsRunStep, IsStoppedStep, reply_of_run};
+ghost use Rattle.commit_flow.specs.Stops.{IsPlayedSafely};
 
 use crate::hooks::run_with_book;
 use crate::prepared::{Prepared, prepare};
@@ -42,7 +43,7 @@ impl<S: Alter> Host<S> {
         ensures stopped { IfErr result (IsStoppedStep (C.tells children.old) (moment (C.call_count children.old) (C.fault_count children.old) (remembered_by self.old.store.kept)) (moment (C.call_count children.new) (C.fault_count children.new) (remembered_by self.new.store.kept)) self.old.store.kept.repo ask.now self.new.store.kept) }
         ensures fixed { IfOk result (λ ran. self.new.store.kept.repo.fixes ≡ ran.changes) }
         ensures kept { KeepsForRun self.old.store.kept self.new.store.kept result }
-        ensures command { IsHookCommand S.Store self.old.store self.new.store (Run ask.now) result }
+        ensures command { IsPlayedSafely S.Store (C.tells children.old) (moment (C.call_count children.old) (C.fault_count children.old) (remembered_by self.old.store.kept)) (moment (C.call_count children.new) (C.fault_count children.new) (remembered_by self.new.store.kept)) self.old.store self.new.store (Run ask.now) (reply_of reply_of_run result) }
         ensures same { SameTells (C.tells children.old) (C.tells children.new) }
     {
         run_in(alloc, children, &mut self.store, ask)
@@ -60,7 +61,7 @@ fn run_in<C: Children, S: Alter>(
     ensures stopped { IfErr result (IsStoppedStep (C.tells children.old) (moment (C.call_count children.old) (C.fault_count children.old) (remembered_by store.old.kept)) (moment (C.call_count children.new) (C.fault_count children.new) (remembered_by store.new.kept)) store.old.kept.repo ask.now store.new.kept) }
     ensures fixed { IfOk result (λ ran. store.new.kept.repo.fixes ≡ ran.changes) }
     ensures kept { KeepsForRun store.old.kept store.new.kept result }
-    ensures command { IsHookCommand S.Store store.old store.new (Run ask.now) result }
+    ensures command { IsPlayedSafely S.Store (C.tells children.old) (moment (C.call_count children.old) (C.fault_count children.old) (remembered_by store.old.kept)) (moment (C.call_count children.new) (C.fault_count children.new) (remembered_by store.new.kept)) store.old store.new (Run ask.now) (reply_of reply_of_run result) }
     ensures same { SameTells (C.tells children.old) (C.tells children.new) }
 {
     let ran = run_on_staged(alloc, children, store, ask)?;
@@ -77,6 +78,7 @@ fn run_on_staged<C: Children, S: Alter>(
 ) -> Result<StagedRun, HostRefusal>
     ensures run { IfOk result (HasRunOnStaged (C.tells children.old) (moment (C.call_count children.old) (C.fault_count children.old) (remembered_by store.old.kept)) (moment (C.call_count children.new) (C.fault_count children.new) (remembered_by store.new.kept)) store.old.kept.repo ask.now) }
     ensures stopped { IfErr result (IsStoppedStep (C.tells children.old) (moment (C.call_count children.old) (C.fault_count children.old) (remembered_by store.old.kept)) (moment (C.call_count children.new) (C.fault_count children.new) (remembered_by store.new.kept)) store.old.kept.repo ask.now store.new.kept) }
+    ensures left { LeavesTold (C.tells children.old) (remembered_by store.old.kept) (MayRemember S.Store store.old) (MayRemember S.Store store.new) }
     ensures rest { IsAtRest S.Store store.old store.new }
     ensures same { SameTells (C.tells children.old) (C.tells children.new) }
 {
@@ -93,6 +95,7 @@ fn run_prepared<C: Children, B: Book>(
 ) -> Result<StagedRun, HostRefusal>
     ensures run { IfOk result (HasRunReady (C.tells children.old) (moment (C.call_count children.old) (C.fault_count children.old) (B.contents book.old)) (moment (C.call_count children.new) (C.fault_count children.new) (B.contents book.new)) prepared.now) }
     ensures stopped { IfErr result (HasStoppedReady B.refuses (C.tells children.old) (moment (C.call_count children.old) (C.fault_count children.old) (B.contents book.old)) (moment (C.call_count children.new) (C.fault_count children.new) (B.contents book.new)) prepared.now) }
+    ensures left { LeavesTold (C.tells children.old) (B.contents book.old) (B.leaves book.old) (B.leaves book.new) }
     ensures rest { B.rests book.old book.new }
     ensures same { SameTells (C.tells children.old) (C.tells children.new) }
 {

@@ -6,7 +6,7 @@ use Rattle.repo_store.specs.Kept.{Kept, accepting}
 use Rattle.commit_flow.specs.declared.command.Command.TheVariants as command
 use Rattle.commit_flow.specs.declared.host_refusal.HostRefusal.{HostRefusal}
 use Rattle.commit_flow.specs.declared.reply.Reply.TheVariants.{Accepted, Refused}
-use Rattle.commit_flow.specs.Crashes.{IsOneCommand}
+use Rattle.commit_flow.specs.Stops.{IsOneCommand}
 use Rattle.commit_flow.specs.declared.host.Host.{Host}
 use Rattle.commit_flow.specs.Steps.{IsAcceptRefusal, Step}
 use Rattle.command_line.specs.declared.line.LookUp.{LookUp}
@@ -41,7 +41,7 @@ silent-itself held = keeps-itself held
 pub accepted-said : {S : Type 0} (g : Ghosts S) (old new : Host S) (out err : Output) (ending : CommandEnding) (number : ℕ)
     → Step old.store.kept.repo command.Accept (Accepted number) [] new.store.kept.repo
     → IsAllOrNothing {E = HostRefusal} old.store.kept new.store.kept (Ok number) (accepting old.store.kept)
-    → IsOneCommand g old.store new.store command.Accept (Ok number)
+    → IsOneCommand g old.store new.store command.Accept (Accepted number)
     → IsSaid ends.Done out (accepted_text number) err untaken_line ending → IsAcceptOver g old new out err ending
 accepted-said g old new out err ending number step change one said = record {
   answer = Ok tt;
@@ -56,13 +56,13 @@ accepted-said g old new out err ending number step change one said = record {
 pub accept-refused : {S : Type 0} (g : Ghosts S) (old new : Host S) (out err : Output) (ending : CommandEnding) (refusal : HostRefusal)
     → Step old.store.kept.repo command.Accept (Refused refusal) [] new.store.kept.repo
     → IsAllOrNothing {A = ℕ} old.store.kept new.store.kept (Err refusal) (accepting old.store.kept)
-    → IsOneCommand {A = ℕ} g old.store new.store command.Accept (Err refusal)
+    → IsOneCommand g old.store new.store command.Accept (Refused refusal)
     → IsTold ends.Refused err (refusal_text refusal) ending → IsSilent out → IsAcceptOver g old new out err ending
 accept-refused g old new out err ending refusal step change one told silent = record {
   answer = Err refusal;
   step = step;
   change = record { done = tt; same = change.same };
-  one = record { stands = one.stands; crash = one.crash; durable = tt };
+  one = one;
   apart = tt;
   collides = λ is. subst (λ (r : HostRefusal). IsAcceptRefusal old.store.kept.repo r) is step.0.0;
   replied = (silent, told);

@@ -28,7 +28,7 @@ use Rattle.commit_flow.specs.declared.reply.Reply.{Reply}
 use Rattle.commit_flow.specs.declared.reply.Reply.TheVariants.{Added, Removed, Accepted, Ran, Committed, HooksFailed, Forgot, Refused}
 use Rattle.commit_flow.specs.declared.staged_run.StagedRun.{StagedRun}
 use Rattle.commit_flow.specs.Commands.{reply_of, reply_of_ending}
-use Rattle.commit_flow.specs.Crashes.{IsHookCommand, IsOneCommand}
+use Rattle.commit_flow.specs.Stops.{IsOneCommand, IsPlayedSafely}
 use Rattle.commit_flow.specs.KeptByHooks.{KeepsForCommit, KeepsForRun}
 use Rattle.commit_flow.specs.declared.host.Host.{Host}
 use Rattle.commit_flow.specs.Plays.{HasForgotten}
@@ -111,7 +111,7 @@ pub record IsChanged {S : Type 0} (g : Ghosts S) (old new : Host S) (command : C
   pub answer : Result (Unit {0}) HostRefusal
   pub step : Step old.store.kept.repo command (reply_of (λ _. reply) answer) [] new.store.kept.repo
   pub change : IsAllOrNothing old.store.kept new.store.kept answer after
-  pub one : IsOneCommand g old.store new.store command answer
+  pub one : IsOneCommand g old.store new.store command (reply_of (λ _. reply) answer)
   pub apart : OnOk answer (¬ BringsCollision)
   pub collides : IfErr answer (λ refusal. refusal ≡ Collision → BringsCollision)
   pub replied : IsReplied out err (reply_of (λ _. reply) answer) ending
@@ -139,7 +139,7 @@ pub record IsForgetOver {S : Type 0} (g : Ghosts S) (old new : Host S) (out err 
   pub answer : Result ℕ HostRefusal
   pub step : Step old.store.kept.repo command.Forget (reply_of Forgot answer) [] new.store.kept.repo
   pub change : IsAllOrNothing old.store.kept new.store.kept answer (forgetting old.store.kept)
-  pub one : IsOneCommand g old.store new.store command.Forget answer
+  pub one : IsOneCommand g old.store new.store command.Forget (reply_of Forgot answer)
   pub forgotten : HasForgotten (remembered_by old.store.kept) (remembered_by new.store.kept) (reply_of Forgot answer)
   pub replied : IsReplied out err (reply_of Forgot answer) ending
 
@@ -182,7 +182,7 @@ pub record IsRunOverHost {S : Type 0} (g : Ghosts S) (tells : List (List ℕ) �
   pub step : IfOk answer (λ ran. IsRunStep tells (moment_before counts old) (moment_after counts new) old.store.kept.repo ask ran new.store.kept.repo)
   pub stopped : IfErr answer (IsStoppedStep tells (moment_before counts old) (moment_after counts new) old.store.kept.repo ask new.store.kept)
   pub change : KeepsForRun old.store.kept new.store.kept answer
-  pub one : IsHookCommand g old.store new.store (command.Run ask) answer
+  pub safe : IsPlayedSafely g tells (moment_before counts old) (moment_after counts new) old.store new.store (command.Run ask) (reply_of reply_of_run answer)
   pub replied : IsReplied out err (reply_of reply_of_run answer) ending
 
 -- The staged files are committed through their hooks by one call of the host, whose answer is printed. The repository takes a
@@ -191,7 +191,7 @@ pub record IsCommitOverHost {S : Type 0} (g : Ghosts S) (tells : List (List ℕ)
   pub answer : Result CommitEnding HostRefusal
   pub step : IsCommitStep tells (moment_before counts old) (moment_after counts new) old.store.kept.repo message no_verify skip (reply_of reply_of_ending answer) new.store.kept
   pub change : KeepsForCommit old.store.kept new.store.kept answer
-  pub one : IsHookCommand g old.store new.store (command.Commit message no_verify skip) answer
+  pub safe : IsPlayedSafely g tells (moment_before counts old) (moment_after counts new) old.store new.store (command.Commit message no_verify skip) (reply_of reply_of_ending answer)
   pub replied : IsReplied out err (reply_of reply_of_ending answer) ending
 
 -- ---- the commands that look something up

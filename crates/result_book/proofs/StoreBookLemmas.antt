@@ -96,7 +96,8 @@ have_there words seen answer [] row k within is key same = absurd (omega arith)
 have_there words seen answer (first ∷ rows) row zero within is key same = inl ((ap (λ (r : BookRow). r.words) is ∙ key.0, ap (λ (r : BookRow). r.seen) is ∙ key.1), ap (λ (r : BookRow). r.answer) is ∙ same)
 have_there words seen answer (first ∷ rows) row (suc k) within is key same = inr (have_there words seen answer rows row k (omega arith) is key same)
 
-have_moved : (words : List (List ℕ)) (seen : List File) (answer : Answer) (xs ys : List KeptAnswer) → IsPermutation xs ys → HaveRow words seen answer (map row_of xs) → HaveRow words seen answer (map row_of ys)
+-- a row that one list of answers has, the same answers in another order have
+pub have_moved : (words : List (List ℕ)) (seen : List File) (answer : Answer) (xs ys : List KeptAnswer) → IsPermutation xs ys → HaveRow words seen answer (map row_of xs) → HaveRow words seen answer (map row_of ys)
 have_moved words seen answer xs ys same have =
     let it = have_at words seen answer (map row_of xs) have in
     let there = Contains-permutation (map row_of xs) (map row_of ys) it.0 (IsPermutation-map row_of xs ys same) it.1 in

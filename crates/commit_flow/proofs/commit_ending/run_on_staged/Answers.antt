@@ -1,11 +1,12 @@
 use Rattle.std.proofs.Common.{[]}
 use Rattle.std.proofs.lemmas.Result.{err_from_is_err_and}
 use Rattle.hook_config.specs.declared.stage.Stage.TheVariants.{PostCommit}
-use Rattle.result_book.specs.StoreBooks.{RefusesAnswers, remembered_by}
+use Rattle.result_book.specs.StoreBooks.{MayRemember, RefusesAnswers, remembered_by}
 use Rattle.hook_run.specs.Moments.{moment}
 use Rattle.commit_flow.specs.CommitStages.{ask_in}
 use Rattle.commit_flow.proofs.StagesLemmas.{stopped_for_memory}
 use Rattle.result_book.specs.RestLemmas.{rests_itself}
+use Rattle.commit_flow.proofs.LeftLemmas.{left_same}
 use Rattle.commit_flow.proofs.commit_ending.run_on_staged.Goals as goal
 
 pub returns-in_err-staged-clause-stopped : goal.returns-in_err-staged-clause-stopped
@@ -17,3 +18,6 @@ returns-in_err-staged-clause-stopped g c =
 
 pub returns-in_err-staged-clause-rest : goal.returns-in_err-staged-clause-rest
 returns-in_err-staged-clause-rest g c = rests_itself g.S.Store c.args.store.now
+
+pub returns-in_err-staged-clause-left : goal.returns-in_err-staged-clause-left
+returns-in_err-staged-clause-left g c = left_same (g.C.Children.tells c.args.children.now) (remembered_by c.args.store.now.kept) (MayRemember g.S.Store c.args.store.now)

@@ -5,6 +5,7 @@ use Rattle.hook_run.specs.Moments.{moment}
 use Rattle.commit_flow.specs.CommitStages.{ask_in}
 use Rattle.commit_flow.specs.Preparations.{HaveStopped}
 use Rattle.commit_flow.proofs.StagesLemmas.{run_stopped_if, stopped_for_memory}
+use Rattle.commit_flow.proofs.LeftLemmas.{left_same}
 use Rattle.commit_flow.proofs.commit_stages.run_hooks_of.Goals as goal
 
 pub returns-in_err-ask-clause-stopped : goal.returns-in_err-ask-clause-stopped
@@ -27,3 +28,6 @@ returns-clause-stopped g c =
 
 pub returns-in_err-ask-clause-rest : goal.returns-in_err-ask-clause-rest
 returns-in_err-ask-clause-rest g c = g.met.B.Book.rests_itself c.args.book.now
+
+pub returns-in_err-ask-clause-left : goal.returns-in_err-ask-clause-left
+returns-in_err-ask-clause-left g c = left_same (g.C.Children.tells c.args.children.now) (g.B.Book.contents c.args.book.now) (g.B.Book.leaves c.args.book.now)

@@ -8,6 +8,7 @@ use Rattle.hook_run.specs.RunOuts.{IsBegun, NeedsChild}
 use Rattle.hook_run.proofs.CompletionLemmas.{begins-at-once}
 use Rattle.commit_flow.specs.CommitStages.{ask_in, tree_in}
 use Rattle.commit_flow.proofs.StagesLemmas.{begun_all, halted_for_memory, halted_run, stage_over}
+use Rattle.commit_flow.proofs.LeftLemmas.{left_same}
 use Rattle.commit_flow.proofs.commit_stages.run_stage.Goals as goal
 
 pub returns-clause-run : goal.returns-clause-run
@@ -57,3 +58,6 @@ returns-in_err-course-clause-halted g c =
 
 pub returns-in_err-begun-clause-rest : goal.returns-in_err-begun-clause-rest
 returns-in_err-begun-clause-rest g c = g.met.B.Book.rests_itself c.args.book.now
+
+pub returns-in_err-begun-clause-left : goal.returns-in_err-begun-clause-left
+returns-in_err-begun-clause-left g c = left_same (g.C.Children.tells c.args.children.now) (g.B.Book.contents c.args.book.now) (g.B.Book.leaves c.args.book.now)

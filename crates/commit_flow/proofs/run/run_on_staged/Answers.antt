@@ -1,9 +1,10 @@
 use Rattle.std.proofs.Common.{refl}
 use Rattle.std.proofs.lemmas.Result.{err_from_is_err_and}
-use Rattle.result_book.specs.StoreBooks.{remembered_by}
+use Rattle.result_book.specs.StoreBooks.{MayRemember, remembered_by}
 use Rattle.hook_run.specs.Moments.{moment}
 use Rattle.commit_flow.proofs.RunLemmas.{run_refused_if, staged_if, unready}
 use Rattle.result_book.specs.RestLemmas.{rests_itself}
+use Rattle.commit_flow.proofs.LeftLemmas.{left_same}
 use Rattle.commit_flow.proofs.run.run_on_staged.Goals as goal
 
 pub returns-in_err-prepared-clause-stopped : goal.returns-in_err-prepared-clause-stopped
@@ -30,3 +31,6 @@ returns-clause-stopped g c =
     let to = moment (children.call_count c.run_prepared.new.children) (children.fault_count c.run_prepared.new.children) (remembered_by c.run_prepared.new.book.kept) in
     run_refused_if (children.tells c.args.children.now) from to c.args.store.now.kept.repo c.args.ask.now c.in_ok-prepared.prepared c.in_ok-prepared.ensures.ready
     c.run_prepared.new.book.kept c.run_prepared.ensures.rest.repo c.run_prepared.result c.run_prepared.ensures.stopped
+
+pub returns-in_err-prepared-clause-left : goal.returns-in_err-prepared-clause-left
+returns-in_err-prepared-clause-left g c = left_same (g.C.Children.tells c.args.children.now) (remembered_by c.args.store.now.kept) (MayRemember g.S.Store c.args.store.now)

@@ -3,6 +3,7 @@ use Rattle.std.proofs.lemmas.Result.{err_from_is_err_and}
 use Rattle.hook_base.specs.declared.file.FileEntry.{FileEntry}
 use Rattle.repo_store.specs.Kept.{staging}
 use Rattle.commit_flow.specs.declared.command.Command.TheVariants.{Add}
+use Rattle.commit_flow.specs.declared.reply.Reply.TheVariants.{Added}
 use Rattle.commit_flow.specs.Steps.{entry_to_add}
 use Rattle.commit_flow.proofs.CommandLemmas.{add_collides, add_reached, done_command, refused_command, same_staging}
 use Rattle.commit_flow.proofs.PathLemmas.{legal_isnt_message}
@@ -34,7 +35,7 @@ returns-clause-command g c =
     let entry : FileEntry = record { mode = c.mode_to_add-mode.result; bytes = bytes } in
     let same = same_staging kept path bytes asked c.in_ok-path.path c.mode_to_add-mode.result c.in_ok-path.ensures.same c.mode_to_add-mode.ensures in
     done_command g.S.Store store c.stage.new.self (Add path bytes asked) (staging c.in_ok-path.path entry kept) (staging path (entry_to_add kept.repo path bytes asked) kept) same
-    (add_reached kept path bytes asked c.in_ok-path.ensures.addable) tt tt c.in_ok-stage.ensures.change.done c.in_ok-stage.ensures.transaction
+    (add_reached kept path bytes asked c.in_ok-path.ensures.addable) tt Added c.in_ok-stage.ensures.change.done c.in_ok-stage.ensures.transaction
 
 pub returns-in_err-stage-clause-collides : goal.returns-in_err-stage-clause-collides
 returns-in_err-stage-clause-collides g c =

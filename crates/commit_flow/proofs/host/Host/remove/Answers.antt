@@ -2,6 +2,7 @@ use Rattle.std.proofs.Common.{ℕ, List, ap}
 use Rattle.std.proofs.lemmas.Result.{err_from_is_err_and}
 use Rattle.repo_store.specs.Kept.{unstaging}
 use Rattle.commit_flow.specs.declared.command.Command.TheVariants.{Remove}
+use Rattle.commit_flow.specs.declared.reply.Reply.TheVariants.{Removed}
 use Rattle.commit_flow.proofs.CommandLemmas.{done_command, refused_command, remove_reached}
 use Rattle.commit_flow.proofs.host.Host.remove.Goals as goal
 
@@ -22,4 +23,4 @@ returns-clause-command g c =
     let path = c.args.path.now in
     let same = ap (λ (taken : List ℕ). unstaging taken kept) c.in_ok-path.ensures.same in
     done_command g.S.Store store c.unstage.new.self (Remove path) (unstaging c.in_ok-path.path kept) (unstaging path kept) same
-    (remove_reached kept path c.in_ok-path.ensures.removable.0 c.in_ok-path.ensures.removable.1) tt tt c.in_ok-unstage.ensures.change.done c.in_ok-unstage.ensures.transaction
+    (remove_reached kept path c.in_ok-path.ensures.removable.0 c.in_ok-path.ensures.removable.1) tt Removed c.in_ok-unstage.ensures.change.done c.in_ok-unstage.ensures.transaction
