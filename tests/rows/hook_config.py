@@ -346,6 +346,22 @@ PIECES = [
 ]
 
 
+# Block texts of a key that isn't known, and a pattern over lines, in pieces as well.
+BLOCK_TEXTS = ["e: >\n  (?x)^(\n      a/.*|\n      b/.*\n  )$\n", "e: >-\n  a\n  b\n\n  c\n", "e: |\n  a\n", "e: |\n  a"]
+PATTERN_PIECES = [
+    ("repos: ", "2 Shape at 0"),
+    ("[", "1 Yaml at 1"),
+    ("]\n", "0 hooks, false"),
+    ("exclude", "1 Yaml at 2"),
+    (": ", "2 Shape at 0"),
+    (">\n  ", "0 hooks, false"),
+    ("(?x", "7 BadPattern at 0"),
+    (")^", "0 hooks, false"),
+    ("(\n      a/.*|\n      b/.*\n  ", "7 BadPattern at 0"),
+    (")$\n", "0 hooks, false"),
+]
+
+
 def prefixes(pieces):
     """Each text of one character and more that the pieces begin with."""
     text = ""
@@ -551,7 +567,9 @@ ROWS = [
     *both([(THIRD_HOOK, "2 Shape at 3")]),
     *both(LANGUAGES),
     *both((with_command(language, keys), said) for language in STARTED for keys, said in COMMANDS),
-    *both(prefixes(PIECES)),
+    *both(prefixes([*PIECES, ("\n", "1 hooks, false")])),
+    *both(each for text in BLOCK_TEXTS for each in prefixes([("e", "2 Shape at 0"), (text[1:], "3 MissingKey at 0")])),
+    *both(prefixes(PATTERN_PIECES)),
     *(("config_kind", kind, f"{said}\n{said}\n") for kind, said in KINDS),
     *both((with_pygrep(keys), said) for keys, said in PYGREP_KEYS),
     *(("top_patterns", f"{keys}{ONE_HOOK}", said) for keys, said in TOP_PATTERNS),

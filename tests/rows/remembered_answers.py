@@ -377,4 +377,33 @@ HOSTS = [
     ),
 ]
 
-ROWS = [*(("play_book", *row) for row in [*RUNS, *BOOKS]), *(("play", *row) for row in HOSTS)]
+# More answers than anyone would think a book has to make room for: each run sees another file.
+MANY = 1_001
+MANY_FILES = [f"{number}\n" for number in range(MANY)]
+
+
+def many_runs(calls):
+    """Runs over files one after another, each of which starts so many children."""
+    steps = [word for number, text in enumerate(MANY_FILES) for word in ("others", *child("c", "a.txt", seen=[f"a.txt={number}"]), *file("a.txt", text), *run())]
+    answers = [f"passed, {calls} calls, 0 faults\n{PASSED}{number if calls else MANY} remembered: held\n" for number in range(1, MANY + 1)]
+    return steps, "".join(answers)
+
+
+def many_books():
+    first, again = many_runs(1), many_runs(0)
+    return (hooks(T), *first[0], *again[0], "forget", first[1] + again[1] + f"{MANY} forgotten\n")
+
+
+def many_plays():
+    """The same by a host, whose book its store keeps."""
+    rows = [word for number in range(MANY) for word in child("c", "a.txt", seen=[f"a.txt={number}"])]
+    plays = [word for text in MANY_FILES * 2 for word in (*add("a.txt", text), *host_run())]
+    replies = "added\n" + ("added\n" + ran("passed", PASSED)) * 2 * MANY
+    configuration = (".pre-commit-config.yaml", hooks(T))
+    return (*rows, *add(*configuration), *plays, replies + ended(MANY, 0, MANY) + staged(configuration, ("a.txt", MANY_FILES[-1])))
+
+
+# A repository has no commit of the number 0, and none behind its last one.
+NEITHER = "no files\n" * 2
+
+ROWS = [*(("play_book", *row) for row in [*RUNS, *BOOKS, many_books()]), *(("play", *row, answer + NEITHER) for *row, answer in [*HOSTS, many_plays()])]
