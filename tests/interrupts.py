@@ -9,7 +9,8 @@ within a call of the store, they come to the program alone, and so does SIGPIPE,
 
 However it ends, the next command isn't refused, the repository is the one before the command or the one after it, and standard output
 has nothing or the whole report. On a terminal no child outlives the program; without one it may, and the next run is what it is
-without it. Where nobody reads standard output the change stands all the same.
+without it. Where nobody reads standard output the change stands all the same. Where who starts the program has it ignore SIGCHLD, no
+child can be waited for: each is a fault of its hook, and nothing of it is remembered.
 
 Without --all one in several calls of those that strace counts is played, always the same ones.
 """
@@ -187,11 +188,31 @@ def unread(name):
         return "ended by SIGPIPE" if told.status < 0 else "said so" if is_said else "had nothing to say"
 
 
+def ignore_ends():
+    """In the new process: the system keeps of no child how it ended."""
+    begin(None)
+    signal.signal(signal.SIGCHLD, signal.SIG_IGN)
+
+
+def unwaited(name):
+    """The same where it starts with SIGCHLD ignored."""
+    scene = SCENES[name]
+    with tempfile.TemporaryDirectory(dir=QUICK) as folder:
+        work = scene.copy(folder)
+        done = subprocess.run([PROGRAM, *scene.words], cwd=work, stdin=subprocess.DEVNULL, capture_output=True, timeout=LIMIT,
+                              env={**os.environ, "SKIP": ""}, preexec_fn=ignore_ends)
+        wait_for_orphans()
+        told = Told(done.returncode, done.stdout, done.stderr)
+        starts = len(scene.after.answers) > len(scene.before.answers or ())
+        check((b"- fault: could not be waited for\n" in told.out) == starts, f"it says {told!r:.900}")
+        return scene.judge(work, told)
+
+
 # ---- all of it
 
 def cases():
     yield from ((interrupted, name, way) for name in ("run", "commit") if name in SCENES for way in WAYS)
-    yield from ((unread, name) for name in SCENES)
+    yield from ((look, name) for look in (unread, unwaited) for name in SCENES)
     for name, scene in SCENES.items():
         for call, at in calls_of(scene):
             for number in (*SIGNALS, signal.SIGPIPE):
@@ -229,7 +250,7 @@ def main():
         with ProcessPoolExecutor(WORKERS, multiprocessing.get_context("fork"), initializer=adopt_orphans) as pool:
             results = list(map(show, pool.map(tried, cases(), chunksize=4)))
     wrong = sum(text is not None for *_, text in results)
-    for look in (interrupted, unread, signalled):
+    for look in (interrupted, unread, unwaited, signalled):
         counts = collections.Counter(place for (each, *_), place, _ in results if each is look)
         print(f"{look.__name__}: " + ", ".join(f"{count} {place}" for place, count in sorted(counts.items())))
     took = sum(resource.getrusage(who).ru_utime + resource.getrusage(who).ru_stime for who in (resource.RUSAGE_SELF, resource.RUSAGE_CHILDREN))
