@@ -1,2 +1,3 @@
 pub mod CommandLemmas
+pub mod MessageLemmas
 pub mod ValueLemmas

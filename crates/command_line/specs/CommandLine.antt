@@ -13,6 +13,7 @@ use Rattle.clap.specs.declared.error.Error.{Error}
 use Rattle.clap.specs.declared.error.kind.ErrorKind.TheVariants.{InvalidValue}
 use Rattle.hook_base.specs.declared.file.Mode.{Mode}
 use Rattle.hook_base.specs.declared.file.Mode.TheVariants.{Executable}
+use Rattle.command_line.specs.MessageWords.{words_for_clap}
 use Rattle.command_line.specs.declared.line.FileChoice.{FileChoice}
 use Rattle.command_line.specs.declared.line.FileChoice.TheVariants.{Changed, All, Named, Listed as ListedFiles}
 use Rattle.command_line.specs.declared.line.FileVersion.{FileVersion}
@@ -277,9 +278,13 @@ line_by name rows =
     else (if bytes_eq name (codes "commit") then Some (commit_line rows)
     else (if bytes_eq name (codes "forget") then Some (line.Update Forget) else None))))))))))))))))
 
--- what the words ask for: a command with its values, as `clap` finds them
+-- what the words ask for that `clap` gets: a command with its values, as it finds them
+abbrev pub line_in : List Text → Option Line
+line_in words = option_and_then (λ p. line_by p.0 p.1) (subcommand_of hookhost_app words)
+
+-- what the words of a line ask for
 abbrev pub line_asked : List Text → Option Line
-line_asked words = option_and_then (λ p. line_by p.0 p.1) (subcommand_of hookhost_app words)
+line_asked words = line_in (words_for_clap words)
 
 -- ---- what is refused
 
@@ -288,9 +293,13 @@ abbrev pub value_fault : {T : Type 0} → Option T → Kinds
 value_fault None = InvalidValue ∷ []
 value_fault (Some value) = []
 
--- what `clap` refuses, and then a value
+-- what `clap` refuses of the words that it gets, and then a value
+abbrev pub line_fault_of : List Text → Kinds
+line_fault_of words = or_else (fault_of hookhost_app words) (value_fault (line_in words))
+
+-- what is refused of the words of a line
 abbrev pub line_fault : List Text → Kinds
-line_fault words = or_else (fault_of hookhost_app words) (value_fault (line_asked words))
+line_fault words = line_fault_of (words_for_clap words)
 
 -- the value where there is one, and else its refusal, or want of memory
 abbrev pub IsValueOf : {T : Type 0} → Option T → Result T Error → Type 0

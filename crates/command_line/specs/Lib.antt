@@ -1,2 +1,3 @@
 pub mod CommandLine
 pub mod HelpLengths
+pub mod MessageWords

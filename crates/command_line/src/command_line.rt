@@ -4,10 +4,11 @@
 
 ghost use Rattle.std.specs.Prelude.{◌≡◌, IfOk, Some, is_some, map, option_map, true};
 ghost use Rattle.clap.specs.Words.{FailsBy, fault_of, found_of, rows_of, subcommand_of, subcommand_rows_of};
-ghost use Rattle.command_line.specs.CommandLine.{IsValueOf, add_line, cat_line, commit_line, explain_line, files_in, hookhost_app, is_command, line_asked, line_by, line_fault, named_in, remove_line, run_files_line, run_line, show_line, try_line};
+ghost use Rattle.command_line.specs.CommandLine.{IsValueOf, add_line, cat_line, commit_line, explain_line, files_in, hookhost_app, is_command, line_asked, line_by, line_fault, line_fault_of, line_in, named_in, remove_line, run_files_line, run_line, show_line, try_line};
 
 use crate::commands::hookhost;
 use crate::help_length::help_asked;
+use crate::message_words::around_message;
 use crate::paths::paths_of;
 use crate::values::{
     flag_of, maybe_text_of, mode_of, number_of, stage_of, text_of, texts_of, version_of,
@@ -25,6 +26,21 @@ use std::alloc::{AllocError, Global};
 pub fn line_of<'a>(alloc: Global, words: &'a [&'a str]) -> Result<Line, Error>
     ensures line { IfOk result (λ line. line_asked (map (λ s. s.now) words.entry.now) ≡ Some line) }
     ensures fault { FailsBy (line_fault (map (λ s. s.now) words.entry.now)) result }
+{
+    match around_message(words) {
+        Some(around) => {
+            let joined = around.joined(alloc)?;
+            let words = around.with_joined(alloc, joined.as_str())?;
+            line_in(alloc, words.as_slice())
+        }
+        None => line_in(alloc, words),
+    }
+}
+
+// What the words ask for, as `clap` gets them.
+fn line_in<'a>(alloc: Global, words: &'a [&'a str]) -> Result<Line, Error>
+    ensures line { IfOk result (λ line. line_in (map (λ s. s.now) words.entry.now) ≡ Some line) }
+    ensures fault { FailsBy (line_fault_of (map (λ s. s.now) words.entry.now)) result }
 {
     let matches = matches_of(alloc, words)?;
     match command_of(&matches) {

@@ -8,6 +8,7 @@ mod commands;
 mod help;
 mod help_length;
 mod line;
+mod message_words;
 mod paths;
 mod repository_help;
 mod values;

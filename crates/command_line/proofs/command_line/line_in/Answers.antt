@@ -1,5 +1,5 @@
 use Rattle.command_line.proofs.CommandLemmas.{returned-first}
-use Rattle.command_line.proofs.command_line.line_of.Goals as goal
+use Rattle.command_line.proofs.command_line.line_in.Goals as goal
 
 pub returns-in_err-matches-clause-fault : goal.returns-in_err-matches-clause-fault
 returns-in_err-matches-clause-fault c =
