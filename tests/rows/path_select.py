@@ -1,6 +1,9 @@
-"""Patterns over paths, and the selection of a hook's files. Every selection is played four times by the program, among all
+"""Patterns over paths, and the selection of a hook's files. Every selection is played in seven ways by the program: among all
 candidates and among those that pass the patterns of the whole configuration first, by tags that are made and by tags that are
-kept. What is selected after changes by tags that followed them is compared with what is selected by tags that are made."""
+kept of the tree's files; and for three hooks one after another, by tags that are kept of the candidates' files: one that learns
+the tags it asks for, one with other rules that learns those that are left, and the first once more. What is selected after
+changes by tags that followed them is compared with what is selected by tags that are made, and so is what three hooks get before
+the changes and three behind them, by tags of which those of changed files are forgotten."""
 import random
 import re
 
@@ -56,6 +59,8 @@ ALL = "README.md run src/a.py src/b.py src/c.txt x.py"
 # Paths that differ early and late, in the order of their bytes: capitals, `-`, `.`, `/`, letters, then beyond ASCII.
 ORDER = ["B", "a", "a-b", "a.b", "a/b", "ab", "b", "\u00e9"]
 MANY = [f"d{number:02}" for number in range(60)]
+# Text and binary files in turn.
+MIXED = ["- a x", "- b \0", "- c x", "- d \0"]
 
 SELECTIONS = [
     select(ALL, TREE, ALL),
@@ -98,6 +103,11 @@ SELECTIONS = [
     select(ALL, TREE, "", types="no-such-tag"),
     select(ALL, TREE, "", types_or="no-such-tag"),
     select(ALL, TREE, ALL, exclude_types="no-such-tag"),
+    # tags that differ from one candidate to the next, and some that the first hook doesn't ask for
+    select("a b c d", MIXED, "a c", types="text"),
+    select("a b c d", MIXED, "b d", types="binary"),
+    select("a b c d", MIXED, "c", files="c|d", types="text"),
+    select("d zz b a", MIXED, "b d", top_exclude="c", exclude_types="text"),
 ]
 
 # The contents of files whose names give no tags, with the tag that they give.
@@ -151,6 +161,13 @@ AFTER_CHANGES = [
     select_kept("e", ["- e x"], ["+ e \0"], "e", files="^e$", types="binary"),
     select_kept("e", ["- e \0"], ["+ e x"], "e", files="^e$", types="text"),
     select_kept("e", ["- e x"], ["- e"], "", files="^e$"),
+    # one of several files, in the middle, at the end, of no candidate, and one that is gone
+    select_kept("a b c d", MIXED, ["+ b x"], "a b c", types="text"),
+    select_kept("a b c d", MIXED, ["+ d x"], "a c d", types="text"),
+    select_kept("a c d", MIXED, ["+ b x"], "a c", types="text"),
+    select_kept("a b c d", MIXED, ["+ d x", "+ a \0"], "c d", types="text"),
+    select_kept("a b c d", MIXED, ["- a"], "c", types="text"),
+    select_kept("a b c d", MIXED, ["+ b x", "+ c \0"], "b", files="b|c", types="text"),
     # files that are gone before others
     select_kept(ALL, TREE, ["- README.md", "- run"], "src/a.py src/b.py src/c.txt x.py"),
     select_kept(ALL, TREE, ["- README.md", "+ src/c.txt \0"], "src/b.py", types="executable", exclude_types="sh python3"),

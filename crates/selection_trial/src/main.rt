@@ -10,6 +10,7 @@ mod greps;
 mod kept;
 mod paths;
 mod rules;
+mod tagged;
 mod tags;
 
 use calls::Calls;
