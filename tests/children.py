@@ -18,6 +18,7 @@ import atexit
 import os
 import random
 import re
+import select
 import shutil
 import signal
 import subprocess
@@ -90,9 +91,12 @@ class Trial:
         for path, data in dict(tree).items():
             self.file(path, data)
 
-    def ask(self, *words):
+    def ask(self, *words, within=None):
         self.process.stdin.write(" ".join(words).encode() + b"\n")
         self.process.stdin.flush()
+        if within is not None and not select.select([self.process.stdout], [], [], within)[0]:
+            self.process.kill()
+            raise Wrong(f"the program hangs at {words!r}")
         line = self.process.stdout.readline()
         return bytes.fromhex(line.decode().strip()).decode() if line.endswith(b"\n") else None
 
@@ -110,8 +114,8 @@ class Trial:
         Trial.told.append((words, outcome))
         return outcome
 
-    def outcome(self, *words):
-        text = self.ask("run", *map(digits, words))
+    def outcome(self, *words, within=None):
+        text = self.ask("run", *map(digits, words), within=within)
         check(text is not None, f"the program ends at {words!r}")
         calls, faults, *rest = text.split(" ")
         if rest == ["memory"]:
@@ -339,9 +343,118 @@ def no_link_is_followed():
             os.unlink(f"{trial.top}/h/scratch")
         trial.sees_the_tree(text)
         untouched(text)
-    trial.sh(f"cd ../..; mv h g; ln -s {outside} h")
+    equal(trial.sh(f"cd ../..; mv h g; ln -s {outside} h"), "ScratchFailed", "a parent that a link replaces")
     equal(trial.sh("true"), "ScratchFailed", "the folder's parent is a link")
     untouched("a parent that is a link")
+
+
+def what_holds_the_folder_may_be_no_link():
+    outside = Path(tempfile.mkdtemp(prefix="outside-", dir=BASE))
+    for path, data in TREE.items():
+        place = outside / "scratch" / path
+        place.parent.mkdir(parents=True, exist_ok=True)
+        place.write_bytes(b"secret\n")
+    before = sorted((p, p.is_file() and p.read_bytes()) for p in outside.rglob("*"))
+    moves = {f"ln -s {outside} h": None, "ln -s g h": None, f"mkdir h; ln -s {outside}/scratch h/scratch": None, "ln -s ../../g/scratch h": None,
+             "mkdir -p h/scratch; cp g/scratch/a.txt h/scratch/b.txt": {path: b"one\n" if path == "b.txt" else None for path in TREE}}
+    for text, changes in moves.items():
+        trial = Trial(TREE)
+        told = trial.sh(f"cd ../..; mv h g; {text}")
+        if changes is None:
+            equal(told, "ScratchFailed", text)
+            equal(trial.sh("true"), "ScratchFailed", f"the child behind {text}")
+        else:
+            equal(told, (0, b"", changes), text)
+            trial.sees_the_tree(text)
+        equal(sorted((p, p.is_file() and p.read_bytes()) for p in outside.rglob("*")), before, f"what lies outside, after {text}")
+        trial.end()
+
+
+# A process that goes on when its child has ended, and puts one thing after another in the place of a file and of a folder:
+# files, fifos and links, each in one step. It begins once there is a file go in the first folder, and at a file stop it ends and
+# makes done.1.
+SWAPS = r"""
+#define _GNU_SOURCE
+#include <errno.h>
+#include <fcntl.h>
+#include <stdio.h>
+#include <stdlib.h>
+#include <string.h>
+#include <sys/stat.h>
+#include <unistd.h>
+
+int main(int count, char **words) {
+    const char *top = words[1], *outside = words[2], *kinds = words[3];
+    int mode = (int)strtol(words[4], NULL, 8);
+    char spare[4096], stop[4096], done[4096], link[4096];
+    if (fork() != 0) return 0;
+    setsid();
+    for (int number = 0; number < 3; number++) close(number);
+    open("/dev/null", O_RDWR);
+    umask(0);
+    sprintf(spare, "%s/go", top);
+    while (access(spare, F_OK) != 0) {
+        if (access(top, F_OK) != 0) return 0;
+        usleep(200);
+    }
+    sprintf(spare, "%s/spare", top);
+    sprintf(stop, "%s/stop", top);
+    for (int turn = 0; turn % 16 != 0 || (access(stop, F_OK) != 0 && access(top, F_OK) == 0); turn++) {
+        char kind = kinds[turn % strlen(kinds)];
+        /* Where the program has replaced a folder meanwhile, the old one is here. */
+        if (unlink(spare) != 0 && errno == EISDIR) {
+            sprintf(done, "%s/old.%d", top, turn);
+            rename(spare, done);
+        }
+        if (kind == 'f') mkfifo(spare, mode);
+        if (kind == 'l') { sprintf(link, "%s/c.txt", outside); symlink(link, spare); }
+        if (kind == 'r') {
+            int file = open(spare, O_WRONLY | O_CREAT | O_EXCL, 0666);
+            write(file, "new\n", 4);
+            fchmod(file, mode);
+            close(file);
+        }
+        if (kind == 'd') {
+            symlink(outside, spare);
+            renameat2(AT_FDCWD, spare, AT_FDCWD, "d", RENAME_EXCHANGE);
+            renameat2(AT_FDCWD, spare, AT_FDCWD, "d", RENAME_EXCHANGE);
+        } else {
+            rename(spare, "a.txt");
+        }
+    }
+    sprintf(done, "%s/done.1", top);
+    close(open(done, O_WRONLY | O_CREAT, 0666));
+    return 0;
+}
+"""
+
+
+def what_a_process_left_behind_swaps_is_not_waited_for_or_followed():
+    swaps = built("swaps", SWAPS)
+    for user in users():
+        for kinds, mode in (("rfrld", "644"), *([("rf", "444")] if user == NOBODY else [])):
+            outside = Path(tempfile.mkdtemp(prefix="outside-", dir=BASE))
+            outside.chmod(0o777)
+            for path in ("c.txt", "e/f.txt", "kept/kept"):
+                (outside / path).parent.mkdir(exist_ok=True)
+                (outside / path).write_bytes(b"secret\n")
+                (outside / path).chmod(0o666)
+                (outside / path).parent.chmod(0o777)
+            trial = Trial(TREE, user=user)
+            trial.file("d/c.txt", b"three\n")
+            text = f"while {kinds!r} of mode {mode} are swapped as {user}"
+            equal(trial.run(swaps, trial.top, str(outside), kinds, mode), (0, b"", {}), text)
+            Path(trial.top, "go").touch()
+            for _ in range(60):
+                outcome = trial.outcome("true", within=60)
+                check(b"secret" not in repr(outcome).encode(), f"{text} a child tells {outcome!r}")
+                check(outcome == "ScratchFailed" or outcome[:2] == (0, b""), f"{text} a child tells {outcome!r}")
+            Path(trial.top, "stop").touch()
+            wait_for(Path(trial.top, "done.1"))
+            trial.sees_the_tree(text)
+            trial.end()
+            left = sorted(str(p.relative_to(outside)) for p in outside.rglob("*"))
+            equal(left, ["c.txt", "e", "e/f.txt", "kept", "kept/kept"], f"what lies outside {text}")
 
 
 def no_file_is_written_in_place():
@@ -889,6 +1002,135 @@ def files_that_have_settled_are_read_once():
     trial.sees_the_tree("changes of settled files")
     Path(top, "go.99").touch()
     trial.end()
+
+
+# ---- long paths and names
+
+def path_of(length, first="p"):
+    """A path of so many bytes, of folders with long names."""
+    path = first
+    while len(path) < length:
+        path += "/" + "n" * min(200, length - len(path) - 1) if length - len(path) > 1 else "m"
+    return path
+
+
+# What a child does with the file of a path, whatever the path's length: it goes to the file's folder by one step after another.
+AT_PATH = "import os, sys\n*folders, name = sys.argv[2].split('/')\nfor f in folders: os.chdir(f)\n"
+
+
+def at_path(text, path):
+    return ["python3", "-c", AT_PATH + text, "-", path]
+
+
+def paths_of_every_length_are_laid():
+    for user in users():
+        # The system takes at once those up to 4,085 bytes, below h/scratch.
+        for length in (4_085, 4_086, 4_096) if user is None else (4_096,):
+            path, text = path_of(length), f"a path of {length} bytes as {user}"
+            equal(len(path), length, "the length of a path")
+            trial = Trial(TREE | {path: b"long\n", path[:-1] + "b": b"beside\n"}, user=user)
+            told = trial.run(*at_path("print(open(name).read())", path))
+            equal(told, (0, b"long\n\n", {}), text)
+            equal(trial.run(*at_path("open(name, 'a').write('x')", path)), (0, b"", {path: b"long\nx"}), f"{text} is changed")
+            equal(trial.run(*at_path("os.unlink(name)", path)), (0, b"", {path: None}), f"{text} is removed")
+            equal(trial.run(*at_path("os.unlink(name); os.mkdir(name)", path)), "ScratchFailed", f"{text} becomes a folder")
+            equal(trial.run(*at_path("os.unlink(name); os.symlink('/etc/passwd', name)", path)), "ScratchFailed", f"{text} becomes a link")
+            equal(trial.run(*at_path("open('stray', 'w'); os.mkdir('o' * 255); open('o' * 255 + '/x', 'w'); os.chmod('.', 0o700)", path)), (0, b"", {}), f"strays beside {text}")
+            trial.sees_the_tree(f"strays beside {text}")
+            deep = "import shutil\nos.chdir('..'); shutil.rmtree(folders[-1]); open(folders[-1], 'w')"
+            equal(trial.run(*at_path(deep, path)), (0, b"", {path: None, path[:-1] + "b": None}), f"a file in the place of the folder of {text}")
+            trial.sees_the_tree(text)
+            trial.file(path, b"other\n")
+            equal(trial.run(*at_path("print(open(name).read())", path)), (0, b"other\n\n", {}), f"{text} that the tree has changed")
+            trial.end()
+
+
+def a_name_that_is_too_long_is_told():
+    for path in ("n" * 255, "d/" + "n" * 255, "é" * 127):
+        trial = Trial(TREE | {path: b"x\n"})
+        equal(trial.run("cat", path), (0, b"x\n", {}), "a name of 255 bytes")
+        equal(trial.ask("trouble"), "", "no trouble")
+        trial.end()
+    for path in ("n" * 256, "d/" + "n" * 256, "d/" + "n" * 256 + "/f", "é" * 128, path_of(3_999) + "/" + "n" * 96, "n" * 4_096):
+        trial = Trial(TREE)
+        equal(trial.sh("true"), (0, b"", {}), "a child without the file")
+        trial.file(path, b"x\n")
+        is_right = all(len(name.encode()) < 256 for name in path.split("/"))
+        equal(trial.sh("true"), (0, b"", {}) if is_right else "ScratchFailed", f"a path of {len(path)} bytes")
+        folder = re.match(".*?/?[^/]{128,}", path)[0]
+        equal(trial.ask("trouble"), "" if is_right else f"h/scratch/{folder}: File name too long (os error 36)", "what is told of a name that is too long")
+        trial.remove(path)
+        equal(trial.sh("true"), (0, b"", {}), "a child without the file again")
+        trial.sees_the_tree("a name that is too long")
+        trial.end()
+
+
+# ---- what is in the way
+
+def what_is_in_the_way_is_told():
+    trial = Trial(TREE)
+    equal(trial.ask("trouble"), "", "what is in the way of no child")
+    for text in ("exit 3", "kill -9 $$", "rm a.txt"):
+        trial.sh(text)
+    equal(trial.run("no-such-program"), "NotStarted", "a program that isn't there")
+    equal(trial.ask("trouble"), "", "what is in the way of no file")
+    equal(trial.sh("rm d/c.txt; mkfifo d/c.txt"), "ScratchFailed", "a fifo in a file's place")
+    first = trial.ask("trouble")
+    equal(first, "h/scratch/d/c.txt: no file stands there", "what is told of a fifo")
+    equal(trial.sh("rm a.txt; mkdir a.txt"), "ScratchFailed", "a folder in a file's place")
+    equal(trial.ask("trouble"), first, "what is told of the second one")
+    trial.end()
+    for text, told in (("rm -r d; ln -s /etc d", "d/c.txt: a link stands there"), ("rm a.txt; ln -s b.txt a.txt", "a.txt: no file stands there"),
+                        ("truncate -s 16777217 d-e", "d-e: the file is too large"), ("cd ..; rm -r scratch; ln -s /etc scratch", ": a link stands there")):
+        trial = Trial(TREE)
+        equal(trial.sh(text), "ScratchFailed", text)
+        equal(trial.ask("trouble"), f"h/scratch{'' if told[0] == ':' else '/'}{told}", f"what is told of {text!r}")
+        trial.end()
+    for make in (os.mkdir, os.mkfifo, lambda path: os.symlink("/etc/passwd", path)):
+        top = tempfile.mkdtemp(prefix="children-", dir=BASE)
+        os.mkdir(f"{top}/h")
+        make(f"{top}/h/scratch.run")
+        trial = Trial(TREE, keep=top)
+        equal(trial.sh("true"), "ScratchFailed", "a mark that can't be set")
+        check(trial.ask("trouble").startswith("h/scratch.run: "), f"of the mark is told {trial.ask('trouble')!r}")
+        trial.end()
+
+
+def what_others_own_is_told():
+    """A folder of another user's, and a file that nobody may remove: of root's, or one that the file system keeps."""
+    if os.getuid() == 0:
+        for inner, said in (("", "h/scratch: Operation not permitted (os error 1)"), ("o/p", "h/scratch/\1")):
+            trial = Trial(TREE, user=NOBODY)
+            equal(trial.sh("true"), (0, b"", {}), "a first child")
+            trial.end()
+            place = Path(trial.top, "h/scratch", inner)
+            place.mkdir(parents=True, exist_ok=True)
+            place.joinpath("root's").write_bytes(b"")
+            for path in [place, place / "root's", *([place.parent] if inner else [])]:
+                os.chown(path, 0, 0)
+            place.chmod(0o755)
+            for _ in range(2):
+                trial = Trial(TREE, user=NOBODY, keep=trial.top)
+                for _ in range(2):
+                    equal(trial.sh("true"), "ScratchFailed", f"{inner!r} of root's")
+                found = trial.ask("trouble")
+                check(found.startswith(said) or inner and found.startswith("h/scratch/o: "), f"of {inner!r} of root's is told {found!r}")
+                trial.end()
+            shutil.rmtree(f"{trial.top}/h/scratch")
+            trial = Trial(TREE, user=NOBODY, keep=trial.top)
+            trial.sees_the_tree(f"{inner!r} of root's")
+            trial.end()
+    trial = Trial(TREE)
+    equal(trial.sh("true"), (0, b"", {}), "a first child")
+    stuck = Path(trial.top, "h/scratch/stuck")
+    stuck.write_bytes(b"")
+    if subprocess.run(["chattr", "+i", stuck], capture_output=True).returncode == 0:
+        try:
+            equal(trial.sh("true"), "ScratchFailed", "a file that can't be removed")
+            equal(trial.ask("trouble"), "h/scratch/stuck: Operation not permitted (os error 1)", "what is told of it")
+        finally:
+            subprocess.run(["chattr", "-i", stuck], check=True)
+    trial.sees_the_tree("a file that couldn't be removed")
 
 
 # ---- memory

@@ -42,6 +42,7 @@ impl Play {
             "measure" => self.measure(arguments),
             "hooks" => self.hooks(arguments),
             "counts" => self.counts(),
+            "trouble" => self.trouble(),
             _ => Err(Stop::NoCall),
         }
     }
@@ -114,6 +115,15 @@ impl Play {
         let (calls, faults) = (self.children.calls(), self.children.faults());
         let remembered = self.book.len();
         let text = format!(in self.alloc; "{calls} {faults} {remembered}")?;
+        Ok(text.as_str().as_bytes().to_vec(self.alloc)?)
+    }
+
+    // What kept a child's files from being laid or read back first, as its place and the error there. Empty where nothing did.
+    fn trouble(&self) -> Result<Vec<u8>, Stop> {
+        let Some(trouble) = self.children.trouble() else {
+            return Ok(Vec::new(self.alloc));
+        };
+        let text = format!(in self.alloc; "{}: {}", trouble.place(), trouble.error())?;
         Ok(text.as_str().as_bytes().to_vec(self.alloc)?)
     }
 

@@ -12,16 +12,14 @@ use std::{fs, io};
 /// How many bytes are read at once.
 pub(crate) const PIECE_BYTES: usize = 65_536;
 
-/// The stamp of a file, from before it was read, where it contains these bytes. `None` where it doesn't.
-pub(crate) fn stamp_where_equal<R: Files>(
-    files: &R,
-    place: &str,
+/// The stamp of an open file, from before it was read, where it contains these bytes. `None` where it doesn't.
+pub(crate) fn stamp_where_equal<F: Read + OpenFile>(
+    file: &mut F,
     bytes: &[u8],
     piece: &mut [u8],
 ) -> io::Result<Option<Stamp>> {
-    let mut file = fs::open(files, place)?;
     let stamp = Stamp::of(&file.metadata()?);
-    if stamp.length() == bytes.len() as u64 && begins_with(&mut file, bytes, piece)? {
+    if stamp.length() == bytes.len() as u64 && begins_with(file, bytes, piece)? {
         Ok(Some(stamp))
     } else {
         Ok(None)
@@ -50,17 +48,25 @@ pub(crate) fn are_equal(a: &[u8], b: &[u8]) -> bool {
     pairs.fold(0u8, |differing, (x, y)| differing | (*x ^ *y)) == 0
 }
 
-/// What a file contains. An error of its own where that is more than a file may have.
+/// What the file at a place contains. An error of its own where that is more than a file may have.
 pub(crate) fn read_file<R: Files>(
     files: &R,
     alloc: Global,
     place: &str,
     piece: &mut [u8],
 ) -> io::Result<Vec<u8>> {
-    let mut file = fs::open(files, place)?;
+    read_open(alloc, &mut fs::open(files, place)?, piece)
+}
+
+/// What an open file contains, from where it stands.
+pub(crate) fn read_open<F: Read>(
+    alloc: Global,
+    file: &mut F,
+    piece: &mut [u8],
+) -> io::Result<Vec<u8>> {
     let mut bytes = Vec::new(alloc);
     for _ in 0..u64::MAX {
-        let count = read_some(&mut file, piece)?;
+        let count = read_some(file, piece)?;
         if count == 0 {
             return Ok(bytes);
         }

@@ -4,24 +4,24 @@ use crate::contents::{stamp_where_equal, write_new};
 use crate::folders::{folder_at, shared_bytes};
 use crate::fresh::Fresh;
 use crate::known_files::KnownFiles;
-use crate::place::{link_refused, place_in, standing};
+use crate::own_files::OwnFiles;
+use crate::place::{refuse_links_to, standing};
 use crate::stamp::Stamp;
-use crate::stop::{Stop, is_want_of_memory};
+use crate::stop::is_want_of_memory;
 use crate::strays::{Belonging, empty_trash, take_strays};
 use crate::trash::Trash;
-use child_port::Fault;
+use crate::trouble::{Trouble, at_place};
 use hook_base::{SharedFile, Tree};
 use std::alloc::Global;
 use std::fs::{Files, Metadata, Permissions};
 use std::os::unix::fs::{PermissionsExt, lchown};
-use std::path::{AsPath, Path};
 use std::{fs, io};
 
 /// Makes the folder, with its missing parents, and makes it hold the files of the tree and nothing else. What is as it
 /// would be written stays; where that can't be told or mended, all of the folder is written anew. Of files that are known
 /// none is read, and those are known afterwards that were read and can be.
 ///
-/// `ScratchFailed` where neither can be done, or where the folder or the one that it stands in is a link: then nothing
+/// What is in the way where neither can be done, or where the folder or the one that it stands in is a link: then nothing
 /// behind it is touched.
 pub(crate) fn keep_as<R: Files>(
     files: &R,
@@ -30,14 +30,12 @@ pub(crate) fn keep_as<R: Files>(
     tree: &Tree,
     known: &mut KnownFiles,
     piece: &mut [u8],
-) -> Result<(), Stop> {
+) -> Result<(), Trouble> {
     match settle(files, alloc, folder, tree, known, piece) {
-        Ok(()) => Ok(()),
-        Err(e) if is_want_of_memory(&e) => Err(Stop::OutOfMemory),
-        Err(_) => match write_anew(files, alloc, folder, tree, known, piece) {
-            Ok(()) => Ok(()),
-            Err(e) => Err(Stop::of(&e, Fault::ScratchFailed)),
-        },
+        Err(trouble) if !is_want_of_memory(trouble.error()) => {
+            write_anew(files, alloc, folder, tree, known, piece)
+        }
+        settled => settled,
     }
 }
 
@@ -48,14 +46,14 @@ fn write_anew<R: Files>(
     tree: &Tree,
     known: &mut KnownFiles,
     piece: &mut [u8],
-) -> io::Result<()> {
+) -> Result<(), Trouble> {
     empty(files, alloc, folder)?;
     settle(files, alloc, folder, tree, known, piece)
 }
 
 /// Makes the folder hold nothing. An error where that can't be done, or where the folder or the one that it stands in is a
 /// link.
-pub(crate) fn empty<R: Files>(files: &R, alloc: Global, folder: &str) -> io::Result<()> {
+pub(crate) fn empty<R: Files>(files: &R, alloc: Global, folder: &str) -> Result<(), Trouble> {
     let mut known = KnownFiles::none_ever(alloc);
     settle(files, alloc, folder, &Tree::new(alloc), &mut known, &mut [])
 }
@@ -67,14 +65,14 @@ fn settle<R: Files>(
     tree: &Tree,
     known: &mut KnownFiles,
     piece: &mut [u8],
-) -> io::Result<()> {
-    make_folder(files, folder)?;
-    let trash = Trash::make_in(files, alloc, folder)?;
+) -> Result<(), Trouble> {
+    at_place(alloc, folder, make_folder(files, folder))?;
+    let trash = at_place(alloc, folder, Trash::make_in(files, alloc, folder))?;
     let found = match fs::symlink_metadata(files, trash.place()) {
         Ok(found) => found,
         Err(e) => {
             trash.leave(files);
-            return Err(e);
+            return at_place(alloc, folder, Err(e));
         }
     };
     known.begin_to_note(files, alloc, &found, piece);
@@ -82,6 +80,7 @@ fn settle<R: Files>(
         files,
         alloc,
         folder,
+        own: OwnFiles::of(files, alloc, folder),
         trash,
         fresh: Fresh::of(&found),
         known,
@@ -95,10 +94,7 @@ fn settle<R: Files>(
 
 // Makes the folder where it isn't one, and makes one that is there usable.
 fn make_folder<R: Files>(files: &R, folder: &str) -> io::Result<()> {
-    if let Some(parent) = Path::new(folder).parent() {
-        refuse_link(files, parent.path_text())?;
-    }
-    refuse_link(files, folder)?;
+    refuse_links_to(files, folder)?;
     match standing(files, folder)? {
         None => fs::create_dir_all(files, folder),
         Some(found) if found.is_dir() => {
@@ -111,46 +107,41 @@ fn make_folder<R: Files>(files: &R, folder: &str) -> io::Result<()> {
     }
 }
 
-/// An error where a link stands at the place.
-pub(crate) fn refuse_link<R: Files>(files: &R, place: &str) -> io::Result<()> {
-    match standing(files, place)? {
-        Some(found) if found.is_symlink() => Err(link_refused()),
-        _ => Ok(()),
-    }
-}
-
 // What is needed while the folder is made to hold a tree.
 #[derive(Drop)]
 struct Keeping<'a, R: Files> {
     files: &'a R,
     alloc: Global,
     folder: &'a str,
+    own: OwnFiles<'a>,
     trash: Trash,
     fresh: Fresh,
     known: &'a mut KnownFiles,
 }
 
 impl<'a, R: Files> Keeping<'a, R> {
-    fn settle(&mut self, tree: &Tree, piece: &mut [u8]) -> io::Result<()> {
-        self.take_strays("", self.folder, tree)?;
+    fn settle(&mut self, tree: &Tree, piece: &mut [u8]) -> Result<(), Trouble> {
+        self.take_strays("", tree)?;
         self.settle_files(tree, piece)?;
-        self.finish()
+        empty_trash(self.files, self.alloc, &mut self.trash)?;
+        at_place(self.alloc, self.folder, self.finish())
     }
 
     // Each file, and before the first of each folder that folder.
-    fn settle_files(&mut self, tree: &Tree, piece: &mut [u8]) -> io::Result<()> {
+    fn settle_files(&mut self, tree: &Tree, piece: &mut [u8]) -> Result<(), Trouble> {
         let mut before = "";
         for index in 0..tree.len() {
             let file = tree.shared(index);
             let path = file.as_file().path.as_str();
             self.settle_folders(tree, path, shared_bytes(before, path))?;
-            self.settle_file(file, piece)?;
+            let settled = self.settle_file(file, piece);
+            self.own.at(path, settled)?;
             before = path;
         }
         Ok(())
     }
 
-    fn settle_folders(&mut self, tree: &Tree, path: &str, shared: usize) -> io::Result<()> {
+    fn settle_folders(&mut self, tree: &Tree, path: &str, shared: usize) -> Result<(), Trouble> {
         for at in shared..path.len() {
             if let Some(folder) = folder_at(path, at) {
                 self.settle_folder(tree, folder)?;
@@ -159,38 +150,60 @@ impl<'a, R: Files> Keeping<'a, R> {
         Ok(())
     }
 
-    fn settle_folder(&mut self, tree: &Tree, folder: &str) -> io::Result<()> {
-        let place = place_in(self.alloc, self.folder, folder)?;
-        let place = place.as_str();
+    fn settle_folder(&mut self, tree: &Tree, folder: &str) -> Result<(), Trouble> {
+        let place = self.own.place(folder);
+        let place = self.own.at(folder, place)?;
+        let is_new = self.make_folder(place.as_str());
+        if self.own.at(folder, is_new)? {
+            Ok(())
+        } else {
+            self.take_strays(folder, tree)
+        }
+    }
+
+    // Makes a folder like a new one, and answers whether it is one.
+    fn make_folder(&mut self, place: &str) -> io::Result<bool> {
         match standing(self.files, place)? {
             Some(found) if self.fresh.is_folder(&found) => {
                 if !self.fresh.has_folder_mode(&found) {
                     let mode = self.fresh.folder_mode();
                     fs::set_permissions(self.files, place, Permissions::from_mode(mode))?;
                 }
-                self.take_strays(folder, place, tree)
+                Ok(false)
             }
             Some(_) => {
                 self.trash.take(place.as_bytes())?;
-                fs::create_dir(self.files, place)
+                fs::create_dir(self.files, place)?;
+                Ok(true)
             }
-            None => fs::create_dir(self.files, place),
+            None => {
+                fs::create_dir(self.files, place)?;
+                Ok(true)
+            }
         }
     }
 
-    fn take_strays(&mut self, folder: &str, place: &str, tree: &Tree) -> io::Result<()> {
+    fn take_strays(&mut self, folder: &str, tree: &Tree) -> Result<(), Trouble> {
+        let place = self.own.inside(folder);
+        let place = self.own.at(folder, place)?;
+        let shown = self.own.shown(folder)?;
         let wanted = Belonging {
             tree,
             folder,
-            place,
+            place: place.as_str(),
+            shown: shown.as_str(),
+            has_trash: folder.is_empty(),
         };
         take_strays(self.files, self.alloc, &mut self.trash, &wanted)
     }
 
     // A file that differs in anything is replaced by a new one, so that no other name of it changes.
     fn settle_file(&mut self, file: &SharedFile, piece: &mut [u8]) -> io::Result<()> {
+        if self.is_known(file)? {
+            return Ok(());
+        }
         let (path, bytes) = (&file.as_file().path, &file.as_file().entry.bytes);
-        let place = place_in(self.alloc, self.folder, path.as_str())?;
+        let place = self.own.place(path.as_str())?;
         let place = place.as_str();
         if let Some(found) = standing(self.files, place)? {
             if self.fresh.is_file(&found, bytes.len()) && self.holds(place, file, &found, piece)? {
@@ -203,7 +216,23 @@ impl<'a, R: Files> Keeping<'a, R> {
         Ok(())
     }
 
-    // Whether what stands at a place contains what the file does: it is known to, or it is read.
+    // Whether a file is known to be as a new one, and to contain what the tree's does: then it is what stands at its path, whatever
+    // leads there.
+    fn is_known(&mut self, file: &SharedFile) -> io::Result<bool> {
+        let (path, bytes) = (&file.as_file().path, &file.as_file().entry.bytes);
+        let place = self.own.look_place(path.as_str())?;
+        let Some(found) = standing(self.files, place.as_str())? else {
+            return Ok(false);
+        };
+        let is_known = self.fresh.is_file(&found, bytes.len())
+            && self.known.are_equal(file.as_file(), &found);
+        if is_known {
+            self.known.note(file, Stamp::of(&found))?;
+        }
+        Ok(is_known)
+    }
+
+    // Whether what stands at a place contains what the file does, which is read.
     fn holds(
         &mut self,
         place: &str,
@@ -211,12 +240,11 @@ impl<'a, R: Files> Keeping<'a, R> {
         found: &Metadata,
         piece: &mut [u8],
     ) -> io::Result<bool> {
-        if self.known.are_equal(file.as_file(), found) {
-            self.known.note(file, Stamp::of(found))?;
-            return Ok(true);
-        }
-        let bytes = file.as_file().entry.bytes.as_slice();
-        match stamp_where_equal(self.files, place, bytes, piece)? {
+        let bytes = &file.as_file().entry.bytes;
+        let Some(mut opened) = self.own.open(self.files, place, found)? else {
+            return Ok(false);
+        };
+        match stamp_where_equal(&mut opened, bytes.as_slice(), piece)? {
             Some(stamp) => {
                 self.known.note_read(file, stamp)?;
                 Ok(true)
@@ -226,7 +254,6 @@ impl<'a, R: Files> Keeping<'a, R> {
     }
 
     fn finish(&mut self) -> io::Result<()> {
-        empty_trash(self.files, self.alloc, &mut self.trash)?;
         let found = fs::symlink_metadata(self.files, self.folder)?;
         if !self.fresh.is_folder(&found) {
             let (owner, group) = self.fresh.owner_and_group();

@@ -5,6 +5,9 @@
 //! started in it (`start`). Both outputs are read side by side to their ends, and the child is waited for (`outputs`,
 //! `ending`). The files are read back (`read_back`). The first fault decides.
 //!
+//! Each file is found and opened in its folder, which is held open meanwhile (`own_files`, `held_folder`), so that no process
+//! can put a link or a fifo between a look and what is done there. What is in the way is told by a `Trouble`.
+//!
 //! Both walks over the files read only those that a process can have changed since they were read (`known_files`): by what
 //! the system tells of each (`stamp`), and by what the times of files tell in this run (`file_ages`) and on this file system
 //! (`file_system`).
@@ -22,11 +25,13 @@ mod file_ages;
 mod file_system;
 mod folders;
 mod fresh;
+mod held_folder;
 mod input;
 mod keep;
 mod known_files;
 mod mark;
 mod outputs;
+mod own_files;
 mod place;
 mod process_children;
 mod read_back;
@@ -38,5 +43,7 @@ mod start;
 mod stop;
 mod strays;
 mod trash;
+mod trouble;
 
 pub use process_children::ProcessChildren;
+pub use trouble::Trouble;

@@ -100,7 +100,8 @@ fn open<R: Files<File = File>>(files: &R, place: &str) -> io::Result<MarkFile> {
         // To open a fifo would wait for its reader, and a link may lead out of the folder.
         Some(_) => return Err(io::Error::from(ErrorKind::Unsupported)),
     }
-    match OpenOptions::new().write(true).open(files, place) {
+    // To be read too, so that the system waits for no reader of a fifo that is put there in this moment.
+    match OpenOptions::new().read(true).write(true).open(files, place) {
         Ok(file) => Ok(MarkFile::Standing(above_streams(file)?)),
         Err(e) if e.kind() == ErrorKind::NotFound => Ok(MarkFile::Gone),
         Err(e) => Err(e),

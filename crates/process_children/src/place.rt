@@ -3,6 +3,7 @@
 use std::alloc::{AllocError, Global};
 use std::fs::{Files, Metadata};
 use std::io::ErrorKind;
+use std::path::{AsPath, Path};
 use std::{fs, io};
 
 /// The place of a path below a folder.
@@ -25,7 +26,23 @@ pub(crate) fn standing(files: &impl Files, place: &str) -> io::Result<Option<Met
     }
 }
 
+/// An error where a link stands at a place.
+pub(crate) fn refuse_link(files: &impl Files, place: &str) -> io::Result<()> {
+    match standing(files, place)? {
+        Some(found) if found.is_symlink() => Err(link_refused()),
+        _ => Ok(()),
+    }
+}
+
+/// An error where the scratch folder, or the folder that it stands in, is a link.
+pub(crate) fn refuse_links_to(files: &impl Files, folder: &str) -> io::Result<()> {
+    if let Some(parent) = Path::new(folder).parent() {
+        refuse_link(files, parent.path_text())?;
+    }
+    refuse_link(files, folder)
+}
+
 /// The error for a link where none is followed.
 pub(crate) fn link_refused() -> io::Error {
-    io::Error::from(ErrorKind::FilesystemLoop)
+    io::Error::new(ErrorKind::FilesystemLoop, "a link stands there")
 }

@@ -10,6 +10,7 @@ use crate::read_back::read_back;
 use crate::scratch_folder::ScratchFolder;
 use crate::start::start;
 use crate::stop::Stop;
+use crate::trouble::Trouble;
 use child_port::{Answer, Children, Fault, Outcome};
 use hook_base::{OutOfMemory, Text, Tree};
 use std::fs;
@@ -26,6 +27,7 @@ pub struct ProcessChildren<R: Files<File = File> + AllocGlobal + Drop> {
     folder: String,
     scratch: Option<ScratchFolder>,
     known: KnownFiles,
+    trouble: Option<Trouble>,
     completed: u64,
     failed: u64,
     ghost countable: { completed + failed < 2 ^ 64 },
@@ -47,6 +49,7 @@ impl<
             folder,
             scratch: None,
             known,
+            trouble: None,
             completed: 0,
             failed: 0,
         }
@@ -64,9 +67,15 @@ impl<
             folder,
             scratch: None,
             known,
+            trouble: None,
             completed: 0,
             failed: 0,
         }
+    }
+
+    /// What kept the files of a child from being laid or read back, the first time that it was told as a fault.
+    pub fn trouble(&self) -> Option<&Trouble> {
+        self.trouble.as_ref()
     }
 }
 
@@ -77,6 +86,7 @@ impl<R: Files<File = File> + AllocGlobal + Drop> Drop for ProcessChildren<R> {
             folder: _,
             scratch,
             known: _,
+            trouble: _,
             completed: _,
             failed: _,
         } = self;
@@ -93,14 +103,15 @@ fn answer_of<R: Files<File = File> + Processes<Started = SystemProcess> + AllocG
     folder: &str,
     scratch: &mut Option<ScratchFolder>,
     known: &mut KnownFiles,
+    trouble: &mut Option<Trouble>,
     words: &[Text],
     tree: &Tree,
 ) -> Result<Answer, Stop> {
     let taken = match scratch.take() {
         Some(taken) => taken,
-        None => take_scratch(runtime, folder)?,
+        None => take_scratch(runtime, folder, trouble)?,
     };
-    let answer = answer_in(runtime, &taken, known, words, tree);
+    let answer = answer_in(runtime, &taken, known, trouble, words, tree);
     *scratch = Some(taken);
     answer
 }
@@ -108,10 +119,26 @@ fn answer_of<R: Files<File = File> + Processes<Started = SystemProcess> + AllocG
 fn take_scratch<R: Files<File = File> + AllocGlobal>(
     runtime: &R,
     folder: &str,
+    trouble: &mut Option<Trouble>,
 ) -> Result<ScratchFolder, Stop> {
-    match ScratchFolder::take(runtime, runtime.alloc(), folder.trim_end_matches('/')) {
-        Ok(taken) => Ok(taken),
-        Err(e) => Err(Stop::of(&e, Fault::ScratchFailed)),
+    let folder = folder.trim_end_matches('/');
+    noted(
+        trouble,
+        ScratchFolder::take(runtime, runtime.alloc(), folder),
+    )
+}
+
+// A result whose trouble is kept, where it is the first, and is a fault unless memory was refused.
+fn noted<T>(first: &mut Option<Trouble>, ended: Result<T, Trouble>) -> Result<T, Stop> {
+    match ended {
+        Ok(value) => Ok(value),
+        Err(trouble) => {
+            let stop = Stop::of(trouble.error(), Fault::ScratchFailed);
+            if first.is_none() && matches!(stop, Stop::Fault(_)) {
+                *first = Some(trouble);
+            }
+            Err(stop)
+        }
     }
 }
 
@@ -120,17 +147,21 @@ fn answer_in<R: Files<File = File> + Processes<Started = SystemProcess> + AllocG
     runtime: &R,
     scratch: &ScratchFolder,
     known: &mut KnownFiles,
+    trouble: &mut Option<Trouble>,
     words: &[Text],
     tree: &Tree,
 ) -> Result<Answer, Stop> {
     let (alloc, folder) = (runtime.alloc(), scratch.place());
     let mut piece = vec![in alloc; 0u8; PIECE_BYTES]?;
     let piece = piece.as_mut_slice();
-    keep_as(runtime, alloc, folder, tree, known, piece)?;
+    noted(trouble, keep_as(runtime, alloc, folder, tree, known, piece))?;
     known.child_starts(fs::symlink_metadata(runtime, folder).ok().as_ref());
     let child = start(runtime, alloc, scratch, words)?;
     let ending = ending_of(alloc, child, piece)?;
-    let changes = read_back(runtime, alloc, folder, tree, known, piece)?;
+    let changes = noted(
+        trouble,
+        read_back(runtime, alloc, folder, tree, known, piece),
+    )?;
     Ok(Answer {
         status: ending.status,
         output: ending.output,
@@ -154,8 +185,8 @@ impl<R: Files<File = File> + Processes<Started = SystemProcess> + AllocGlobal + 
 
     fn run(&mut self, words: &[Text], tree: &Tree, _seen: &Tree) -> Result<Outcome, OutOfMemory> {
         let (runtime, folder) = (&self.runtime, self.folder.as_str());
-        let (scratch, known) = (&mut self.scratch, &mut self.known);
-        match answer_of(runtime, folder, scratch, known, words, tree) {
+        let (scratch, known, trouble) = (&mut self.scratch, &mut self.known, &mut self.trouble);
+        match answer_of(runtime, folder, scratch, known, trouble, words, tree) {
             Ok(answer) => {
                 self.completed += 1;
                 Ok(Outcome::Done(answer))

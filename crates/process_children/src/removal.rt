@@ -45,6 +45,8 @@ fn remove_folder<R: Files>(files: &R, alloc: Global, folder: &str) -> io::Result
 }
 
 fn try_to_remove<R: Files>(files: &R, alloc: Global, folder: &str) -> io::Result<()> {
-    empty(files, alloc, folder)?;
-    fs::remove_dir(files, folder)
+    match empty(files, alloc, folder) {
+        Ok(()) => fs::remove_dir(files, folder),
+        Err(trouble) => Err(trouble.into_error()),
+    }
 }

@@ -1,10 +1,10 @@
 //! The scratch folder of a run, which no other run uses meanwhile.
 
 use crate::input;
-use crate::keep::refuse_link;
 use crate::mark::{Mark, Marking};
-use crate::place::standing;
+use crate::place::{refuse_link, standing};
 use crate::removal::{put_away, remove};
+use crate::trouble::{Trouble, at_place};
 use std::alloc::{AllocError, Global};
 use std::fs::{File, Files};
 use std::io::ErrorKind;
@@ -27,14 +27,14 @@ impl ScratchFolder {
         files: &R,
         alloc: Global,
         folder: &str,
-    ) -> io::Result<ScratchFolder> {
-        make_parent(files, folder)?;
+    ) -> Result<ScratchFolder, Trouble> {
+        at_place(alloc, folder, make_parent(files, folder))?;
         for number in 0..u64::MAX {
             let place = numbered(alloc, folder, number)?;
             if let Some(mark) = mark_of(files, alloc, place.as_str())? {
                 // What other runs left harms none, so it may stay.
                 let _removed = remove_left(files, alloc, folder, number.saturating_add(1));
-                let input_byte = mark.input_byte()?;
+                let input_byte = at_place(alloc, place.as_str(), mark.input_byte())?;
                 return Ok(ScratchFolder {
                     place,
                     number,
@@ -43,7 +43,7 @@ impl ScratchFolder {
                 });
             }
         }
-        Err(io::Error::from(ErrorKind::ResourceBusy))
+        at_place(alloc, folder, Err(io::Error::from(ErrorKind::ResourceBusy)))
     }
 
     /// Where it stands.
@@ -98,16 +98,21 @@ fn mark_of<R: Files<File = File>>(
     files: &R,
     alloc: Global,
     place: &str,
-) -> io::Result<Option<Mark>> {
-    match Mark::set(files, mark_place(alloc, place)?)? {
+) -> Result<Option<Mark>, Trouble> {
+    let at = mark_place(alloc, place)?;
+    match at_place(
+        alloc,
+        at.as_str(),
+        Mark::set(files, mark_place(alloc, place)?),
+    )? {
         Marking::InUse => Ok(None),
         Marking::Set(mark) => Ok(Some(mark)),
         Marking::TakenOver(mark) => {
             let put_away = put_away(files, alloc, place);
-            if input::is_open(files, mark.input_byte()?) {
+            if input::is_open(files, at_place(alloc, at.as_str(), mark.input_byte())?) {
                 return Ok(None);
             }
-            put_away?;
+            at_place(alloc, place, put_away)?;
             Ok(Some(mark))
         }
     }
@@ -119,11 +124,11 @@ fn remove_left<R: Files<File = File>>(
     alloc: Global,
     folder: &str,
     first: u64,
-) -> io::Result<()> {
+) -> Result<(), Trouble> {
     for number in first..u64::MAX {
         let place = numbered(alloc, folder, number)?;
         let mark = mark_place(alloc, place.as_str())?;
-        if standing(files, mark.as_str())?.is_none() {
+        if at_place(alloc, mark.as_str(), standing(files, mark.as_str()))?.is_none() {
             break;
         }
         if let Some(mark) = mark_of(files, alloc, place.as_str())? {

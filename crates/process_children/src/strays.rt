@@ -1,12 +1,14 @@
 //! What lies in the scratch folder and doesn't belong there.
 
+use crate::place::place_in;
 use crate::search::belongs;
 use crate::trash::Trash;
+use crate::trouble::{Trouble, at_place};
 use hook_base::Tree;
-use std::alloc::Global;
+use std::alloc::{AllocError, Global};
+use std::fs;
 use std::fs::Files;
 use std::io::Read;
-use std::{fs, io};
 
 /// A folder that is to hold what a tree says, and nothing else.
 #[derive(Debug, Drop)]
@@ -15,8 +17,12 @@ pub(crate) struct Belonging<'a> {
     pub tree: &'a Tree,
     /// The folder's path in the tree, empty for the tree's own.
     pub folder: &'a str,
-    /// Where the folder stands.
+    /// Where its names stand, without the slash before each.
     pub place: &'a str,
+    /// Where the folder stands, as it is told.
+    pub shown: &'a str,
+    /// Whether the trash stands there.
+    pub has_trash: bool,
 }
 
 /// Takes away what doesn't belong in a folder, whatever its name is. The trash itself stays.
@@ -25,11 +31,14 @@ pub(crate) fn take_strays<R: Files>(
     alloc: Global,
     trash: &mut Trash,
     wanted: &Belonging<'_>,
-) -> io::Result<()> {
-    let mut folder = files.open_dir(wanted.place)?;
+) -> Result<(), Trouble> {
+    let mut folder = at_place(alloc, wanted.shown, files.open_dir(wanted.place))?;
     let mut names = [0u8; 8_192];
     for _ in 0..u64::MAX {
-        let count = folder.read(&mut names)?;
+        let count = match folder.read(&mut names) {
+            Ok(count) => count,
+            Err(e) => return Err(Trouble::at(alloc, wanted.shown, e)),
+        };
         if count == 0 {
             break;
         }
@@ -44,26 +53,49 @@ fn take_strays_of(
     trash: &mut Trash,
     wanted: &Belonging<'_>,
     names: &[u8],
-) -> io::Result<()> {
-    let mut place = Vec::new(alloc);
+) -> Result<(), Trouble> {
     for name in names.split(|byte| *byte == 0) {
-        if name.is_empty() || name == b".".as_slice() || name == b"..".as_slice() {
-            continue;
-        }
-        place.clear();
-        place.extend_from_slice(wanted.place.as_bytes())?;
-        place.push(b'/').map_err(std::alloc::AllocError::from)?;
-        place.extend_from_slice(name)?;
-        let is_trash = place.as_slice() == trash.place().as_bytes();
-        if !is_trash && !belongs(alloc, wanted.tree, wanted.folder, name)? {
-            trash.take(place.as_slice())?;
+        let is_folder = name.is_empty() || name == b".".as_slice() || name == b"..".as_slice();
+        let is_trash = wanted.has_trash && name == trash.name();
+        if !is_folder && !is_trash && !belongs(alloc, wanted.tree, wanted.folder, name)? {
+            take_stray(alloc, trash, wanted, name)?;
         }
     }
     Ok(())
 }
 
+fn take_stray(
+    alloc: Global,
+    trash: &mut Trash,
+    wanted: &Belonging<'_>,
+    name: &[u8],
+) -> Result<(), Trouble> {
+    match trash.take(joined(alloc, wanted.place, name)?.as_slice()) {
+        Ok(()) => Ok(()),
+        Err(e) => {
+            // A name that is no text is told by its folder.
+            let name = str::from_utf8(name).unwrap_or("");
+            let shown = place_in(alloc, wanted.shown, name)?;
+            Err(Trouble::at(alloc, shown.as_str(), e))
+        }
+    }
+}
+
+// The place of a name in a folder.
+fn joined(alloc: Global, folder: &str, name: &[u8]) -> Result<Vec<u8>, AllocError> {
+    let mut place = Vec::new(alloc);
+    place.extend_from_slice(folder.as_bytes())?;
+    place.push(b'/')?;
+    place.extend_from_slice(name)?;
+    Ok(place)
+}
+
 /// Removes the trash with all that was moved there. The folders within a folder are moved beside it before it is removed.
-pub(crate) fn empty_trash<R: Files>(files: &R, alloc: Global, trash: &mut Trash) -> io::Result<()> {
+pub(crate) fn empty_trash<R: Files>(
+    files: &R,
+    alloc: Global,
+    trash: &mut Trash,
+) -> Result<(), Trouble> {
     let nothing = Tree::new(alloc);
     for _ in 0..u64::MAX {
         let Some(folder) = trash.next_folder()? else {
@@ -73,9 +105,15 @@ pub(crate) fn empty_trash<R: Files>(files: &R, alloc: Global, trash: &mut Trash)
             tree: &nothing,
             folder: "",
             place: folder.as_str(),
+            shown: folder.as_str(),
+            has_trash: false,
         };
         take_strays(files, alloc, trash, &wanted)?;
-        fs::remove_dir(files, folder.as_str())?;
+        at_place(
+            alloc,
+            folder.as_str(),
+            fs::remove_dir(files, folder.as_str()),
+        )?;
     }
-    fs::remove_dir(files, trash.place())
+    at_place(alloc, trash.place(), fs::remove_dir(files, trash.place()))
 }

@@ -1,5 +1,6 @@
 //! Where folders go that don't belong in the scratch folder, until they are emptied.
 
+use crate::held_folder::last_error;
 use std::alloc::{AllocError, Global};
 use std::fs::Files;
 use std::io::ErrorKind;
@@ -42,6 +43,14 @@ impl Trash {
     /// Where it stands.
     pub(crate) fn place(&self) -> &str {
         self.place.as_str()
+    }
+
+    /// Its name in the folder that it stands in.
+    pub(crate) fn name(&self) -> &[u8] {
+        match self.place.as_str().rsplit_once('/') {
+            Some((_, name)) => name.as_bytes(),
+            None => self.place.as_str().as_bytes(),
+        }
     }
 
     /// Removes the folder, where nothing was moved into it. Else it stays, and is a stray of the scratch folder.
@@ -89,7 +98,7 @@ impl Trash {
 // Turns C's -1 into the error that it stands for.
 fn succeeded(status: i32) -> io::Result<()> {
     if status < 0 {
-        Err(io::Error::from_raw_os_error(os::errno()))
+        Err(last_error())
     } else {
         Ok(())
     }

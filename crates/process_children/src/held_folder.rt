@@ -1,0 +1,63 @@
+//! Folders that are held open, so that what is looked up in one is looked up there, whatever is put in its place meanwhile.
+
+use std::io;
+
+/// A folder that is held open.
+#[derive(Debug)]
+pub(crate) struct HeldFolder {
+    number: i32,
+}
+
+impl HeldFolder {
+    /// Holds a scratch folder. An error where it, or the folder that it stands in, is a link or isn't there.
+    pub(crate) fn scratch(folder: &str) -> io::Result<HeldFolder> {
+        match folder.rsplit_once('/') {
+            Some((parent, name)) => {
+                let parent = if parent.is_empty() { "/" } else { parent };
+                HeldFolder::found(libc::AT_FDCWD, parent)?.folder(name)
+            }
+            None => HeldFolder::found(libc::AT_FDCWD, folder),
+        }
+    }
+
+    /// Holds the folder of a path in this one, by one step after another, so that the path may be longer than the system
+    /// takes at once. An error where a link stands in its place or on the way to it, or where there is none.
+    pub(crate) fn within(&self, path: &str) -> io::Result<HeldFolder> {
+        let mut names = path.split('/');
+        let mut held = self.folder(names.next().unwrap_or("."))?;
+        for name in names {
+            held = held.folder(name)?;
+        }
+        Ok(held)
+    }
+
+    fn folder(&self, name: &str) -> io::Result<HeldFolder> {
+        HeldFolder::found(self.number, name)
+    }
+
+    fn found(dir: i32, name: &str) -> io::Result<HeldFolder> {
+        let number = os::open_dir_at(dir, name.as_bytes());
+        if number < 0 {
+            Err(last_error())
+        } else {
+            Ok(HeldFolder { number })
+        }
+    }
+
+    /// The number by which the system knows it in this process.
+    pub(crate) fn number(&self) -> i32 {
+        self.number
+    }
+}
+
+impl Drop for HeldFolder {
+    fn drop(self) {
+        let HeldFolder { number } = self;
+        libc::close(number);
+    }
+}
+
+/// The error of the system's call that failed last.
+pub(crate) fn last_error() -> io::Error {
+    io::Error::from_raw_os_error(os::errno())
+}

@@ -1,0 +1,205 @@
+//! The files of the scratch folder, as they are found and opened by their paths.
+
+use crate::held_folder::HeldFolder;
+use crate::place::{place_in, standing};
+use crate::trouble::Trouble;
+use std::alloc::{AllocError, Global};
+use std::fs::{Files, Metadata, OpenFile, OpenOptions};
+use std::io::ErrorKind;
+use std::os::unix::fs::MetadataExt;
+use std::{fs, io};
+
+// Where the system shows what a process has open.
+const OPEN: &str = "/proc/self/fd";
+
+// How many bytes a folder's path and one in it may have together, that the system takes with a slash between them and a 0 behind.
+const MOST_LOOKED_AT: usize = libc::PATH_MAX - 1;
+
+// No such device or address: what a socket says that is opened.
+const ENXIO: i32 = 6;
+
+/// The files of the scratch folder, as they are found and opened by their paths: each in its folder, which is held open, so
+/// that nothing is found behind a link, be it put in the folder's place in this moment, and a path may be longer than the
+/// system takes at once. Where the system doesn't show what is held open, the paths alone are left.
+#[derive(Debug, Drop)]
+pub(crate) struct OwnFiles<'a> {
+    alloc: Global,
+    folder: &'a str,
+    holds: bool,
+    scratch: Option<HeldFolder>,
+    // The folder that was asked for last, by its path in the tree.
+    inner: String,
+    held: Option<HeldFolder>,
+}
+
+impl<'a> OwnFiles<'a> {
+    /// The files of this scratch folder.
+    pub(crate) fn of<R: Files>(files: &R, alloc: Global, folder: &'a str) -> OwnFiles<'a> {
+        OwnFiles {
+            alloc,
+            folder,
+            holds: fs::symlink_metadata(files, OPEN).is_ok(),
+            scratch: None,
+            inner: String::new(alloc),
+            held: None,
+        }
+    }
+
+    /// A result whose error, if it is one, is the trouble at this path of the tree.
+    pub(crate) fn at<T>(&self, path: &str, ended: io::Result<T>) -> Result<T, Trouble> {
+        match ended {
+            Ok(value) => Ok(value),
+            Err(error) => match self.shown(path) {
+                Ok(place) => Err(Trouble::at(self.alloc, place.as_str(), error)),
+                Err(refusal) => Err(Trouble::from(refusal)),
+            },
+        }
+    }
+
+    /// Where a path of the tree stands, as it is told.
+    pub(crate) fn shown(&self, path: &str) -> Result<String, AllocError> {
+        place_in(self.alloc, self.folder, path)
+    }
+
+    /// Where a path of the tree stands, until the next one is asked for. A folder that may not be listed is found by its path alone.
+    /// An error where a folder on the way to it is a link or isn't there.
+    pub(crate) fn place(&mut self, path: &str) -> io::Result<String> {
+        if !self.holds {
+            return Ok(self.shown(path)?);
+        }
+        let (inner, name) = match path.rsplit_once('/') {
+            Some(parts) => parts,
+            None => ("", path),
+        };
+        match self.hold(inner) {
+            Ok(number) => Ok(format!(in self.alloc; "{OPEN}/{number}/{name}")?),
+            Err(e) if e.kind() == ErrorKind::PermissionDenied => Ok(self.shown(path)?),
+            Err(e) => Err(e),
+        }
+    }
+
+    /// Where a path of the tree is looked at: by its path alone, where the system takes it. What is done there goes by `place`.
+    pub(crate) fn look_place(&mut self, path: &str) -> io::Result<String> {
+        if self.folder.len().saturating_add(path.len()) < MOST_LOOKED_AT {
+            Ok(self.shown(path)?)
+        } else {
+            self.place(path)
+        }
+    }
+
+    /// Where the names of a folder of the tree stand, likewise, without the slash before each.
+    pub(crate) fn inside(&mut self, folder: &str) -> io::Result<String> {
+        if !self.holds {
+            return Ok(self.shown(folder)?);
+        }
+        let number = self.hold(folder)?;
+        Ok(format!(in self.alloc; "{OPEN}/{number}/.")?)
+    }
+
+    // Holds a folder of the tree, and answers its number.
+    fn hold(&mut self, inner: &str) -> io::Result<i32> {
+        if let Some(held) = &self.held {
+            if self.inner.as_str() == inner {
+                return Ok(held.number());
+            }
+        }
+        let held = self.found(inner)?;
+        let number = held.number();
+        self.inner = String::from_str(self.alloc, inner)?;
+        self.held = Some(held);
+        Ok(number)
+    }
+
+    // A folder below the last one is found from there.
+    fn found(&mut self, inner: &str) -> io::Result<HeldFolder> {
+        if let Some(held) = &self.held {
+            if let Some(rest) = rest_below(self.inner.as_str(), inner) {
+                return held.within(rest);
+            }
+        }
+        if self.scratch.is_none() {
+            self.scratch = Some(HeldFolder::scratch(self.folder)?);
+        }
+        match &self.scratch {
+            Some(scratch) if !inner.is_empty() => scratch.within(inner),
+            _ => HeldFolder::scratch(self.folder),
+        }
+    }
+
+    /// Opens a file to read it, which was just found at this place. `None` where it isn't there any more, or another is. It is
+    /// opened to be written too, since the system then doesn't wait for the other end of a fifo that was put there.
+    pub(crate) fn open<R: Files>(
+        &self,
+        files: &R,
+        place: &str,
+        found: &Metadata,
+    ) -> io::Result<Option<R::File>> {
+        let mut options = OpenOptions::new();
+        let opened = match options.read(true).write(true).open(files, place) {
+            Err(e) if may_be_read(&e) => self.open_to_read(files, place),
+            opened => opened,
+        };
+        match opened {
+            Ok(file) => {
+                let opened = file.metadata()?;
+                let is_found = opened.dev() == found.dev() && opened.ino() == found.ino();
+                Ok(is_found.then_some(file))
+            }
+            Err(e) if is_no_file(&e) => Ok(None),
+            Err(e) => Err(e),
+        }
+    }
+
+    // Opens a file that may not be written. Here the system waits for the other end of a fifo, so what stands at the place first gets
+    // a second name, by which no other process goes, and is looked at there. Where it can't have one, it is opened as it is. A
+    // process that is killed meanwhile leaves the name to be a stray.
+    fn open_to_read<R: Files>(&self, files: &R, place: &str) -> io::Result<R::File> {
+        let second = format!(in self.alloc; "{}/\u{1}look", self.folder)?;
+        let second = second.as_str();
+        let _gone = fs::remove_file(files, second);
+        match fs::hard_link(files, place, second) {
+            Ok(()) => {
+                let opened = open_file(files, second);
+                let _gone = fs::remove_file(files, second);
+                opened
+            }
+            Err(e) if is_in_the_way(&e) => Err(e),
+            Err(_) => fs::open(files, place),
+        }
+    }
+}
+
+// Whether an error of a second name says that the first isn't there any more, or that the second one is taken.
+fn is_in_the_way(error: &io::Error) -> bool {
+    matches!(error.kind(), ErrorKind::NotFound | ErrorKind::AlreadyExists)
+}
+
+fn open_file<R: Files>(files: &R, place: &str) -> io::Result<R::File> {
+    match standing(files, place)? {
+        Some(found) if found.is_file() => fs::open(files, place),
+        _ => Err(io::Error::from(ErrorKind::NotFound)),
+    }
+}
+
+// The part of a path that leads on from a folder, where it leads through that.
+fn rest_below<'p>(folder: &str, path: &'p str) -> Option<&'p str> {
+    match path.strip_prefix(folder) {
+        Some(rest) if !folder.is_empty() => rest.strip_prefix('/'),
+        _ => None,
+    }
+}
+
+// Whether an error says that a file may not be written, which says nothing of reading.
+fn may_be_read(error: &io::Error) -> bool {
+    matches!(
+        error.kind(),
+        ErrorKind::PermissionDenied | ErrorKind::ReadOnlyFilesystem | ErrorKind::ExecutableFileBusy
+    )
+}
+
+// Whether an error says that there is no file.
+fn is_no_file(error: &io::Error) -> bool {
+    let kind = error.kind();
+    let is_other = matches!(kind, ErrorKind::IsADirectory | ErrorKind::FilesystemLoop);
+    kind == ErrorKind::NotFound || is_other || error.raw_os_error() == Some(ENXIO)
+}

@@ -1,0 +1,57 @@
+//! What keeps a child's files from being laid or read back.
+
+use std::alloc::{AllocError, Global};
+use std::io;
+
+/// What keeps a child's files from being laid or read back: where it was, and the system's error.
+#[derive(Debug, Drop)]
+pub struct Trouble {
+    place: Option<String>,
+    error: io::Error,
+}
+
+impl Trouble {
+    /// The place of the file or folder. Empty where memory was refused for it.
+    pub fn place(&self) -> &str {
+        match &self.place {
+            Some(place) => place.as_str(),
+            None => "",
+        }
+    }
+
+    /// The error that the system gave there.
+    pub fn error(&self) -> &io::Error {
+        &self.error
+    }
+
+    /// The trouble that an error at this place is.
+    pub(crate) fn at(alloc: Global, place: &str, error: io::Error) -> Trouble {
+        Trouble {
+            place: String::from_str(alloc, place).ok(),
+            error,
+        }
+    }
+
+    /// The error alone.
+    pub(crate) fn into_error(self) -> io::Error {
+        let Trouble { place: _, error } = self;
+        error
+    }
+}
+
+impl From<AllocError> for Trouble {
+    fn from(refusal: AllocError) -> Trouble {
+        Trouble {
+            place: None,
+            error: io::Error::from(refusal),
+        }
+    }
+}
+
+/// A result whose error, if it is one, is the trouble at this place.
+pub(crate) fn at_place<T>(alloc: Global, place: &str, ended: io::Result<T>) -> Result<T, Trouble> {
+    match ended {
+        Ok(value) => Ok(value),
+        Err(error) => Err(Trouble::at(alloc, place, error)),
+    }
+}
