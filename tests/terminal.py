@@ -413,6 +413,24 @@ def a_hint_says_that_a_fix_is_undone():
     says(folder, ["add", "a.txt"], 0, [])
 
 
+def what_is_in_the_way_of_files_is_told():
+    """Behind the report, and of a run the first alone; without a terminal it isn't told."""
+    spoils = "sh -c 'rm -- \"$1\"; mkdir -- \"$1\"' --"
+    folder, words = folder_of([hook("true", "A"), hook(spoils, "B", files="^a"), hook(spoils, "C", files="^b")], ["a.txt", 'b".txt'])
+    shutil.copy(Path(folder, "c.yaml"), Path(folder, ".pre-commit-config.yaml"))
+    for setting in (["init"], ["add", "."]):
+        says(folder, setting, 0, [])
+    quoted = '".hookhost/scratch/b\\".txt"'
+    for words, place in ((words, ".hookhost/scratch/a.txt"), (["try", "c.yaml", 'b".txt'], quoted), (["run"], ".hookhost/scratch/a.txt"), (["run", "c"], quoted), (["commit", "-m", "first"], ".hookhost/scratch/a.txt")):
+        alone = subprocess.run([PROGRAM, *words], cwd=folder, stdin=subprocess.DEVNULL, capture_output=True, timeout=LIMIT)
+        equal((alone.returncode, alone.stderr), (1, b""), f"{words!r} without a terminal")
+        check(b"- fault: files could not be written or read back\n" in alone.stdout, f"{words!r} reports no fault")
+        played = Played(folder, words)
+        equal(played.wait(), 1, f"the exit status of {words!r}")
+        equal(played.screen.all(), [f"hookhost: {place}: no file stands there", ""], f"what is left on the screen of {words!r}")
+        equal(played.printed(), alone.stdout.decode(), f"the report of {words!r}")
+
+
 def says(folder, words, status, lines):
     """What the command says on a terminal are these lines, and without one those of them that are no hint."""
     copy = shutil.copytree(folder, tempfile.mkdtemp(dir=BASE), dirs_exist_ok=True)
@@ -472,7 +490,7 @@ CASES = [
     what_columns_says_amiss_is_80, wide_characters_take_two_columns, control_characters_are_shown_as_question_marks, long_commands_are_one_line,
     parts_are_shown_one_by_one, what_a_child_prints_stays_off_the_terminal, a_report_on_the_same_terminal_stands_alone, nothing_is_shown_without_a_terminal,
     nothing_is_shown_on_a_dumb_terminal, nothing_is_shown_of_hooks_without_children, a_terminal_that_goes_away_changes_nothing,
-    a_hint_says_what_to_do_next, a_hint_says_that_a_fix_is_undone, a_killed_program_leaves_a_terminal_that_wraps, want_of_memory_for_the_line_loses_no_child,
+    a_hint_says_what_to_do_next, a_hint_says_that_a_fix_is_undone, what_is_in_the_way_of_files_is_told, a_killed_program_leaves_a_terminal_that_wraps, want_of_memory_for_the_line_loses_no_child,
 ]
 
 

@@ -59,6 +59,15 @@ impl<C: Children, W: Write> ShownChildren<C, W> {
         self.hooks = hooks;
         self.present = 0;
     }
+
+    /// The children themselves.
+    pub fn children(&self) -> &C
+        ensures tells { SameTells (C.tells result.now) (⟦<ShownChildren<C, W> as Children>⟧.tells self.now) }
+        ensures calls { C.call_count result.now ≡ ⟦<ShownChildren<C, W> as Children>⟧.call_count self.now }
+        ensures faults { C.fault_count result.now ≡ ⟦<ShownChildren<C, W> as Children>⟧.fault_count self.now }
+    {
+        &self.inner
+    }
 }
 
 impl<C: Children, W: Write> Children for ShownChildren<C, W> {

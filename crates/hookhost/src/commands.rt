@@ -9,6 +9,7 @@ use crate::hint::{FIXES, hint, hint_undone, is_heard};
 use crate::names::names_of;
 use crate::shown_hooks::show_staged_hooks;
 use crate::stop::{Stop, tell};
+use crate::trouble::tell_trouble;
 use crate::undone_fix::undone_fix;
 use crate::unstaged_words::{is_folder_of_none, unstaged_below, unstaged_by};
 use crate::work::{Work, work_of};
@@ -166,7 +167,9 @@ fn answer<S: Alter + Drop>(rt: &HostRuntime, work: Work, host: &mut Host<S>) -> 
         } => {
             let (skip, mut children) = (skip.as_slice(), children);
             show_staged_hooks(rt, &line, skip, host.store(), &mut children);
-            call(rt, &line, &[], skip, host, &mut children)
+            let status = call(rt, &line, &[], skip, host, &mut children);
+            tell_trouble(rt, &children);
+            status
         }
         Work::Stage(edits) => stage(rt, edits.as_slice(), host),
         Work::Unstage(words) => unstage(rt, words.as_slice(), host),

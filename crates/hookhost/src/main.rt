@@ -17,6 +17,7 @@ mod shown_hooks;
 mod staged_words;
 mod stop;
 mod terminal;
+mod trouble;
 mod undone_fix;
 mod unstaged_words;
 mod work;
@@ -36,6 +37,7 @@ use std::process::ExitCode;
 use std::rt::Files;
 use std::{env, io, mem};
 use stop::{Stop, tell};
+use trouble::tell_trouble;
 
 // The file that `check` reads, in the working folder.
 const CONFIGURATION: &str = ".pre-commit-config.yaml";
@@ -173,7 +175,7 @@ fn try_files(rt: &HostRuntime, config: Text, paths: Items<Text>) -> Result<bool,
     Ok(passed)
 }
 
-// Runs the configuration over the tree, with these children, and prints the report.
+// Runs the configuration over the tree, with these children, and prints the report. What was in their files' way comes behind it.
 fn report(
     rt: &HostRuntime,
     reader: &mut impl Read,
@@ -181,6 +183,7 @@ fn report(
     children: RealChildren,
 ) -> Result<bool, Stop> {
     let mut children = children;
-    let passed = try_over(rt.alloc(), reader, &mut io::writer(rt), tree, &mut children)?;
-    Ok(passed)
+    let passed = try_over(rt.alloc(), reader, &mut io::writer(rt), tree, &mut children);
+    tell_trouble(rt, &children);
+    Ok(passed?)
 }
