@@ -141,6 +141,8 @@ class Memory:
 
     def refuse_at(self, *place):
         if place == self.want:
+            # Memory is refused once: the same call has it when it comes again.
+            self.want = None
             raise Want
 
     def forget(self):

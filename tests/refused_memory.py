@@ -14,7 +14,10 @@ it; nor may a file of the folder change. The folder in which they run is made an
 it left it, one that gave up among them.
 
 A command on a repository is played on a new copy of one each time. After a refusal it has to show what it showed before,
-and else what it shows after the command with ample memory.
+and else what it shows after the command with ample memory, as SQLite reads it in a copy of its store. The number that
+`memory` says is that of the answers there, which are as many as before, or where hooks run up to as many as with ample memory.
+Then the command is played again with ample memory, and has to print and leave what it does where nothing was refused. Where a
+refusal leaves each byte of the folder as an earlier one did, that has been played.
 
 Neither may leave an empty folder in which what doesn't belong to the children's folder was to be gathered.
 
@@ -22,23 +25,35 @@ Of runs over one book, half of whose answers are remembered when the second begi
 hook_trial. Whatever was put by then stays and is told, no child is started for it again, and the same run, which the next is,
 reports what it does from scratch.
 
+Of the lists of commands that a host plays (tests/host_plays.py), in which all but what stages a file is made twice, each allocation
+is refused too, by the same program. What it answers has to be what tests/host_model.py does, of which one command or the hooks
+behind one commit are refused memory, after some of the children or before any: all that stands behind that is from scratch.
+
 Of the calls on tags that are kept while files change each allocation is refused, by the program selection_trial: it answers as with
 ample memory, or says that it has none. What was refused is called again there, on tags that have to be as they were.
 
-Of the allocations of the runs with children and of the commands on a repository the first and the last are refused, and of those between one in so many; with --each, which
-takes long, each is refused in turn. The folder of the children is new for each run then: a run that gives up while it removes
-what it gathered leaves that for the next one, so that each would need more allocations than the number that is refused.
+Of the allocations of the runs with children, of the commands on a repository and of the lists of commands the first and the last are
+refused, and of those between one in so many; with --each, which takes long, each is refused in turn. The folder of the children is new
+for each run then: a run that gives up while it removes what it gathered leaves that for the next one, so that each would need more
+allocations than the number that is refused.
 """
+import hashlib
 import itertools
+import multiprocessing
 import os
 import re
 import shutil
+import stat
 import subprocess
 import sys
 import tempfile
-from concurrent.futures import ThreadPoolExecutor
-from dataclasses import dataclass
+from concurrent.futures import ProcessPoolExecutor
+from dataclasses import dataclass, field
 
+from host_model import OUT_OF_MEMORY, played
+from host_plays import PLAYS as HOST_PLAYS, commands_of, host_of, words_of
+from host_program import Wrong
+from stops_repository import left_in
 from yaml_texts import read_rows, refused_rows
 
 HERE = os.path.dirname(os.path.abspath(__file__))
@@ -152,6 +167,8 @@ OF_COMMAND = (4, 1)
 # How many allocations at the beginning and the end are refused, and how many between, of a command on a repository, most of
 # whose allocations open the store, and of a run that starts children.
 OF_STORE, OF_CHILDREN = (150, 300), (40, 160)
+# The same of the lists of commands that a host plays.
+OF_HOST = (200, 800)
 
 
 @dataclass
@@ -169,7 +186,23 @@ class Play:
     children: str = None
 
 
-LOOKS = [["status"], ["cat", "a.txt"], ["fixes"], ["log"]]
+@dataclass
+class Bench:
+    """Where a play is played: the folder of the allocator and of the repository that is copied, and the play's own. What was found of
+    folders that lie just so, by the digest of all that lies in them: what they show, and what is wrong with what the same command
+    does then with ample memory, if anything."""
+    shared: str
+    folder: str
+    laid: str = None
+    lies: str = None
+    shown: dict = field(default_factory=dict)
+    judged: dict = field(default_factory=dict)
+
+    @property
+    def work(self):
+        return os.path.join(self.folder, "work")
+
+
 OVER_FILES = ["try", ".pre-commit-config.yaml", "a.txt", "b.txt", "dir/c.txt"]
 PLAYS = [
     Play("the run without words", [], stdin=CONFIGURATION, status=0),
@@ -197,6 +230,13 @@ PLAYS = [
     Play("the fixes", ["fixes"], OF_COMMAND, status=0, repository="there"),
     Play("accepted fixes", ["accept"], OF_COMMAND, status=0, repository="there"),
     Play("the bytes of a staged file", ["cat", "a.txt"], OF_COMMAND, status=0, repository="there"),
+    Play("the bytes of a fix", ["cat", "--fixed", "a.txt"], OF_COMMAND, status=0, repository="there"),
+    Play("the bytes of a committed file", ["cat", "--commit=1", "b.txt"], OF_COMMAND, status=0, repository="there"),
+    Play("the removal of a folder", ["rm", "old"], OF_COMMAND, status=0, repository="there"),
+    Play("the removal of listed files", ["rm", "--paths-from=-"], OF_PREPARED, stdin=b"a.txt\0old", status=0, repository="there"),
+    Play("a run on listed files", ["run-files", "--paths-from=-"], OF_PREPARED, stdin=b"a.txt\0old/x", status=0, repository="there"),
+    Play("an explained configuration", ["explain"], status=0),
+    Play("an explained refusal", ["explain"], configuration=b"repos:\n- repo: local\n  hooks:\n  - {id: a, nam: b}\n", status=1),
     Play("the log", ["log"], OF_COMMAND, status=0, repository="there"),
     Play("a commit", ["show", "1"], OF_COMMAND, status=0, repository="there"),
     Play("how many answers are remembered", ["memory"], status=0, repository="there"),
@@ -210,44 +250,76 @@ FILES = (("a.txt", b"a\n"), ("b.txt", b""), ("dir/c.txt", b"c" * 9000), ("run.sh
 
 @dataclass
 class Answer:
-    """How a run ended: its status and outputs, whether an allocation was refused, and what the folder then shows."""
+    """How a run ended: its status and outputs, whether an allocation was refused, what the folder then shows, and how many answers
+    are remembered in its repository, if it has one."""
     said: tuple
     refused: bool
     shown: tuple = None
+    remembered: int = None
 
 
-def run(play, refused, shared, folder):
+def run(play, refused, bench):
     """One run with the allocation of this number refused (0: none)."""
-    mark, work = os.path.join(folder, "refused"), os.path.join(folder, "work")
+    if play.repository or play.children == "new" or (play.children and EACH):
+        lay_repository(play, bench)
+    return run_there(play, refused, bench)
+
+
+def run_there(play, refused, bench):
+    """The same on what lies in the folder."""
+    said, was_refused = end_with_refusal([PROGRAM, *play.words], refused, bench.shared, bench.folder, bench.work, play.stdin)
+    return Answer(said, was_refused, *shown_after(play, bench))
+
+
+def end_with_refusal(words, refused, shared, folder, work, given):
+    """How a program ends of which the allocation of this number (0: none) is refused, and whether one was."""
+    mark = os.path.join(folder, "refused")
     if os.path.exists(mark):
         os.remove(mark)
-    if play.repository or play.children == "new" or (play.children and EACH):
-        lay_repository(play, shared, work)
     env = dict(os.environ, LD_PRELOAD=os.path.join(shared, "refuse.so"), REFUSE_ALLOCATION=str(refused), REFUSED_FILE=mark)
-    said = end_of([PROGRAM, *play.words], work, play.stdin, env)
-    return Answer(said, os.path.exists(mark), shown_after(play, work))
+    return end_of(words, work, given, env), os.path.exists(mark)
 
 
-def lay_repository(play, shared, work):
-    """Puts the repository as it stands before the play, or none, and no folder of children."""
-    shutil.rmtree(os.path.join(work, ".hookhost"), ignore_errors=True)
+def lay_repository(play, bench):
+    """Makes the folder's repository anew, unless it lies there: none, or a copy of the shared one."""
+    if bench.laid is not None and bench.lies == bench.laid:
+        return
+    shutil.rmtree(os.path.join(bench.work, ".hookhost"), ignore_errors=True)
     if play.repository == "there":
-        shutil.copytree(os.path.join(shared, ".hookhost"), os.path.join(work, ".hookhost"))
+        shutil.copytree(os.path.join(bench.shared, ".hookhost"), os.path.join(bench.work, ".hookhost"))
+    bench.laid = bench.laid or state_of(bench.work)
 
 
-def shown_before(play, shared, folder):
+def shown_before(play, bench):
     """What the folder shows before the play."""
-    work = os.path.join(folder, "work")
-    lay_repository(play, shared, work)
-    return shown_after(play, work)
+    lay_repository(play, bench)
+    return Answer(None, False, *shown_after(play, bench))
 
 
-def shown_after(play, work):
-    """What the folder of a play shows: what its repository does, or the files that the children got copies of."""
-    # A run that is refused may remember answers; `forget` may not forget some.
-    looks = [*LOOKS, ["memory"]] if play.words == ["forget"] else LOOKS
-    shown = shown_in(work, looks) if play.repository else files_in(work) if play.children else None
-    return shown, empty_in(work)
+def shown_after(play, bench):
+    """What the folder of a play shows: what its repository does, or the files that the children got copies of. And how many answers
+    are remembered."""
+    if not play.repository and not play.children:
+        return (None, empty_in(bench.work)), None
+    bench.lies = state_of(bench.work)
+    if bench.lies not in bench.shown:
+        shown, answers = left_in(bench.work) if play.repository else (files_in(bench.work), None)
+        bench.shown[bench.lies] = (shown, empty_in(bench.work)), None if answers is None else len(answers)
+    return bench.shown[bench.lies]
+
+
+def state_of(work):
+    """A digest of all that lies in a folder: each name, what it is, and its bytes."""
+    state = hashlib.sha256()
+    for at, folders, names in os.walk(work):
+        folders.sort()
+        for path in [at, *(os.path.join(at, name) for name in sorted(names))]:
+            mode, held = os.lstat(path).st_mode, b""
+            if stat.S_ISREG(mode):
+                with open(path, "rb") as file:
+                    held = file.read()
+            state.update(repr((os.path.relpath(path, work), mode, hashlib.sha256(held).digest())).encode())
+    return state.hexdigest()
 
 
 def empty_in(work):
@@ -275,11 +347,6 @@ def end_of(words, work, given=b"", env=None):
     return done.returncode, done.stdout, done.stderr
 
 
-def shown_in(work, looks):
-    """What the repository in a folder shows, or how the program says that there is none."""
-    return [end_of([PROGRAM, *words], work) for words in looks]
-
-
 def number_of(said):
     """The number of the want of memory that a run told, or None."""
     for number in (1, *OF_CHECK):
@@ -297,39 +364,42 @@ def is_stopped_behind(said, plain):
     return told != plain[1] and said == (plain[0], told, b"hookhost: refused: 1 OutOfMemory\n")
 
 
-def count_allocations(play, shared, folder):
-    """How many allocations a run makes: the greatest number at which one is refused, found by halving."""
+def count_allocations(is_refused):
+    """How many allocations are made: the greatest number at which one is refused, found by halving."""
     least, most = 0, 1
-    while run(play, most, shared, folder).refused:
+    while is_refused(most):
         least, most = most, 2 * most
     while most - least > 1:
         middle = (least + most) // 2
-        least, most = (middle, most) if run(play, middle, shared, folder).refused else (least, middle)
+        least, most = (middle, most) if is_refused(middle) else (least, middle)
     return least
 
 
-def allocations(play, shared, folder):
+def allocations(play, bench):
     """The numbers of the allocations that are refused in turn, without an end. A run with children makes a few more or
     fewer from time to time, as their outputs come in one piece or in more."""
     if EACH or not (play.repository or play.children):
         return itertools.count(1)
-    at_ends, between = OF_STORE if play.repository else OF_CHILDREN
-    count = count_allocations(play, shared, folder)
+    return some_of(count_allocations(lambda number: run(play, number, bench).refused), *(OF_STORE if play.repository else OF_CHILDREN))
+
+
+def some_of(count, at_ends, between):
+    """Of the numbers from 1 on, without an end, so many first and last ones of the count, and of those between one in so many."""
     step = max(1, (count - 2 * at_ends) // between)
     return (at for at in itertools.count(1) if at <= at_ends or at > count - at_ends or at % step == 0)
 
 
-def refuse_each(play, shared, folder):
+def refuse_each(play, bench):
     """How many allocations were refused in turn, at how many the program gave up, and what was wrong, if anything."""
-    before = shown_before(play, shared, folder)
-    plain = run(play, 0, shared, folder)
+    before = shown_before(play, bench)
+    plain = run(play, 0, bench)
     if play.status not in (None, plain.said[0]):
         return 0, 0, f"status {plain.said[0]} with nothing refused, wanted {play.status}: {plain.said}"
-    if play.children and plain.shown != before:
+    if play.children and plain.shown != before.shown:
         return 0, 0, f"left {plain.shown} with nothing refused"
     count, gave_up, came = 0, 0, []
-    for allocation in allocations(play, shared, folder):
-        answer = run(play, allocation, shared, folder)
+    for allocation in allocations(play, bench):
+        answer = run(play, allocation, bench)
         if not answer.refused:
             wrong = None if answer == plain else f"answered {answer} with nothing refused"
             return count, gave_up, wrong or (None if tuple(came) == play.numbers else f"gave up with {came}, wanted {play.numbers}")
@@ -340,8 +410,48 @@ def refuse_each(play, shared, folder):
             came += [number] if came[-1:] != [number] else []
         elif answer.said != plain.said and not is_stopped_behind(answer.said, plain.said):
             return count, gave_up, f"answered {answer.said} where allocation {allocation} was refused"
-        if answer.shown != (plain.shown if number is None else before):
+        if answer.shown != (plain if number is None else before).shown:
             return count, gave_up, f"left {answer.shown} where allocation {allocation} was refused, and said {answer.said}"
+        wrong = wrong_behind(play, answer, before, plain, bench) if number is not None and (play.repository or play.children) else None
+        if wrong:
+            return count, gave_up, f"{wrong} where allocation {allocation} was refused"
+
+
+# The commands of which each answer of a child stays remembered, whatever is refused then.
+RUNNING = ("run", "run-files", "commit")
+
+
+def wrong_behind(play, answer, before, plain, bench):
+    """What is wrong behind a refusal, if anything: how many answers are remembered, or what the same does now with ample memory."""
+    left = bench.lies
+    if left not in bench.judged:
+        bench.judged[left] = wrong_answers(play, answer, before, plain, bench) or wrong_again(play, plain, bench)
+    return bench.judged[left]
+
+
+def wrong_answers(play, answer, before, plain, bench):
+    """What is wrong with how many answers are remembered, if anything."""
+    if answer.remembered is None:
+        return None
+    most = plain.remembered if play.words[0] in RUNNING else before.remembered
+    if not before.remembered <= answer.remembered <= most:
+        return f"{answer.remembered} answers are remembered, of {before.remembered} before and {most}"
+    said = end_of([PROGRAM, "memory"], bench.work)
+    is_told = said == (0, f"remembered: {answer.remembered}\n".encode(), b"")
+    return None if is_told else f"{said} is what memory says of {answer.remembered} answers"
+
+
+def wrong_again(play, plain, bench):
+    """What is wrong with what the same does now with ample memory, if anything. What children are to find as a refused run left it
+    lies there again behind it."""
+    kept = os.path.join(bench.folder, "kept")
+    if play.children == "left":
+        shutil.copytree(bench.work, kept, symlinks=True)
+    again = run_there(play, 0, bench)
+    if play.children == "left":
+        shutil.rmtree(bench.work)
+        os.rename(kept, bench.work)
+    return None if again == plain else f"answered {again} and not {plain} with ample memory"
 
 
 def play_alone(play, shared):
@@ -351,7 +461,10 @@ def play_alone(play, shared):
         for name, text in ((".pre-commit-config.yaml", play.configuration), *FILES):
             with open(os.path.join(folder, "work", name), "wb") as file:
                 file.write(text)
-        return refuse_each(play, shared, folder)
+        try:
+            return refuse_each(play, Bench(shared, folder))
+        except Wrong as wrong:
+            return 0, 0, str(wrong)
 
 
 def make_repository(folder):
@@ -360,7 +473,7 @@ def make_repository(folder):
         with open(os.path.join(folder, name), "wb") as file:
             file.write(text)
     made = [end_of([PROGRAM, *words], folder) for words in (["init"], ["add", "a.txt"], ["add", "b.txt"])]
-    made.append(end_of([STORE_TRIAL, ".hookhost/store.db"], folder, b"open\ncommit first\\n\\nbody\nclose\n"))
+    made.append(end_of([STORE_TRIAL, ".hookhost/store.db"], folder, b"open\nstage plain old/x 1\nstage plain old/dir/y 2\ncommit first\\n\\nbody\nclose\n"))
     made += [end_of([PROGRAM, *words], folder) for words in (["rm", "b.txt"], ["add", ".pre-commit-config.yaml"])]
     made.append(end_of([STORE_TRIAL, ".hookhost/store.db"], folder, b"open\nfix a.txt 2\nset\nremember c a.txt | a.txt=1 | a.txt=2 | 0 | said\nremember d | | | 1\nclose\n"))
     if any(status for status, _, _ in made):
@@ -396,17 +509,13 @@ class BookRun:
 def book_runs(refused, shared, folder):
     """How the program ended, what it answered, whether the allocation of this number (0: none) was refused, and the runs, if they
     were told."""
-    mark = os.path.join(folder, "refused")
-    if os.path.exists(mark):
-        os.remove(mark)
-    env = dict(os.environ, LD_PRELOAD=os.path.join(shared, "refuse.so"), REFUSE_ALLOCATION=str(refused), REFUSED_FILE=mark)
-    status, out, err = end_of([HOOK_TRIAL], folder, " ".join(["play_book", *(word.encode().hex() for word in BOOK_WORDS)]).encode() + b"\n", env)
+    (status, out, err), was_refused = end_with_refusal([HOOK_TRIAL], refused, shared, folder, folder, line_of("play_book", BOOK_WORDS))
     text = bytes.fromhex(out.decode().strip()).decode()
     runs = [
         BookRun(verdict[0] == "1", int(calls), int(faults), report, {at for at, word in enumerate(rows.split()) if word == "held"})
         for verdict, calls, faults, report, _, rows in BOOK_ANSWER.findall(text)
     ]
-    return (status, text, err), os.path.exists(mark), runs
+    return (status, text, err), was_refused, runs
 
 
 def wrong_run(run, plain, before, answered):
@@ -459,13 +568,62 @@ def wrong_runs(ended, runs, plain):
     return None
 
 
+# ---- lists of commands of a host
+
+def line_of(call, words):
+    """The line by which a program for tests plays a call."""
+    return " ".join([call, *((word.encode() if isinstance(word, str) else word).hex() or "-" for word in words)]).encode() + b"\n"
+
+
+def twice(commands):
+    """The commands, of which all that may ask for hooks or change what they left are made twice."""
+    return [each for command in commands for each in [command] * (1 if command[0] == "add" else 2)]
+
+
+def told_where_refused(hooks, commands):
+    """Each answer to the commands where memory is refused once, or nowhere, and where that was."""
+    host = host_of(hooks)
+    plain = played(host, commands)
+    numbers = range(1, len(commands) + 1)
+    wants = [*((word, number) for word in ("command", "post") for number in numbers), *((call, place) for call in range(1, host.memory.calls + 1) for place in ("start", "put"))]
+    told = {played(host_of(hooks, want=want), commands): want for want in wants}
+    # What is remembered is forgotten behind the commands.
+    forgotten = re.compile(rb"( remembered\n)\d+ forgotten\n")
+    assert len(forgotten.findall(plain)) == 1
+    return told | {plain: None, forgotten.sub(rb"\1refused " + OUT_OF_MEMORY.encode() + b"\n", plain): ("forget", 1)}
+
+
+def refuse_host_play(hooks, commands, shared):
+    """How many allocations were refused in turn, where the host said so, and what was wrong, if anything."""
+    commands = twice(commands_of(hooks, commands))
+    line, told, came = line_of("play", words_of(commands)), told_where_refused(hooks, commands), set()
+    with tempfile.TemporaryDirectory() as folder:
+        play = lambda number: end_with_refusal([HOOK_TRIAL], number, shared, folder, folder, line)
+        count = 0
+        for number in itertools.count(1) if EACH else some_of(count_allocations(lambda number: play(number)[1]), *OF_HOST):
+            (status, out, err), was_refused = play(number)
+            if not was_refused:
+                wrong = None if told.get(bytes.fromhex(out.decode()), 0) is None else f"answered {out} with nothing refused"
+                return count, came, wrong or wrong_places(came, commands)
+            count += 1
+            if (status, out, err) == (3, b"", b"out of memory\n"):
+                continue
+            answer = bytes.fromhex(out.decode())
+            if (status, err) != (0, b"") or answer not in told:
+                return count, came, f"ended with {status}, {answer}, {err} where allocation {number} was refused"
+            came.add(told[answer])
+
+
+def wrong_places(came, commands):
+    """Which commands, of those that a growth can be refused to, never said so."""
+    kinds = {commands[place[1] - 1][0] for place in came - {None} if place[0] == "command"}
+    missing = {command[0] for command in commands} - {"forget"} - kinds
+    return f"memory was never refused to {missing}" if missing else None
+
+
 def kept_tags_run(line, refused, shared, folder):
     """How the program ended on a line, and whether the allocation of this number (0: none) was refused."""
-    mark = os.path.join(folder, "refused")
-    if os.path.exists(mark):
-        os.remove(mark)
-    env = dict(os.environ, LD_PRELOAD=os.path.join(shared, "refuse.so"), REFUSE_ALLOCATION=str(refused), REFUSED_FILE=mark)
-    return end_of([SELECTION_TRIAL], folder, line, env), os.path.exists(mark)
+    return end_with_refusal([SELECTION_TRIAL], refused, shared, folder, folder, line)
 
 
 def refuse_kept_tags(shared):
@@ -488,9 +646,12 @@ def refuse_kept_tags(shared):
 
 
 def play_all(plays, shared):
-    """Each play's answer, some of them side by side."""
-    with ThreadPoolExecutor(os.cpu_count()) as pool:
-        return list(pool.map(lambda play: play_alone(play, shared), plays))
+    """What each play and each list of commands of a host comes to, and the runs over one book and the kept tags, side by side."""
+    with ProcessPoolExecutor(os.cpu_count(), multiprocessing.get_context("fork")) as pool:
+        answers = [pool.submit(play_alone, play, shared) for play in plays]
+        of_hosts = [pool.submit(refuse_host_play, *play, shared) for play in HOST_PLAYS]
+        others = [pool.submit(refuse_among_remembered, shared), pool.submit(refuse_kept_tags, shared)]
+        return [[each.result() for each in part] for part in (answers, of_hosts, others)]
 
 
 def main():
@@ -499,10 +660,9 @@ def main():
     with tempfile.TemporaryDirectory() as folder:
         subprocess.run(["cc", "-shared", "-fPIC", "-O1", "-o", os.path.join(folder, "refuse.so"), os.path.join(HERE, "refuse_allocation.c"), "-ldl"], check=True)
         make_repository(folder)
-        answers = play_all(PLAYS + checks, folder)
-        of_book = refuse_among_remembered(folder)
-        of_kept_tags = refuse_kept_tags(folder)
+        answers, of_hosts, (of_book, of_kept_tags) = play_all(PLAYS + checks, folder)
     failures = [(play.name, wrong) for play, (_, _, wrong) in zip(PLAYS + checks, answers) if wrong]
+    failures += [("commands of a host", wrong) for _, _, wrong in of_hosts if wrong]
     failures += [("runs over one book", of_book[2])] if of_book[2] else []
     failures += [("tags that are kept", of_kept_tags[2])] if of_kept_tags[2] else []
     for play, (count, gave_up, wrong) in zip(PLAYS, answers):
@@ -510,11 +670,13 @@ def main():
     of_texts = answers[len(PLAYS):]
     print(f"the check of {len(checks)} texts: {sum(each[0] for each in of_texts)} allocations refused in turn, "
           f"{sum(each[1] for each in of_texts)} times the program gave up")
+    for count, came, _ in of_hosts:
+        print(f"commands of a host: {count} allocations refused in turn, which it said at {len(came - {None})} places")
     print(f"runs over one book: {of_book[0]} allocations refused in turn, {of_book[1]} times a run was refused")
     print(f"tags that are kept: {of_kept_tags[0]} allocations refused in turn, {of_kept_tags[1]} times the program gave up")
     for name, wrong in failures:
         print(f"FAILED {name}: {wrong}")
-    print(f"memory: {len(answers) + 2 - len(failures)} passed, {len(failures)} failed")
+    print(f"memory: {len(answers) + len(of_hosts) + 2 - len(failures)} passed, {len(failures)} failed")
     sys.exit(1 if failures or not checks else 0)
 
 
