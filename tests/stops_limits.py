@@ -40,8 +40,6 @@ PAGE = 4096
 # A user who has no other process, so that each counts, and one whom permissions hold back.
 LONELY, NOBODY = 64_321, 65_534
 IS_ROOT = os.geteuid() == 0
-# No file has as many bytes of which a command that runs hooks makes a copy for their children.
-MOST_COPIED = 8192
 # Children that need no room on the disk: what one does without it is its own answer.
 SMALL_HOOKS = HOOKS.replace(b"""entry: "sh -c 'echo a line >> $1' --", stages: [prepare""", b"entry: cat, stages: [prepare")
 
@@ -164,14 +162,8 @@ def judged(scene, limit, work):
     if told is None:
         check(left_in(work) == before, f"it isn't started, and leaves {left_in(work)!r:.1000}")
         return "not started"
-    check(told.status >= 0 or may_be_ended(scene, limit), f"it is ended by signal {-told.status}")
+    check(told.status >= 0 or limit.name != "bytes of a file, by a signal", f"it is ended by signal {-told.status}")
     return judged_softly(scene, work, told) if have_told_otherwise(scene, told) else scene.judge(work, told)
-
-
-def may_be_ended(scene, limit):
-    """Whether a limit may end the program. It keeps that of a file's bytes itself for the files of its store, and for nothing else that it
-    writes: a copy for the children of hooks that goes past it ends it."""
-    return limit.name != "bytes of a file, by a signal" or scene.words[0] in ("run", "commit") and limit.amount < MOST_COPIED
 
 
 def told_within(run, how):

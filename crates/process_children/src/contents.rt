@@ -4,10 +4,14 @@ ghost use Rattle.std.specs.Io.{ReadsAtMost};
 
 use crate::stamp::Stamp;
 use hook_base::MOST_FILE_BYTES;
+use libc::types::rlimit;
 use std::alloc::Global;
 use std::fs::{Files, OpenFile, OpenOptions};
 use std::io::{ErrorKind, Read, Write};
 use std::{fs, io};
+
+// The limit of the process for its files' length, by POSIX's RLIMIT_FSIZE.
+const FILE_BYTES: i32 = 1;
 
 /// How many bytes are read at once.
 pub(crate) const PIECE_BYTES: usize = 65_536;
@@ -78,12 +82,29 @@ pub(crate) fn read_open<F: Read>(
     Err(io::Error::from(ErrorKind::FileTooLarge))
 }
 
-/// Makes a new file, where none may stand, with these bytes. Its stamp afterwards.
+/// Makes a new file, where none may stand, with these bytes. Its stamp afterwards. An error of its own where they are more than
+/// this process may write.
 pub(crate) fn write_new<R: Files>(files: &R, place: &str, bytes: &[u8]) -> io::Result<Stamp> {
+    if bytes.len() as u64 > most_bytes() {
+        return Err(io::Error::from(ErrorKind::FileTooLarge));
+    }
     let mut options = OpenOptions::new();
     let mut file = options.write(true).create_new(true).open(files, place)?;
     file.write_all(bytes)?;
     Ok(Stamp::of(&file.metadata()?))
+}
+
+// The most bytes that a file of this process may get. To write past them would end it by the signal SIGXFSZ, which the kit has no
+// call to ignore.
+fn most_bytes() -> u64 {
+    let mut limit = rlimit {
+        rlim_cur: u64::MAX,
+        rlim_max: u64::MAX,
+    };
+    if libc::getrlimit(FILE_BYTES, &mut limit) < 0 {
+        return u64::MAX;
+    }
+    limit.rlim_cur
 }
 
 /// Reads once, and again where a signal came first. 0 at the end.
