@@ -110,7 +110,7 @@ def rows_of_model(store):
         "commits": [f"{at + 1}|{hex_of(message)}" for at, (message, _) in enumerate(store["history"])],
         "entries": [f"{at + 1}|{path}|{mode_of(mode)}|{digest(unescaped(content)).hex()}" for at, (_, tree) in enumerate(store["history"])
                     for path, (mode, content) in sorted(tree.items())],
-        "answers": sorted(row_of(answer) for answer in store["answers"].values()),
+        "answers": sorted(row_of(answer) for _, answer in store["answers"].rows()),
     }
 
 

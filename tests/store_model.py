@@ -3,6 +3,7 @@ import copy
 import random
 
 from kept_answers import KeptAnswer, contents_of, digest, records_of
+from list_book import ListBook
 from store_cases import CHILDREN, CONFIG, CONFIG_PATH, HOOKS, MESSAGE, OTHER_PATHS, SHOWN
 
 NO_CONFIG, NOTHING_STAGED = "refused\t7\tNoConfig\tnone", "refused\t10\tNothingStaged\tnone"
@@ -84,7 +85,7 @@ class Model:
     def create(self):
         if self.store is not None:
             return "refused\t3\tSql\tthere is already an object of this name"
-        self.store, self.is_open = {"staged": {}, "fixes": {}, "history": [], "blobs": set(), "answers": {}}, True
+        self.store, self.is_open = {"staged": {}, "fixes": {}, "history": [], "blobs": set(), "answers": ListBook()}, True
         return "ok"
 
     def open(self):
@@ -184,12 +185,12 @@ class Model:
 
     def put(self, answer):
         words, seen, *_ = records_of(answer)
-        self.store["answers"][words, seen] = answer
+        self.store["answers"].put((words, seen), answer)
         self.store["blobs"].update(contents_of(answer))
 
     def recall(self, text):
         words, seen, *_ = records_of(answer_in(text + " | | 0"))
-        answer = self.store["answers"].get((words, seen))
+        answer = self.store["answers"].find((words, seen))
         if answer is None:
             return "ok\tnone"
         changes = "".join(f"\t{path}\tgone" if now is None else f"\t{path}\tnow\t{escaped(now)}" for path, now in answer.changes)
@@ -199,8 +200,7 @@ class Model:
         return f"ok\t{len(self.store['answers'])}"
 
     def forget(self):
-        count, self.store["answers"] = len(self.store["answers"]), {}
-        return f"ok\t{count}"
+        return f"ok\t{self.store['answers'].forget()}"
 
     def forget_answers(self):
         return self.forget()
@@ -241,7 +241,7 @@ class Model:
             changes = [(path, None if now is None else unescaped(now)) for path, now in sorted(rows[0][0].items())]
             self.put(KeptAnswer([word.encode() for word in words], files, changes, rows[0][1]))
             self.passed.append(copy.deepcopy(self.store))
-        return self.store["answers"][key]
+        return self.store["answers"].find(key)
 
     def candidates(self, which):
         """The paths of the staged files that the hooks of a run may get."""

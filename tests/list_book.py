@@ -1,0 +1,49 @@
+"""The model of a book: what is remembered for each key, the most recently used first, and at most as many rows as its limit."""
+
+
+class ListBook:
+    """A look-up brings a row to the front, and so does a put. A put of one row too many drops the last."""
+
+    def __init__(self, limit=10_000):
+        self.limit = limit
+        # The last of a dictionary is in front, so that each call takes as long among many rows as among few.
+        self.held = {}
+
+    def __eq__(self, other):
+        """Whether both keep the same, in whatever order: what a store of version 1 has in its tables tells none."""
+        return (self.limit, self.held) == (other.limit, other.held)
+
+    def __len__(self):
+        return len(self.held)
+
+    def __contains__(self, key):
+        """Whether a key is held, which uses no row."""
+        return key in self.held
+
+    def rows(self):
+        """The keys with what is remembered for them, in their order."""
+        return list(reversed(self.held.items()))
+
+    def find(self, key):
+        """What is remembered for a key, or none."""
+        if key not in self.held:
+            return None
+        self.held[key] = found = self.held.pop(key)
+        return found
+
+    def put(self, key, told):
+        self.held.pop(key, None)
+        self.held[key] = told
+        self.keep_to(self.limit)
+
+    def keep_to(self, limit):
+        """Sets the limit, and drops last rows until it holds."""
+        self.limit = limit
+        while len(self.held) > limit:
+            del self.held[next(iter(self.held))]
+
+    def forget(self):
+        """Takes all rows out, and tells how many there were."""
+        count = len(self.held)
+        self.held.clear()
+        return count
