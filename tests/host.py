@@ -8,8 +8,8 @@ What one program alone prints stands in tests/sessions/. Here stands what no ses
 keeps, another user, fifos, programs side by side. Each kill is a SIGKILL at a random moment of a command on a copy of a
 repository, which then has to be the one before the command or the one after it, and what its hooks had answered by then is
 remembered. The commits are made by store_trial. The cases of runs whose children outlive them, of runs side by side, and of
-many and large answers stand in tests/host_runs.py, those of hard names in tests/host_names.py, and those of pipes, streams and modes in
-tests/host_files.py.
+many and large answers stand in tests/host_runs.py, those of hard names in tests/host_names.py, those of pipes, streams and modes in
+tests/host_files.py, and those of stores that an earlier program made in tests/host_version_1.py.
 """
 import collections
 import os
@@ -26,6 +26,7 @@ from pathlib import Path
 import host_files
 import host_names
 import host_runs
+import host_version_1
 from host_program import IGNORE_FILE, LOCK, PROGRAM, STORE, STORE_TRIAL, Wrong, check, do, owned_by_nobody, paths_in, play, refuses, rows, run, staged_rows, write
 from host_runs import PUT_FILES, RUN_ANSWERS
 from kept_answers import SELECT_ROWS, KeptAnswer, contents_of, digest, row_of
@@ -709,7 +710,8 @@ CASES = [*host_names.CASES, refuses_what_may_not_be_read_or_written, refuses_fif
          is_left_whole_by_kills_of_many_files_at_once, is_left_whole_by_kills_of_commits, is_left_whole_by_kills_of_runs_and_commits, is_left_whole_by_kills_of_forget,
          keeps_what_was_answered_before_a_kill_of_a_run, keeps_what_was_answered_before_a_kill_of_a_commit,
          waits_for_the_disk_only_where_something_is_written, takes_a_store_with_pages_of_another_size,
-         leaves_a_log_without_a_change, cuts_the_long_log_of_a_change_that_was_not_made, *host_files.CASES, *host_runs.CASES]
+         leaves_a_log_without_a_change, cuts_the_long_log_of_a_change_that_was_not_made, *host_files.CASES, *host_runs.CASES,
+         *host_version_1.CASES]
 
 
 def main():
