@@ -120,6 +120,10 @@ def place():
 def main():
     # A gate that is ended leaves no folder behind.
     signal.signal(signal.SIGTERM, lambda number, _: sys.exit(128 + number))
+    # Who starts this in the background may have it ignore some that hooks send themselves.
+    signal.signal(signal.SIGINT, signal.default_int_handler)
+    for number in (signal.SIGQUIT, signal.SIGHUP):
+        signal.signal(number, signal.SIG_DFL)
     if not os.path.exists(PROGRAM):
         sys.exit(f"fuzz: there is no {PROGRAM}: build it with `rt run` in crates/hookhost")
     counts, commands, refused, failed = collections.Counter(), 0, 0, 0
