@@ -79,12 +79,12 @@ def refusal(name, command, cause=None):
 
 REPORT = rb"(?:.*(?:Passed|Failed|Skipped)\n.*)?"
 # What a command prints that is done: the whole of standard output. Names, ids and keys of a configuration may hold line feeds,
-# which are printed as they are (docs/DECISIONS.md).
+# which are printed as they are (docs/DECISIONS.md). A message that another program took out of the store is shown as none.
 DONE = {
     "": REPORT, "try": REPORT, "check": rb"hooks: \d+\n(?:ignored key: .*\n)?", "explain": rb"[^\n]*: taken, hooks: \d+\n.*",
     "init": rb"", "add": rb"", "rm": rb"", "status": rb"(?:[AMD] [^\n]+\n)*", "run": REPORT + rb"(?:unsteady: [^\n]*\n)*",
     "run-files": REPORT + rb"(?:unsteady: [^\n]*\n)*", "fixes": rb"(?:[MD] [^\n]+\n)*", "accept": rb"accepted: [1-9]\d*\n",
-    "commit": REPORT + rb"commit [1-9]\d*\n", "cat": rb".*", "log": rb"(?:[1-9]\d* [^\n]*\n)*", "show": rb".*\n\n(?:[^\n]+\n)*",
+    "commit": REPORT + rb"commit [1-9]\d*\n", "cat": rb".*", "log": rb"(?:[1-9]\d* [^\n]*\n)*", "show": rb"(?:.*\n)?\n(?:[^\n]+\n)*",
     "memory": rb"remembered: \d+\n", "forget": rb"forgotten: \d+\n",
 }
 # What those print that may end with 1.
