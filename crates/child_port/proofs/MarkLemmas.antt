@@ -74,11 +74,28 @@ marks_agree : (f g : File → Bool) → ((row : File) → f row ≡ g row) → (
 marks_agree f g agree [] = refl
 marks_agree f g agree (row ∷ rows) = same_marks (f row) (g row) (map f rows) (map g rows) (agree row) (marks_agree f g agree rows)
 
+or_joins : (a b c d : Bool) → d ≡ (b || c) → ((a || b) || c) ≡ (a || d)
+or_joins true b c d e = refl
+or_joins false b c d e = sym e
+
+or_nothing : (a b c : Bool) → b ≡ (a || c) → ((a || false) || c) ≡ (b || false)
+or_nothing true b c e = rw e refl
+or_nothing false true c e = sym e
+or_nothing false false c e = sym e
+
 -- word by word
-pub more_marks : (words : List (List ℕ)) (i : ℕ) (d path : List ℕ) (tree : List File) → i < length words → path ≡ plain_word (get_or words i d) → map (λ row. is_seen_path (take i words) [] row.path || bytes_eq path row.path) tree ≡ map (λ row. is_seen_path (take (i + 1) words) [] row.path) tree
-more_marks words i d path tree within plain =
-    marks_agree (λ row. is_seen_path (take i words) [] row.path || bytes_eq path row.path) (λ row. is_seen_path (take (i + 1) words) [] row.path)
-    (λ row. ap (λ (p : List ℕ). list_any (λ word. bytes_eq (plain_word word) row.path) (take i words) || bytes_eq p row.path) plain ∙ sym (list_any_more (λ word. bytes_eq (plain_word word) row.path) words i d within)) tree
+pub more_marks : (words extra : List (List ℕ)) (i : ℕ) (d path : List ℕ) (tree : List File) → i < length words → path ≡ plain_word (get_or words i d) → map (λ row. is_seen_path (take i words) extra row.path || bytes_eq path row.path) tree ≡ map (λ row. is_seen_path (take (i + 1) words) extra row.path) tree
+more_marks words extra i d path tree within plain =
+    marks_agree (λ row. is_seen_path (take i words) extra row.path || bytes_eq path row.path) (λ row. is_seen_path (take (i + 1) words) extra row.path)
+    (λ row. or_joins (list_any (λ other. bytes_eq other row.path) extra) (list_any (λ word. bytes_eq (plain_word word) row.path) (take i words)) (bytes_eq path row.path) (list_any (λ word. bytes_eq (plain_word word) row.path) (take (i + 1) words))
+    (list_any_more (λ word. bytes_eq (plain_word word) row.path) words i d within ∙ ap (λ (p : List ℕ). list_any (λ word. bytes_eq (plain_word word) row.path) (take i words) || bytes_eq p row.path) (sym plain))) tree
+
+-- path by path
+pub more_extra : (extra : List (List ℕ)) (i : ℕ) (d path : List ℕ) (tree : List File) → i < length extra → path ≡ get_or extra i d → map (λ row. is_seen_path [] (take i extra) row.path || bytes_eq path row.path) tree ≡ map (λ row. is_seen_path [] (take (i + 1) extra) row.path) tree
+more_extra extra i d path tree within is =
+    marks_agree (λ row. is_seen_path [] (take i extra) row.path || bytes_eq path row.path) (λ row. is_seen_path [] (take (i + 1) extra) row.path)
+    (λ row. or_nothing (list_any (λ other. bytes_eq other row.path) (take i extra)) (list_any (λ other. bytes_eq other row.path) (take (i + 1) extra)) (bytes_eq path row.path)
+    (list_any_more (λ other. bytes_eq other row.path) extra i d within ∙ ap (λ (p : List ℕ). list_any (λ other. bytes_eq other row.path) (take i extra) || bytes_eq p row.path) (sym is))) tree
 
 -- ---- the marked files
 

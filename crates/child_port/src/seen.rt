@@ -8,33 +8,57 @@ ghost use Rattle.child_port.specs.SeenLemmas.{files_where};
 
 use crate::path_index::path_index;
 use crate::{Answer, plain_word};
-use hook_base::{OutOfMemory, Text, Tree};
+use hook_base::{OutOfMemory, RepoPath, Text, Tree};
 use std::alloc::{AllocError, Global};
 
 /// The files of the tree that a child of this command has seen: those whose path is one of the words, one leading `./`
-/// of the word apart, or all of them where it sees the `whole`. The tree shares them; `OutOfMemory` where memory is
-/// refused.
-pub fn seen_of(alloc: Global, words: &[Text], whole: bool, tree: &Tree) -> Result<Tree, OutOfMemory>
-    ensures { IfOk result (λ seen. seen ≡ seen_of words.now [] whole tree.now) }
+/// of the word apart, or one of the `extra` paths, or all of them where it sees the `whole`. An extra path that the tree
+/// lacks adds none. The tree shares the files; `OutOfMemory` where memory is refused.
+pub fn seen_of(
+    alloc: Global,
+    words: &[Text],
+    extra: &[RepoPath],
+    whole: bool,
+    tree: &Tree,
+) -> Result<Tree, OutOfMemory>
+    ensures { IfOk result (λ seen. seen ≡ seen_of words.now extra.now whole tree.now) }
 {
     if whole {
         return tree.copy();
     }
-    let marks = marks_of(alloc, words, tree)?;
+    let marks = marks_of(alloc, words, extra, tree)?;
     marked_files(alloc, tree, marks.as_slice())
 }
 
-// For each file of the tree, whether its path is one of the words, one leading `./` of the word apart.
+// For each file of the tree, whether its path is one of the extra ones or of the words, one leading `./` of the word apart.
 #[tactic(auto, using(crate::proofs::MarkLemmas::length_marks, crate::proofs::MarkLemmas::no_marks))]
-fn marks_of(alloc: Global, words: &[Text], tree: &Tree) -> Result<Vec<bool>, OutOfMemory>
-    ensures { IfOk result (λ marks. marks.items ≡ map (λ row. is_seen_path words.now [] row.path) tree.now) }
+fn marks_of(
+    alloc: Global,
+    words: &[Text],
+    extra: &[RepoPath],
+    tree: &Tree,
+) -> Result<Vec<bool>, OutOfMemory>
+    ensures { IfOk result (λ marks. marks.items ≡ map (λ row. is_seen_path words.now extra.now row.path) tree.now) }
 {
     let mut marks = vec![in alloc; false; tree.len()]?;
+    mark_extra(&mut marks, tree, extra);
     let mut near = 0;
     'words: for word in words {
         near = mark_path(&mut marks, tree, plain_word(word.as_str()), near);
     }
     Ok(marks)
+}
+
+// Marks the files at the extra paths.
+#[tactic(auto, using(crate::proofs::MarkLemmas::length_marks))]
+fn mark_extra(marks: &mut Vec<bool>, tree: &Tree, extra: &[RepoPath])
+    requires { marks.old.items ≡ map (λ row. is_seen_path [] [] row.path) tree.now }
+    ensures { marks.new.items ≡ map (λ row. is_seen_path [] extra.now row.path) tree.now }
+{
+    let mut near = 0;
+    'extra: for path in extra {
+        near = mark_path(marks, tree, path.as_str(), near);
+    }
 }
 
 // Marks the file at a path, where there is one, and answers the index at which the next name is looked for first: the names of

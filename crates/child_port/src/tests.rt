@@ -33,6 +33,14 @@ fn tree_of(alloc: Global, paths: &str) -> Result<Tree, Fail> {
     Ok(tree)
 }
 
+fn paths_of(alloc: Global, paths: &str) -> Result<Vec<RepoPath>, Fail> {
+    let mut all = Vec::new(alloc);
+    for path in paths.split_whitespace() {
+        all.push(RepoPath::read(alloc, path)?)?;
+    }
+    Ok(all)
+}
+
 #[test]
 fn sees_the_files_that_its_words_name(rt: HostRuntime) -> Result<(), Fail> {
     let alloc = rt.alloc();
@@ -52,10 +60,53 @@ fn sees_the_files_that_its_words_name(rt: HostRuntime) -> Result<(), Fail> {
         ("--config=a.txt B.TXT c.txt", ""),
     ] {
         let words_read = words_of(alloc, words)?;
-        let seen = seen_of(alloc, words_read.as_slice(), false, &tree)?;
+        let seen = seen_of(alloc, words_read.as_slice(), &[], false, &tree)?;
         assert_eq!(rt; seen, tree_of(alloc, paths)?, "{words}");
-        let whole = seen_of(alloc, words_read.as_slice(), true, &tree)?;
+        let whole = seen_of(alloc, words_read.as_slice(), &[], true, &tree)?;
         assert_eq!(rt; whole, tree_of(alloc, all)?, "{words}, whole");
+    }
+    Ok(())
+}
+
+#[test]
+fn sees_the_extra_files(rt: HostRuntime) -> Result<(), Fail> {
+    let alloc = rt.alloc();
+    let tree = tree_of(alloc, "a.txt b.txt lint.cfg tools/lint.sh")?;
+    for (words, extra, paths) in [
+        ("", "lint.cfg", "lint.cfg"),
+        ("c a.txt", "lint.cfg", "a.txt lint.cfg"),
+        ("c ./lint.cfg", "lint.cfg", "lint.cfg"),
+        (
+            "c b.txt",
+            "tools/lint.sh a.txt",
+            "a.txt b.txt tools/lint.sh",
+        ),
+        ("c", "a.txt a.txt", "a.txt"),
+        ("c", "none.cfg", ""),
+        (
+            "c",
+            "a.txt lint.cfg tools/lint.sh",
+            "a.txt lint.cfg tools/lint.sh",
+        ),
+    ] {
+        let words_read = words_of(alloc, words)?;
+        let extra_read = paths_of(alloc, extra)?;
+        let seen = seen_of(
+            alloc,
+            words_read.as_slice(),
+            extra_read.as_slice(),
+            false,
+            &tree,
+        )?;
+        assert_eq!(rt; seen, tree_of(alloc, paths)?, "{words}, {extra}");
+        let whole = seen_of(
+            alloc,
+            words_read.as_slice(),
+            extra_read.as_slice(),
+            true,
+            &tree,
+        )?;
+        assert_eq!(rt; whole, tree, "{words}, {extra}, whole");
     }
     Ok(())
 }

@@ -59,7 +59,13 @@ fn waits<'a>(alloc: Global, work: Work<'a>, tree: &Tree) -> Result<Begun<'a>, Ou
     let cut = work.cuts.as_slice()[work.begun];
     let names = names_of(work.names.as_slice(), cut);
     let command = command_with(alloc, work.words.as_slice(), names)?;
-    let seen = seen_of(alloc, command.as_slice(), !work.hook.pass_filenames, tree)?;
+    let seen = seen_of(
+        alloc,
+        command.as_slice(),
+        &[],
+        !work.hook.pass_filenames,
+        tree,
+    )?;
     work.begun += 1;
     Ok(Begun::Waits(Waiting {
         work,
