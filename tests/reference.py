@@ -236,10 +236,10 @@ def wrong_limits(reference):
 
 
 def listed(texts, name):
-    """The words of a list in specs/: what follows `NAME =`, where another name stands for its own text."""
+    """The words of a list in specs/: what follows `NAME =`, where a key stands for the word of its row."""
     body = re.search(rf"^{name} =(.*?)\n(?=\n|\Z)", texts, re.MULTILINE | re.DOTALL)[1]
-    for word, other in re.findall(r'codes "([^"]*)"|(\w+)(?=\s*∷)', body):
-        yield word or re.search(rf'^{other} = codes "([^"]*)"$', texts, re.MULTILINE)[1]
+    for word, key in re.findall(r'codes "([^"]*)"|\b(\w+)(?= \w+\)\.word|\.word)', body):
+        yield word or re.search(rf'^{key}\b.* = record {{ word = codes "([^"]*)"', texts, re.MULTILINE)[1]
 
 
 def quoted(text):
@@ -255,26 +255,25 @@ def sentence(section, beginning):
 def wrong_configuration(reference):
     """How the words of a configuration differ from those of hook_config's specs/."""
     section = section_of(reference, "The configuration's keys")
-    words, stages = read("crates", "hook_config", "specs", "KnownKeys.antt"), read("crates", "hook_config", "specs", "Stages.antt")
-    languages = read("crates", "hook_config", "specs", "Languages.antt")
+    keys, kinds, languages, stages = (read("crates", "hook_config", "specs", f"{file}.antt") for file in ("KnownKeys", "Kinds", "Languages", "Stages"))
     ignored = sentence(section, "Read and ignored, whatever the value: ").partition("; on a hook ")
     rows = [row for rows in tables(section) for row in rows[2:]]
     for where, name, more in [("top", "top_keys", ignored[0]), ("repository", "repository_keys", ""), ("hook", "hook_keys", ignored[2])]:
         told = [key for row in rows if row[0] == where for key in quoted(row[1])] + quoted(more)
-        if sorted(told) != sorted(listed(words, name)):
-            yield f"the keys at {where!r} aren't {name}: {sorted({*told} ^ {*listed(words, name)})}"
+        if sorted(told) != sorted(listed(keys, name)):
+            yield f"the keys at {where!r} aren't {name}: {sorted({*told} ^ {*listed(keys, name)})}"
     names = dict(re.findall(r'\(codes "([^"]+)", (\w+)\)', stages))
     told = quoted(sentence(section, "The stages are "))
     older, meant = map(quoted, sentence(section, "The older names ").split(" are read as "))
     read_as = {name: re.sub("-?([a-z]+)", lambda it: it[1].capitalize(), name) for name in told}
     if {**read_as, **{old: read_as.get(new) for old, new in zip(older, meant)}} != names or len(older) != len(meant):
         yield f"the stages are {sorted(names)} in Stages.antt"
-    served = [re.search(rf'^{word} = codes "([^"]*)"$', words, re.MULTILINE)[1] for word in re.findall(r"bytes_eq word (\w+)", languages)]
+    served = [re.search(rf'^{word} = codes "([^"]*)"$', languages, re.MULTILINE)[1] for word in re.findall(r"bytes_eq word (\w+)", languages)]
     if sorted(quoted(sentence(section, "The languages are "))) != sorted(served):
         yield f"the languages are {served} in Languages.antt"
     truths = quoted(sentence(section, "A \\*truth\\* is "))
-    if sorted([*listed(words, "true_words"), *listed(words, "false_words")]) != sorted(form for it in truths for form in [it, it.capitalize(), it.upper()]):
-        yield f"the truths {truths} aren't those of KnownKeys.antt"
+    if sorted([*listed(kinds, "true_words"), *listed(kinds, "false_words")]) != sorted(form for it in truths for form in [it, it.capitalize(), it.upper()]):
+        yield f"the truths {truths} aren't those of Kinds.antt"
 
 
 def rows_of_code(name):

@@ -1,7 +1,9 @@
 -- The words that are told to who is near to one, beside the keys of the three tables (`KnownKeys.antt` of `hook_config`).
 use Rattle.std.specs.Prelude.{ℕ, List, [], ◌∷◌, ◌++◌, codes, map}
 use Rattle.hook_config.specs.Stages.{stage_names}
-use Rattle.hook_config.specs.KnownKeys.{fail_word, false_words, local_word, pygrep_word, script_word, system_word, true_words}
+use Rattle.hook_config.specs.Kinds.{false_words, true_words}
+use Rattle.hook_config.specs.KnownKeys.{local_word}
+use Rattle.hook_config.specs.Languages.{fail_word, pygrep_word, script_word, system_word}
 
 -- the stages, the older names too
 abbrev pub stage_words : List (List ℕ)

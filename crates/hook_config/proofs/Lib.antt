@@ -1,5 +1,4 @@
 pub mod FirstWords
-pub mod HookFields
 pub mod Views
 pub mod HookLists
 pub mod KeyLists

@@ -15,11 +15,11 @@ use Rattle.hook_config.specs.CommandWords.{command_words_of}
 use Rattle.hook_config.specs.Configuration.{configuration_of, configuration_of_meaning, configuration_of_rows}
 use Rattle.hook_config.specs.Gives.{Gives}
 use Rattle.hook_config.specs.Hooks.{joined, hook_alone, hooks_of_list, hooks_of_named, hooks_of_rows, hooks_of_repository, hooks_of_repositories, within_limit}
-use Rattle.hook_config.specs.HookTable.{hook_of_fields, hook_of}
-use Rattle.hook_config.specs.Kinds.{text_of, truth_of, stages_of, each, texts_of, only_empty, empty_text_of, empty_texts_of, given, required, kind_or, or_default}
-use Rattle.hook_config.specs.KnownKeys.{id_key, name_key, alias_key, entry_key, args_key, files_key, exclude_key, types_key, types_or_key, exclude_types_key, stages_key, always_run_key, verbose_key, pass_filenames_key, fail_fast_key, log_file_key, additional_dependencies_key, default_stages_key, fail_word, pygrep_word, system_word, script_word, file_word, language_key, local_word, hooks_key, repo_key, repos_key, hook_keys, repository_keys, top_keys}
-use Rattle.hook_config.specs.Stages.{all_stages}
-use Rattle.hook_config.specs.Languages.{grep_of, language_of, language_at}
+use Rattle.hook_config.specs.HookTable.{unserved_of, names_of, command_of, selection_of, switches_of, hook_with, hook_of_fields, hook_of}
+use Rattle.hook_config.specs.Kinds.{text_of, each, texts_of, only_empty, empty_text_of, empty_texts_of, given, kind_or}
+use Rattle.hook_config.specs.KnownKeys.{Key, at_key, file_word, local_word, hook_keys, repository_keys, top_keys}
+use Rattle.hook_config.specs.KnownKeys as key
+use Rattle.hook_config.specs.Languages.{grep_of, language_of}
 use Rattle.hook_config.specs.Limits.{most_text_bytes, most_hooks, IsShort, AreTexts}
 use Rattle.hook_config.specs.Patterns.{pattern_of_text, pattern_of, every_path, no_path}
 use Rattle.hook_config.specs.Rows.{Row, value_at, is_among, table_of, list_of}
@@ -29,7 +29,13 @@ use Rattle.hook_config.specs.declared.config_fault.ConfigFault.{ConfigFault}
 use Rattle.hook_config.specs.declared.configuration.Config.{Config}
 use Rattle.hook_config.specs.declared.configuration.Hook.{Hook}
 use Rattle.hook_config.specs.declared.configuration.Language.{Language}
-use Rattle.hook_config.specs.declared.configuration.Language.TheVariants.{Fail, Pygrep, System, Script}
+use Rattle.hook_config.specs.declared.configuration.Language.TheVariants.{Pygrep, System, Script}
+use Rattle.hook_config.specs.declared.hook_parts.Command.{Command}
+use Rattle.hook_config.specs.declared.hook_parts.Names.{Names}
+use Rattle.hook_config.specs.declared.hook_parts.Selection.{Selection}
+use Rattle.hook_config.specs.declared.hook_parts.Unserved.{Unserved}
+use Rattle.hook_config.specs.declared.languages.LanguageName.{LanguageName}
+use Rattle.hook_config.specs.declared.languages.LanguageName.TheVariants as name
 use Rattle.hook_config.specs.declared.stage.Stages.{Stages}
 
 -- ---- texts
@@ -57,10 +63,6 @@ pattern_short t h = if_true IsShort _ t (λ _. h)
 short_pattern : (m : Meaning) → Holds IsShort (pattern_of m)
 short_pattern m = then_to IsShort IsShort pattern_of_text pattern_short (text_of m) (short_text m)
 
-empty_short : {A : Type 0} (P : List A → Type 0) → P [] → (xs : List A) → Holds P (only_empty xs)
-empty_short P h [] = h
-empty_short P h (x ∷ xs) = tt
-
 nothing_short : IsShort []
 nothing_short = omega arith
 
@@ -76,31 +78,25 @@ no_path_short = omega arith
 file_short : AreTexts (file_word ∷ [])
 file_short = All-from_recursion IsShort (file_word ∷ []) (omega arith, tt)
 
+empty_short : {A : Type 0} (P : List A → Type 0) → P [] → (xs : List A) → Holds P (only_empty xs)
+empty_short P h [] = h
+empty_short P h (x ∷ xs) = tt
+
+short_empty : (m : Meaning) → Holds IsShort (empty_text_of m)
+short_empty m = then_any IsShort only_empty (empty_short IsShort nothing_short) (text_of m)
+
+short_empties : (m : Meaning) → Holds AreTexts (empty_texts_of m)
+short_empties m = then_any AreTexts only_empty (empty_short AreTexts no_texts) (texts_of m)
+
 -- ---- values at keys
 
-short_required : (key : List ℕ) (rs : List Row) → Holds IsShort (required text_of key rs)
-short_required key rs = then_any IsShort text_of short_text (value_at key rs)
+-- what holds of the values of a kind, and of what a key is where it isn't there, holds of what is read at the key
+by_kind : {A : Type 0} (P : A → Type 0) (kind : Meaning → Option A) (absent : Option A) → ((m : Meaning) → Holds P (kind m)) → Holds P absent → (o : Option Meaning) → Holds P (kind_or kind absent o)
+by_kind P kind absent h k None = k
+by_kind P kind absent h k (Some m) = h m
 
-by_default : {A : Type 0} (P : A → Type 0) (kind : Meaning → Option A) (default : A) → P default → ((m : Meaning) → Holds P (kind m)) → (o : Option Meaning) → Holds P (kind_or kind default o)
-by_default P kind default h k None = h
-by_default P kind default h k (Some m) = k m
-
-text_or : (key : List ℕ) (rs : List Row) → Holds IsShort (or_default text_of [] key rs)
-text_or key rs = by_default IsShort text_of [] nothing_short short_text (value_at key rs)
-
-texts_or : (default : List (List ℕ)) (key : List ℕ) (rs : List Row) → AreTexts default → Holds AreTexts (or_default texts_of default key rs)
-texts_or default key rs h = by_default AreTexts texts_of default h short_texts (value_at key rs)
-
-pattern_or : (default key : List ℕ) (rs : List Row) → IsShort default → Holds IsShort (or_default pattern_of default key rs)
-pattern_or default key rs h = by_default IsShort pattern_of default h short_pattern (value_at key rs)
-
-empty_text_or : (key : List ℕ) (rs : List Row) → Holds IsShort (or_default empty_text_of [] key rs)
-empty_text_or key rs =
-    by_default IsShort empty_text_of [] nothing_short (λ m. then_any IsShort only_empty (empty_short IsShort nothing_short) (text_of m)) (value_at key rs)
-
-empty_texts_or : (key : List ℕ) (rs : List Row) → Holds AreTexts (or_default empty_texts_of [] key rs)
-empty_texts_or key rs =
-    by_default AreTexts empty_texts_of [] no_texts (λ m. then_any AreTexts only_empty (empty_short AreTexts no_texts) (texts_of m)) (value_at key rs)
+at : {A : Type 0} (P : A → Type 0) (known : Key A) (rs : List Row) → ((m : Meaning) → Holds P (known.kind m)) → Holds P known.absent → Holds P (at_key known rs)
+at P known rs h k = by_kind P known.kind known.absent h k (value_at known.word rs)
 
 -- ---- hooks
 
@@ -112,90 +108,72 @@ any_words : {A : Type 0} (f : A → Language) → ((x : A) → HasShortSearch (f
 any_words f h None = tt
 any_words f h (Some x) = h x
 
-named_short : (word entry : List ℕ) (args : List (List ℕ)) → IsShort entry → Holds HasShortSearch (language_of word entry args)
-named_short word entry args h =
-    either HasShortSearch (bytes_eq word fail_word) (Some Fail) _ tt
-    (either HasShortSearch (bytes_eq word pygrep_word) _ _
-    (map_to (λ search. IsShort search.text) HasShortSearch (λ search. Pygrep search) (λ search k. k) (grep_of entry args) (search_short entry args h))
-    (either HasShortSearch (bytes_eq word system_word) _ _ (any_words (λ words. System words) (λ words. tt) (command_words_of entry args))
-    (either HasShortSearch (bytes_eq word script_word) _ None (any_words (λ words. Script words) (λ words. tt) (command_words_of entry args)) tt)))
+language_short : (word : LanguageName) (entry : List ℕ) (args : List (List ℕ)) → IsShort entry → Holds HasShortSearch (language_of word entry args)
+language_short name.Fail entry args h = tt
+language_short name.Pygrep entry args h =
+    map_to (λ search. IsShort search.text) HasShortSearch (λ search. Pygrep search) (λ search k. k) (grep_of entry args) (search_short entry args h)
+language_short name.System entry args h = any_words (λ words. System words) (λ words. tt) (command_words_of entry args)
+language_short name.Script entry args h = any_words (λ words. Script words) (λ words. tt) (command_words_of entry args)
 
-language_short : (entry : List ℕ) (args : List (List ℕ)) (rs : List Row) → IsShort entry → Holds HasShortSearch (language_at entry args rs)
-unfolding language_at
-language_short entry args rs h = then_any HasShortSearch _ (λ word. named_short word entry args h) (required text_of language_key rs)
+-- what follows from what is read at a key, where that is short
+and_then : {A B : Type 0} (P : A → Type 0) (Q : B → Type 0) (known : Key A) (rs : List Row) (f : A → Option B) → ((m : Meaning) → Holds P (known.kind m)) → Holds P known.absent
+    → ((x : A) → P x → Holds Q (f x)) → Holds Q (given (at_key known rs) f)
+and_then P Q known rs f h k follows = then_to P Q f follows (at_key known rs) (at P known rs h k)
 
--- what the values give behind those up to the language
-back_short : (id name alias entry : List ℕ) (args : List (List ℕ)) (language : Language) → IsShort id → IsShort name → IsShort alias → IsShort entry → AreTexts args → HasShortSearch language
-    → (o0 : Option (List ℕ)) (o1 : Option (List ℕ)) (o2 : Option (List (List ℕ))) (o3 : Option (List (List ℕ))) (o4 : Option (List (List ℕ))) (o5 : Option (Stages)) (o6 : Option (Bool)) (o7 : Option (Bool)) (o8 : Option (Bool)) (o9 : Option (Bool)) (o10 : Option (List ℕ)) (o11 : Option (List (List ℕ)))
-    → Holds IsShort o0 → Holds IsShort o1 → Holds AreTexts o2 → Holds AreTexts o3 → Holds AreTexts o4 → Holds IsShort o10 → Holds AreTexts o11
-    → Holds HookHasShortTexts (given o0 (λ files. given o1 (λ exclude. given o2 (λ types. given o3 (λ types_or. given o4 (λ exclude_types. given o5 (λ stages. given o6 (λ always_run. given o7 (λ verbose. given o8 (λ pass_filenames. given o9 (λ fail_fast. given o10 (λ log_file. given o11 (λ additional_dependencies. Some (record { id = id; name = name; alias = alias; entry = entry; args = args; language = language; files = files; exclude = exclude; types = types; types_or = types_or; exclude_types = exclude_types; stages = stages; always_run = always_run; verbose = verbose; pass_filenames = pass_filenames; fail_fast = fail_fast; log_file = log_file; additional_dependencies = additional_dependencies }))))))))))))))
-back_short id name alias entry args language p1 p2 p3 p4 p5 p6 None o1 o2 o3 o4 o5 o6 o7 o8 o9 o10 o11 q0 q1 q2 q3 q4 q10 q11 = tt
-back_short id name alias entry args language p1 p2 p3 p4 p5 p6 (Some files) None o2 o3 o4 o5 o6 o7 o8 o9 o10 o11 q0 q1 q2 q3 q4 q10 q11 = tt
-back_short id name alias entry args language p1 p2 p3 p4 p5 p6 (Some files) (Some exclude) None o3 o4 o5 o6 o7 o8 o9 o10 o11 q0 q1 q2 q3 q4 q10 q11 = tt
-back_short id name alias entry args language p1 p2 p3 p4 p5 p6 (Some files) (Some exclude) (Some types) None o4 o5 o6 o7 o8 o9 o10 o11 q0 q1 q2 q3 q4 q10 q11 = tt
-back_short id name alias entry args language p1 p2 p3 p4 p5 p6 (Some files) (Some exclude) (Some types) (Some types_or) None o5 o6 o7 o8 o9 o10 o11 q0 q1 q2 q3 q4 q10 q11 = tt
-back_short id name alias entry args language p1 p2 p3 p4 p5 p6 (Some files) (Some exclude) (Some types) (Some types_or) (Some exclude_types) None o6 o7 o8 o9 o10 o11 q0 q1 q2 q3 q4 q10 q11 = tt
-back_short id name alias entry args language p1 p2 p3 p4 p5 p6 (Some files) (Some exclude) (Some types) (Some types_or) (Some exclude_types) (Some stages) None o7 o8 o9 o10 o11 q0 q1 q2 q3 q4 q10 q11 = tt
-back_short id name alias entry args language p1 p2 p3 p4 p5 p6 (Some files) (Some exclude) (Some types) (Some types_or) (Some exclude_types) (Some stages) (Some always_run) None o8 o9 o10 o11 q0 q1 q2 q3 q4 q10 q11 = tt
-back_short id name alias entry args language p1 p2 p3 p4 p5 p6 (Some files) (Some exclude) (Some types) (Some types_or) (Some exclude_types) (Some stages) (Some always_run) (Some verbose) None o9 o10 o11 q0 q1 q2 q3 q4 q10 q11 = tt
-back_short id name alias entry args language p1 p2 p3 p4 p5 p6 (Some files) (Some exclude) (Some types) (Some types_or) (Some exclude_types) (Some stages) (Some always_run) (Some verbose) (Some pass_filenames) None o10 o11 q0 q1 q2 q3 q4 q10 q11 = tt
-back_short id name alias entry args language p1 p2 p3 p4 p5 p6 (Some files) (Some exclude) (Some types) (Some types_or) (Some exclude_types) (Some stages) (Some always_run) (Some verbose) (Some pass_filenames) (Some fail_fast) None o11 q0 q1 q2 q3 q4 q10 q11 = tt
-back_short id name alias entry args language p1 p2 p3 p4 p5 p6 (Some files) (Some exclude) (Some types) (Some types_or) (Some exclude_types) (Some stages) (Some always_run) (Some verbose) (Some pass_filenames) (Some fail_fast) (Some log_file) None q0 q1 q2 q3 q4 q10 q11 = tt
-back_short id name alias entry args language p1 p2 p3 p4 p5 p6 (Some files) (Some exclude) (Some types) (Some types_or) (Some exclude_types) (Some stages) (Some always_run) (Some verbose) (Some pass_filenames) (Some fail_fast) (Some log_file) (Some additional_dependencies) q0 q1 q2 q3 q4 q10 q11 = record {
-  id = p1;
-  name = p2;
-  alias = p3;
-  language = p6;
-  entry = p4;
-  args = p5;
-  files = q0;
-  exclude = q1;
-  types = q2;
-  types_or = q3;
-  exclude_types = q4;
-  log_file = q10;
-  additional_dependencies = q11;
-}
+abbrev AreShortUnserved : Unserved → Type 0
+AreShortUnserved unserved = IsShort unserved.log_file × AreTexts unserved.additional_dependencies
 
--- what follows from the values up to the arguments
-front_short : (k : (id name alias entry : List ℕ) (args : List (List ℕ)) → Option Hook) → ((id name alias entry : List ℕ) (args : List (List ℕ)) → IsShort id → IsShort name → IsShort alias → IsShort entry → AreTexts args → Holds HookHasShortTexts (k id name alias entry args))
-    → (o0 : Option (List ℕ)) (o1 : Option (List ℕ)) (o2 : Option (List ℕ)) (o3 : Option (List ℕ)) (o4 : Option (List (List ℕ)))
-    → Holds IsShort o0 → Holds IsShort o1 → Holds IsShort o2 → Holds IsShort o3 → Holds AreTexts o4
-    → Holds HookHasShortTexts (given o0 (λ id. given o1 (λ name. given o2 (λ alias. given o3 (λ entry. given o4 (λ args. k id name alias entry args))))))
-front_short k h None o1 o2 o3 o4 q0 q1 q2 q3 q4 = tt
-front_short k h (Some id) None o2 o3 o4 q0 q1 q2 q3 q4 = tt
-front_short k h (Some id) (Some name) None o3 o4 q0 q1 q2 q3 q4 = tt
-front_short k h (Some id) (Some name) (Some alias) None o4 q0 q1 q2 q3 q4 = tt
-front_short k h (Some id) (Some name) (Some alias) (Some entry) None q0 q1 q2 q3 q4 = tt
-front_short k h (Some id) (Some name) (Some alias) (Some entry) (Some args) q0 q1 q2 q3 q4 = h id name alias entry args q0 q1 q2 q3 q4
+unserved_short : (rs : List Row) → Holds AreShortUnserved (unserved_of rs)
+unfolding unserved_of
+unserved_short rs =
+    and_then IsShort AreShortUnserved key.log_file rs _ short_empty nothing_short (λ log_file p.
+    and_then AreTexts AreShortUnserved key.additional_dependencies rs _ short_empties no_texts (λ additional_dependencies q. (p, q)))
 
--- what follows from the language
-language_first : (k : Language → Option Hook) → ((language : Language) → HasShortSearch language → Holds HookHasShortTexts (k language)) → (o : Option Language) → Holds HasShortSearch o
-    → Holds HookHasShortTexts (given o k)
-language_first k h None q = tt
-language_first k h (Some language) q = h language q
+abbrev AreShortNames : Names → Type 0
+AreShortNames names = IsShort names.id × IsShort names.name × IsShort names.alias
 
--- the hook of these values and of those behind them
-abbrev rest_of : Stages → List Row → List ℕ → List ℕ → List ℕ → List ℕ → List (List ℕ) → Language → Option Hook
-rest_of default rs id name alias entry args language = given (or_default pattern_of every_path files_key rs) (λ files. given (or_default pattern_of no_path exclude_key rs) (λ exclude. given (or_default texts_of (file_word ∷ []) types_key rs) (λ types. given (or_default texts_of [] types_or_key rs) (λ types_or. given (or_default texts_of [] exclude_types_key rs) (λ exclude_types. given (or_default (stages_of default) default stages_key rs) (λ stages. given (or_default truth_of false always_run_key rs) (λ always_run. given (or_default truth_of false verbose_key rs) (λ verbose. given (or_default truth_of true pass_filenames_key rs) (λ pass_filenames. given (or_default truth_of false fail_fast_key rs) (λ fail_fast. given (or_default empty_text_of [] log_file_key rs) (λ log_file. given (or_default empty_texts_of [] additional_dependencies_key rs) (λ additional_dependencies. Some (record { id = id; name = name; alias = alias; entry = entry; args = args; language = language; files = files; exclude = exclude; types = types; types_or = types_or; exclude_types = exclude_types; stages = stages; always_run = always_run; verbose = verbose; pass_filenames = pass_filenames; fail_fast = fail_fast; log_file = log_file; additional_dependencies = additional_dependencies })))))))))))))
+names_short : (rs : List Row) → Holds AreShortNames (names_of rs)
+unfolding names_of
+names_short rs =
+    and_then IsShort AreShortNames key.id rs _ short_text tt (λ id p.
+    and_then IsShort AreShortNames key.name rs _ short_text tt (λ name q.
+    and_then IsShort AreShortNames key.alias rs _ short_text nothing_short (λ alias r. (p, q, r))))
 
-abbrev with_language : Stages → List Row → List ℕ → List ℕ → List ℕ → List ℕ → List (List ℕ) → Option Hook
-with_language default rs id name alias entry args = given (language_at entry args rs) (rest_of default rs id name alias entry args)
+abbrev IsShortCommand : Command → Type 0
+IsShortCommand command = HasShortSearch command.language × IsShort command.entry × AreTexts command.args
 
-rest_short : (default : Stages) (rs : List Row) (id name alias entry : List ℕ) (args : List (List ℕ)) (language : Language) → IsShort id → IsShort name → IsShort alias → IsShort entry → AreTexts args → HasShortSearch language → Holds HookHasShortTexts (rest_of default rs id name alias entry args language)
-rest_short default rs id name alias entry args language p1 p2 p3 p4 p5 p6 =
-    back_short id name alias entry args language p1 p2 p3 p4 p5 p6
-    (or_default pattern_of every_path files_key rs) (or_default pattern_of no_path exclude_key rs) (or_default texts_of (file_word ∷ []) types_key rs) (or_default texts_of [] types_or_key rs) (or_default texts_of [] exclude_types_key rs) (or_default (stages_of default) default stages_key rs) (or_default truth_of false always_run_key rs) (or_default truth_of false verbose_key rs) (or_default truth_of true pass_filenames_key rs) (or_default truth_of false fail_fast_key rs) (or_default empty_text_of [] log_file_key rs) (or_default empty_texts_of [] additional_dependencies_key rs)
-    (pattern_or every_path files_key rs every_path_short) (pattern_or no_path exclude_key rs no_path_short) (texts_or (file_word ∷ []) types_key rs file_short) (texts_or [] types_or_key rs no_texts) (texts_or [] exclude_types_key rs no_texts) (empty_text_or log_file_key rs) (empty_texts_or additional_dependencies_key rs)
+command_short : (rs : List Row) → Holds IsShortCommand (command_of rs)
+unfolding command_of
+command_short rs =
+    then_any IsShortCommand _ (λ word.
+    and_then IsShort IsShortCommand key.entry rs _ short_text tt (λ entry p.
+    and_then AreTexts IsShortCommand key.args rs _ short_texts no_texts (λ args q.
+    then_to HasShortSearch IsShortCommand _ (λ language r. (r, p, q)) (language_of word entry args) (language_short word entry args p))))
+    (at_key key.language rs)
 
+abbrev IsShortSelection : Selection → Type 0
+IsShortSelection selection =
+    IsShort selection.files × IsShort selection.exclude × AreTexts selection.types × AreTexts selection.types_or × AreTexts selection.exclude_types
+
+selection_short : (rs : List Row) → Holds IsShortSelection (selection_of rs)
+unfolding selection_of
+selection_short rs =
+    and_then IsShort IsShortSelection key.files rs _ short_pattern every_path_short (λ files p.
+    and_then IsShort IsShortSelection key.exclude rs _ short_pattern no_path_short (λ exclude q.
+    and_then AreTexts IsShortSelection key.types rs _ short_texts file_short (λ types r.
+    and_then AreTexts IsShortSelection key.types_or rs _ short_texts no_texts (λ types_or s.
+    and_then AreTexts IsShortSelection key.exclude_types rs _ short_texts no_texts (λ exclude_types t. (p, q, r, s, t))))))
+
+-- every text of a hook is one of a group
 fields_short : (default : Stages) (rs : List Row) → Holds HookHasShortTexts (hook_of_fields default rs)
-unfolding hook_of_fields
+unfolding hook_of_fields hook_with
 fields_short default rs =
-    front_short (with_language default rs)
-    (λ id name alias entry args p1 p2 p3 p4 p5. language_first (rest_of default rs id name alias entry args) (λ language p6. rest_short default rs id name alias entry args language p1 p2 p3 p4 p5 p6)
-    (language_at entry args rs) (language_short entry args rs p4))
-    (required text_of id_key rs) (required text_of name_key rs) (or_default text_of [] alias_key rs) (required text_of entry_key rs) (or_default texts_of [] args_key rs)
-    (short_required id_key rs) (short_required name_key rs) (text_or alias_key rs) (short_required entry_key rs) (texts_or [] args_key rs no_texts)
+    then_to AreShortUnserved HookHasShortTexts _ (λ unserved p.
+    then_to AreShortNames HookHasShortTexts _ (λ names q.
+    then_to IsShortCommand HookHasShortTexts _ (λ command r.
+    then_to IsShortSelection HookHasShortTexts _ (λ selection s.
+    then_any HookHasShortTexts _ (λ switches. search (p, q, r, s)) (switches_of default rs))
+    (selection_of rs) (selection_short rs)) (command_of rs) (command_short rs)) (names_of rs) (names_short rs)) (unserved_of rs) (unserved_short rs)
 
 abbrev AllShort : List Hook → Type 0
 AllShort hooks = AllByRecursion HookHasShortTexts hooks
@@ -216,11 +194,11 @@ joined_short f h (m ∷ ms) =
 named_hooks_short : (default : Stages) (rs : List Row) (name : List ℕ) → Holds AllShort (hooks_of_named default rs name)
 named_hooks_short default rs name =
     either AllShort (bytes_eq name local_word) _ None
-    (then_any AllShort (hooks_of_list default) (joined_short (hook_alone default) (hook_short default)) (required list_of hooks_key rs)) tt
+    (then_any AllShort (hooks_of_list default) (joined_short (hook_alone default) (hook_short default)) (at_key key.hooks rs)) tt
 
 repository_short : (default : Stages) (m : Meaning) → Holds AllShort (hooks_of_repository default m)
 repository_short default m =
-    then_any AllShort (hooks_of_rows default) (λ rs. then_any AllShort (hooks_of_named default rs) (named_hooks_short default rs) (required text_of repo_key rs)) (table_of m)
+    then_any AllShort (hooks_of_rows default) (λ rs. then_any AllShort (hooks_of_named default rs) (named_hooks_short default rs) (at_key key.repo rs)) (table_of m)
 
 hooks_short : (default : Stages) (ms : List Meaning) → Holds (All HookHasShortTexts) (hooks_of_repositories default ms)
 hooks_short default ms =
@@ -275,7 +253,7 @@ of_hook n m h = flat_within n (RowWithin n) (unknown_key hook_keys) (key_within 
 
 of_repository_row : (n : ℕ) (r : Row) → RowWithin n r → KeysWithin n (unknown_of_repository_row r)
 of_repository_row n r h =
-    keys_by n (bytes_eq r.0 hooks_key) (flat_map unknown_of_hook (items_in r.1)) (unknown_key repository_keys r)
+    keys_by n (bytes_eq r.0 key.hooks.word) (flat_map unknown_of_hook (items_in r.1)) (unknown_key repository_keys r)
     (flat_within n (HasTextsWithin n) unknown_of_hook (of_hook n) (items_in r.1) (items_in_within n r.1 h.1)) (key_within n repository_keys r h)
 
 of_repository : (n : ℕ) (m : Meaning) → HasTextsWithin n m → KeysWithin n (unknown_of_repository m)
@@ -283,7 +261,7 @@ of_repository n m h = flat_within n (RowWithin n) unknown_of_repository_row (of_
 
 of_top_row : (n : ℕ) (r : Row) → RowWithin n r → KeysWithin n (unknown_of_top_row r)
 of_top_row n r h =
-    keys_by n (bytes_eq r.0 repos_key) (flat_map unknown_of_repository (items_in r.1)) (unknown_key top_keys r)
+    keys_by n (bytes_eq r.0 key.repos.word) (flat_map unknown_of_repository (items_in r.1)) (unknown_key top_keys r)
     (flat_within n (HasTextsWithin n) unknown_of_repository (of_repository n) (items_in r.1) (items_in_within n r.1 h.1)) (key_within n top_keys r h)
 
 keys_short : (n : ℕ) (keys : List (List ℕ)) → n ≤ most_text_bytes → KeysWithin n keys → AllByRecursion IsShort keys
@@ -318,9 +296,8 @@ rows_short : (n : ℕ) (rs : List Row) → n ≤ most_text_bytes → AllByRecurs
 unfolding configuration_of_rows
 rows_short n rs few h =
     values_short hooks_of_repositories hooks_short (unknown_of_top rs) (unknown_short n rs few h)
-    (or_default (stages_of all_stages) all_stages default_stages_key rs) (or_default pattern_of every_path files_key rs) (or_default pattern_of no_path exclude_key rs)
-    (or_default truth_of false fail_fast_key rs) (required list_of repos_key rs)
-    (pattern_or every_path files_key rs every_path_short) (pattern_or no_path exclude_key rs no_path_short)
+    (at_key key.default_stages rs) (at_key key.files rs) (at_key key.exclude rs) (at_key key.fail_fast rs) (at_key key.repos rs)
+    (at IsShort key.files rs short_pattern every_path_short) (at IsShort key.exclude rs short_pattern no_path_short)
 
 meaning_short : (n : ℕ) (m : Meaning) → n ≤ most_text_bytes → HasTextsWithin n m → Holds HasShortTexts (configuration_of_meaning m)
 unfolding configuration_of_meaning

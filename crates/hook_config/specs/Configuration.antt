@@ -1,21 +1,20 @@
 -- The configuration that a text's bytes describe (pre-commit.com, "Adding pre-commit plugins to your project").
-use Rattle.std.specs.Prelude.{ℕ, List, Bool, false, Option, Some, option_and_then}
+use Rattle.std.specs.Prelude.{ℕ, List, Bool, Option, Some, option_and_then}
 use Rattle.yaml_lines.specs.Meaning.{Meaning}
 use Rattle.yaml_profile.specs.Text.{meaning_of}
-use Rattle.hook_config.specs.Rows.{Row, table_of, list_of}
-use Rattle.hook_config.specs.Kinds.{truth_of, stages_of, required, or_default, given}
-use Rattle.hook_config.specs.Patterns.{pattern_of, every_path, no_path}
+use Rattle.hook_config.specs.Rows.{Row, table_of}
+use Rattle.hook_config.specs.Kinds.{given}
 use Rattle.hook_config.specs.Hooks.{hooks_of_repositories}
-use Rattle.hook_config.specs.Stages.{all_stages}
 use Rattle.hook_config.specs.UnknownKeys.{unknown_of_top}
 use Rattle.hook_config.specs.declared.configuration.Config.{Config}
 use Rattle.hook_config.specs.declared.stage.Stages.{Stages}
-use Rattle.hook_config.specs.KnownKeys.{repos_key, default_stages_key, files_key, exclude_key, fail_fast_key}
+use Rattle.hook_config.specs.KnownKeys.{at_key}
+use Rattle.hook_config.specs.KnownKeys as key
 
 -- the configuration of a table's rows, where these are the patterns at the top, and whether a run stops at a failure
 abbrev pub configuration_with : Stages → List Row → List ℕ → List ℕ → Bool → Option Config
 configuration_with default rows files exclude fail_fast =
-    given (required list_of repos_key rows) (λ repositories.
+    given (at_key key.repos rows) (λ repositories.
     given (hooks_of_repositories default repositories) (λ hooks.
     Some (record {
       hooks = hooks;
@@ -28,15 +27,14 @@ configuration_with default rows files exclude fail_fast =
 -- the configuration of a table's rows, where these are the default stages
 abbrev pub configuration_by : Stages → List Row → Option Config
 configuration_by default rows =
-    given (or_default pattern_of every_path files_key rows) (λ files.
-    given (or_default pattern_of no_path exclude_key rows) (λ exclude.
-    given (or_default truth_of false fail_fast_key rows) (λ fail_fast.
+    given (at_key key.files rows) (λ files.
+    given (at_key key.exclude rows) (λ exclude.
+    given (at_key key.fail_fast rows) (λ fail_fast.
     configuration_with default rows files exclude fail_fast)))
 
 -- the default stages hold for all hooks, wherever they stand
 unfoldable pub configuration_of_rows : List Row → Option Config
-configuration_of_rows rows =
-    given (or_default (stages_of all_stages) all_stages default_stages_key rows) (λ default. configuration_by default rows)
+configuration_of_rows rows = given (at_key key.default_stages rows) (λ default. configuration_by default rows)
 
 -- the configuration of a text's node
 unfoldable pub configuration_of_meaning : Meaning → Option Config

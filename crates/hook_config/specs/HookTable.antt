@@ -1,56 +1,118 @@
--- The hook that a table of a configuration describes (pre-commit.com, "Creating new hooks").
-use Rattle.std.specs.Prelude.{List, [], ◌∷◌, true, false, Option, Some, option_and_then}
+-- The hook that a table of a configuration describes (pre-commit.com, "Creating new hooks"): its fields are read group by
+-- group.
+use Rattle.std.specs.Prelude.{List, Option, Some, option_and_then}
 use Rattle.yaml_lines.specs.Meaning.{Meaning}
 use Rattle.hook_config.specs.Rows.{Row, table_of}
-use Rattle.hook_config.specs.Kinds.{text_of, truth_of, texts_of, stages_of, empty_text_of, empty_texts_of, required, or_default, given}
-use Rattle.hook_config.specs.Languages.{language_at}
-use Rattle.hook_config.specs.Patterns.{pattern_of, every_path, no_path}
+use Rattle.hook_config.specs.Kinds.{given}
+use Rattle.hook_config.specs.Languages.{language_of}
 use Rattle.hook_config.specs.declared.configuration.Hook.{Hook}
+use Rattle.hook_config.specs.declared.hook_parts.Command.{Command}
+use Rattle.hook_config.specs.declared.hook_parts.Names.{Names}
+use Rattle.hook_config.specs.declared.hook_parts.Selection.{Selection}
+use Rattle.hook_config.specs.declared.hook_parts.Switches.{Switches}
+use Rattle.hook_config.specs.declared.hook_parts.Unserved.{Unserved}
 use Rattle.hook_config.specs.declared.stage.Stages.{Stages}
-use Rattle.hook_config.specs.KnownKeys.{id_key, name_key, alias_key, entry_key, args_key, files_key, exclude_key, types_key, types_or_key, exclude_types_key, file_word, stages_key, always_run_key, verbose_key, pass_filenames_key, fail_fast_key, log_file_key, additional_dependencies_key}
+use Rattle.hook_config.specs.KnownKeys.{at_key}
+use Rattle.hook_config.specs.KnownKeys as key
 
--- Each field is the value at its key, or the key's default; that of `stages` is given. None where `log_file` or
--- `additional_dependencies` is more than empty: neither is served.
-unfoldable pub hook_of_fields : Stages → List Row → Option Hook
-hook_of_fields default rows =
-    given (required text_of id_key rows) (λ id.
-    given (required text_of name_key rows) (λ name.
-    given (or_default text_of [] alias_key rows) (λ alias.
-    given (required text_of entry_key rows) (λ entry.
-    given (or_default texts_of [] args_key rows) (λ args.
-    given (language_at entry args rows) (λ language.
-    given (or_default pattern_of every_path files_key rows) (λ files.
-    given (or_default pattern_of no_path exclude_key rows) (λ exclude.
-    given (or_default texts_of (file_word ∷ []) types_key rows) (λ types.
-    given (or_default texts_of [] types_or_key rows) (λ types_or.
-    given (or_default texts_of [] exclude_types_key rows) (λ exclude_types.
-    given (or_default (stages_of default) default stages_key rows) (λ stages.
-    given (or_default truth_of false always_run_key rows) (λ always_run.
-    given (or_default truth_of false verbose_key rows) (λ verbose.
-    given (or_default truth_of true pass_filenames_key rows) (λ pass_filenames.
-    given (or_default truth_of false fail_fast_key rows) (λ fail_fast.
-    given (or_default empty_text_of [] log_file_key rows) (λ log_file.
-    given (or_default empty_texts_of [] additional_dependencies_key rows) (λ additional_dependencies.
+-- none where one of them is more than empty: neither is served
+unfoldable pub unserved_of : List Row → Option Unserved
+unserved_of rows =
+    given (at_key key.log_file rows) (λ log_file.
+    given (at_key key.additional_dependencies rows) (λ additional_dependencies.
+    Some (record {
+      log_file = log_file;
+      additional_dependencies = additional_dependencies;
+    })))
+
+unfoldable pub names_of : List Row → Option Names
+names_of rows =
+    given (at_key key.id rows) (λ id.
+    given (at_key key.name rows) (λ name.
+    given (at_key key.alias rows) (λ alias.
     Some (record {
       id = id;
       name = name;
       alias = alias;
+    }))))
+
+-- the language is that of the name, for the entry and its arguments
+unfoldable pub command_of : List Row → Option Command
+command_of rows =
+    given (at_key key.language rows) (λ name.
+    given (at_key key.entry rows) (λ entry.
+    given (at_key key.args rows) (λ args.
+    given (language_of name entry args) (λ language.
+    Some (record {
       language = language;
       entry = entry;
       args = args;
+    })))))
+
+unfoldable pub selection_of : List Row → Option Selection
+selection_of rows =
+    given (at_key key.files rows) (λ files.
+    given (at_key key.exclude rows) (λ exclude.
+    given (at_key key.types rows) (λ types.
+    given (at_key key.types_or rows) (λ types_or.
+    given (at_key key.exclude_types rows) (λ exclude_types.
+    Some (record {
       files = files;
       exclude = exclude;
       types = types;
       types_or = types_or;
       exclude_types = exclude_types;
+    }))))))
+
+-- where these are the default stages
+unfoldable pub switches_of : Stages → List Row → Option Switches
+switches_of default rows =
+    given (at_key (key.stages default) rows) (λ stages.
+    given (at_key key.always_run rows) (λ always_run.
+    given (at_key key.verbose rows) (λ verbose.
+    given (at_key key.pass_filenames rows) (λ pass_filenames.
+    given (at_key key.fail_fast rows) (λ fail_fast.
+    Some (record {
       stages = stages;
       always_run = always_run;
       verbose = verbose;
       pass_filenames = pass_filenames;
       fail_fast = fail_fast;
-      log_file = log_file;
-      additional_dependencies = additional_dependencies;
-    })))))))))))))))))))
+    }))))))
+
+-- the hook of a table's rows, of which these are the first groups
+unfoldable pub hook_with : Stages → List Row → Unserved → Names → Command → Option Hook
+hook_with default rows unserved names command =
+    given (selection_of rows) (λ selection.
+    given (switches_of default rows) (λ switches.
+    Some (record {
+      id = names.id;
+      name = names.name;
+      alias = names.alias;
+      language = command.language;
+      entry = command.entry;
+      args = command.args;
+      files = selection.files;
+      exclude = selection.exclude;
+      types = selection.types;
+      types_or = selection.types_or;
+      exclude_types = selection.exclude_types;
+      stages = switches.stages;
+      always_run = switches.always_run;
+      verbose = switches.verbose;
+      pass_filenames = switches.pass_filenames;
+      fail_fast = switches.fail_fast;
+      log_file = unserved.log_file;
+      additional_dependencies = unserved.additional_dependencies;
+    })))
+
+-- the hook of a table's rows, where these are the default stages
+unfoldable pub hook_of_fields : Stages → List Row → Option Hook
+hook_of_fields default rows =
+    given (unserved_of rows) (λ unserved.
+    given (names_of rows) (λ names.
+    given (command_of rows) (λ command.
+    hook_with default rows unserved names command)))
 
 abbrev pub hook_of : Stages → Meaning → Option Hook
 hook_of default value = option_and_then (hook_of_fields default) (table_of value)

@@ -1,12 +1,12 @@
 -- The hooks of all repositories of a configuration.
 use Rattle.std.specs.Prelude.{ℕ, List, [], ◌∷◌, ◌++◌, length, if◌then◌else◌, nat_le, bytes_eq, Option, Some, None, option_map, option_and_then}
 use Rattle.yaml_lines.specs.Meaning.{Meaning}
-use Rattle.hook_config.specs.Rows.{Row, table_of, list_of}
-use Rattle.hook_config.specs.Kinds.{text_of, required}
+use Rattle.hook_config.specs.Rows.{Row, table_of}
 use Rattle.hook_config.specs.HookTable.{hook_of}
 use Rattle.hook_config.specs.declared.configuration.Hook.{Hook}
 use Rattle.hook_config.specs.declared.stage.Stages.{Stages}
-use Rattle.hook_config.specs.KnownKeys.{repo_key, hooks_key, local_word}
+use Rattle.hook_config.specs.KnownKeys.{at_key, local_word}
+use Rattle.hook_config.specs.KnownKeys as key
 use Rattle.hook_config.specs.Limits.{most_hooks}
 
 -- the lists that f gives for each value, joined, or none where it gives none for one of them
@@ -24,11 +24,11 @@ hooks_of_list default = joined (hook_alone default)
 
 abbrev pub hooks_of_named : Stages → List Row → List ℕ → Option (List Hook)
 hooks_of_named default rows repository =
-    if bytes_eq repository local_word then option_and_then (hooks_of_list default) (required list_of hooks_key rows) else None
+    if bytes_eq repository local_word then option_and_then (hooks_of_list default) (at_key key.hooks rows) else None
 
 -- the hooks of a repository's table, where that repository is `local`
 abbrev pub hooks_of_rows : Stages → List Row → Option (List Hook)
-hooks_of_rows default rows = option_and_then (hooks_of_named default rows) (required text_of repo_key rows)
+hooks_of_rows default rows = option_and_then (hooks_of_named default rows) (at_key key.repo rows)
 
 abbrev pub hooks_of_repository : Stages → Meaning → Option (List Hook)
 hooks_of_repository default value = option_and_then (hooks_of_rows default) (table_of value)

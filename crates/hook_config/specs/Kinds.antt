@@ -1,11 +1,10 @@
 -- The kinds of a configuration's values, and how a value is taken from a table.
-use Rattle.std.specs.Prelude.{ℕ, List, [], ◌∷◌, length, Bool, true, false, if◌then◌else◌, nat_le, Option, Some, None, option_map, option_and_then}
+use Rattle.std.specs.Prelude.{ℕ, List, [], ◌∷◌, length, Bool, true, false, if◌then◌else◌, nat_le, codes, Option, Some, None, option_map, option_and_then}
 use Rattle.yaml_lines.specs.Meaning.{Meaning, text, list, table, empty}
 use Rattle.hook_config.specs.Rows.{Row, value_at, is_among, list_of}
 use Rattle.hook_config.specs.Stages.{stage_of_word, stages_among}
 use Rattle.hook_config.specs.declared.stage.Stage.{Stage}
 use Rattle.hook_config.specs.declared.stage.Stages.{Stages}
-use Rattle.hook_config.specs.KnownKeys.{true_words, false_words}
 use Rattle.hook_config.specs.Limits.{most_text_bytes}
 
 -- a text that is no longer than a configuration, quoted or not
@@ -14,6 +13,22 @@ text_of (text content quoted) = if nat_le (length content) most_text_bytes then 
 text_of (list items) = None
 text_of (table rows) = None
 text_of empty = None
+
+-- the words for true and false: in lower case, with a capital first letter, and in upper case (YAML 1.1, "Boolean
+-- Language-Independent Type")
+abbrev pub true_words : List (List ℕ)
+true_words =
+    codes "true" ∷ codes "True" ∷ codes "TRUE"
+    ∷ codes "yes" ∷ codes "Yes" ∷ codes "YES"
+    ∷ codes "on" ∷ codes "On" ∷ codes "ON"
+    ∷ []
+
+abbrev pub false_words : List (List ℕ)
+false_words =
+    codes "false" ∷ codes "False" ∷ codes "FALSE"
+    ∷ codes "no" ∷ codes "No" ∷ codes "NO"
+    ∷ codes "off" ∷ codes "Off" ∷ codes "OFF"
+    ∷ []
 
 abbrev pub truth_of_word : List ℕ → Option Bool
 truth_of_word word = if is_among true_words word then Some true else (if is_among false_words word then Some false else None)
@@ -67,14 +82,17 @@ empty_texts_of value = option_and_then only_empty (texts_of value)
 abbrev pub given : {A B : Type 0} → Option A → (A → Option B) → Option B
 given value follows = option_and_then follows value
 
+-- what the kind makes of the value, or this where there is none
+abbrev pub kind_or : {A : Type 0} → (Meaning → Option A) → Option A → Option Meaning → Option A
+kind_or kind absent None = absent
+kind_or kind absent (Some value) = kind value
+
+-- ---- for contracts of private functions alone
+
 -- the value that must stand at the key
 abbrev pub required : {A : Type 0} → (Meaning → Option A) → List ℕ → List Row → Option A
-required kind key rows = option_and_then kind (value_at key rows)
-
-abbrev pub kind_or : {A : Type 0} → (Meaning → Option A) → A → Option Meaning → Option A
-kind_or kind default None = Some default
-kind_or kind default (Some value) = kind value
+required kind key rows = kind_or kind None (value_at key rows)
 
 -- the value at the key, or the default where the key isn't there
 abbrev pub or_default : {A : Type 0} → (Meaning → Option A) → A → List ℕ → List Row → Option A
-or_default kind default key rows = kind_or kind default (value_at key rows)
+or_default kind default key rows = kind_or kind (Some default) (value_at key rows)

@@ -1,33 +1,51 @@
--- The words of a configuration: its keys (pre-commit.com, "Adding pre-commit plugins to your project" and "Creating new
--- hooks"), its languages and its truths.
-use Rattle.std.specs.Prelude.{ℕ, List, [], ◌∷◌, codes}
+-- The keys of a configuration's tables (pre-commit.com, "Adding pre-commit plugins to your project" and "Creating new hooks").
+-- The row of each says its word, what its value is read to, and what it is where the key isn't there.
+use Rattle.std.specs.Prelude.{ℕ, List, [], ◌∷◌, codes, Bool, true, false, Option, Some, None}
+use Rattle.yaml_lines.specs.Meaning.{Meaning}
+use Rattle.hook_config.specs.Kinds.{text_of, truth_of, texts_of, stages_of, empty_text_of, empty_texts_of, kind_or}
+use Rattle.hook_config.specs.Languages.{language_name_of}
+use Rattle.hook_config.specs.Patterns.{pattern_of, every_path, no_path}
+use Rattle.hook_config.specs.Rows.{Row, value_at, list_of}
+use Rattle.hook_config.specs.Stages.{all_stages}
+use Rattle.hook_config.specs.declared.languages.LanguageName.{LanguageName}
+use Rattle.hook_config.specs.declared.stage.Stages.{Stages}
+
+-- a key whose `absent` is none has to be there
+pub record Key (A : Type 0) : Type 0 where
+  pub word : List ℕ
+  pub kind : Meaning → Option A
+  pub absent : Option A
+
+-- the value at the key, or what it is where the key isn't there
+abbrev pub at_key : {A : Type 0} → Key A → List Row → Option A
+at_key key rows = kind_or key.kind key.absent (value_at key.word rows)
 
 -- ---- the table at the top
 
-abbrev pub repos_key : List ℕ
-repos_key = codes "repos"
+abbrev pub repos : Key (List Meaning)
+repos = record { word = codes "repos"; kind = list_of; absent = None }
 
-abbrev pub default_stages_key : List ℕ
-default_stages_key = codes "default_stages"
+abbrev pub default_stages : Key Stages
+default_stages = record { word = codes "default_stages"; kind = stages_of all_stages; absent = Some all_stages }
 
 -- these are keys of a hook too
-abbrev pub files_key : List ℕ
-files_key = codes "files"
+abbrev pub files : Key (List ℕ)
+files = record { word = codes "files"; kind = pattern_of; absent = Some every_path }
 
-abbrev pub exclude_key : List ℕ
-exclude_key = codes "exclude"
+abbrev pub exclude : Key (List ℕ)
+exclude = record { word = codes "exclude"; kind = pattern_of; absent = Some no_path }
 
-abbrev pub fail_fast_key : List ℕ
-fail_fast_key = codes "fail_fast"
+abbrev pub fail_fast : Key Bool
+fail_fast = record { word = codes "fail_fast"; kind = truth_of; absent = Some false }
 
 -- those that are read, and those that are read and ignored
 abbrev pub top_keys : List (List ℕ)
 top_keys =
-    repos_key
-    ∷ default_stages_key
-    ∷ files_key
-    ∷ exclude_key
-    ∷ fail_fast_key
+    repos.word
+    ∷ default_stages.word
+    ∷ files.word
+    ∷ exclude.word
+    ∷ fail_fast.word
     ∷ codes "ci"
     ∷ codes "default_install_hook_types"
     ∷ codes "default_language_version"
@@ -36,14 +54,14 @@ top_keys =
 
 -- ---- a repository's table
 
-abbrev pub repo_key : List ℕ
-repo_key = codes "repo"
+abbrev pub repo : Key (List ℕ)
+repo = record { word = codes "repo"; kind = text_of; absent = None }
 
-abbrev pub hooks_key : List ℕ
-hooks_key = codes "hooks"
+abbrev pub hooks : Key (List Meaning)
+hooks = record { word = codes "hooks"; kind = list_of; absent = None }
 
 abbrev pub repository_keys : List (List ℕ)
-repository_keys = repo_key ∷ hooks_key ∷ []
+repository_keys = repo.word ∷ hooks.word ∷ []
 
 -- the one repository that isn't fetched from elsewhere
 abbrev pub local_word : List ℕ
@@ -51,109 +69,79 @@ local_word = codes "local"
 
 -- ---- a hook's table
 
-abbrev pub id_key : List ℕ
-id_key = codes "id"
-
-abbrev pub name_key : List ℕ
-name_key = codes "name"
-
-abbrev pub alias_key : List ℕ
-alias_key = codes "alias"
-
-abbrev pub language_key : List ℕ
-language_key = codes "language"
-
-abbrev pub entry_key : List ℕ
-entry_key = codes "entry"
-
-abbrev pub args_key : List ℕ
-args_key = codes "args"
-
-abbrev pub types_key : List ℕ
-types_key = codes "types"
-
-abbrev pub types_or_key : List ℕ
-types_or_key = codes "types_or"
-
-abbrev pub exclude_types_key : List ℕ
-exclude_types_key = codes "exclude_types"
-
-abbrev pub stages_key : List ℕ
-stages_key = codes "stages"
-
-abbrev pub always_run_key : List ℕ
-always_run_key = codes "always_run"
-
-abbrev pub verbose_key : List ℕ
-verbose_key = codes "verbose"
-
-abbrev pub pass_filenames_key : List ℕ
-pass_filenames_key = codes "pass_filenames"
-
-abbrev pub log_file_key : List ℕ
-log_file_key = codes "log_file"
-
-abbrev pub additional_dependencies_key : List ℕ
-additional_dependencies_key = codes "additional_dependencies"
-
--- those that are read, and those that are read and ignored
-abbrev pub hook_keys : List (List ℕ)
-hook_keys =
-    id_key
-    ∷ name_key
-    ∷ alias_key
-    ∷ language_key
-    ∷ entry_key
-    ∷ args_key
-    ∷ files_key
-    ∷ exclude_key
-    ∷ types_key
-    ∷ types_or_key
-    ∷ exclude_types_key
-    ∷ stages_key
-    ∷ always_run_key
-    ∷ verbose_key
-    ∷ pass_filenames_key
-    ∷ fail_fast_key
-    ∷ log_file_key
-    ∷ additional_dependencies_key
-    ∷ codes "language_version"
-    ∷ codes "minimum_pre_commit_version"
-    ∷ codes "require_serial"
-    ∷ codes "description"
-    ∷ []
-
 -- the tag that a file must have where a hook's table has no `types`
 abbrev pub file_word : List ℕ
 file_word = codes "file"
 
--- ---- languages
+abbrev pub log_file : Key (List ℕ)
+log_file = record { word = codes "log_file"; kind = empty_text_of; absent = Some [] }
 
-abbrev pub fail_word : List ℕ
-fail_word = codes "fail"
+abbrev pub additional_dependencies : Key (List (List ℕ))
+additional_dependencies = record { word = codes "additional_dependencies"; kind = empty_texts_of; absent = Some [] }
 
-abbrev pub pygrep_word : List ℕ
-pygrep_word = codes "pygrep"
+abbrev pub id : Key (List ℕ)
+id = record { word = codes "id"; kind = text_of; absent = None }
 
-abbrev pub system_word : List ℕ
-system_word = codes "system"
+abbrev pub name : Key (List ℕ)
+name = record { word = codes "name"; kind = text_of; absent = None }
 
-abbrev pub script_word : List ℕ
-script_word = codes "script"
+abbrev pub alias : Key (List ℕ)
+alias = record { word = codes "alias"; kind = text_of; absent = Some [] }
 
--- ---- truths: in lower case, with a capital first letter, and in upper case (YAML 1.1, "Boolean Language-Independent
--- Type")
+abbrev pub language : Key LanguageName
+language = record { word = codes "language"; kind = language_name_of; absent = None }
 
-abbrev pub true_words : List (List ℕ)
-true_words =
-    codes "true" ∷ codes "True" ∷ codes "TRUE"
-    ∷ codes "yes" ∷ codes "Yes" ∷ codes "YES"
-    ∷ codes "on" ∷ codes "On" ∷ codes "ON"
-    ∷ []
+abbrev pub entry : Key (List ℕ)
+entry = record { word = codes "entry"; kind = text_of; absent = None }
 
-abbrev pub false_words : List (List ℕ)
-false_words =
-    codes "false" ∷ codes "False" ∷ codes "FALSE"
-    ∷ codes "no" ∷ codes "No" ∷ codes "NO"
-    ∷ codes "off" ∷ codes "Off" ∷ codes "OFF"
+abbrev pub args : Key (List (List ℕ))
+args = record { word = codes "args"; kind = texts_of; absent = Some [] }
+
+abbrev pub types : Key (List (List ℕ))
+types = record { word = codes "types"; kind = texts_of; absent = Some (file_word ∷ []) }
+
+abbrev pub types_or : Key (List (List ℕ))
+types_or = record { word = codes "types_or"; kind = texts_of; absent = Some [] }
+
+abbrev pub exclude_types : Key (List (List ℕ))
+exclude_types = record { word = codes "exclude_types"; kind = texts_of; absent = Some [] }
+
+-- where these are the default stages
+abbrev pub stages : Stages → Key Stages
+stages default = record { word = codes "stages"; kind = stages_of default; absent = Some default }
+
+abbrev pub always_run : Key Bool
+always_run = record { word = codes "always_run"; kind = truth_of; absent = Some false }
+
+abbrev pub verbose : Key Bool
+verbose = record { word = codes "verbose"; kind = truth_of; absent = Some false }
+
+abbrev pub pass_filenames : Key Bool
+pass_filenames = record { word = codes "pass_filenames"; kind = truth_of; absent = Some true }
+
+-- those that are read, and those that are read and ignored
+abbrev pub hook_keys : List (List ℕ)
+hook_keys =
+    id.word
+    ∷ name.word
+    ∷ alias.word
+    ∷ language.word
+    ∷ entry.word
+    ∷ args.word
+    ∷ files.word
+    ∷ exclude.word
+    ∷ types.word
+    ∷ types_or.word
+    ∷ exclude_types.word
+    ∷ (stages all_stages).word
+    ∷ always_run.word
+    ∷ verbose.word
+    ∷ pass_filenames.word
+    ∷ fail_fast.word
+    ∷ log_file.word
+    ∷ additional_dependencies.word
+    ∷ codes "language_version"
+    ∷ codes "minimum_pre_commit_version"
+    ∷ codes "require_serial"
+    ∷ codes "description"
     ∷ []

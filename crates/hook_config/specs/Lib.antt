@@ -1,7 +1,6 @@
 pub mod CommandWords
 pub mod Configuration
 pub mod Gives
-pub mod HookParts
 pub mod HookTable
 pub mod Hooks
 pub mod Kinds

@@ -4,7 +4,8 @@ use Rattle.std.specs.Prelude.{ℕ, List, [], ◌∷◌, if◌then◌else◌, byt
 use Rattle.std.specs.List.{flat_map}
 use Rattle.yaml_lines.specs.Meaning.{Meaning}
 use Rattle.hook_config.specs.Rows.{Row, is_among, table_of, list_of}
-use Rattle.hook_config.specs.KnownKeys.{repos_key, hooks_key, top_keys, repository_keys, hook_keys}
+use Rattle.hook_config.specs.KnownKeys.{top_keys, repository_keys, hook_keys}
+use Rattle.hook_config.specs.KnownKeys as key
 
 -- a table's rows, none where the value is no table
 abbrev pub rows_in : Meaning → List Row
@@ -28,7 +29,7 @@ unknown_of_hook value = flat_map (unknown_key hook_keys) (rows_in value)
 -- the row's key, unless it is known; at `hooks` the unknown keys of the hooks
 abbrev pub unknown_of_repository_row : Row → List (List ℕ)
 unknown_of_repository_row row =
-    if bytes_eq row.0 hooks_key then flat_map unknown_of_hook (items_in row.1) else unknown_key repository_keys row
+    if bytes_eq row.0 key.hooks.word then flat_map unknown_of_hook (items_in row.1) else unknown_key repository_keys row
 
 abbrev pub unknown_of_repository : Meaning → List (List ℕ)
 unknown_of_repository value = flat_map unknown_of_repository_row (rows_in value)
@@ -36,7 +37,7 @@ unknown_of_repository value = flat_map unknown_of_repository_row (rows_in value)
 -- the row's key, unless it is known; at `repos` the unknown keys of the repositories
 abbrev pub unknown_of_top_row : Row → List (List ℕ)
 unknown_of_top_row row =
-    if bytes_eq row.0 repos_key then flat_map unknown_of_repository (items_in row.1) else unknown_key top_keys row
+    if bytes_eq row.0 key.repos.word then flat_map unknown_of_repository (items_in row.1) else unknown_key top_keys row
 
 abbrev pub unknown_of_top : List Row → List (List ℕ)
 unknown_of_top = flat_map unknown_of_top_row

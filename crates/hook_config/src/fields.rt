@@ -5,12 +5,14 @@ ghost use Rattle.yaml_lines.specs.View.{view};
 ghost use Rattle.hook_config.specs.Gives.{GivesValue, GivesSurely};
 ghost use Rattle.hook_config.specs.Kinds.{text_of, truth_of, texts_of, stages_of, empty_text_of, empty_texts_of, required, or_default};
 ghost use Rattle.hook_config.specs.KnownKeys.{file_word};
+ghost use Rattle.hook_config.specs.Languages.{language_name_of};
 ghost use Rattle.hook_config.specs.Patterns.{pattern_of};
 ghost use Rattle.hook_config.specs.Rows.{rows_of, meanings_of_nodes, value_at, list_of};
 
 use crate::config_fault::ConfigKind;
 use crate::config_text::ConfigText;
 use crate::kinds::{list_of, text_in, text_of, truth_of};
+use crate::languages::LanguageName;
 use crate::shared_pattern::SharedPattern;
 use crate::stage::Stages;
 use crate::stage_lists::stages_of;
@@ -49,6 +51,17 @@ pub(crate) fn required_text(
     ensures { GivesValue (λ owned. owned) result (required text_of key.now (rows_of rows.now)) }
 {
     text_of(alloc, required(rows, key)?)
+}
+
+/// The language whose name must stand at the key. A word that names none is `BadLanguage`.
+pub(crate) fn required_language(
+    rows: &[(String, Node)],
+    key: &str,
+) -> Result<LanguageName, ConfigKind>
+    ensures { GivesSurely (λ name. name) result (required language_name_of key.now (rows_of rows.now)) }
+{
+    let word = text_in(required(rows, key)?)?;
+    LanguageName::of_word(word).ok_or(ConfigKind::BadLanguage)
 }
 
 /// The list that must stand at the key.

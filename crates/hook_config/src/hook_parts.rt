@@ -1,7 +1,7 @@
 //! The fields of a hook, in the groups in which they are read: of several faults the first in this order is told.
 
-ghost use Rattle.std.specs.Prelude.{IfOk, IfErr};
-ghost use Rattle.hook_config.specs.HookParts.{AreNames, AreSwitches, AreUnserved, IsCommand, IsNeverHook, IsNoHook, IsSelection};
+ghost use Rattle.hook_config.specs.Gives.{GivesValue, GivesSurely};
+ghost use Rattle.hook_config.specs.HookTable.{command_of, names_of, selection_of, switches_of, unserved_of};
 ghost use Rattle.hook_config.specs.Rows.{rows_of};
 
 use crate::config_fault::ConfigKind;
@@ -9,14 +9,14 @@ use crate::config_text::ConfigText;
 use crate::configuration::Language;
 use crate::defaults::Defaults;
 use crate::fields::{
-    empty_text_at, empty_texts_at, pattern_or, required_text, stages_or, tags_or_file,
-    tags_or_none, text_or_empty, texts_or_none, truth_or,
+    empty_text_at, empty_texts_at, pattern_or, required_language, required_text, stages_or,
+    tags_or_file, tags_or_none, text_or_empty, texts_or_none, truth_or,
 };
 use crate::known_keys::{
     ADDITIONAL_DEPENDENCIES, ALIAS, ALWAYS_RUN, ARGS, ENTRY, EXCLUDE, EXCLUDE_TYPES, FAIL_FAST,
-    FILES, ID, LOG_FILE, NAME, PASS_FILENAMES, STAGES, TYPES, TYPES_OR, VERBOSE,
+    FILES, ID, LANGUAGE, LOG_FILE, NAME, PASS_FILENAMES, STAGES, TYPES, TYPES_OR, VERBOSE,
 };
-use crate::languages::{language_name_at, language_of};
+use crate::languages::language_of;
 use crate::shared_pattern::SharedPattern;
 use crate::stage::Stages;
 use crate::tag_names::TagNames;
@@ -31,10 +31,9 @@ pub(crate) struct Unserved {
     pub(crate) additional_dependencies: Items<ConfigText>,
 }
 
-#[tactic(auto, using(crate::proofs::HookFields::no_unserved))]
+#[tactic(auto, unfolding(crate::specs::HookTable::unserved_of))]
 pub(crate) fn unserved_of(alloc: Global, rows: &[(String, Node)]) -> Result<Unserved, ConfigKind>
-    ensures read { IfOk result (AreUnserved (rows_of rows.now)) }
-    ensures refused { IfErr result (IsNeverHook (rows_of rows.now)) }
+    ensures { GivesSurely (λ unserved. unserved) result (unserved_of (rows_of rows.now)) }
 {
     Ok(Unserved {
         log_file: empty_text_at(alloc, rows, LOG_FILE)?,
@@ -50,10 +49,9 @@ pub(crate) struct Names {
     pub(crate) alias: ConfigText,
 }
 
-#[tactic(auto, using(crate::proofs::HookFields::no_names))]
+#[tactic(auto, unfolding(crate::specs::HookTable::names_of))]
 pub(crate) fn names_of(alloc: Global, rows: &[(String, Node)]) -> Result<Names, ConfigKind>
-    ensures read { IfOk result (AreNames (rows_of rows.now)) }
-    ensures refused { IfErr result (IsNeverHook (rows_of rows.now)) }
+    ensures { GivesValue (λ names. names) result (names_of (rows_of rows.now)) }
 {
     Ok(Names {
         id: required_text(alloc, rows, ID)?,
@@ -70,12 +68,11 @@ pub(crate) struct Command {
     pub(crate) args: Items<ConfigText>,
 }
 
-#[tactic(auto, using(crate::proofs::HookFields::no_command))]
+#[tactic(auto, unfolding(crate::specs::HookTable::command_of))]
 pub(crate) fn command_of(alloc: Global, rows: &[(String, Node)]) -> Result<Command, ConfigKind>
-    ensures read { IfOk result (IsCommand (rows_of rows.now)) }
-    ensures refused { IfErr result (IsNeverHook (rows_of rows.now)) }
+    ensures { GivesValue (λ command. command) result (command_of (rows_of rows.now)) }
 {
-    let name = language_name_at(rows)?;
+    let name = required_language(rows, LANGUAGE)?;
     let entry = required_text(alloc, rows, ENTRY)?;
     let args = texts_or_none(alloc, rows, ARGS)?;
     let language = language_of(alloc, name, &entry, args.as_slice())?;
@@ -96,14 +93,13 @@ pub(crate) struct Selection {
     pub(crate) exclude_types: TagNames,
 }
 
-#[tactic(auto, using(crate::proofs::HookFields::no_selection))]
+#[tactic(auto, unfolding(crate::specs::HookTable::selection_of))]
 pub(crate) fn selection_of(
     alloc: Global,
     rows: &[(String, Node)],
     defaults: &Defaults,
 ) -> Result<Selection, ConfigKind>
-    ensures read { IfOk result (IsSelection (rows_of rows.now)) }
-    ensures refused { IfErr result (IsNoHook defaults.now (rows_of rows.now)) }
+    ensures { GivesValue (λ selection. selection) result (selection_of (rows_of rows.now)) }
 {
     Ok(Selection {
         files: pattern_or(alloc, rows, FILES, defaults.files())?,
@@ -124,13 +120,12 @@ pub(crate) struct Switches {
     pub(crate) fail_fast: bool,
 }
 
-#[tactic(auto, using(crate::proofs::HookFields::no_switches))]
+#[tactic(auto, unfolding(crate::specs::HookTable::switches_of))]
 pub(crate) fn switches_of(
     rows: &[(String, Node)],
     defaults: &Defaults,
 ) -> Result<Switches, ConfigKind>
-    ensures read { IfOk result (AreSwitches defaults.now (rows_of rows.now)) }
-    ensures refused { IfErr result (IsNoHook defaults.now (rows_of rows.now)) }
+    ensures { GivesSurely (λ switches. switches) result (switches_of defaults.now (rows_of rows.now)) }
 {
     Ok(Switches {
         stages: stages_or(rows, STAGES, defaults.stages())?,

@@ -3,8 +3,7 @@
 ghost use Rattle.std.specs.Prelude.{◌≡◌};
 ghost use Rattle.yaml_lines.specs.View.{view};
 ghost use Rattle.hook_config.specs.Gives.{GivesValue, GivesSurely};
-ghost use Rattle.hook_config.specs.HookParts.{AreNames, AreUnserved, IsCommand};
-ghost use Rattle.hook_config.specs.HookTable.{hook_of_fields, hook_of};
+ghost use Rattle.hook_config.specs.HookTable.{hook_of, hook_of_fields, hook_with};
 ghost use Rattle.hook_config.specs.Rows.{rows_of};
 
 use crate::config_fault::ConfigKind;
@@ -25,6 +24,7 @@ pub(crate) fn hook_of(alloc: Global, node: &Node, defaults: &Defaults) -> Result
 }
 
 // The hook of a table's rows. Of several faults the first in the order of these lines is told.
+#[tactic(auto, unfolding(crate::specs::HookTable::hook_of_fields))]
 fn hook_of_fields(
     alloc: Global,
     rows: &[(String, Node)],
@@ -39,6 +39,7 @@ fn hook_of_fields(
 }
 
 // The hook of a table's rows, of which these are the first groups.
+#[tactic(auto, unfolding(crate::specs::HookTable::hook_with))]
 fn hook_with(
     alloc: Global,
     rows: &[(String, Node)],
@@ -47,10 +48,7 @@ fn hook_with(
     names: Names,
     command: Command,
 ) -> Result<Hook, ConfigKind>
-    requires unserved { AreUnserved (rows_of rows.now) unserved }
-    requires names { AreNames (rows_of rows.now) names }
-    requires command { IsCommand (rows_of rows.now) command }
-    ensures { GivesValue (λ hook. hook) result (hook_of_fields defaults.now (rows_of rows.now)) }
+    ensures { GivesValue (λ hook. hook) result (hook_with defaults.now (rows_of rows.now) unserved names command) }
 {
     let selection = selection_of(alloc, rows, defaults)?;
     let switches = switches_of(rows, defaults)?;

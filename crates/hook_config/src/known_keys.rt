@@ -1,12 +1,13 @@
-//! The words of a configuration: the keys of its three tables, its languages and its truths (pre-commit.com, "Adding
-//! pre-commit plugins to your project" and "Creating new hooks"). What each must be is written in
-//! `specs/KnownKeys.antt`: the contracts of what compares a key with one of these hold only where both are the same.
+//! The words of a configuration: the keys of its three tables (pre-commit.com, "Adding pre-commit plugins to your project" and
+//! "Creating new hooks"), its languages and its truths. What each must be is written in `specs/KnownKeys.antt`,
+//! `specs/Languages.antt` and `specs/Kinds.antt`: the contracts of what compares a key with one of these hold only where both
+//! are the same.
 //!
 //! The keys of `TOP_KEYS` and `HOOK_KEYS` without a name of their own are read and ignored, whatever their value. Any other
 //! key is ignored, and listed in `Config::unknown`.
 //!
 //! What a key of a hook touches that is to be served is listed in `docs/ARCHITECTURE.md`, "A hook key". A further language has
-//! its word here and in `specs/KnownKeys.antt`, a variant of `Language` and of `LanguageName`, and a case in the functions of
+//! its word here and in `specs/Languages.antt`, a variant of `Language` and of `LanguageName`, and a case in the functions of
 //! `languages.rt` and of `specs/Languages.antt`. What its hooks answer stands in `hook_run`: `IsLanguageRun` of its
 //! `specs/HookRun.antt`, and `begin_language` of its `begin.rt`.
 

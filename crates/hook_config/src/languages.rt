@@ -1,23 +1,17 @@
 //! The languages.
 
-ghost use Rattle.std.specs.Prelude.{◌≡◌, ℕ, List, IfOk, IfErr, None, Some, map};
+ghost use Rattle.std.specs.Prelude.{◌≡◌, IfOk, IfErr, map};
 ghost use Rattle.hook_config.specs.Gives.{GivesValue};
-ghost use Rattle.hook_config.specs.Kinds.{required, text_of};
-ghost use Rattle.hook_config.specs.KnownKeys.{language_key};
-ghost use Rattle.hook_config.specs.Languages.{grep_of, language_at, language_of, word_of};
-ghost use Rattle.hook_config.specs.Rows.{rows_of};
-ghost use Rattle.hook_config.specs.declared.config_fault.ConfigKind.TheVariants.{BadLanguage, OutOfMemory};
+ghost use Rattle.hook_config.specs.Languages.{grep_of, language_of, name_of_word};
+ghost use Rattle.hook_config.specs.declared.config_fault.ConfigKind.TheVariants.{OutOfMemory};
 
 use crate::command_words::CommandWords;
 use crate::config_fault::ConfigKind;
 use crate::config_text::ConfigText;
 use crate::configuration::Language;
-use crate::fields::required;
-use crate::kinds::text_in;
-use crate::known_keys::{FAIL, LANGUAGE, PYGREP, SCRIPT, SYSTEM};
+use crate::known_keys::{FAIL, PYGREP, SCRIPT, SYSTEM};
 use builtin_hooks::Grep;
 use std::alloc::Global;
-use yaml_profile::Node;
 
 /// The name of a language.
 #[derive(Clone, Copy)]
@@ -28,30 +22,22 @@ pub(crate) enum LanguageName {
     Script,
 }
 
-/// The language that must stand in a hook's table. A word that names none is `BadLanguage`.
-#[tactic(auto, unfolding(crate::specs::Languages::language_at))]
-pub(crate) fn language_name_at(rows: &[(String, Node)]) -> Result<LanguageName, ConfigKind>
-    ensures named { IfOk result (λ name. required text_of language_key (rows_of rows.now) ≡ Some (word_of name)) }
-    ensures refused { IfErr result (λ _. (entry : List ℕ) (args : List (List ℕ)) → language_at entry args (rows_of rows.now) ≡ None) }
-{
-    language_name_of(text_in(required(rows, LANGUAGE)?)?)
-}
-
-fn language_name_of(word: &str) -> Result<LanguageName, ConfigKind>
-    ensures named { IfOk result (λ name. word.now ≡ word_of name) }
-    ensures refused { IfErr result (λ _. (entry : List ℕ) (args : List (List ℕ)) → language_of word.now entry args ≡ None) }
-    ensures refusal { IfErr result (λ kind. kind ≡ BadLanguage) }
-{
-    if word == FAIL {
-        Ok(LanguageName::Fail)
-    } else if word == PYGREP {
-        Ok(LanguageName::Pygrep)
-    } else if word == SYSTEM {
-        Ok(LanguageName::System)
-    } else if word == SCRIPT {
-        Ok(LanguageName::Script)
-    } else {
-        Err(ConfigKind::BadLanguage)
+impl LanguageName {
+    /// The language that the word names, or nothing where it names none.
+    pub(crate) fn of_word(word: &str) -> Option<Self>
+        ensures { result ≡ name_of_word word.now }
+    {
+        if word == FAIL {
+            Some(LanguageName::Fail)
+        } else if word == PYGREP {
+            Some(LanguageName::Pygrep)
+        } else if word == SYSTEM {
+            Some(LanguageName::System)
+        } else if word == SCRIPT {
+            Some(LanguageName::Script)
+        } else {
+            None
+        }
     }
 }
 
@@ -62,7 +48,7 @@ pub(crate) fn language_of(
     entry: &ConfigText,
     args: &[ConfigText],
 ) -> Result<Language, ConfigKind>
-    ensures { GivesValue (λ language. language) result (language_of (word_of name) entry.now args.now) }
+    ensures { GivesValue (λ language. language) result (language_of name entry.now args.now) }
 {
     match name {
         LanguageName::Fail => Ok(Language::Fail),
