@@ -238,7 +238,7 @@ def wrong_limits(reference):
 def listed(texts, name):
     """The words of a list in specs/: what follows `NAME =`, where a key stands for the word of its row."""
     body = re.search(rf"^{name} =(.*?)\n(?=\n|\Z)", texts, re.MULTILINE | re.DOTALL)[1]
-    for word, key in re.findall(r'codes "([^"]*)"|\b(\w+)(?= \w+\)\.word|\.word)', body):
+    for word, key in re.findall(r'codes "([^"]*)"|listed \(?(\w+)', body):
         yield word or re.search(rf'^{key}\b.* = record {{ word = codes "([^"]*)"', texts, re.MULTILINE)[1]
 
 

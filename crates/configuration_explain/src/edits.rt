@@ -1,6 +1,7 @@
 //! The known word that a word is near to.
 
 use crate::known_words::is_among;
+use hook_config::{KeyKind, is_key};
 use std::alloc::{AllocError, Global};
 use strsim::osa_distance;
 
@@ -19,19 +20,62 @@ pub(crate) fn nearest(
     word: &str,
     known: &[&'static str],
 ) -> Result<Option<&'static str>, AllocError> {
-    if word.len() > MOST_WORD_BYTES || !word.is_ascii() || is_among(known, word) {
-        return Ok(None);
+    let mut best = NearWord::none();
+    if is_near_to_none(word) || is_among(known, word) {
+        return Ok(best.word);
     }
-    let mut least = TOO_MANY_EDITS;
-    let mut best = None;
     for candidate in known {
-        let edits = edits_between(alloc, word, candidate)?;
-        if edits < least && is_near(edits, word.len().max(candidate.len())) {
-            least = edits;
-            best = Some(*candidate);
+        best = best.or(alloc, word, *candidate)?;
+    }
+    Ok(best.word)
+}
+
+/// The first of the keys that the fewest edits make of the word, as [`nearest`] gives the first of words.
+pub(crate) fn nearest_key(
+    alloc: Global,
+    word: &str,
+    keys: &[(&'static str, KeyKind)],
+) -> Result<Option<&'static str>, AllocError> {
+    let mut best = NearWord::none();
+    if is_near_to_none(word) || is_key(keys, word) {
+        return Ok(best.word);
+    }
+    for (key, _) in keys {
+        best = best.or(alloc, word, *key)?;
+    }
+    Ok(best.word)
+}
+
+fn is_near_to_none(word: &str) -> bool {
+    word.len() > MOST_WORD_BYTES || !word.is_ascii()
+}
+
+// The first word so far that the fewest edits make, if one is near, and how many these are.
+#[derive(Clone, Copy)]
+struct NearWord {
+    word: Option<&'static str>,
+    edits: usize,
+}
+
+impl NearWord {
+    fn none() -> Self {
+        NearWord {
+            word: None,
+            edits: TOO_MANY_EDITS,
         }
     }
-    Ok(best)
+
+    // The candidate, where it is nearer than what was found before it.
+    fn or(self, alloc: Global, word: &str, candidate: &'static str) -> Result<Self, AllocError> {
+        let edits = edits_between(alloc, word, candidate)?;
+        if edits < self.edits && is_near(edits, word.len().max(candidate.len())) {
+            return Ok(NearWord {
+                word: Some(candidate),
+                edits,
+            });
+        }
+        Ok(self)
+    }
 }
 
 // How many edits make the one of the other. Where the lengths alone ask for too many, they aren't counted.

@@ -9,7 +9,7 @@ use crate::known_words::{argument_words, is_among, keys_of, local_words, truth_w
 use crate::marks::Owner;
 use crate::patterns::{is_refused_entry, is_refused_pattern};
 use crate::tables::{hook_at, items_at, items_in, rows_in, text_at, text_in, value_at};
-use hook_config::{ConfigFault, ConfigKind, Stage};
+use hook_config::{ConfigFault, ConfigKind, KeyKind, Stage, is_key};
 use std::alloc::{AllocError, Global};
 use yaml_profile::Node;
 
@@ -55,130 +55,6 @@ pub(crate) struct Finding<'n> {
     /// What it has to be.
     pub(crate) wanted: Wanted,
 }
-
-// A key and what its value has to be.
-#[derive(Clone, Copy)]
-struct Field {
-    key: &'static str,
-    wanted: Wanted,
-}
-
-// In the order in which they are read.
-const TOP_FIELDS: [Field; 5] = [
-    Field {
-        key: "default_stages",
-        wanted: Wanted::Texts,
-    },
-    Field {
-        key: "files",
-        wanted: Wanted::Text,
-    },
-    Field {
-        key: "exclude",
-        wanted: Wanted::Text,
-    },
-    Field {
-        key: "fail_fast",
-        wanted: Wanted::Truth,
-    },
-    Field {
-        key: "repos",
-        wanted: Wanted::List,
-    },
-];
-
-const REPOSITORY_FIELDS: [Field; 2] = [
-    Field {
-        key: "repo",
-        wanted: Wanted::Text,
-    },
-    Field {
-        key: "hooks",
-        wanted: Wanted::List,
-    },
-];
-
-const HOOK_FIELDS: [Field; 18] = [
-    Field {
-        key: "log_file",
-        wanted: Wanted::Text,
-    },
-    Field {
-        key: "additional_dependencies",
-        wanted: Wanted::Texts,
-    },
-    Field {
-        key: "id",
-        wanted: Wanted::Text,
-    },
-    Field {
-        key: "name",
-        wanted: Wanted::Text,
-    },
-    Field {
-        key: "alias",
-        wanted: Wanted::Text,
-    },
-    Field {
-        key: "language",
-        wanted: Wanted::Text,
-    },
-    Field {
-        key: "entry",
-        wanted: Wanted::Text,
-    },
-    Field {
-        key: "args",
-        wanted: Wanted::Texts,
-    },
-    Field {
-        key: "files",
-        wanted: Wanted::Text,
-    },
-    Field {
-        key: "exclude",
-        wanted: Wanted::Text,
-    },
-    Field {
-        key: "types",
-        wanted: Wanted::Texts,
-    },
-    Field {
-        key: "types_or",
-        wanted: Wanted::Texts,
-    },
-    Field {
-        key: "exclude_types",
-        wanted: Wanted::Texts,
-    },
-    Field {
-        key: "stages",
-        wanted: Wanted::Texts,
-    },
-    Field {
-        key: "always_run",
-        wanted: Wanted::Truth,
-    },
-    Field {
-        key: "verbose",
-        wanted: Wanted::Truth,
-    },
-    Field {
-        key: "pass_filenames",
-        wanted: Wanted::Truth,
-    },
-    Field {
-        key: "fail_fast",
-        wanted: Wanted::Truth,
-    },
-];
-
-// The keys that a table has to have, in the order in which they are read.
-const TOP_KEYS: [&str; 1] = ["repos"];
-
-const REPOSITORY_KEYS: [&str; 2] = ["repo", "hooks"];
-
-const HOOK_KEYS: [&str; 4] = ["id", "name", "language", "entry"];
 
 impl<'n> Finding<'n> {
     // A table.
@@ -285,8 +161,8 @@ fn finding_in_hook<'n>(
 ) -> Result<Finding<'n>, AllocError> {
     match kind {
         ConfigKind::BadPattern => pattern_or_entry(alloc, hook),
-        ConfigKind::Shape => Ok(first_misfit(hook, &HOOK_FIELDS).unwrap_or(hook)),
-        ConfigKind::MissingKey => Ok(first_missing(hook, &HOOK_KEYS).unwrap_or(hook)),
+        ConfigKind::Shape => Ok(first_misfit(hook).unwrap_or(hook)),
+        ConfigKind::MissingKey => Ok(first_missing(hook).unwrap_or(hook)),
         ConfigKind::Unsupported => Ok(unsupported(hook)),
         _ => Ok(word_in_hook(hook, kind)),
     }
@@ -311,17 +187,29 @@ fn word_in_hook<'n>(hook: Finding<'n>, kind: ConfigKind) -> Finding<'n> {
     }
 }
 
-// The first value of a table that is of another kind than its field wants, or the table itself where it is none.
-fn first_misfit<'n>(table: Finding<'n>, fields: &[Field]) -> Option<Finding<'n>> {
+// The first value of a table that is of another kind than its key wants, or the table itself where it is none.
+fn first_misfit<'n>(table: Finding<'n>) -> Option<Finding<'n>> {
     if !matches!(table.table, Node::Table(_)) {
         return Some(table);
     }
-    for field in fields {
-        if let Some(found) = misfit(table.at_key(field.key, field.wanted)) {
+    for (key, kind) in keys_of(table.owner) {
+        if let Some(found) = misfit_at(table, *key, *kind) {
             return Some(found);
         }
     }
     None
+}
+
+fn misfit_at<'n>(table: Finding<'n>, key: &'static str, kind: KeyKind) -> Option<Finding<'n>> {
+    match kind {
+        KeyKind::RequiredText | KeyKind::Text | KeyKind::Pattern => {
+            misfit(table.at_key(key, Wanted::Text))
+        }
+        KeyKind::RequiredList => misfit(table.at_key(key, Wanted::List)),
+        KeyKind::Texts => misfit(table.at_key(key, Wanted::Texts)),
+        KeyKind::Truth => misfit(table.at_key(key, Wanted::Truth)),
+        KeyKind::Ignored => None,
+    }
 }
 
 // The value, or the first item of its list, that is of another kind than is wanted.
@@ -379,22 +267,26 @@ fn is_known(item: &Node, wanted: Wanted) -> bool {
 }
 
 // The first key that a table has to have and hasn't.
-fn first_missing<'n>(table: Finding<'n>, keys: &[&'static str]) -> Option<Finding<'n>> {
-    for key in keys {
-        let at = table.at_key(key, Wanted::Key);
-        if at.value.is_none() {
+fn first_missing<'n>(table: Finding<'n>) -> Option<Finding<'n>> {
+    for (key, kind) in keys_of(table.owner) {
+        let at = table.at_key(*key, Wanted::Key);
+        if is_required(*kind) && at.value.is_none() {
             return Some(at);
         }
     }
     None
 }
 
+fn is_required(kind: KeyKind) -> bool {
+    matches!(kind, KeyKind::RequiredText | KeyKind::RequiredList)
+}
+
 fn misfit_outside<'n>(top: Finding<'n>) -> Finding<'n> {
-    if let Some(found) = first_misfit(top, &TOP_FIELDS) {
+    if let Some(found) = first_misfit(top) {
         return found;
     }
     for (i, node) in items_at(top.table, "repos").iter().enumerate() {
-        if let Some(found) = first_misfit(repository(i, node), &REPOSITORY_FIELDS) {
+        if let Some(found) = first_misfit(repository(i, node)) {
             return found;
         }
     }
@@ -402,11 +294,11 @@ fn misfit_outside<'n>(top: Finding<'n>) -> Finding<'n> {
 }
 
 fn missing_outside<'n>(top: Finding<'n>) -> Finding<'n> {
-    if let Some(found) = first_missing(top, &TOP_KEYS) {
+    if let Some(found) = first_missing(top) {
         return found;
     }
     for (i, node) in items_at(top.table, "repos").iter().enumerate() {
-        if let Some(found) = first_missing(repository(i, node), &REPOSITORY_KEYS) {
+        if let Some(found) = first_missing(repository(i, node)) {
             return found;
         }
     }
@@ -428,13 +320,15 @@ fn repository<'n>(index: usize, node: &'n Node) -> Finding<'n> {
     Finding::of_table(Owner::Repository(number), number, node)
 }
 
-// Of a table's two patterns the first that `regex` doesn't take.
+// Of a table's patterns the first that `regex` doesn't take, else the table.
 fn pattern_in<'n>(alloc: Global, table: Finding<'n>) -> Result<Finding<'n>, AllocError> {
-    let files = table.at_key("files", Wanted::Pattern);
-    if is_refused_pattern(alloc, files.text())? {
-        return Ok(files);
+    for (key, kind) in keys_of(table.owner) {
+        let at = table.at_key(*key, Wanted::Pattern);
+        if *kind == KeyKind::Pattern && is_refused_pattern(alloc, at.text())? {
+            return Ok(at);
+        }
     }
-    Ok(table.at_key("exclude", Wanted::Pattern))
+    Ok(table)
 }
 
 // The entry of a `pygrep` hook that `regex` doesn't take, else one of its patterns.
@@ -460,7 +354,7 @@ fn unsupported<'n>(hook: Finding<'n>) -> Finding<'n> {
 // The missing key with the first unknown one of its table that is near to it.
 fn with_instead<'n>(alloc: Global, missing: Finding<'n>) -> Result<Finding<'n>, AllocError> {
     for (key, _) in rows_in(missing.table) {
-        if !is_among(keys_of(missing.owner), key.as_str())
+        if !is_key(keys_of(missing.owner), key.as_str())
             && nearest(alloc, key.as_str(), &[missing.key])?.is_some()
         {
             let mut found = missing;

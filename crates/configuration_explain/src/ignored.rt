@@ -1,12 +1,13 @@
 //! The keys that nothing knows, with their lines.
 
-use crate::edits::nearest;
+use crate::edits::nearest_key;
 use crate::hook_names::{push_hook, push_repository};
-use crate::known_words::{is_among, keys_of};
+use crate::known_words::keys_of;
 use crate::marks::{Mark, Owner, Word};
 use crate::sentence::push_meant;
 use crate::shown::{push_number, push_quoted};
 use crate::tables::{items_in, rows_in, text_at};
+use hook_config::is_key;
 use std::alloc::{AllocError, Global};
 use yaml_profile::Node;
 
@@ -125,7 +126,7 @@ impl<'m> Listing<'m> {
         key: &str,
     ) -> Result<(), AllocError> {
         self.pass_key(owner, key);
-        if is_among(keys_of(owner), key) {
+        if is_key(keys_of(owner), key) {
             return Ok(());
         }
         self.push_unknown(alloc, owner, id, key)
@@ -143,7 +144,7 @@ impl<'m> Listing<'m> {
         self.text.push_str(": ")?;
         push_quoted(&mut self.text, key)?;
         push_owner(alloc, &mut self.text, owner, id)?;
-        if let Some(word) = nearest(alloc, key, keys_of(owner))? {
+        if let Some(word) = nearest_key(alloc, key, keys_of(owner))? {
             push_meant(&mut self.text, word)?;
         }
         self.text.push('\n')

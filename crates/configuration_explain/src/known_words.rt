@@ -1,66 +1,12 @@
 //! The words that a configuration knows, as they are told to who writes another one: each list is proved to be that of
-//! `hook_config`, or that of `specs/KnownWords.antt`, which takes its words from there.
+//! `specs/KnownWords.antt`, which takes its words from `hook_config`. The keys are those of `hook_config` itself.
 
 ghost use Rattle.std.specs.Prelude.{◌≡◌};
-ghost use Rattle.hook_config.specs.KnownKeys as known;
 ghost use Rattle.hook_config.specs.Rows.{texts};
 ghost use Rattle.configuration_explain.specs.KnownWords.{argument_words, language_words, local_words, stage_words, truth_words};
 
 use crate::marks::Owner;
-
-/// The keys of the table at the top.
-pub(crate) fn top_keys() -> &'static [&'static str]
-    ensures { texts result.now ≡ known.top_keys }
-{
-    &[
-        "repos",
-        "default_stages",
-        "files",
-        "exclude",
-        "fail_fast",
-        "ci",
-        "default_install_hook_types",
-        "default_language_version",
-        "minimum_pre_commit_version",
-    ]
-}
-
-/// The keys of a repository's table.
-pub(crate) fn repository_keys() -> &'static [&'static str]
-    ensures { texts result.now ≡ known.repository_keys }
-{
-    &["repo", "hooks"]
-}
-
-/// The keys of a hook's table.
-pub(crate) fn hook_keys() -> &'static [&'static str]
-    ensures { texts result.now ≡ known.hook_keys }
-{
-    &[
-        "id",
-        "name",
-        "alias",
-        "language",
-        "entry",
-        "args",
-        "files",
-        "exclude",
-        "types",
-        "types_or",
-        "exclude_types",
-        "stages",
-        "always_run",
-        "verbose",
-        "pass_filenames",
-        "fail_fast",
-        "log_file",
-        "additional_dependencies",
-        "language_version",
-        "minimum_pre_commit_version",
-        "require_serial",
-        "description",
-    ]
-}
+use hook_config::{KeyKind, hook_keys, repository_keys, top_keys};
 
 /// The names of the stages, the older ones too.
 pub(crate) fn stage_words() -> &'static [&'static str]
@@ -115,8 +61,8 @@ pub(crate) fn truth_words() -> &'static [&'static str]
     ]
 }
 
-/// The keys of a table.
-pub(crate) fn keys_of(owner: Owner) -> &'static [&'static str] {
+/// The keys of a table, in the order in which they are read.
+pub(crate) fn keys_of(owner: Owner) -> &'static [(&'static str, KeyKind)] {
     match owner {
         Owner::Top => top_keys(),
         Owner::Repository(_) => repository_keys(),

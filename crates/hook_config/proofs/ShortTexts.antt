@@ -17,12 +17,12 @@ use Rattle.hook_config.specs.Gives.{Gives}
 use Rattle.hook_config.specs.Hooks.{joined, hook_alone, hooks_of_list, hooks_of_named, hooks_of_rows, hooks_of_repository, hooks_of_repositories, within_limit}
 use Rattle.hook_config.specs.HookTable.{unserved_of, names_of, command_of, selection_of, switches_of, hook_with, hook_of_fields, hook_of}
 use Rattle.hook_config.specs.Kinds.{text_of, each, texts_of, only_empty, empty_text_of, empty_texts_of, given, kind_or}
-use Rattle.hook_config.specs.KnownKeys.{Key, at_key, file_word, local_word, hook_keys, repository_keys, top_keys}
+use Rattle.hook_config.specs.KnownKeys.{Key, at_key, is_key, file_word, local_word, hook_keys, repository_keys, top_keys}
 use Rattle.hook_config.specs.KnownKeys as key
 use Rattle.hook_config.specs.Languages.{grep_of, language_of}
 use Rattle.hook_config.specs.Limits.{most_text_bytes, most_hooks, IsShort, AreTexts}
 use Rattle.hook_config.specs.Patterns.{pattern_of_text, pattern_of, every_path, no_path}
-use Rattle.hook_config.specs.Rows.{Row, value_at, is_among, table_of, list_of}
+use Rattle.hook_config.specs.Rows.{Row, value_at, table_of, list_of}
 use Rattle.hook_config.specs.ShortTexts.{HasShortSearch, HookHasShortTexts, HasShortTexts}
 use Rattle.hook_config.specs.UnknownKeys.{rows_in, items_in, unknown_key, unknown_of_hook, unknown_of_repository_row, unknown_of_repository, unknown_of_top_row, unknown_of_top}
 use Rattle.hook_config.specs.declared.config_fault.ConfigFault.{ConfigFault}
@@ -34,6 +34,7 @@ use Rattle.hook_config.specs.declared.hook_parts.Command.{Command}
 use Rattle.hook_config.specs.declared.hook_parts.Names.{Names}
 use Rattle.hook_config.specs.declared.hook_parts.Selection.{Selection}
 use Rattle.hook_config.specs.declared.hook_parts.Unserved.{Unserved}
+use Rattle.hook_config.specs.declared.known_keys.KeyKind.{KeyKind}
 use Rattle.hook_config.specs.declared.languages.LanguageName.{LanguageName}
 use Rattle.hook_config.specs.declared.languages.LanguageName.TheVariants as name
 use Rattle.hook_config.specs.declared.stage.Stages.{Stages}
@@ -241,8 +242,8 @@ one_key : (n : ℕ) (b : Bool) (key : List ℕ) → length key ≤ n → KeysWit
 one_key n true key h = tt
 one_key n false key h = (h, tt)
 
-key_within : (n : ℕ) (known : List (List ℕ)) (r : Row) → RowWithin n r → KeysWithin n (unknown_key known r)
-key_within n known r h = one_key n (is_among known r.0) r.0 h.0
+key_within : (n : ℕ) (known : List (List ℕ × KeyKind)) (r : Row) → RowWithin n r → KeysWithin n (unknown_key known r)
+key_within n known r h = one_key n (is_key known r.0) r.0 h.0
 
 keys_by : (n : ℕ) (b : Bool) (xs ys : List (List ℕ)) → KeysWithin n xs → KeysWithin n ys → KeysWithin n (cond b xs ys)
 keys_by n true xs ys h k = h

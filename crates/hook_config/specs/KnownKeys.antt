@@ -1,18 +1,22 @@
 -- The keys of a configuration's tables (pre-commit.com, "Adding pre-commit plugins to your project" and "Creating new hooks").
--- The row of each says its word, what its value is read to, and what it is where the key isn't there.
-use Rattle.std.specs.Prelude.{ℕ, List, [], ◌∷◌, codes, Bool, true, false, Option, Some, None}
+-- The row of each says its word, what its value has to be, what that is read to, and what it is where the key isn't there.
+use Rattle.std.specs.Prelude.{ℕ, List, [], ◌∷◌, codes, Bool, true, false, if◌then◌else◌, bytes_eq, map, Option, Some, None}
+use Rattle.std.specs.Borrow.{Bor}
 use Rattle.yaml_lines.specs.Meaning.{Meaning}
 use Rattle.hook_config.specs.Kinds.{text_of, truth_of, texts_of, stages_of, empty_text_of, empty_texts_of, kind_or}
 use Rattle.hook_config.specs.Languages.{language_name_of}
 use Rattle.hook_config.specs.Patterns.{pattern_of, every_path, no_path}
 use Rattle.hook_config.specs.Rows.{Row, value_at, list_of}
 use Rattle.hook_config.specs.Stages.{all_stages}
+use Rattle.hook_config.specs.declared.known_keys.KeyKind.{KeyKind}
+use Rattle.hook_config.specs.declared.known_keys.KeyKind.TheVariants.{RequiredText, RequiredList, Text, Texts, Truth, Pattern, Ignored}
 use Rattle.hook_config.specs.declared.languages.LanguageName.{LanguageName}
 use Rattle.hook_config.specs.declared.stage.Stages.{Stages}
 
 -- a key whose `absent` is none has to be there
 pub record Key (A : Type 0) : Type 0 where
   pub word : List ℕ
+  pub wanted : KeyKind
   pub kind : Meaning → Option A
   pub absent : Option A
 
@@ -20,48 +24,57 @@ pub record Key (A : Type 0) : Type 0 where
 abbrev pub at_key : {A : Type 0} → Key A → List Row → Option A
 at_key key rows = kind_or key.kind key.absent (value_at key.word rows)
 
+-- how a key stands in the lists of known ones
+abbrev pub listed : {A : Type 0} → Key A → List ℕ × KeyKind
+listed key = (key.word, key.wanted)
+
+-- whether one of the keys has the word
+abbrev pub is_key : List (List ℕ × KeyKind) → List ℕ → Bool
+is_key [] word = false
+is_key (key ∷ keys) word = if bytes_eq key.0 word then true else is_key keys word
+
 -- ---- the table at the top
 
-abbrev pub repos : Key (List Meaning)
-repos = record { word = codes "repos"; kind = list_of; absent = None }
-
 abbrev pub default_stages : Key Stages
-default_stages = record { word = codes "default_stages"; kind = stages_of all_stages; absent = Some all_stages }
+default_stages = record { word = codes "default_stages"; wanted = Texts; kind = stages_of all_stages; absent = Some all_stages }
 
 -- these are keys of a hook too
 abbrev pub files : Key (List ℕ)
-files = record { word = codes "files"; kind = pattern_of; absent = Some every_path }
+files = record { word = codes "files"; wanted = Pattern; kind = pattern_of; absent = Some every_path }
 
 abbrev pub exclude : Key (List ℕ)
-exclude = record { word = codes "exclude"; kind = pattern_of; absent = Some no_path }
+exclude = record { word = codes "exclude"; wanted = Pattern; kind = pattern_of; absent = Some no_path }
 
 abbrev pub fail_fast : Key Bool
-fail_fast = record { word = codes "fail_fast"; kind = truth_of; absent = Some false }
+fail_fast = record { word = codes "fail_fast"; wanted = Truth; kind = truth_of; absent = Some false }
 
--- those that are read, and those that are read and ignored
-abbrev pub top_keys : List (List ℕ)
+abbrev pub repos : Key (List Meaning)
+repos = record { word = codes "repos"; wanted = RequiredList; kind = list_of; absent = None }
+
+-- those that are read, in the order in which they are, and those that are read and ignored
+abbrev pub top_keys : List (List ℕ × KeyKind)
 top_keys =
-    repos.word
-    ∷ default_stages.word
-    ∷ files.word
-    ∷ exclude.word
-    ∷ fail_fast.word
-    ∷ codes "ci"
-    ∷ codes "default_install_hook_types"
-    ∷ codes "default_language_version"
-    ∷ codes "minimum_pre_commit_version"
+    listed default_stages
+    ∷ listed files
+    ∷ listed exclude
+    ∷ listed fail_fast
+    ∷ listed repos
+    ∷ (codes "ci", Ignored)
+    ∷ (codes "default_install_hook_types", Ignored)
+    ∷ (codes "default_language_version", Ignored)
+    ∷ (codes "minimum_pre_commit_version", Ignored)
     ∷ []
 
 -- ---- a repository's table
 
 abbrev pub repo : Key (List ℕ)
-repo = record { word = codes "repo"; kind = text_of; absent = None }
+repo = record { word = codes "repo"; wanted = RequiredText; kind = text_of; absent = None }
 
 abbrev pub hooks : Key (List Meaning)
-hooks = record { word = codes "hooks"; kind = list_of; absent = None }
+hooks = record { word = codes "hooks"; wanted = RequiredList; kind = list_of; absent = None }
 
-abbrev pub repository_keys : List (List ℕ)
-repository_keys = repo.word ∷ hooks.word ∷ []
+abbrev pub repository_keys : List (List ℕ × KeyKind)
+repository_keys = listed repo ∷ listed hooks ∷ []
 
 -- the one repository that isn't fetched from elsewhere
 abbrev pub local_word : List ℕ
@@ -74,74 +87,80 @@ abbrev pub file_word : List ℕ
 file_word = codes "file"
 
 abbrev pub log_file : Key (List ℕ)
-log_file = record { word = codes "log_file"; kind = empty_text_of; absent = Some [] }
+log_file = record { word = codes "log_file"; wanted = Text; kind = empty_text_of; absent = Some [] }
 
 abbrev pub additional_dependencies : Key (List (List ℕ))
-additional_dependencies = record { word = codes "additional_dependencies"; kind = empty_texts_of; absent = Some [] }
+additional_dependencies = record { word = codes "additional_dependencies"; wanted = Texts; kind = empty_texts_of; absent = Some [] }
 
 abbrev pub id : Key (List ℕ)
-id = record { word = codes "id"; kind = text_of; absent = None }
+id = record { word = codes "id"; wanted = RequiredText; kind = text_of; absent = None }
 
 abbrev pub name : Key (List ℕ)
-name = record { word = codes "name"; kind = text_of; absent = None }
+name = record { word = codes "name"; wanted = RequiredText; kind = text_of; absent = None }
 
 abbrev pub alias : Key (List ℕ)
-alias = record { word = codes "alias"; kind = text_of; absent = Some [] }
+alias = record { word = codes "alias"; wanted = Text; kind = text_of; absent = Some [] }
 
 abbrev pub language : Key LanguageName
-language = record { word = codes "language"; kind = language_name_of; absent = None }
+language = record { word = codes "language"; wanted = RequiredText; kind = language_name_of; absent = None }
 
 abbrev pub entry : Key (List ℕ)
-entry = record { word = codes "entry"; kind = text_of; absent = None }
+entry = record { word = codes "entry"; wanted = RequiredText; kind = text_of; absent = None }
 
 abbrev pub args : Key (List (List ℕ))
-args = record { word = codes "args"; kind = texts_of; absent = Some [] }
+args = record { word = codes "args"; wanted = Texts; kind = texts_of; absent = Some [] }
 
 abbrev pub types : Key (List (List ℕ))
-types = record { word = codes "types"; kind = texts_of; absent = Some (file_word ∷ []) }
+types = record { word = codes "types"; wanted = Texts; kind = texts_of; absent = Some (file_word ∷ []) }
 
 abbrev pub types_or : Key (List (List ℕ))
-types_or = record { word = codes "types_or"; kind = texts_of; absent = Some [] }
+types_or = record { word = codes "types_or"; wanted = Texts; kind = texts_of; absent = Some [] }
 
 abbrev pub exclude_types : Key (List (List ℕ))
-exclude_types = record { word = codes "exclude_types"; kind = texts_of; absent = Some [] }
+exclude_types = record { word = codes "exclude_types"; wanted = Texts; kind = texts_of; absent = Some [] }
 
 -- where these are the default stages
 abbrev pub stages : Stages → Key Stages
-stages default = record { word = codes "stages"; kind = stages_of default; absent = Some default }
+stages default = record { word = codes "stages"; wanted = Texts; kind = stages_of default; absent = Some default }
 
 abbrev pub always_run : Key Bool
-always_run = record { word = codes "always_run"; kind = truth_of; absent = Some false }
+always_run = record { word = codes "always_run"; wanted = Truth; kind = truth_of; absent = Some false }
 
 abbrev pub verbose : Key Bool
-verbose = record { word = codes "verbose"; kind = truth_of; absent = Some false }
+verbose = record { word = codes "verbose"; wanted = Truth; kind = truth_of; absent = Some false }
 
 abbrev pub pass_filenames : Key Bool
-pass_filenames = record { word = codes "pass_filenames"; kind = truth_of; absent = Some true }
+pass_filenames = record { word = codes "pass_filenames"; wanted = Truth; kind = truth_of; absent = Some true }
 
--- those that are read, and those that are read and ignored
-abbrev pub hook_keys : List (List ℕ)
+-- those that are read, in the order in which they are, and those that are read and ignored
+abbrev pub hook_keys : List (List ℕ × KeyKind)
 hook_keys =
-    id.word
-    ∷ name.word
-    ∷ alias.word
-    ∷ language.word
-    ∷ entry.word
-    ∷ args.word
-    ∷ files.word
-    ∷ exclude.word
-    ∷ types.word
-    ∷ types_or.word
-    ∷ exclude_types.word
-    ∷ (stages all_stages).word
-    ∷ always_run.word
-    ∷ verbose.word
-    ∷ pass_filenames.word
-    ∷ fail_fast.word
-    ∷ log_file.word
-    ∷ additional_dependencies.word
-    ∷ codes "language_version"
-    ∷ codes "minimum_pre_commit_version"
-    ∷ codes "require_serial"
-    ∷ codes "description"
+    listed log_file
+    ∷ listed additional_dependencies
+    ∷ listed id
+    ∷ listed name
+    ∷ listed alias
+    ∷ listed language
+    ∷ listed entry
+    ∷ listed args
+    ∷ listed files
+    ∷ listed exclude
+    ∷ listed types
+    ∷ listed types_or
+    ∷ listed exclude_types
+    ∷ listed (stages all_stages)
+    ∷ listed always_run
+    ∷ listed verbose
+    ∷ listed pass_filenames
+    ∷ listed fail_fast
+    ∷ (codes "language_version", Ignored)
+    ∷ (codes "minimum_pre_commit_version", Ignored)
+    ∷ (codes "require_serial", Ignored)
+    ∷ (codes "description", Ignored)
     ∷ []
+
+-- ---- for contracts of functions that hold these lists
+
+-- the rows of a slice
+abbrev pub key_rows : List (Bor (List ℕ) × KeyKind) → List (List ℕ × KeyKind)
+key_rows keys = map (λ (key : Bor (List ℕ) × KeyKind). (key.0.now, key.1)) keys

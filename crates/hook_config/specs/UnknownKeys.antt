@@ -3,8 +3,9 @@
 use Rattle.std.specs.Prelude.{ℕ, List, [], ◌∷◌, if◌then◌else◌, bytes_eq, unwrap_or}
 use Rattle.std.specs.List.{flat_map}
 use Rattle.yaml_lines.specs.Meaning.{Meaning}
-use Rattle.hook_config.specs.Rows.{Row, is_among, table_of, list_of}
-use Rattle.hook_config.specs.KnownKeys.{top_keys, repository_keys, hook_keys}
+use Rattle.hook_config.specs.Rows.{Row, table_of, list_of}
+use Rattle.hook_config.specs.KnownKeys.{is_key, top_keys, repository_keys, hook_keys}
+use Rattle.hook_config.specs.declared.known_keys.KeyKind.{KeyKind}
 use Rattle.hook_config.specs.KnownKeys as key
 
 -- a table's rows, none where the value is no table
@@ -15,13 +16,13 @@ rows_in value = unwrap_or (table_of value) []
 abbrev pub items_in : Meaning → List Meaning
 items_in value = unwrap_or (list_of value) []
 
--- the word, unless it is one of these
-abbrev pub unless_among : List (List ℕ) → List ℕ → List (List ℕ)
-unless_among known word = if is_among known word then [] else word ∷ []
+-- the word, unless one of these keys has it
+abbrev pub unless_known : List (List ℕ × KeyKind) → List ℕ → List (List ℕ)
+unless_known known word = if is_key known word then [] else word ∷ []
 
 -- the row's key, unless it is known
-abbrev pub unknown_key : List (List ℕ) → Row → List (List ℕ)
-unknown_key known row = unless_among known row.0
+abbrev pub unknown_key : List (List ℕ × KeyKind) → Row → List (List ℕ)
+unknown_key known row = unless_known known row.0
 
 abbrev pub unknown_of_hook : Meaning → List (List ℕ)
 unknown_of_hook value = flat_map (unknown_key hook_keys) (rows_in value)

@@ -5,7 +5,6 @@ ghost use Rattle.hook_config.specs.Patterns.{every_path, no_path};
 ghost use Rattle.hook_config.specs.Gives.{IsLeftOpen};
 
 use crate::config_fault::ConfigKind;
-use crate::known_keys::{EVERY_PATH, NO_PATH};
 use crate::shared_pattern::SharedPattern;
 use crate::stage::Stages;
 use std::alloc::Global;
@@ -40,8 +39,8 @@ impl Defaults {
     {
         Ok(Defaults {
             stages,
-            files: SharedPattern::build(alloc, EVERY_PATH)?,
-            exclude: SharedPattern::build(alloc, NO_PATH)?,
+            files: SharedPattern::build(alloc, "")?,
+            exclude: SharedPattern::build(alloc, "^$")?,
         })
     }
 

@@ -12,10 +12,6 @@ use crate::fields::{
     empty_text_at, empty_texts_at, pattern_or, required_language, required_text, stages_or,
     tags_or_file, tags_or_none, text_or_empty, texts_or_none, truth_or,
 };
-use crate::known_keys::{
-    ADDITIONAL_DEPENDENCIES, ALIAS, ALWAYS_RUN, ARGS, ENTRY, EXCLUDE, EXCLUDE_TYPES, FAIL_FAST,
-    FILES, ID, LANGUAGE, LOG_FILE, NAME, PASS_FILENAMES, STAGES, TYPES, TYPES_OR, VERBOSE,
-};
 use crate::languages::language_of;
 use crate::shared_pattern::SharedPattern;
 use crate::stage::Stages;
@@ -36,8 +32,8 @@ pub(crate) fn unserved_of(alloc: Global, rows: &[(String, Node)]) -> Result<Unse
     ensures { GivesSurely (λ unserved. unserved) result (unserved_of (rows_of rows.now)) }
 {
     Ok(Unserved {
-        log_file: empty_text_at(alloc, rows, LOG_FILE)?,
-        additional_dependencies: empty_texts_at(alloc, rows, ADDITIONAL_DEPENDENCIES)?,
+        log_file: empty_text_at(alloc, rows, "log_file")?,
+        additional_dependencies: empty_texts_at(alloc, rows, "additional_dependencies")?,
     })
 }
 
@@ -54,9 +50,9 @@ pub(crate) fn names_of(alloc: Global, rows: &[(String, Node)]) -> Result<Names, 
     ensures { GivesValue (λ names. names) result (names_of (rows_of rows.now)) }
 {
     Ok(Names {
-        id: required_text(alloc, rows, ID)?,
-        name: required_text(alloc, rows, NAME)?,
-        alias: text_or_empty(alloc, rows, ALIAS)?,
+        id: required_text(alloc, rows, "id")?,
+        name: required_text(alloc, rows, "name")?,
+        alias: text_or_empty(alloc, rows, "alias")?,
     })
 }
 
@@ -72,9 +68,9 @@ pub(crate) struct Command {
 pub(crate) fn command_of(alloc: Global, rows: &[(String, Node)]) -> Result<Command, ConfigKind>
     ensures { GivesValue (λ command. command) result (command_of (rows_of rows.now)) }
 {
-    let name = required_language(rows, LANGUAGE)?;
-    let entry = required_text(alloc, rows, ENTRY)?;
-    let args = texts_or_none(alloc, rows, ARGS)?;
+    let name = required_language(rows, "language")?;
+    let entry = required_text(alloc, rows, "entry")?;
+    let args = texts_or_none(alloc, rows, "args")?;
     let language = language_of(alloc, name, &entry, args.as_slice())?;
     Ok(Command {
         language,
@@ -102,11 +98,11 @@ pub(crate) fn selection_of(
     ensures { GivesValue (λ selection. selection) result (selection_of (rows_of rows.now)) }
 {
     Ok(Selection {
-        files: pattern_or(alloc, rows, FILES, defaults.files())?,
-        exclude: pattern_or(alloc, rows, EXCLUDE, defaults.exclude())?,
-        types: tags_or_file(alloc, rows, TYPES)?,
-        types_or: tags_or_none(alloc, rows, TYPES_OR)?,
-        exclude_types: tags_or_none(alloc, rows, EXCLUDE_TYPES)?,
+        files: pattern_or(alloc, rows, "files", defaults.files())?,
+        exclude: pattern_or(alloc, rows, "exclude", defaults.exclude())?,
+        types: tags_or_file(alloc, rows, "types")?,
+        types_or: tags_or_none(alloc, rows, "types_or")?,
+        exclude_types: tags_or_none(alloc, rows, "exclude_types")?,
     })
 }
 
@@ -128,10 +124,10 @@ pub(crate) fn switches_of(
     ensures { GivesSurely (λ switches. switches) result (switches_of defaults.now (rows_of rows.now)) }
 {
     Ok(Switches {
-        stages: stages_or(rows, STAGES, defaults.stages())?,
-        always_run: truth_or(rows, ALWAYS_RUN, false)?,
-        verbose: truth_or(rows, VERBOSE, false)?,
-        pass_filenames: truth_or(rows, PASS_FILENAMES, true)?,
-        fail_fast: truth_or(rows, FAIL_FAST, false)?,
+        stages: stages_or(rows, "stages", defaults.stages())?,
+        always_run: truth_or(rows, "always_run", false)?,
+        verbose: truth_or(rows, "verbose", false)?,
+        pass_filenames: truth_or(rows, "pass_filenames", true)?,
+        fail_fast: truth_or(rows, "fail_fast", false)?,
     })
 }

@@ -9,7 +9,6 @@ ghost use Rattle.hook_config.specs.Rows.{Row, rows_of, meanings_of_nodes, table_
 
 use crate::config_fault::ConfigKind;
 use crate::config_text::ConfigText;
-use crate::known_keys::{FALSE_WORDS, TRUE_WORDS};
 use crate::limits::MOST_TEXT_BYTES;
 use std::alloc::Global;
 use yaml_profile::Node;
@@ -62,6 +61,15 @@ pub(crate) fn is_among(words: &[&str], word: &str) -> bool
     }
     false
 }
+
+// YAML 1.1, "Boolean Language-Independent Type".
+const TRUE_WORDS: [&str; 9] = [
+    "true", "True", "TRUE", "yes", "Yes", "YES", "on", "On", "ON",
+];
+
+const FALSE_WORDS: [&str; 9] = [
+    "false", "False", "FALSE", "no", "No", "NO", "off", "Off", "OFF",
+];
 
 /// An unquoted word for true or false.
 pub(crate) fn truth_of(node: &Node) -> Result<bool, ConfigKind>

@@ -1,4 +1,6 @@
-//! The languages.
+//! The languages. A further one has a variant of `Language` and of `LanguageName`, its word in `of_word` here and in
+//! `specs/Languages.antt`, and a case in `language_of` of both. What its hooks answer stands in `hook_run`: `IsLanguageRun` of
+//! its `specs/HookRun.antt`, and `begin_language` of its `begin.rt`.
 
 ghost use Rattle.std.specs.Prelude.{◌≡◌, IfOk, IfErr, map};
 ghost use Rattle.hook_config.specs.Gives.{GivesValue};
@@ -9,7 +11,6 @@ use crate::command_words::CommandWords;
 use crate::config_fault::ConfigKind;
 use crate::config_text::ConfigText;
 use crate::configuration::Language;
-use crate::known_keys::{FAIL, PYGREP, SCRIPT, SYSTEM};
 use builtin_hooks::Grep;
 use std::alloc::Global;
 
@@ -27,13 +28,13 @@ impl LanguageName {
     pub(crate) fn of_word(word: &str) -> Option<Self>
         ensures { result ≡ name_of_word word.now }
     {
-        if word == FAIL {
+        if word == "fail" {
             Some(LanguageName::Fail)
-        } else if word == PYGREP {
+        } else if word == "pygrep" {
             Some(LanguageName::Pygrep)
-        } else if word == SYSTEM {
+        } else if word == "system" {
             Some(LanguageName::System)
-        } else if word == SCRIPT {
+        } else if word == "script" {
             Some(LanguageName::Script)
         } else {
             None

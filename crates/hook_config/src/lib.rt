@@ -3,7 +3,8 @@
 //! `Config` holds `Hook`s, whose texts are `ConfigText`s, whose patterns are `SharedPattern`s, whose tags are `TagNames`,
 //! whose stages are `Stages` and whose language is a `Language`, with the pattern of `pygrep` and the `CommandWords` of
 //! `system` and `script` in it. All patterns are built, and all entries are cut into words. `ConfigWithNode` has the text's
-//! `Node` beside it. A `ConfigFault` is a `ConfigKind` and its place.
+//! `Node` beside it. A `ConfigFault` is a `ConfigKind` and its place. `top_keys`, `repository_keys` and `hook_keys` give the keys
+//! that are known, each with its `KeyKind`.
 //!
 //! The contracts cite `configuration_of` of `specs/Configuration.antt`, which says which `Config` a text's bytes describe,
 //! if any; `Gives`; `HasShortTexts` of `specs/ShortTexts.antt`; `first_word` of `specs/CommandWords.antt`; the words of `specs/KnownKeys.antt` and `specs/Stages.antt`; the limits of `specs/Limits.antt`; and
@@ -37,6 +38,7 @@ pub use command_words::CommandWords;
 pub use config_fault::{ConfigFault, ConfigKind};
 pub use config_text::ConfigText;
 pub use configuration::{Config, Hook, Language};
+pub use known_keys::{KeyKind, hook_keys, is_key, repository_keys, top_keys};
 pub use limits::{MOST_HOOKS, MOST_TEXT_BYTES};
 pub use reader::{ConfigWithNode, read_config, read_config_with_node};
 pub use shared_pattern::SharedPattern;

@@ -14,7 +14,6 @@ use crate::configuration::Config;
 use crate::defaults::Defaults;
 use crate::fields::{pattern_or, required_list, stages_or, truth_or};
 use crate::kinds::table_of;
-use crate::known_keys::{DEFAULT_STAGES, EXCLUDE, FAIL_FAST, FILES, REPOS};
 use crate::repositories::hooks_of_repositories;
 use crate::shared_pattern::SharedPattern;
 use crate::stage::Stages;
@@ -35,11 +34,10 @@ use yaml_profile::{Node, read};
 /// patterns are too big once they are built is for `regex` to say, so `BadPattern` may come for a text that describes a
 /// configuration.
 ///
-/// Of several faults the first in this order is told. At the top: `default_stages`, `files`, `exclude`, `fail_fast`,
-/// `repos`, and then the repositories in the order of the text. In a repository: `repo`, `hooks`, and then the hooks in
-/// the order of the text. Of a hook: that there are too many; `log_file`, `additional_dependencies`; `id`, `name`,
-/// `alias`; `language`, `entry`, `args`, with `pygrep` the arguments and then the entry's pattern, with `system` and
-/// `script` the entry's words; `files`, `exclude`, `types`, `types_or`, `exclude_types`; `stages`, `always_run`, `verbose`, `pass_filenames`, `fail_fast`.
+/// Of several faults the first in this order is told. At the top: the keys in the order of [`top_keys`](crate::top_keys), and
+/// then the repositories in the order of the text. In a repository: `repo`, `hooks`, and then the hooks in the order of the
+/// text. Of a hook: that there are too many; the keys in the order of [`hook_keys`](crate::hook_keys), and behind `args` with
+/// `pygrep` the arguments and then the entry's pattern, with `system` and `script` the entry's words.
 #[tactic(auto, unfolding(crate::specs::Configuration::configuration_of))]
 pub fn read_config(alloc: Global, bytes: &[u8]) -> Result<Config, ConfigFault>
     ensures meant { Gives (λ config. config) result (configuration_of bytes.now) }
@@ -87,7 +85,7 @@ pub(crate) fn config_of_node(alloc: Global, node: &Node) -> Result<Config, Confi
 fn config_of_rows(alloc: Global, rows: &[(String, Node)]) -> Result<Config, ConfigFault>
     ensures { Gives (λ config. config) result (configuration_of_rows (rows_of rows.now)) }
 {
-    let stages = stages_or(rows, DEFAULT_STAGES, Stages::all())?;
+    let stages = stages_or(rows, "default_stages", Stages::all())?;
     let defaults = Defaults::new(alloc, stages)?;
     config_by(alloc, rows, &defaults)
 }
@@ -100,9 +98,9 @@ fn config_by(
 ) -> Result<Config, ConfigFault>
     ensures { Gives (λ config. config) result (configuration_by defaults.now (rows_of rows.now)) }
 {
-    let files = pattern_or(alloc, rows, FILES, defaults.files())?;
-    let exclude = pattern_or(alloc, rows, EXCLUDE, defaults.exclude())?;
-    let fail_fast = truth_or(rows, FAIL_FAST, false)?;
+    let files = pattern_or(alloc, rows, "files", defaults.files())?;
+    let exclude = pattern_or(alloc, rows, "exclude", defaults.exclude())?;
+    let fail_fast = truth_or(rows, "fail_fast", false)?;
     config_with(alloc, rows, defaults, files, exclude, fail_fast)
 }
 
@@ -117,7 +115,7 @@ fn config_with(
 ) -> Result<Config, ConfigFault>
     ensures { Gives (λ config. config) result (configuration_with defaults.now (rows_of rows.now) files exclude fail_fast) }
 {
-    let hooks = hooks_of_repositories(alloc, required_list(rows, REPOS)?, defaults)?;
+    let hooks = hooks_of_repositories(alloc, required_list(rows, "repos")?, defaults)?;
     let unknown = unknown_of_top(alloc, rows)?;
     Ok(Config {
         hooks: Items::from(hooks),

@@ -13,7 +13,6 @@ use crate::defaults::Defaults;
 use crate::fields::{required, required_list};
 use crate::hook_table::hook_of;
 use crate::kinds::{table_of, text_in};
-use crate::known_keys::{HOOKS, LOCAL, REPO};
 use crate::limits::MOST_HOOKS;
 use std::alloc::Global;
 use yaml_profile::Node;
@@ -45,10 +44,10 @@ fn add_repository(
     ensures { Gives (λ _. hooks.new.items) result (after hooks.old.items (hooks_of_repository defaults.now (view repository.now))) }
 {
     let rows = table_of(repository)?;
-    if text_in(required(rows, REPO)?)? != LOCAL {
+    if text_in(required(rows, "repo")?)? != "local" {
         return Err(ConfigFault::from(ConfigKind::RemoteRepo));
     }
-    add_hooks(alloc, required_list(rows, HOOKS)?, defaults, hooks)
+    add_hooks(alloc, required_list(rows, "hooks")?, defaults, hooks)
 }
 
 // Adds the hooks of a list. A fault in one of them has its number, counted from 1 over all repositories.

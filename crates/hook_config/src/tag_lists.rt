@@ -10,7 +10,6 @@ ghost use Rattle.hook_config.specs.Rows.{meanings_of_nodes};
 use crate::config_fault::ConfigKind;
 use crate::config_text::ConfigText;
 use crate::kinds::{list_of, text_of};
-use crate::known_keys::FILE;
 use crate::tag_names::TagNames;
 use std::alloc::Global;
 use yaml_profile::Node;
@@ -39,6 +38,6 @@ pub(crate) fn only_file(alloc: Global) -> Result<TagNames, ConfigKind>
     ensures refused { IfErr result IsLeftOpen }
 {
     let mut tags = TagNames::new(alloc);
-    tags.push(ConfigText::copy_of(alloc, FILE)?)?;
+    tags.push(ConfigText::copy_of(alloc, "file")?)?;
     Ok(tags)
 }

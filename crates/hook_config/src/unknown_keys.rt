@@ -3,12 +3,12 @@
 ghost use Rattle.std.specs.Prelude.{◌≡◌, ◌++◌, OnOk, IfOk};
 ghost use Rattle.std.specs.List.{flat_map};
 ghost use Rattle.yaml_lines.specs.View.{view};
-ghost use Rattle.hook_config.specs.Rows.{rows_of, meanings_of_nodes, texts};
-ghost use Rattle.hook_config.specs.UnknownKeys.{rows_in, items_in, unless_among, unknown_key, unknown_of_hook, unknown_of_repository, unknown_of_repository_row, unknown_of_top, unknown_of_top_row};
-ghost use Rattle.hook_config.specs.KnownKeys.{hook_keys};
+ghost use Rattle.hook_config.specs.Rows.{rows_of, meanings_of_nodes};
+ghost use Rattle.hook_config.specs.UnknownKeys.{rows_in, items_in, unless_known, unknown_key, unknown_of_hook, unknown_of_repository, unknown_of_repository_row, unknown_of_top, unknown_of_top_row};
+ghost use Rattle.hook_config.specs.KnownKeys.{hook_keys, key_rows};
 
-use crate::kinds::{is_among, list_of, table_of};
-use crate::known_keys::{HOOK_KEYS, HOOKS, REPOS, REPOSITORY_KEYS, TOP_KEYS};
+use crate::kinds::{list_of, table_of};
+use crate::known_keys::{KeyKind, hook_keys, is_key, repository_keys, top_keys};
 use hook_base::{OutOfMemory, Text};
 use std::alloc::Global;
 use yaml_profile::Node;
@@ -22,10 +22,10 @@ pub(crate) fn unknown_of_top(
 {
     let mut unknown = Vec::new(alloc);
     for (key, value) in rows {
-        if key.as_str() == REPOS {
+        if key.as_str() == "repos" {
             add_of_repositories(alloc, items_in(value), &mut unknown)?;
         } else {
-            add_unless_known(alloc, key.as_str(), &TOP_KEYS, &mut unknown)?;
+            add_unless_known(alloc, key.as_str(), top_keys(), &mut unknown)?;
         }
     }
     Ok(unknown)
@@ -52,10 +52,10 @@ fn add_of_repository(
     ensures { OnOk result (unknown.new.items ≡ unknown.old.items ++ flat_map unknown_of_repository_row (rows_of rows.now)) }
 {
     for (key, value) in rows {
-        if key.as_str() == HOOKS {
+        if key.as_str() == "hooks" {
             add_of_hooks(alloc, items_in(value), unknown)?;
         } else {
-            add_unless_known(alloc, key.as_str(), &REPOSITORY_KEYS, unknown)?;
+            add_unless_known(alloc, key.as_str(), repository_keys(), unknown)?;
         }
     }
     Ok(())
@@ -78,7 +78,7 @@ fn add_of_hook(
     ensures { OnOk result (unknown.new.items ≡ unknown.old.items ++ flat_map (unknown_key hook_keys) (rows_of rows.now)) }
 {
     for (key, _) in rows {
-        add_unless_known(alloc, key.as_str(), &HOOK_KEYS, unknown)?;
+        add_unless_known(alloc, key.as_str(), hook_keys(), unknown)?;
     }
     Ok(())
 }
@@ -87,12 +87,12 @@ fn add_of_hook(
 fn add_unless_known(
     alloc: Global,
     key: &str,
-    known: &[&str],
+    known: &[(&str, KeyKind)],
     unknown: &mut Vec<Text>,
 ) -> Result<(), OutOfMemory>
-    ensures { OnOk result (unknown.new.items ≡ unknown.old.items ++ unless_among (texts known.now) key.now) }
+    ensures { OnOk result (unknown.new.items ≡ unknown.old.items ++ unless_known (key_rows known.now) key.now) }
 {
-    if !is_among(known, key) {
+    if !is_key(known, key) {
         unknown.push(Text::from(String::from_str(alloc, key)?))?;
     }
     Ok(())

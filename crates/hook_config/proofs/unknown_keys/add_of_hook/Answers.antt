@@ -8,4 +8,4 @@ pub loop-key-preserved : goal.loop-key-preserved
 loop-key-preserved c =
     looked_at (unknown_key hook_keys) _ _ _ c.args.rows.now c.loop-key.key-index c.loop-key-item.result
     (omega arith) c.loop-key-item.is c.loop-key.invariant
-    (rw c.as_str.ensures.value at c.in_ok-add_unless_known.ensures)
+    (rw (c.as_str.ensures.value, c.hook_keys.ensures) at c.in_ok-add_unless_known.ensures)
