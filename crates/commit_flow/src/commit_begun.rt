@@ -47,7 +47,7 @@ pub(crate) fn begin_commit<S: Alter>(
         changed,
         course: Course {
             tree: staged,
-            message: Content::new(alloc, message)?,
+            message: Content::hashed(alloc, message)?,
         },
     })
 }

@@ -9,34 +9,48 @@ use std::alloc::{AllocError, Global};
 use std::marker::Model;
 use std::rc::Rc;
 
-// Bytes, and the SHA-256 of them.
+// Bytes, and the SHA-256 of them where it was made.
 #[derive(Debug, Drop)]
-struct Hashed {
-    digest: [u8; 32],
+struct Shared {
+    digest: Option<[u8; 32]>,
     bytes: Bytes,
 }
 
-/// Bytes with the SHA-256 of them (FIPS 180-4). They are hashed once, when they are made; a copy shares both and takes no
+/// Bytes, and their SHA-256 (FIPS 180-4) where they are to be kept or looked up by it. A copy shares both and takes no
 /// memory. Contracts see the bytes.
 #[derive(Debug, Drop)]
 pub struct Content {
-    hashed: Rc<Hashed>,
+    shared: Rc<Shared>,
 }
 
 impl Model for Content {
-    ghost use Rattle.std.specs.Prelude.{◌≡◌, List, ℕ};
+    ghost use Rattle.std.specs.Prelude.{◌≡◌, IfSome, List, ℕ};
     ghost use Rattle.sha2.specs.Sha256.{sha256};
 
     ghost Value = { List ℕ };
 
-    ghost view = { λ content. content.hashed.value.bytes };
+    ghost view = { λ content. content.shared.value.bytes };
 
-    ghost invariant = { λ content. content.hashed.value.digest ≡ sha256 content.hashed.value.bytes };
+    ghost invariant = { λ content. IfSome content.shared.value.digest (λ digest. digest ≡ sha256 content.shared.value.bytes) };
 }
 
 impl Content {
-    /// These bytes, or `OutOfMemory` where memory is refused.
+    /// These bytes, which are hashed each time that their SHA-256 is asked for, or `OutOfMemory` where memory is refused.
     pub fn new(alloc: Global, bytes: Bytes) -> Result<Content, OutOfMemory>
+        ensures { IfOk result (λ content. content ≡ bytes) }
+    {
+        let shared = Rc::new(
+            alloc,
+            Shared {
+                digest: None,
+                bytes,
+            },
+        )?;
+        Ok(Content { shared })
+    }
+
+    /// These bytes, which are hashed now and not again, or `OutOfMemory` where memory is refused.
+    pub fn hashed(alloc: Global, bytes: Bytes) -> Result<Content, OutOfMemory>
         ensures { IfOk result (λ content. content ≡ bytes) }
     {
         let digest = Sha256::digest(bytes.as_slice());
@@ -52,11 +66,17 @@ impl Content {
         requires { digest ≡ sha256 bytes }
         ensures { IfOk result (λ content. content ≡ bytes) }
     {
-        let hashed = Rc::new(alloc, Hashed { digest, bytes })?;
-        Ok(Content { hashed })
+        let shared = Rc::new(
+            alloc,
+            Shared {
+                digest: Some(digest),
+                bytes,
+            },
+        )?;
+        Ok(Content { shared })
     }
 
-    /// A copy of the bytes, or `OutOfMemory` where memory is refused.
+    /// A copy of the bytes, which are hashed as those of `new` are, or `OutOfMemory` where memory is refused.
     pub fn copy_of(alloc: Global, bytes: &[u8]) -> Result<Content, OutOfMemory>
         ensures { IfOk result (λ content. content ≡ bytes.now) }
     {
@@ -64,10 +84,13 @@ impl Content {
     }
 
     /// The SHA-256 of the bytes.
-    pub fn digest(&self) -> &[u8; 32]
-        ensures { result.now ≡ sha256 self.now }
+    pub fn digest(&self) -> [u8; 32]
+        ensures { result ≡ sha256 self.now }
     {
-        &self.hashed.as_ref().digest
+        match self.shared.as_ref().digest {
+            Some(digest) => digest,
+            None => Sha256::digest(self.as_slice()),
+        }
     }
 
     /// The number of bytes.
@@ -81,7 +104,7 @@ impl Content {
     pub fn as_slice(&self) -> &[u8]
         ensures { result.now ≡ self.now }
     {
-        self.hashed.as_ref().bytes.as_slice()
+        self.shared.as_ref().bytes.as_slice()
     }
 }
 
@@ -92,8 +115,8 @@ impl Clone for Content {
     ghost is_clone = { λ source made. made ≡ source };
 
     fn clone(&self) -> Result<Self, AllocError> {
-        let hashed = self.hashed.clone()?;
-        Ok(Content { hashed })
+        let shared = self.shared.clone()?;
+        Ok(Content { shared })
     }
 }
 

@@ -174,7 +174,7 @@ fn read_change<F: Read + Seek + OpenFile>(
         let _start = opened.seek(SeekFrom::Start(0))?;
     }
     let bytes = Bytes::from(read_open(alloc, opened, piece)?);
-    let now = Content::new(alloc, bytes).map_err(|_refused| AllocError)?;
+    let now = Content::hashed(alloc, bytes).map_err(|_refused| AllocError)?;
     Ok(Some(change_to(file, Some(now))?))
 }
 

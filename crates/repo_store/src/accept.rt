@@ -32,7 +32,7 @@ fn rewrite<S: Alter>(
             tx,
             path.as_str(),
             number_of(file.mode()),
-            file.content().digest(),
+            &file.content().digest(),
         ),
         None => Ok(()),
     }

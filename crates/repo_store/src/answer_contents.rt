@@ -117,7 +117,7 @@ fn named_files(alloc: Global, files: &[ListedFile]) -> Result<Vec<SeenFile>, Out
         named.push(SeenFile {
             path: file.path().clone()?,
             mode: file.mode(),
-            digest: *file.content().digest(),
+            digest: file.content().digest(),
         })?;
     }
     Ok(named)
@@ -145,7 +145,7 @@ fn digest_now(change: &SharedFix) -> Option<[u8; 32]>
 {
     match &change.now {
         None => None,
-        Some(content) => Some(*content.digest()),
+        Some(content) => Some(content.digest()),
     }
 }
 

@@ -63,14 +63,15 @@ fn known_file(contents: &Contents, file: &File) -> Result<Option<SeenFile>, Stor
     ensures why { IfErr result (IsRefusal ⊥ ⊥ (Collides file.now.entry.bytes contents.now)) }
 {
     let content = &file.entry.bytes;
-    if !contents.has(content.digest(), content.as_slice())? {
+    let digest = content.digest();
+    if !contents.has(&digest, content.as_slice())? {
         return Ok(None);
     }
     let path = file.path.clone()?;
     Ok(Some(SeenFile {
         path,
         mode: file.entry.mode,
-        digest: *content.digest(),
+        digest,
     }))
 }
 

@@ -134,7 +134,7 @@ fn key_of(answer: &SharedAnswer) -> ([u8; 32], [u8; 32])
     ensures { result ≡ spec.key_of answer.now }
 {
     (
-        *answer.words_record().digest(),
-        *answer.seen_record().digest(),
+        answer.words_record().digest(),
+        answer.seen_record().digest(),
     )
 }

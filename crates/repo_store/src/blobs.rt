@@ -17,7 +17,7 @@ pub(crate) fn keep_in<S: Alter>(tx: &mut Transaction<'_, S>, news: &[Content]) -
 {
     change_nothing(tx)?;
     for content in news {
-        put_blob(tx, content.digest(), content.as_slice())?;
+        put_blob(tx, &content.digest(), content.as_slice())?;
     }
     Ok(())
 }

@@ -27,7 +27,7 @@ fn put_files<S: Alter>(
             n,
             file.path().as_str(),
             number_of(file.mode()),
-            file.content().digest(),
+            &file.content().digest(),
         )?;
     }
     Ok(())

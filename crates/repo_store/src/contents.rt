@@ -81,7 +81,7 @@ impl Contents {
         ensures kept { OnOk result (self.new ≡ self.old ++ content ∷ []) }
         ensures refused { OnErr result (self.new ≡ self.old) }
     {
-        let digest = *content.digest();
+        let digest = content.digest();
         let place = self.items.len();
         self.items.push(content)?;
         if self.places.insert(digest, place).is_err() {
@@ -198,7 +198,7 @@ impl Contents {
         ensures why { IfErr result (IsRefusal ⊥ ⊥ (Collides content.now self.old)) }
         ensures apart { OnOk result (¬ Collides content.now self.old) }
     {
-        if let Some(kept) = self.find(content.digest()) {
+        if let Some(kept) = self.find(&content.digest()) {
             return shared(kept, content.as_slice());
         }
         let content = self.add_shared(content)?;
@@ -221,7 +221,7 @@ impl Contents {
         ensures { self.new ≡ take (length self.old - 1) self.old }
     {
         if let Some(content) = self.items.pop() {
-            self.places.remove(content.digest());
+            self.places.remove(&content.digest());
         }
     }
 

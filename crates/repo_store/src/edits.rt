@@ -25,7 +25,7 @@ fn edit_row<S: Alter>(tx: &mut Transaction<'_, S>, edit: &SharedEdit) -> Result<
             tx,
             edit.path.as_str(),
             number_of(file.mode()),
-            file.content().digest(),
+            &file.content().digest(),
         ),
         None => Ok(()),
     }

@@ -20,8 +20,8 @@ fn put_shared<S: Alter>(tx: &mut Transaction<'_, S>, fix: &SharedFix) -> Result<
     match &fix.now {
         None => put_fix(tx, fix.path.as_str(), None),
         Some(content) => {
-            let digest: &[u8] = content.digest();
-            put_fix(tx, fix.path.as_str(), Some(digest))
+            let digest = content.digest();
+            put_fix(tx, fix.path.as_str(), Some(digest.as_slice()))
         }
     }
 }

@@ -52,7 +52,7 @@ fn digest_if_same(content: &Content, bytes: &[u8]) -> Option<[u8; 32]>
     ensures { IfSome result (λ digest. digest ≡ sha256 bytes.now) }
 {
     if content.as_slice() == bytes {
-        return Some(*content.digest());
+        return Some(content.digest());
     }
     None
 }

@@ -27,8 +27,8 @@ fn remember_in<S: Alter>(
     let output = answer.output().digest();
     let changes = answer.changes_record().digest();
     let status = u32::from(answer.status());
-    take_answer(tx, words, seen)?;
-    put_answer(tx, words, seen, output, changes, status)
+    take_answer(tx, &words, &seen)?;
+    put_answer(tx, &words, &seen, &output, &changes, status)
 }
 
 /// Puts an answer in place of the one of its key, and keeps the contents that the table lacks, in one transaction.

@@ -29,7 +29,7 @@ fn stage_in<S: Alter>(
         tx,
         file.path().as_str(),
         number_of(file.mode()),
-        file.content().digest(),
+        &file.content().digest(),
     )
 }
 

@@ -286,7 +286,7 @@ impl<S: Alter> Store<S> {
             return Err(fault_of(error));
         }
         Ok(Digest {
-            bytes: *content.digest(),
+            bytes: content.digest(),
         })
     }
 

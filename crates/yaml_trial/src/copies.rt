@@ -17,12 +17,12 @@ pub(crate) fn copy_bytes(alloc: Global, bytes: &[u8], other: &[u8]) -> Result<An
 /// are, and the digest.
 pub(crate) fn copy_content(alloc: Global, bytes: &[u8], other: &[u8]) -> Result<Answer, Stop> {
     let content = Content::copy_of(alloc, bytes)?;
-    let under = Content::with_digest(alloc, *content.digest(), Bytes::copy_of(alloc, bytes)?)?;
+    let under = Content::with_digest(alloc, content.digest(), Bytes::copy_of(alloc, bytes)?)?;
     let is_same = content.as_slice() == bytes && content.clone()? == under;
     let is_other = Content::copy_of(alloc, other)? == content;
     let answer = Answer::new(alloc).shown(content.len());
     let answer = answer.text(" ").shown(is_same).text(" ").shown(is_other);
-    with_digest(alloc, answer.text(" "), content.digest())
+    with_digest(alloc, answer.text(" "), &content.digest())
 }
 
 fn with_digest(alloc: Global, answer: Answer, digest: &[u8; 32]) -> Result<Answer, Stop> {

@@ -19,9 +19,9 @@ returns-clause-step g c =
     let output = c.digest-output.ensures ∙ ap sha256 c.output.ensures in
     let changes = c.digest-changes.ensures ∙ ap sha256 c.changes_record.ensures in
     let took = subst (λ (l : List ℕ). IsStep {A = Unit {0}} g.S.Store kept out (Ok tt) (without_answer l row.seen)) words
-    (subst (λ (l : List ℕ). IsStep {A = Unit {0}} g.S.Store kept out (Ok tt) (without_answer c.digest-words.result.now l)) seen c.in_ok-take_answer.ensures.step) in
+    (subst (λ (l : List ℕ). IsStep {A = Unit {0}} g.S.Store kept out (Ok tt) (without_answer c.digest-words.result l)) seen c.in_ok-take_answer.ensures.step) in
     let both = step_then g.S.Store old kept out (Ok tt) (λ t. with_blobs c.args.news.now t) (without_answer row.words row.seen) c.in_ok-keep_in.ensures.step took in
-    let shown : AnswerRow = record { words = c.digest-words.result.now; seen = c.digest-seen.result.now; output = c.digest-output.result.now; changes = c.digest-changes.result.now; status = pos c.from-status.result } in
+    let shown : AnswerRow = record { words = c.digest-words.result; seen = c.digest-seen.result; output = c.digest-output.result; changes = c.digest-changes.result; status = pos c.from-status.result } in
     let row_is : shown ≡ row = let status : c.from-status.result ≡ c.args.answer.now.status = cc in rw (words, seen, output, changes, status) refl in
     let put = subst (λ (r : AnswerRow). IsStep g.S.Store out new c.put_answer.result (with_answer r)) row_is c.put_answer.ensures.step in
     step_then g.S.Store old out new c.put_answer.result (λ t. without_answer row.words row.seen (with_blobs c.args.news.now t)) (with_answer row) both put

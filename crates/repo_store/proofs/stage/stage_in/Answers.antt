@@ -16,7 +16,7 @@ returns-clause-step g c =
     let new = c.put_staged.new.tx.conn.now in
     let file = c.args.file.now in
     let took = subst (λ (path : List ℕ). IsStep {A = Unit {0}} g.S.Store cleared out (Ok tt) (without_staged path)) (c.as_str.ensures.same ∙ c.path.ensures) c.in_ok-take_staged.ensures.step in
-    let row : StagedRow = record { path = c.as_str-2.result.now; mode = pos c.number_of.result; digest = c.digest.result.now } in
+    let row : StagedRow = record { path = c.as_str-2.result.now; mode = pos c.number_of.result; digest = c.digest.result } in
     let row_is : row ≡ staged_row (file_of file) = rw (c.as_str-2.ensures.same, c.path-2.ensures, c.number_of.ensures, c.mode.ensures, c.digest.ensures, c.content.ensures) refl in
     let put = subst (λ (r : StagedRow). IsStep g.S.Store out new c.put_staged.result (with_staged r)) row_is c.put_staged.ensures.step in
     let first = step_then g.S.Store old kept cleared (Ok tt) (λ t. with_blobs c.args.news.now t) without_fixes c.in_ok-keep_in.ensures.step c.in_ok-clear_fixes.ensures.step in

@@ -58,7 +58,7 @@ pub returns-clause-change : goal.returns-clause-change
 returns-clause-change g c =
     let kept = c.self.inside.lists.kept in
     let here : c.keep.new.self.kept ≡ keeping c.args.bytes.now kept = ap (λ (m : Mirror). m.kept) (c.in_ok-content.ensures).kept in
-    subst (λ (s : Shown g.row.S.Denot). IsAllOrNothing s.kept c.keep.new.self.kept (Ok (record { bytes = c.digest.result.now })) (keeping c.args.bytes.now s.kept)) c.self.view_is (record { done = here; same = tt })
+    subst (λ (s : Shown g.row.S.Denot). IsAllOrNothing s.kept c.keep.new.self.kept (Ok (record { bytes = c.digest.result })) (keeping c.args.bytes.now s.kept)) c.self.view_is (record { done = here; same = tt })
 
 pub returns-clause-transaction : goal.returns-clause-transaction
 returns-clause-transaction g c =
@@ -69,6 +69,6 @@ returns-clause-transaction g c =
     let same = keeping_handed c.args.bytes.now c.since.result.now kept news in
     let complete = complete_kept c.args.bytes.now kept c.self.invariant.complete (c.in_ok-content.ensures).apart in
     let obeys = obeys_kept kept c.self.invariant.obeys c.args.bytes.now (c.in_ok-content.ensures).small complete in
-    subst (λ (s : Shown g.row.S.Denot). IsOneTransaction g.S.Store s (record { conn = new; kept = c.keep.new.self.kept }) (Ok (record { bytes = c.digest.result.now })) (keeping c.args.bytes.now s.kept)) c.self.view_is
+    subst (λ (s : Shown g.row.S.Denot). IsOneTransaction g.S.Store s (record { conn = new; kept = c.keep.new.self.kept }) (Ok (record { bytes = c.digest.result })) (keeping c.args.bytes.now s.kept)) c.self.view_is
     (done_transaction g.S.Store c.self.inside.conn new kept (keeping c.args.bytes.now kept) _ c.self.invariant same (g.met.S.Store.shut_if_dirty new.store) complete obeys
-    (g.met.S.Store.settled new.store) c.keep.new.self.kept here c.in_default.field-0 (c.in_default.ensures (tables_of kept)) (record { bytes = c.digest.result.now }) _ _ (c.in_default.ensures (unnamed_in kept)) (λ (h : 1 ≡ 0). let never : ⊥ = omega arith in never))
+    (g.met.S.Store.settled new.store) c.keep.new.self.kept here c.in_default.field-0 (c.in_default.ensures (tables_of kept)) (record { bytes = c.digest.result }) _ _ (c.in_default.ensures (unnamed_in kept)) (λ (h : 1 ≡ 0). let never : ⊥ = omega arith in never))
