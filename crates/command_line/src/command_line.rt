@@ -17,7 +17,8 @@ use crate::{FileChoice, Line, LookUp, PathSource, Standalone, Update};
 use clap::{ArgMatches, Error};
 use std::alloc::{AllocError, Global};
 
-/// What the words, without the program's own name, ask for.
+/// What the words, without the program's own name, ask for. The word behind the first `-m` of a commit is its message,
+/// whatever it begins with.
 ///
 /// An error's text says what the words lack, or which value can't be taken, or is the help that they ask for. Its kind
 /// is `OutOfMemory` where memory was refused, the one that `clap` states for these words, or else `InvalidValue`: for

@@ -15,8 +15,9 @@
 //! kept), `specs/Messages.antt` (how the message of a commit is cleaned) and `specs/Refusals.antt`; of the repository, its
 //! files and what is remembered they cite definitions of `repo_store`, `hook_base` and `result_book`. [`Host::play`] makes a
 //! list of commands, and its contract cites `specs/Plays.antt` (a run of the machine of `Step`, and what it makes of the
-//! children's counts and of what is remembered) and `specs/StoppedPlays.antt` (what a stop leaves of the list). `specs/Preparations.antt` and `specs/CommitCalls.antt` serve private functions
-//! alone. [`laws`] says that a step has one answer at most, and what follows for a list of commands, stopped and gone on with too.
+//! children's counts and of what is remembered) and `specs/StoppedPlays.antt` (what a stop leaves of the list).
+//! `specs/Preparations.antt` and `specs/CommitCalls.antt` serve private functions alone. [`laws`] says that a step has one
+//! answer at most, and what follows for a list of commands, stopped and gone on with too.
 #![tactic(auto)]
 
 mod candidates;
