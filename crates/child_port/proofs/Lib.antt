@@ -1,2 +1,2 @@
-pub mod MarkLemmas
+pub mod IndexLemmas
 pub mod SearchLemmas

@@ -1,5 +1,6 @@
 pub mod AlikeLemmas
 pub mod Fuses
+pub mod Indexes
 pub mod Limits
 pub mod Outcomes
 pub mod Seen

@@ -57,6 +57,17 @@ fn sees_the_files_that_its_words_name(rt: HostRuntime) -> Result<(), Fail> {
         ("/x", ""),
         ("tools", ""),
         ("x x ./x a.txt x", "a.txt x"),
+        ("x tools/lint.sh b.txt a.txt", "a.txt b.txt tools/lint.sh x"),
+        ("b.txt c.txt ./b.txt a.txt sh a.txt", "a.txt b.txt"),
+        (
+            "a.txt b.txt tools/lint.sh tools/lint.sh.txt",
+            "a.txt b.txt tools/lint.sh tools/lint.sh.txt",
+        ),
+        ("a.txt b.txt tools/lint.sh tools/lint.sh.txt x", all),
+        (
+            "x ./x tools/lint.sh.txt b.txt tools/lint.sh a.txt b.txt",
+            all,
+        ),
         ("--config=a.txt B.TXT c.txt", ""),
     ] {
         let words_read = words_of(alloc, words)?;
@@ -83,6 +94,21 @@ fn sees_the_extra_files(rt: HostRuntime) -> Result<(), Fail> {
         ),
         ("c", "a.txt a.txt", "a.txt"),
         ("c", "none.cfg", ""),
+        (
+            "c tools/lint.sh",
+            "z.cfg b.txt none.cfg",
+            "b.txt tools/lint.sh",
+        ),
+        (
+            "c b.txt ./b.txt lint.cfg",
+            "lint.cfg a.txt b.txt",
+            "a.txt b.txt lint.cfg",
+        ),
+        (
+            "c tools/lint.sh a.txt",
+            "lint.cfg b.txt lint.cfg",
+            "a.txt b.txt lint.cfg tools/lint.sh",
+        ),
         (
             "c",
             "a.txt lint.cfg tools/lint.sh",
