@@ -1,3 +1,5 @@
+pub mod DefaultPatternLemmas
+pub mod FoundLemmas
 pub mod IndexLemmas
 pub mod KeptLemmas
 pub mod KnownLemmas

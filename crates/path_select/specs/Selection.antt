@@ -1,10 +1,11 @@
 -- Which files of a tree a hook gets.
-use Rattle.std.specs.Prelude.{ℕ, Bool, true, not, ◌&&◌, List, [], ◌∷◌, map, filter}
+use Rattle.std.specs.Prelude.{ℕ, Bool, true, not, ◌&&◌, List, [], ◌∷◌, codes, map, filter}
 use Rattle.std.specs.List.{list_any, list_all}
 use Rattle.hook_base.specs.declared.file.File.{File}
 use Rattle.hook_base.specs.Trees.{path_of}
 use Rattle.file_tags.specs.FileTags.{has_tag, tags_of_file}
 use Rattle.path_select.specs.Candidates.{is_candidate, passes}
+use Rattle.path_select.specs.Patterns.{is_found}
 use Rattle.path_select.specs.declared.rules.Rules.{Rules}
 
 -- what decides: the texts of the patterns of the whole configuration and of the hook, and the hook's tags
@@ -61,3 +62,19 @@ selected rules candidates tree = map path_of (selected_rows rules candidates tre
 -- the same among paths that have passed the patterns of the whole configuration
 abbrev pub selected_among : RuleTexts → List (List ℕ) → List File → List (List ℕ)
 selected_among rules among tree = map path_of (filter (λ row. is_candidate among row.path && fits_hook rules row) tree)
+
+-- the rules of one pattern alone: all others are those that a configuration has by default, and no tags are asked for
+abbrev pub rules_of_pattern : List ℕ → RuleTexts
+rules_of_pattern pattern = record {
+  top_files = codes "";
+  top_exclude = codes "^$";
+  files = pattern;
+  exclude = codes "^$";
+  types = [];
+  types_or = [];
+  exclude_types = [];
+}
+
+-- the paths of the tree's files in which one pattern is found, in its order, whatever the files are
+abbrev pub found_in : List ℕ → List File → List (List ℕ)
+found_in pattern tree = map path_of (filter (λ row. is_found pattern row.path) tree)

@@ -14,6 +14,7 @@
 
 mod candidate_tags;
 mod candidates;
+mod found_files;
 mod index;
 mod kept_selection;
 pub mod laws;
@@ -31,6 +32,7 @@ mod type_rules;
 
 pub use candidate_tags::CandidateTags;
 pub use candidates::Candidates;
+pub use found_files::select_found;
 pub use kept_selection::{select_kept, select_kept_among};
 pub use pattern::Pattern;
 pub use pattern_fault::PatternFault;
