@@ -3,7 +3,8 @@ candidates and among those that pass the patterns of the whole configuration fir
 kept of the tree's files; and for three hooks one after another, by tags that are kept of the candidates' files: one that learns
 the tags it asks for, one with other rules that learns those that are left, and the first once more. What is selected after
 changes by tags that followed them is compared with what is selected by tags that are made, and so is what three hooks get before
-the changes and three behind them, by tags of which those of changed files are forgotten."""
+the changes and three behind them, by tags of which those of changed files are forgotten. What one pattern selects alone is
+compared with what it selects beside the other patterns' defaults."""
 import random
 import re
 
@@ -51,6 +52,11 @@ def select_kept(candidates, tree, changes, want, **rules):
     """A selection of the tree that changes leave: they are a list of lines."""
     call, *arguments, wanted = select(candidates, tree, want, **rules)
     return ("select_kept", *arguments, "".join(f"{line}\n" for line in changes), wanted)
+
+
+def select_found(tree, want, pattern):
+    """What one pattern selects of a tree."""
+    return ("select_found", pattern, "".join(f"{line}\n" for line in tree), "".join(f"{path}\n" for path in want.split()))
 
 
 # Lines of a mode, a path and bytes.
@@ -176,10 +182,22 @@ AFTER_CHANGES = [
     *(random_selection(SOURCE) for _row in range(1_000)),
 ]
 
+FOUND_FILES = [
+    *(select_found([f"- {path} "], path if found else "", pattern) for pattern, path, found in FOUND),
+    select_found(TREE, ALL, ""),
+    select_found(TREE, "", "^$"),
+    select_found([], "", ""),
+    select_found(TREE, "src/a.py src/b.py x.py", r"\.py$"),
+    select_found(TREE, "src/c.txt x.py", "c[.]|^x"),
+    select_found([f"- {path} " for path in reversed(ORDER)], " ".join(ORDER), ""),
+    *(select_found([f"- {path} " for path in PLAYED_PATHS], " ".join(path for path in PLAYED_PATHS if re.search(pattern, path)), pattern) for pattern in PLAYED_PATTERNS),
+]
+
 ROWS = [
     *(("pattern", text, text) for text in PATTERNS + LONG),
     *(("pattern", text, NO_PATTERN) for text in REFUSED),
     *(select(path, [f"- {path} "], path if found else "", files=pattern) for pattern, path, found in FOUND),
     *SELECTIONS,
     *AFTER_CHANGES,
+    *FOUND_FILES,
 ]

@@ -1,6 +1,6 @@
 //! The calls by their names.
 
-use crate::{commands, greps, kept, paths, tags};
+use crate::{commands, found, greps, kept, paths, tags};
 use std::alloc::Global;
 use trial_rows::{Answer, Answers, Row, Stop};
 
@@ -21,6 +21,7 @@ fn of_selections(alloc: Global, call: &str, arguments: &[Vec<u8>]) -> Result<Ans
         "most_shebang_bytes" => Ok(tags::most_bytes(alloc)),
         "pattern" => paths::built(alloc, arguments),
         "select" => paths::selected(alloc, arguments),
+        "select_found" => found::found(alloc, arguments),
         _ => of_kept_tags(alloc, call, arguments),
     }
 }

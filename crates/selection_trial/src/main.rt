@@ -6,6 +6,7 @@
 mod calls;
 mod commands;
 mod files;
+mod found;
 mod greps;
 mod kept;
 mod paths;

@@ -14,7 +14,8 @@ pub(crate) fn patterns_of(alloc: Global, arguments: &[Vec<u8>]) -> Result<Vec<Pa
     Ok(patterns)
 }
 
-fn pattern_of(alloc: Global, argument: &[u8]) -> Result<Pattern, Stop> {
+/// The pattern of an argument.
+pub(crate) fn pattern_of(alloc: Global, argument: &[u8]) -> Result<Pattern, Stop> {
     match Pattern::build(alloc, text_of(argument)?) {
         Ok(pattern) => Ok(pattern),
         Err(PatternFault::NotAPattern) => Err(Stop::BadLine),
