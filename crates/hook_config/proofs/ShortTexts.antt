@@ -15,7 +15,7 @@ use Rattle.hook_config.specs.CommandWords.{command_words_of}
 use Rattle.hook_config.specs.Configuration.{configuration_of, configuration_of_meaning, configuration_of_rows}
 use Rattle.hook_config.specs.Gives.{Gives}
 use Rattle.hook_config.specs.Hooks.{joined, hook_alone, hooks_of_list, hooks_of_named, hooks_of_rows, hooks_of_repository, hooks_of_repositories, within_limit}
-use Rattle.hook_config.specs.HookTable.{unserved_of, names_of, command_of, selection_of, switches_of, hook_with, hook_of_fields, hook_of}
+use Rattle.hook_config.specs.HookTable.{unserved_of, names_of, command_of, selection_of, switches_of, reads_of, conditions_of, hook_of_groups, hook_with, hook_of_fields, hook_of}
 use Rattle.hook_config.specs.Kinds.{text_of, each, texts_of, only_empty, empty_text_of, empty_texts_of, given, kind_or}
 use Rattle.hook_config.specs.KnownKeys.{Key, at_key, is_key, file_word, local_word, hook_keys, repository_keys, top_keys}
 use Rattle.hook_config.specs.KnownKeys as key
@@ -31,7 +31,9 @@ use Rattle.hook_config.specs.declared.configuration.Hook.{Hook}
 use Rattle.hook_config.specs.declared.configuration.Language.{Language}
 use Rattle.hook_config.specs.declared.configuration.Language.TheVariants.{Pygrep, System, Script}
 use Rattle.hook_config.specs.declared.hook_parts.Command.{Command}
+use Rattle.hook_config.specs.declared.hook_parts.Conditions.{Conditions}
 use Rattle.hook_config.specs.declared.hook_parts.Names.{Names}
+use Rattle.hook_config.specs.declared.hook_parts.Reads.{Reads}
 use Rattle.hook_config.specs.declared.hook_parts.Selection.{Selection}
 use Rattle.hook_config.specs.declared.hook_parts.Unserved.{Unserved}
 use Rattle.hook_config.specs.declared.known_keys.KeyKind.{KeyKind}
@@ -165,16 +167,34 @@ selection_short rs =
     and_then AreTexts IsShortSelection key.types_or rs _ short_texts no_texts (λ types_or s.
     and_then AreTexts IsShortSelection key.exclude_types rs _ short_texts no_texts (λ exclude_types t. (p, q, r, s, t))))))
 
+abbrev AreShortReads : Reads → Type 0
+AreShortReads reads = IsShort reads.x_reads
+
+reads_short : (rs : List Row) → Holds AreShortReads (reads_of rs)
+unfolding reads_of
+reads_short rs =
+    and_then IsShort AreShortReads key.x_reads rs _ short_pattern no_path_short (λ x_reads p.
+    then_any AreShortReads _ (λ x_per_file. p) (at_key key.x_per_file rs))
+
+abbrev AreShortConditions : Conditions → Type 0
+AreShortConditions conditions = IsShortSelection conditions.selection × AreShortReads conditions.reads
+
+conditions_short : (default : Stages) (rs : List Row) → Holds AreShortConditions (conditions_of default rs)
+unfolding conditions_of
+conditions_short default rs =
+    then_to IsShortSelection AreShortConditions _ (λ selection p.
+    then_any AreShortConditions _ (λ switches.
+    then_to AreShortReads AreShortConditions _ (λ reads q. (p, q)) (reads_of rs) (reads_short rs)) (switches_of default rs))
+    (selection_of rs) (selection_short rs)
+
 -- every text of a hook is one of a group
 fields_short : (default : Stages) (rs : List Row) → Holds HookHasShortTexts (hook_of_fields default rs)
-unfolding hook_of_fields hook_with
+unfolding hook_of_fields hook_with hook_of_groups
 fields_short default rs =
     then_to AreShortUnserved HookHasShortTexts _ (λ unserved p.
     then_to AreShortNames HookHasShortTexts _ (λ names q.
     then_to IsShortCommand HookHasShortTexts _ (λ command r.
-    then_to IsShortSelection HookHasShortTexts _ (λ selection s.
-    then_any HookHasShortTexts _ (λ switches. search (p, q, r, s)) (switches_of default rs))
-    (selection_of rs) (selection_short rs)) (command_of rs) (command_short rs)) (names_of rs) (names_short rs)) (unserved_of rs) (unserved_short rs)
+    then_to AreShortConditions HookHasShortTexts _ (λ conditions s. search (p, q, r, s)) (conditions_of default rs) (conditions_short default rs)) (command_of rs) (command_short rs)) (names_of rs) (names_short rs)) (unserved_of rs) (unserved_short rs)
 
 abbrev AllShort : List Hook → Type 0
 AllShort hooks = AllByRecursion HookHasShortTexts hooks

@@ -7,7 +7,9 @@ use Rattle.hook_config.specs.Kinds.{given}
 use Rattle.hook_config.specs.Languages.{language_of}
 use Rattle.hook_config.specs.declared.configuration.Hook.{Hook}
 use Rattle.hook_config.specs.declared.hook_parts.Command.{Command}
+use Rattle.hook_config.specs.declared.hook_parts.Conditions.{Conditions}
 use Rattle.hook_config.specs.declared.hook_parts.Names.{Names}
+use Rattle.hook_config.specs.declared.hook_parts.Reads.{Reads}
 use Rattle.hook_config.specs.declared.hook_parts.Selection.{Selection}
 use Rattle.hook_config.specs.declared.hook_parts.Switches.{Switches}
 use Rattle.hook_config.specs.declared.hook_parts.Unserved.{Unserved}
@@ -80,31 +82,56 @@ switches_of default rows =
       fail_fast = fail_fast;
     }))))))
 
+unfoldable pub reads_of : List Row → Option Reads
+reads_of rows =
+    given (at_key key.x_reads rows) (λ x_reads.
+    given (at_key key.x_per_file rows) (λ x_per_file.
+    Some (record {
+      x_reads = x_reads;
+      x_per_file = x_per_file;
+    })))
+
+-- the groups behind the command, where these are the default stages
+unfoldable pub conditions_of : Stages → List Row → Option Conditions
+conditions_of default rows =
+    given (selection_of rows) (λ selection.
+    given (switches_of default rows) (λ switches.
+    given (reads_of rows) (λ reads.
+    Some (record {
+      selection = selection;
+      switches = switches;
+      reads = reads;
+    }))))
+
+-- the hook with the fields of these groups
+unfoldable pub hook_of_groups : Unserved → Names → Command → Conditions → Hook
+hook_of_groups unserved names command conditions = record {
+  id = names.id;
+  name = names.name;
+  alias = names.alias;
+  language = command.language;
+  entry = command.entry;
+  args = command.args;
+  files = conditions.selection.files;
+  exclude = conditions.selection.exclude;
+  types = conditions.selection.types;
+  types_or = conditions.selection.types_or;
+  exclude_types = conditions.selection.exclude_types;
+  stages = conditions.switches.stages;
+  always_run = conditions.switches.always_run;
+  verbose = conditions.switches.verbose;
+  pass_filenames = conditions.switches.pass_filenames;
+  fail_fast = conditions.switches.fail_fast;
+  x_reads = conditions.reads.x_reads;
+  x_per_file = conditions.reads.x_per_file;
+  log_file = unserved.log_file;
+  additional_dependencies = unserved.additional_dependencies;
+}
+
 -- the hook of a table's rows, of which these are the first groups
 unfoldable pub hook_with : Stages → List Row → Unserved → Names → Command → Option Hook
 hook_with default rows unserved names command =
-    given (selection_of rows) (λ selection.
-    given (switches_of default rows) (λ switches.
-    Some (record {
-      id = names.id;
-      name = names.name;
-      alias = names.alias;
-      language = command.language;
-      entry = command.entry;
-      args = command.args;
-      files = selection.files;
-      exclude = selection.exclude;
-      types = selection.types;
-      types_or = selection.types_or;
-      exclude_types = selection.exclude_types;
-      stages = switches.stages;
-      always_run = switches.always_run;
-      verbose = switches.verbose;
-      pass_filenames = switches.pass_filenames;
-      fail_fast = switches.fail_fast;
-      log_file = unserved.log_file;
-      additional_dependencies = unserved.additional_dependencies;
-    })))
+    given (conditions_of default rows) (λ conditions. Some (hook_of_groups unserved names command conditions))
 
 -- the hook of a table's rows, where these are the default stages
 unfoldable pub hook_of_fields : Stages → List Row → Option Hook

@@ -132,6 +132,13 @@ verbose = record { word = codes "verbose"; wanted = Truth; kind = truth_of; abse
 abbrev pub pass_filenames : Key Bool
 pass_filenames = record { word = codes "pass_filenames"; wanted = Truth; kind = truth_of; absent = Some true }
 
+-- these two are keys of this runner: pre-commit has neither
+abbrev pub x_reads : Key (List ℕ)
+x_reads = record { word = codes "x_reads"; wanted = Pattern; kind = pattern_of; absent = Some no_path }
+
+abbrev pub x_per_file : Key Bool
+x_per_file = record { word = codes "x_per_file"; wanted = Truth; kind = truth_of; absent = Some false }
+
 -- those that are read, in the order in which they are, and those that are read and ignored
 abbrev pub hook_keys : List (List ℕ × KeyKind)
 hook_keys =
@@ -153,6 +160,8 @@ hook_keys =
     ∷ listed verbose
     ∷ listed pass_filenames
     ∷ listed fail_fast
+    ∷ listed x_reads
+    ∷ listed x_per_file
     ∷ (codes "language_version", Ignored)
     ∷ (codes "minimum_pre_commit_version", Ignored)
     ∷ (codes "require_serial", Ignored)

@@ -27,6 +27,7 @@ pub record HookHasShortTexts (hook : Hook) : Type 0 where
   pub types : AreTexts hook.types
   pub types_or : AreTexts hook.types_or
   pub exclude_types : AreTexts hook.exclude_types
+  pub x_reads : IsShort hook.x_reads
   pub log_file : IsShort hook.log_file
   pub additional_dependencies : AreTexts hook.additional_dependencies
 

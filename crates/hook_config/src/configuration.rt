@@ -59,6 +59,10 @@ pub struct Hook {
     pub pass_filenames: bool,
     /// Whether a run stops where this hook failed.
     pub fail_fast: bool,
+    /// Found in the path of each further file that the hook's children see.
+    pub x_reads: SharedPattern,
+    /// Whether a child of the hook is handed one name at most.
+    pub x_per_file: bool,
     /// The file that a hook's output would be written to. It is empty, since none is served.
     pub log_file: ConfigText,
     /// What would be installed for the hook. There are none, since none are served.

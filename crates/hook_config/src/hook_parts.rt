@@ -1,7 +1,7 @@
 //! The fields of a hook, in the groups in which they are read: of several faults the first in this order is told.
 
 ghost use Rattle.hook_config.specs.Gives.{GivesValue, GivesSurely};
-ghost use Rattle.hook_config.specs.HookTable.{command_of, names_of, selection_of, switches_of, unserved_of};
+ghost use Rattle.hook_config.specs.HookTable.{command_of, conditions_of, names_of, reads_of, selection_of, switches_of, unserved_of};
 ghost use Rattle.hook_config.specs.Rows.{rows_of};
 
 use crate::config_fault::ConfigKind;
@@ -129,5 +129,49 @@ pub(crate) fn switches_of(
         verbose: truth_or(rows, "verbose", false)?,
         pass_filenames: truth_or(rows, "pass_filenames", true)?,
         fail_fast: truth_or(rows, "fail_fast", false)?,
+    })
+}
+
+/// What a hook's children see beside the files that are selected for it, and how many of these one is handed.
+#[derive(Drop)]
+pub(crate) struct Reads {
+    pub(crate) x_reads: SharedPattern,
+    pub(crate) x_per_file: bool,
+}
+
+#[tactic(auto, unfolding(crate::specs::HookTable::reads_of))]
+pub(crate) fn reads_of(
+    alloc: Global,
+    rows: &[(String, Node)],
+    defaults: &Defaults,
+) -> Result<Reads, ConfigKind>
+    ensures { GivesValue (λ reads. reads) result (reads_of (rows_of rows.now)) }
+{
+    Ok(Reads {
+        x_reads: pattern_or(alloc, rows, "x_reads", defaults.exclude())?,
+        x_per_file: truth_or(rows, "x_per_file", false)?,
+    })
+}
+
+/// Where, when and how a hook runs: the groups behind its command.
+#[derive(Drop)]
+pub(crate) struct Conditions {
+    pub(crate) selection: Selection,
+    pub(crate) switches: Switches,
+    pub(crate) reads: Reads,
+}
+
+#[tactic(auto, unfolding(crate::specs::HookTable::conditions_of))]
+pub(crate) fn conditions_of(
+    alloc: Global,
+    rows: &[(String, Node)],
+    defaults: &Defaults,
+) -> Result<Conditions, ConfigKind>
+    ensures { GivesValue (λ conditions. conditions) result (conditions_of defaults.now (rows_of rows.now)) }
+{
+    Ok(Conditions {
+        selection: selection_of(alloc, rows, defaults)?,
+        switches: switches_of(rows, defaults)?,
+        reads: reads_of(alloc, rows, defaults)?,
     })
 }

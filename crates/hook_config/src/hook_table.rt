@@ -3,14 +3,14 @@
 ghost use Rattle.std.specs.Prelude.{◌≡◌};
 ghost use Rattle.yaml_lines.specs.View.{view};
 ghost use Rattle.hook_config.specs.Gives.{GivesValue, GivesSurely};
-ghost use Rattle.hook_config.specs.HookTable.{hook_of, hook_of_fields, hook_with};
+ghost use Rattle.hook_config.specs.HookTable.{hook_of, hook_of_fields, hook_of_groups, hook_with};
 ghost use Rattle.hook_config.specs.Rows.{rows_of};
 
 use crate::config_fault::ConfigKind;
 use crate::configuration::Hook;
 use crate::defaults::Defaults;
 use crate::hook_parts::{
-    Command, Names, Unserved, command_of, names_of, selection_of, switches_of, unserved_of,
+    Command, Conditions, Names, Unserved, command_of, conditions_of, names_of, unserved_of,
 };
 use crate::kinds::table_of;
 use std::alloc::Global;
@@ -50,9 +50,26 @@ fn hook_with(
 ) -> Result<Hook, ConfigKind>
     ensures { GivesValue (λ hook. hook) result (hook_with defaults.now (rows_of rows.now) unserved names command) }
 {
-    let selection = selection_of(alloc, rows, defaults)?;
-    let switches = switches_of(rows, defaults)?;
-    Ok(Hook {
+    let conditions = conditions_of(alloc, rows, defaults)?;
+    Ok(hook_of_groups(unserved, names, command, conditions))
+}
+
+// The hook with the fields of these groups.
+#[tactic(auto, unfolding(crate::specs::HookTable::hook_of_groups))]
+fn hook_of_groups(
+    unserved: Unserved,
+    names: Names,
+    command: Command,
+    conditions: Conditions,
+) -> Hook
+    ensures { result ≡ hook_of_groups unserved names command conditions }
+{
+    let Conditions {
+        selection,
+        switches,
+        reads,
+    } = conditions;
+    Hook {
         id: names.id,
         name: names.name,
         alias: names.alias,
@@ -69,7 +86,9 @@ fn hook_with(
         verbose: switches.verbose,
         pass_filenames: switches.pass_filenames,
         fail_fast: switches.fail_fast,
+        x_reads: reads.x_reads,
+        x_per_file: reads.x_per_file,
         log_file: unserved.log_file,
         additional_dependencies: unserved.additional_dependencies,
-    })
+    }
 }

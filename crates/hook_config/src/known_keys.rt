@@ -77,6 +77,8 @@ pub fn hook_keys() -> &'static [(&'static str, KeyKind)]
         ("verbose", KeyKind::Truth),
         ("pass_filenames", KeyKind::Truth),
         ("fail_fast", KeyKind::Truth),
+        ("x_reads", KeyKind::Pattern),
+        ("x_per_file", KeyKind::Truth),
         ("language_version", KeyKind::Ignored),
         ("minimum_pre_commit_version", KeyKind::Ignored),
         ("require_serial", KeyKind::Ignored),
