@@ -74,6 +74,8 @@ FIELDS_OF_A_HOOK = {
     "verbose": "false",
     "pass_filenames": "true",
     "fail_fast": "false",
+    "x_reads": "^$",
+    "x_per_file": "false",
     "log_file": "",
     "additional_dependencies": "",
 }
@@ -177,6 +179,24 @@ KEYS = [
     ("types_or: [[b]]", "2 Shape at 1"),
     ("exclude_types: python", "2 Shape at 1"),
     ("exclude_types: [{a: b}]", "2 Shape at 1"),
+    ("x_reads: [a]", "2 Shape at 1"),
+    ("x_reads: {a: b}", "2 Shape at 1"),
+    ("x_reads: '('", "7 BadPattern at 1"),
+    ("x_reads: 'a(?=b)'", "7 BadPattern at 1"),
+    ("x_reads: '(?-u)\\xff'", "7 BadPattern at 1"),
+    ('x_per_file: "true"', "2 Shape at 1"),
+    ("x_per_file: 1", "2 Shape at 1"),
+    ("x_per_file: [true]", "2 Shape at 1"),
+    ("x_per_file: {true: true}", "2 Shape at 1"),
+    ("x_reads: a, x_per_file: yes", "1 hooks, false"),
+    ("x_read: a, x_per_files: yes", "1 hooks, false x_read x_per_files"),
+]
+
+# A hook of any language has these keys, which are read behind all others.
+KEYS_OF_CHILDREN = [
+    ("x_reads: a, x_per_file: true", "1 hooks, false"),
+    ("x_reads: '('", "7 BadPattern at 1"),
+    ("x_per_file: 1", "2 Shape at 1"),
 ]
 
 # Keys of a hook of the language `pygrep`.
@@ -308,6 +328,14 @@ FIRST_IN_HOOKS = [
     ("{id: a, name: A, language: fail, entry: e, stages: [never], exclude: '('}", "7 BadPattern at 1"),
     ("{id: a, name: A, language: fail, entry: e, stages: [never], args: b}", "2 Shape at 1"),
     ("{id: a, name: A, language: fail, entry: e, verbose: x, stages: [never]}", "4 BadStage at 1"),
+    ("{id: a, name: A, language: fail, entry: e, x_reads: '(', fail_fast: x}", "2 Shape at 1"),
+    ("{id: a, name: A, language: fail, entry: e, x_reads: '(', stages: [never]}", "4 BadStage at 1"),
+    ("{id: a, name: A, language: fail, entry: e, x_reads: [x], exclude: '('}", "7 BadPattern at 1"),
+    ("{id: a, name: A, language: pygrep, entry: e, x_reads: '(', args: [b]}", "9 BadArgs at 1"),
+    ("{id: a, name: A, language: system, entry: '', x_reads: '('}", "8 BadEntry at 1"),
+    ("{id: a, name: A, language: fail, entry: e, x_per_file: x, stages: [never]}", "4 BadStage at 1"),
+    ("{id: a, name: A, language: fail, entry: e, x_per_file: x, x_reads: '('}", "7 BadPattern at 1"),
+    ("{id: a, name: A, language: fail, entry: e, x_per_file: x}, {}", "2 Shape at 1"),
 ]
 
 # A fault has its hook's number over all repositories.
@@ -415,6 +443,11 @@ FIELDS = [
     ("verbose: true", {"verbose": "true"}),
     ("pass_filenames: false", {"pass_filenames": "false"}),
     ("fail_fast: true", {"fail_fast": "true"}),
+    ("x_reads: b", {"x_reads": "b"}),
+    ("x_reads: ''", {"x_reads": ""}),
+    ("x_reads: '^lint\\.cfg$', files: '^a/', exclude: '^b/'", {"files": "^a/", "exclude": "^b/", "x_reads": "^lint\\.cfg$"}),
+    ("x_per_file: true", {"x_per_file": "true"}),
+    ("x_per_file: Off", {}),
     ("log_file: ''", {}),
     ("additional_dependencies: []", {}),
 ]
@@ -478,6 +511,8 @@ UNKNOWN_KEYS = [
         "id: 1\nrepo: 2\nRepos: 3\nrepos:\n- repo: local\n  id: 4\n  fail_fast: 5\n  hooks:\n  - repo: 6\n    id: a\n    name: A\n    language: fail\n    entry: e\n",
         "1 hooks, false id repo Repos id fail_fast repo",
     ),
+    # Two keys that a hook alone has.
+    ("x_reads: '('\nx_per_file: 1\nrepos:\n- repo: local\n  x_per_file: 2\n  hooks: []\n", "0 hooks, false x_reads x_per_file x_per_file"),
 ]
 
 # 500 hooks in two repositories.
@@ -567,6 +602,7 @@ ROWS = [
     *both([(THIRD_HOOK, "2 Shape at 3")]),
     *both(LANGUAGES),
     *both((with_command(language, keys), said) for language in STARTED for keys, said in COMMANDS),
+    *both((with_command(language, f"entry: e, {keys}"), said) for language in FOUR_LANGUAGES for keys, said in KEYS_OF_CHILDREN),
     *both(prefixes([*PIECES, ("\n", "1 hooks, false")])),
     *both(each for text in BLOCK_TEXTS for each in prefixes([("e", "2 Shape at 0"), (text[1:], "3 MissingKey at 0")])),
     *both(prefixes(PATTERN_PIECES)),
@@ -574,7 +610,7 @@ ROWS = [
     *both((with_pygrep(keys), said) for keys, said in PYGREP_KEYS),
     *(("top_patterns", f"{keys}{ONE_HOOK}", said) for keys, said in TOP_PATTERNS),
     *(("top_patterns", f"{ONE_HOOK}{keys}", said) for keys, said in TOP_PATTERNS),
-    *both([(f"files: {TOO_BIG}\n{ONE_HOOK}", "7 BadPattern at 0"), (f"{ONE_HOOK}    exclude: {TOO_BIG}\n", "7 BadPattern at 1")]),
+    *both([(f"files: {TOO_BIG}\n{ONE_HOOK}", "7 BadPattern at 0"), (f"{ONE_HOOK}    exclude: {TOO_BIG}\n", "7 BadPattern at 1"), (f"{ONE_HOOK}    x_reads: {TOO_BIG}\n", "7 BadPattern at 1")]),
     *both([(f"{START}  - {{id: a, name: A, language: pygrep, entry: '{TOO_BIG}'}}\n", "7 BadPattern at 1")]),
     ("top_patterns", f"files: '{LONG}'\n{ONE_HOOK}", f"{LONG}|^$"),
     ("top_patterns", f"files: '{LONGEST}'\n{ONE_HOOK}", "7 BadPattern at 0"),
@@ -583,6 +619,10 @@ ROWS = [
     ("hooks", ONE_HOOK, hook_line({"id": "names", "name": "Check names", "entry and args": "no such names"})),
     *(("hooks", in_a_hook(keys), hook_line(changed)) for keys, changed in FIELDS),
     ("hooks", with_pygrep("entry: e, args: [-i, --negate]"), hook_line({"language": "Pygrep", "entry and args": "e+-i+--negate"})),
+    *(
+        ("hooks", with_command(word.lower(), "entry: e, x_reads: b, x_per_file: true"), hook_line({"language": word, "x_reads": "b", "x_per_file": "true"}))
+        for word in ["Fail", "Pygrep", "System", "Script"]
+    ),
     *both([(f"{WITH_PATTERNS}{PLAIN_HOOK}", "11 TooMany at 501"), (WITH_PATTERNS, "500 hooks, false")]),
     ("node", WITH_NODE, NODE),
     ("hooks_with_node", WITH_NODE, hook_line({})),

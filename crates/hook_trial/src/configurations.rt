@@ -99,7 +99,8 @@ fn hook_lines(alloc: Global, hooks: &[Hook]) -> Answer {
     let mut answer = Answer::new(alloc);
     for hook in hooks {
         answer = with_selection(with_names(answer, hook), hook);
-        answer = with_unserved(with_truths(answer, hook), hook);
+        answer = with_reads(with_truths(answer, hook), hook);
+        answer = with_unserved(answer, hook);
     }
     answer
 }
@@ -135,6 +136,13 @@ fn with_selection(answer: Answer, hook: &Hook) -> Answer {
 fn with_truths(answer: Answer, hook: &Hook) -> Answer {
     let answer = with_truth(with_truth(answer, hook.always_run), hook.verbose);
     with_truth(with_truth(answer, hook.pass_filenames), hook.fail_fast)
+}
+
+fn with_reads(answer: Answer, hook: &Hook) -> Answer {
+    with_truth(
+        answer.texts(&["|", text_of(&hook.x_reads)]),
+        hook.x_per_file,
+    )
 }
 
 fn with_truth(answer: Answer, truth: bool) -> Answer {
