@@ -124,6 +124,11 @@ fn tells_the_faults_of_the_configuration(rt: HostRuntime) -> Result<(), Fail> {
             "repos:\n- repo: local\n  hooks:\n  - id: lint\n    name: Lint\n    language: system\n    entry: lint\n    always_run: ture\n",
             ".pre-commit-config.yaml:8: hook 1 (`lint`): `always_run` is the text `ture`, and has to be an unquoted `true` or `false` (did you mean `true`?)\n      always_run: ture\n                  ^\n",
         ),
+        // a truth of a hook's parts that is misspelt
+        (
+            "repos:\n- repo: local\n  hooks:\n  - id: lint\n    name: Lint\n    language: system\n    entry: lint\n    x_per_file: ture\n",
+            ".pre-commit-config.yaml:8: hook 1 (`lint`): `x_per_file` is the text `ture`, and has to be an unquoted `true` or `false` (did you mean `true`?)\n      x_per_file: ture\n                  ^\n",
+        ),
         // a text in the place of a list
         (
             "repos:\n- repo: local\n  hooks:\n  - id: lint\n    name: Lint\n    language: system\n    entry: lint\n    args: --fix\n",
@@ -193,6 +198,11 @@ fn tells_the_faults_of_the_configuration(rt: HostRuntime) -> Result<(), Fail> {
         (
             "repos:\n- repo: local\n  hooks:\n  - id: lint\n    name: Lint\n    language: system\n    entry: lint\n    files: '(?!x)'\n",
             ".pre-commit-config.yaml:8: hook 1 (`lint`): `files` is the quoted text `(?!x)`, and has to be a pattern of the crate `regex`: do without lookaround and back references, or make it shorter\n      files: '(?!x)'\n             ^\n",
+        ),
+        // a pattern of further files
+        (
+            "repos:\n- repo: local\n  hooks:\n  - id: lint\n    name: Lint\n    language: system\n    entry: lint\n    x_reads: '('\n",
+            ".pre-commit-config.yaml:8: hook 1 (`lint`): `x_reads` is the quoted text `(`, and has to be a pattern of the crate `regex`: do without lookaround and back references, or make it shorter\n      x_reads: '('\n               ^\n",
         ),
         // a pattern at the top
         (
@@ -280,6 +290,11 @@ fn tells_of_what_is_taken(rt: HostRuntime) -> Result<(), Fail> {
         (
             "ci: {}\nfoo: 1\nrepos:\n- repo: local\n  hooks:\n  - id: lint\n    name: Lint\n    language: system\n    entry: lint\n    file: x\n    stages: [pre-commit]\n    zeta: 1\n  rev: v1\n",
             ".pre-commit-config.yaml: taken, hooks: 1\npre-commit:\n  hook 1 (`lint`): system `lint`\nignored keys:\n  line 2: `foo` at the top\n  line 10: `file` of hook 1 (`lint`) (did you mean `files`?)\n  line 12: `zeta` of hook 1 (`lint`)\n  line 13: `rev` of repository 1\n",
+        ),
+        // the two keys that pre-commit has not, at the top too, and one that is misspelt
+        (
+            "x_per_file: true\nrepos:\n- repo: local\n  hooks:\n  - id: lint\n    name: Lint\n    language: system\n    entry: lint\n    stages: [pre-commit]\n    x_reads: ^a\n    x_per_file: true\n    x_read: ^a\n",
+            ".pre-commit-config.yaml: taken, hooks: 1\npre-commit:\n  hook 1 (`lint`): system `lint`\nignored keys:\n  line 1: `x_per_file` at the top\n  line 12: `x_read` of hook 1 (`lint`) (did you mean `x_reads`?)\n",
         ),
         // an ignored key in a flow
         (
