@@ -17,7 +17,7 @@ use Rattle.hook_run.specs.declared.gathered.Gathered.{Gathered}
 use Rattle.hook_run.specs.declared.run_ask.RunAsk.{RunAsk}
 use Rattle.hook_run.specs.Asks.{is_skipped}
 use Rattle.hook_run.specs.HookRun.{AreItsParts, IsCommandRun, IsEnding, IsHookRun, commands_of, ending_of_misfit, further_of, most_names_of, rules_of, sees_whole}
-use Rattle.hook_run.specs.Limits.{most_command_bytes, most_names}
+use Rattle.hook_run.specs.Limits.{most_command_bytes}
 use Rattle.hook_run.specs.Parts.{ArePartsOf, Part}
 use Rattle.hook_run.specs.PartsEnding.{ending_of_parts}
 use Rattle.hook_run.specs.Plans.{AtHook, ending_of_gathered, nothing_gathered}
@@ -106,10 +106,10 @@ command-begun_if hook words names tree before cuts gathered (Ok begun) fitting c
 command-begun_if hook words names tree before cuts gathered (Err refusal) fitting cut same none is = tt
 
 -- the cuts that are given of a command
-pub cuts-given : (words names : List (List ℕ)) (all : Option (List Cut)) (cuts : List Cut) → all ≡ Some cuts
+pub cuts-given : (hook : Hook) (words names : List (List ℕ)) (all : Option (List Cut)) (cuts : List Cut) → all ≡ Some cuts
     → MatchOption all (IsSome (too_long_at (fits words most_command_bytes) names))
-    (λ given. (too_long_at (fits words most_command_bytes) names ≡ None) × AreParts (fits words most_command_bytes) most_names names given)
-    → (too_long_at (fits words most_command_bytes) names ≡ None) × AreParts (fits words most_command_bytes) most_names names cuts
-cuts-given words names all cuts same given =
+    (λ given. (too_long_at (fits words most_command_bytes) names ≡ None) × AreParts (fits words most_command_bytes) (most_names_of hook) names given)
+    → (too_long_at (fits words most_command_bytes) names ≡ None) × AreParts (fits words most_command_bytes) (most_names_of hook) names cuts
+cuts-given hook words names all cuts same given =
     subst (λ (some : Option (List Cut)). MatchOption some (IsSome (too_long_at (fits words most_command_bytes) names))
-    (λ each. (too_long_at (fits words most_command_bytes) names ≡ None) × AreParts (fits words most_command_bytes) most_names names each)) same given
+    (λ each. (too_long_at (fits words most_command_bytes) names ≡ None) × AreParts (fits words most_command_bytes) (most_names_of hook) names each)) same given

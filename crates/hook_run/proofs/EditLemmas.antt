@@ -15,7 +15,8 @@ use Rattle.builtin_hooks.specs.GrepAnswer.{entry_text, grep_output}
 use Rattle.builtin_hooks.specs.Search.{Search}
 use Rattle.child_port.specs.Seen.{is_seen_path, seen_of}
 use Rattle.path_select.specs.Candidates.{is_candidate, passes}
-use Rattle.path_select.specs.Selection.{RuleTexts, fits_hook, is_selected, selected}
+use Rattle.path_select.specs.Patterns.{is_found}
+use Rattle.path_select.specs.Selection.{RuleTexts, fits_hook, found_in, is_selected, selected}
 use Rattle.hook_run.specs.PartsEnding.{has_changed, is_modified, is_modified_row, is_tracked}
 
 -- what stands at a path in place of the file that does
@@ -228,6 +229,18 @@ module _ (edit : Edit) where
         | true ↦ ap (λ (paths : List (List ℕ)). row.path ∷ paths) rest
         | false ↦ rest
       ])
+
+  -- a pattern is found in the same paths
+  pub found-same : (pattern : List ℕ) (tree : List File) → found_in pattern (edited edit tree) ≡ found_in pattern tree
+  found-same pattern [] = refl
+  found-same pattern (row ∷ rows) =
+      let rest = found-same pattern rows in
+      let kept = filter (λ (one : File). is_found pattern one.path) rows in
+      let kept_edited = filter (λ (one : File). is_found pattern one.path) (edited edit rows) in
+      elim (is_found pattern row.path) as (λ b. map path_of (if b then edited_row edit row ∷ kept_edited else kept_edited) ≡ map path_of (if b then row ∷ kept else kept)) [
+        | true ↦ ap (λ (paths : List (List ℕ)). row.path ∷ paths) rest
+        | false ↦ rest
+      ]
 
   pub output-same : (search : Search) (names : List (List ℕ)) (tree : List File) → Each (λ name. edit name ≡ None) names → grep_output search names (edited edit tree) ≡ grep_output search names tree
   output-same search [] tree each = refl

@@ -12,6 +12,7 @@ use Rattle.child_port.specs.Outcomes.{after_outcome}
 use Rattle.child_port.specs.Seen.{plain_word, seen_of}
 use Rattle.child_port.specs.declared.answer.Outcome.{Outcome}
 use Rattle.child_port.specs.declared.answer.Outcome.TheVariants.{Done, Failed}
+use Rattle.hook_config.specs.Patterns.{no_path}
 use Rattle.hook_config.specs.declared.configuration.Config.{Config}
 use Rattle.hook_config.specs.declared.configuration.Hook.{Hook}
 use Rattle.hook_config.specs.declared.configuration.Language.{Language}
@@ -31,7 +32,7 @@ use Rattle.hook_run.specs.Parts.{ArePartsOf, Part, after_parts, all_parts}
 use Rattle.hook_run.specs.PartsEnding.{ending_of_parts, greatest_status, is_modified, joined_output, line_faults}
 use Rattle.hook_run.specs.StageRun.{IsRun, is_last}
 use Rattle.hook_run.specs.UnseenEdits.{path_of_first, script_path, strays}
-use Rattle.hook_run.proofs.EditLemmas.{Edit, changes-commute, changes-elsewhere, edited, entry-unedited, keeps-to-seen, modified-same, not-there, output-same, seen-commutes, selected-candidates, selected-same, tree-unedited, unseen-elsewhere}
+use Rattle.hook_run.proofs.EditLemmas.{Edit, changes-commute, changes-elsewhere, edited, entry-unedited, found-same, keeps-to-seen, modified-same, not-there, output-same, seen-commutes, selected-candidates, selected-same, tree-unedited, unseen-elsewhere}
 
 -- no child of the parts sees a file at the path
 abbrev pub Unseen : List Part → List ℕ → Type 0
@@ -137,6 +138,10 @@ module _ (edit : Edit) where
       ∙ modified-same edit tree (after_parts tree parts) rising
       (weaker (Unseen parts) (λ path. entry_of path (after_parts tree parts) ≡ entry_of path tree) (λ path not_seen. parts-kept path tree parts not_seen kept) unseen))
 
+  further-edited : (hook : Hook) (tree : List File) → further_of hook (edited edit tree) ≡ further_of hook tree
+  further-edited hook tree =
+      ap (λ (found : List (List ℕ)). if bytes_eq hook.x_reads no_path then [] else found) (found-same edit hook.x_reads tree)
+
   command-edited : (hook : Hook) (words names : List (List ℕ)) (tree : List File) (parts : List Part) (ending : Ending) → IsRising tree → WhereEdited (Unseen parts) → KeepTo parts
       → IsCommandRun hook words names tree parts ending → IsCommandRun hook words names (edited edit tree) parts ending
   command-edited hook words names tree parts ending rising unseen kept is =
@@ -145,7 +150,7 @@ module _ (edit : Edit) where
         record {
           cuts = run.0.cuts;
           cut = run.0.cut;
-          run = parts-edited (sees_whole hook) (further_of hook) (λ t. refl) (commands_of words names run.0.cuts) tree parts unseen kept run.0.run;
+          run = parts-edited (sees_whole hook) (further_of hook) (further-edited hook) (commands_of words names run.0.cuts) tree parts unseen kept run.0.run;
         },
         run.1 ∙ sym (ending-edited tree parts rising unseen kept),
       ))

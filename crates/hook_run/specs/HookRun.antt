@@ -1,12 +1,14 @@
 -- What one hook of a run ends with, on the tree that the hooks before it left, and its parts: each is a child of it.
 use Rattle.std.specs.Prelude.{◌≡◌, ℕ, Bool, ◌&&◌, true, false, not, MatchBool, MatchOption, if◌then◌else◌, List, [], ◌∷◌, ◌++◌, map}
+use Rattle.std.specs.Str.{bytes_eq}
 use Rattle.arg_partition.specs.declared.cut.Cut.{Cut}
 use Rattle.arg_partition.specs.Parts.{AreParts, fits, names_of, too_long_at}
 use Rattle.hook_base.specs.declared.file.File.{File}
 use Rattle.child_port.specs.declared.answer.Answer.{Answer}
-use Rattle.path_select.specs.Selection.{RuleTexts, selected}
+use Rattle.path_select.specs.Selection.{RuleTexts, found_in, selected}
 use Rattle.builtin_hooks.specs.FailAnswer.{fail_answer}
 use Rattle.builtin_hooks.specs.GrepAnswer.{grep_answer}
+use Rattle.hook_config.specs.Patterns.{no_path}
 use Rattle.hook_config.specs.declared.configuration.Config.{Config}
 use Rattle.hook_config.specs.declared.configuration.Hook.{Hook}
 use Rattle.hook_config.specs.declared.configuration.Language.{Language}
@@ -51,13 +53,14 @@ AnswersItself answer parts ending = (parts ≡ []) × (ending ≡ ending_of_answ
 abbrev pub sees_whole : Hook → Bool
 sees_whole hook = not hook.pass_filenames
 
--- further files that the hook's children see, whatever their words name: none
+-- further files that the hook's children see, whatever their words name: those of the tree in whose path the pattern is found,
+-- by default none. Neither the patterns of the whole configuration nor tags nor candidates keep a file off.
 abbrev pub further_of : Hook → List File → List (List ℕ)
-further_of hook tree = []
+further_of hook tree = if bytes_eq hook.x_reads no_path then [] else found_in hook.x_reads tree
 
 -- the most names of one part of the hook
 abbrev pub most_names_of : Hook → ℕ
-most_names_of hook = most_names
+most_names_of hook = if hook.x_per_file then 1 else most_names
 
 -- the commands of the parts that names are cut into
 abbrev pub commands_of : List (List ℕ) → List (List ℕ) → List Cut → List (List (List ℕ))

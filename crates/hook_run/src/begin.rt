@@ -1,11 +1,11 @@
 //! How a hook begins.
 
-ghost use Rattle.std.specs.Prelude.{◌≡◌, IfOk, IsSome, MatchOption, None};
+ghost use Rattle.std.specs.Prelude.{◌≡◌, ◌≤◌, IfOk, IsSome, MatchOption, None};
 ghost use Rattle.arg_partition.specs.Parts.{AreParts, fits, too_long_at};
 ghost use Rattle.path_select.specs.KnownTags.{AreTagsOf};
 ghost use Rattle.path_select.specs.Selection.{texts_of_rules};
-ghost use Rattle.hook_run.specs.HookRun.{IsCommandRun, IsEnding, IsHookRun, IsLanguageRun, ending_of_answer, ending_of_misfit, names_for, rules_of};
-ghost use Rattle.hook_run.specs.Limits.{most_command_bytes, most_names};
+ghost use Rattle.hook_run.specs.HookRun.{IsCommandRun, IsEnding, IsHookRun, IsLanguageRun, ending_of_answer, ending_of_misfit, most_names_of, names_for, rules_of};
+ghost use Rattle.hook_run.specs.Limits.{most_command_bytes};
 ghost use Rattle.hook_run.specs.Standing.{HasBegun, IsCourse};
 
 use crate::asked::is_skipped;
@@ -137,7 +137,7 @@ fn begin_command<'a>(
 ) -> Result<Begun<'a>, OutOfMemory>
     ensures { IfOk result (HasBegun (IsCommandRun hook.now words names tree.now) hook.now tree.now) }
 {
-    let Some(cuts) = cuts_of(alloc, &words, &names)? else {
+    let Some(cuts) = cuts_of(alloc, hook, &words, &names)? else {
         return Ok(Begun::Ended(ending_of_misfit(alloc)?, false));
     };
     let before = tree.copy()?;
@@ -157,17 +157,27 @@ fn begin_command<'a>(
 // The parts of the command, or `None` where a name doesn't fit with the words alone, or without names the words don't.
 fn cuts_of(
     alloc: Global,
+    hook: &Hook,
     words: &Items<Text>,
     names: &Items<RepoPath>,
 ) -> Result<Option<Items<Cut>>, OutOfMemory>
-    ensures { IfOk result (λ cuts. MatchOption cuts (IsSome (too_long_at (fits words.now most_command_bytes) names.now)) (λ cuts. (too_long_at (fits words.now most_command_bytes) names.now ≡ None) × AreParts (fits words.now most_command_bytes) most_names names.now cuts)) }
+    ensures { IfOk result (λ cuts. MatchOption cuts (IsSome (too_long_at (fits words.now most_command_bytes) names.now)) (λ cuts. (too_long_at (fits words.now most_command_bytes) names.now ≡ None) × AreParts (fits words.now most_command_bytes) (most_names_of hook.now) names.now cuts)) }
 {
     let limit = MOST_COMMAND_BYTES;
-    match parts(alloc, words.as_slice(), names.as_slice(), limit, MOST_NAMES) {
+    let most = most_names_of(hook);
+    match parts(alloc, words.as_slice(), names.as_slice(), limit, most) {
         Ok(cuts) => Ok(Some(cuts)),
         Err(PartsFault::TooLong(_)) => Ok(None),
         Err(PartsFault::OutOfMemory) => Err(OutOfMemory),
     }
+}
+
+// The most names of one part of the hook.
+fn most_names_of(hook: &Hook) -> usize
+    ensures most { result ≡ most_names_of hook.now }
+    ensures some { 1 ≤ result }
+{
+    if hook.x_per_file { 1 } else { MOST_NAMES }
 }
 
 fn ending_of_misfit(alloc: Global) -> Result<Ending, OutOfMemory>

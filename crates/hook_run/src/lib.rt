@@ -27,6 +27,7 @@ mod begin;
 mod begun;
 mod command;
 mod course;
+mod further;
 mod gathered;
 pub mod laws;
 mod limits;

@@ -2,11 +2,13 @@
 
 ghost use Rattle.std.specs.Prelude.{◌≡◌, ◌≤◌, ◌<◌, ◌++◌, IfOk, length};
 ghost use Rattle.arg_partition.specs.Parts.{names_of};
+ghost use Rattle.child_port.specs.Seen.{seen_of};
 ghost use Rattle.hook_run.specs.HookRun.{further_of, sees_whole};
 ghost use Rattle.hook_run.specs.Plans.{gathered_with};
 ghost use Rattle.hook_run.specs.Standing.{HasGoneOn, at_work, with_gathered};
 
 use crate::begun::Begun;
+use crate::further::further_of;
 use crate::gathered::{Gathered, gathered_with};
 use crate::modified::is_modified;
 use crate::waiting::Waiting;
@@ -59,19 +61,22 @@ fn waits<'a>(alloc: Global, work: Work<'a>, tree: &Tree) -> Result<Begun<'a>, Ou
     let cut = work.cuts.as_slice()[work.begun];
     let names = names_of(work.names.as_slice(), cut);
     let command = command_with(alloc, work.words.as_slice(), names)?;
-    let seen = seen_of(
-        alloc,
-        command.as_slice(),
-        &[],
-        !work.hook.pass_filenames,
-        tree,
-    )?;
+    let seen = seen_by(alloc, work.hook, command.as_slice(), tree)?;
     work.begun += 1;
     Ok(Begun::Waits(Waiting {
         work,
         command,
         seen,
     }))
+}
+
+// The files of the tree that a child of this command of the hook sees.
+fn seen_by(alloc: Global, hook: &Hook, command: &[Text], tree: &Tree) -> Result<Tree, OutOfMemory>
+    ensures { IfOk result (λ seen. seen ≡ seen_of command.now (further_of hook.now tree.now) (sees_whole hook.now) tree.now) }
+{
+    let further = further_of(alloc, hook, tree)?;
+    let whole = !hook.pass_filenames;
+    seen_of(alloc, command, further.as_slice(), whole, tree)
 }
 
 // The hook has ended, as what its parts came to says.

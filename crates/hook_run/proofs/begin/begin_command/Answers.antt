@@ -3,6 +3,6 @@ use Rattle.hook_run.proofs.begin.begin_command.Goals as goal
 
 pub returns : goal.returns
 returns c =
-    let given = cuts-given c.args.words c.args.names c.in_ok-cuts.field-0 c.in-Some.cuts c.in-Some.is c.in_ok-cuts.ensures in
+    let given = cuts-given c.args.hook.now c.args.words c.args.names c.in_ok-cuts.field-0 c.in-Some.cuts c.in-Some.is c.in_ok-cuts.ensures in
     command-begun_if c.args.hook.now c.args.words c.args.names c.args.tree.now c.in_ok-before.before c.in-Some.cuts c.nothing_gathered-gathered.result c.go_on.result
     given.0 given.1 c.in_ok-before.ensures c.nothing_gathered-gathered.ensures c.go_on.ensures
