@@ -222,6 +222,12 @@ TWO_PARTS = [
     answered("c", LONG[31], seen=[f"{LONG[31]}=x"], status=3, output="two\n"),
 ]
 
+# A hook that reads a further file, and what its children see of it.
+READS = r"files: '\.txt$', x_reads: '^lint\.cfg$'"
+CFG, Y = file("lint.cfg", "strict\n"), file("b.txt", "y\n")
+STRICT, LOOSE = "lint.cfg=strict", "lint.cfg=loose"
+A_TXT_AND_B_TXT = "a.txt\nb.txt"
+
 # The lines of a child that failed.
 FAULTS = {
     "not started": "could not be started",
@@ -287,6 +293,30 @@ CHILDREN = [
          told("passed", 1, 0, "t: ran, status 0\n", line("T", "Passed"))),
     over(hooks(hook("T", "files: a, args: [./b.txt]", "system", "c -x")), [answered("c", "-x", "./b.txt", "a.txt", seen=["a.txt=x", "b.txt=y"])], [X, file("b.txt", "y\n"), file("d.txt", "z\n")],
          told("passed", 1, 0, "t: ran, status 0\n", line("T", "Passed"))),
+    # One sees the files that its hook reads, which no other pattern keeps off, and of which there may be none.
+    *(over(hooks(hook("T", f"{READS}, {more}", "system", "c"), top=top), [answered("c", "a.txt", seen=[*SEEN, STRICT])], [X, Y, CFG],
+           told("passed", 1, 0, "t: ran, status 0\n", line("T", "Passed")))
+      for more, top in [("verbose: false", ""), ("exclude: cfg, types: [text], exclude_types: [ini]", "exclude: ^lint\n")]),
+    over(hooks(hook("T", READS, "system", "c")), [answered("c", "a.txt", seen=SEEN)], [X], told("passed", 1, 0, "t: ran, status 0\n", line("T", "Passed"))),
+    over(hooks(hook("T", r"files: '\.txt$', x_reads: '^$'", "system", "c")), [answered("c", "a.txt", seen=SEEN)], [X, CFG], told("passed", 1, 0, "t: ran, status 0\n", line("T", "Passed"))),
+    # A change of such a file counts as any.
+    over(hooks(hook("T", READS, "system", "c")), [answered("c", "a.txt", seen=[*SEEN, STRICT], changes=LOOSE)], [X, CFG],
+         told("failed", 1, 0, "changed lint.cfg\n", "t: ran, status 0\n", details("T", "files were modified by this hook"))),
+    # A child for each name: all outputs, and the greatest status.
+    over(hooks(hook("T", r"files: '\.txt$', x_per_file: true", "system", "c")),
+         [answered("c", "a.txt", seen=SEEN, output="one\n"), answered("c", "b.txt", seen=["b.txt=y"], status=2, output="two\n")], [X, Y],
+         told("failed", 2, 0, "t: ran, status 2\n", details("T", "exit code: 2", output="one\ntwo\n")), A_TXT_AND_B_TXT),
+    # The second sees the further file as the first left it, or none where that removed it.
+    over(hooks(hook("T", f"{READS}, x_per_file: true", "system", "c")),
+         [answered("c", "a.txt", seen=[*SEEN, STRICT], changes=LOOSE), answered("c", "b.txt", seen=["b.txt=y", LOOSE])], [X, Y, CFG],
+         told("failed", 2, 0, "changed lint.cfg\n", "t: ran, status 0\n", details("T", "files were modified by this hook")), A_TXT_AND_B_TXT),
+    over(hooks(hook("T", f"{READS}, x_per_file: true", "system", "c")),
+         [answered("c", "a.txt", seen=[*SEEN, STRICT], changes="lint.cfg"), answered("c", "b.txt", seen=["b.txt=y"])], [X, Y, CFG],
+         told("failed", 2, 0, "gone lint.cfg\n", "t: ran, status 0\n", details("T", "files were modified by this hook")), A_TXT_AND_B_TXT),
+    # Without names there is one child, and hooks that start none have all names at once.
+    over(hooks(hook("T", "pass_filenames: false, x_per_file: true", "system", "c")), [answered("c", seen=[*SEEN, "b.txt=y"])], [X, Y],
+         told("passed", 1, 0, "t: ran, status 0\n", line("T", "Passed")), A_TXT_AND_B_TXT),
+    over(hooks(hook("One", "x_per_file: true, x_reads: b")), [], [X, Y], told("failed", 0, 0, "one: ran, status 1\n", failed("One", "a.txt", "b.txt")), A_TXT_AND_B_TXT),
     # It always runs: without selected files once, without names.
     over(hooks(hook("T", "files: zz, always_run: true", "system", "c")), [answered("c", seen=[])], [X], told("passed", 1, 0, "t: ran, status 0\n", line("T", "Passed"))),
     # No hook runs behind one whose child failed, where it stops.
