@@ -1,6 +1,7 @@
 //! The mark of a run: a file beside its scratch folder, which stands there from before its first child until it ends.
 
 use crate::place::standing;
+use std::alloc::Global;
 use std::fs::{File, Files, OpenOptions, TryLockError};
 use std::io::ErrorKind;
 use std::os::fd::AsRawFd;
@@ -43,7 +44,12 @@ enum MarkFile {
 
 impl Mark {
     /// Sets the mark at a place. An error where anything but a file stands there.
-    pub(crate) fn set<R: Files<File = File>>(files: &R, place: String) -> io::Result<Marking> {
+    pub(crate) fn set<R: Files<File = File>>(
+        files: &R,
+        alloc: Global,
+        place: &str,
+    ) -> io::Result<Marking> {
+        let place = String::from_str(alloc, place)?;
         for _ in 0..u64::MAX {
             let (file, is_new) = match open(files, place.as_str())? {
                 MarkFile::New(file) => (file, true),

@@ -100,11 +100,7 @@ fn mark_of<R: Files<File = File>>(
     place: &str,
 ) -> Result<Option<Mark>, Trouble> {
     let at = mark_place(alloc, place)?;
-    match at_place(
-        alloc,
-        at.as_str(),
-        Mark::set(files, mark_place(alloc, place)?),
-    )? {
+    match at_place(alloc, at.as_str(), Mark::set(files, alloc, at.as_str()))? {
         Marking::InUse => Ok(None),
         Marking::Set(mark) => Ok(Some(mark)),
         Marking::TakenOver(mark) => {
