@@ -16,21 +16,12 @@ const FILE_BYTES: i32 = 1;
 /// How many bytes are read at once.
 pub(crate) const PIECE_BYTES: usize = 65_536;
 
-/// The stamp of an open file, from before it was read, where it contains these bytes. `None` where it doesn't.
-pub(crate) fn stamp_where_equal<F: Read + OpenFile>(
+/// Whether what is left to read of an open file begins with these bytes.
+pub(crate) fn begins_with<F: Read>(
     file: &mut F,
     bytes: &[u8],
     piece: &mut [u8],
-) -> io::Result<Option<Stamp>> {
-    let stamp = Stamp::of(&file.metadata()?);
-    if stamp.length() == bytes.len() as u64 && begins_with(file, bytes, piece)? {
-        Ok(Some(stamp))
-    } else {
-        Ok(None)
-    }
-}
-
-fn begins_with<F: Read>(file: &mut F, bytes: &[u8], piece: &mut [u8]) -> io::Result<bool> {
+) -> io::Result<bool> {
     let mut left = bytes;
     for _ in 0..u64::MAX {
         if left.is_empty() {

@@ -1,6 +1,6 @@
 //! The scratch folder, made to hold the files of a tree and nothing else.
 
-use crate::contents::{stamp_where_equal, write_new};
+use crate::contents::{begins_with, write_new};
 use crate::folders::{folder_at, shared_bytes};
 use crate::fresh::Fresh;
 use crate::known_files::KnownFiles;
@@ -217,9 +217,12 @@ impl<'a, R: Files> Keeping<'a, R> {
     }
 
     // Whether a file is known to be as a new one, and to contain what the tree's does: then it is what stands at its path, whatever
-    // leads there.
+    // leads there. A file of which nothing is known isn't looked at here.
     fn is_known(&mut self, file: &SharedFile) -> io::Result<bool> {
         let (path, bytes) = (&file.as_file().path, &file.as_file().entry.bytes);
+        if !self.known.has(path.as_str()) {
+            return Ok(false);
+        }
         let place = self.own.look_place(path.as_str())?;
         let Some(found) = standing(self.files, place.as_str())? else {
             return Ok(false);
@@ -244,13 +247,12 @@ impl<'a, R: Files> Keeping<'a, R> {
         let Some(mut opened) = self.own.open(self.files, place, found)? else {
             return Ok(false);
         };
-        match stamp_where_equal(&mut opened, bytes.as_slice(), piece)? {
-            Some(stamp) => {
-                self.known.note_read(file, stamp)?;
-                Ok(true)
-            }
-            None => Ok(false),
+        let is_equal = opened.stamp.length() == bytes.len() as u64
+            && begins_with(&mut opened.file, bytes.as_slice(), piece)?;
+        if is_equal {
+            self.known.note_read(file, opened.stamp)?;
         }
+        Ok(is_equal)
     }
 
     fn finish(&mut self) -> io::Result<()> {

@@ -95,6 +95,12 @@ impl KnownFiles {
         self.times.child_starts(folder);
     }
 
+    /// Whether the file at a path was read, so that a look at it may tell that it needn't be read again.
+    pub(crate) fn has(&mut self, path: &str) -> bool {
+        self.known_at(path)
+            .is_some_and(|known| known.noted == Noted::Read)
+    }
+
     /// Whether what was found at a file's place is known to contain what the file does.
     pub(crate) fn are_equal(&mut self, file: &File, found: &Metadata) -> bool {
         self.are_unchanged(file, found)

@@ -2,11 +2,11 @@
 
 use crate::held_folder::HeldFolder;
 use crate::place::{place_in, standing};
+use crate::stamp::Stamp;
 use crate::trouble::Trouble;
 use std::alloc::{AllocError, Global};
 use std::fs::{Files, Metadata, OpenFile, OpenOptions};
 use std::io::ErrorKind;
-use std::os::unix::fs::MetadataExt;
 use std::{fs, io};
 
 // Where the system shows what a process has open.
@@ -17,6 +17,15 @@ const MOST_LOOKED_AT: usize = libc::PATH_MAX - 1;
 
 // No such device or address: what a socket says that is opened.
 const ENXIO: i32 = 6;
+
+/// A file that was opened to be read.
+#[derive(Drop)]
+pub(crate) struct Opened<F: Drop> {
+    /// The open file.
+    pub file: F,
+    /// Its stamp, from before it is read.
+    pub stamp: Stamp,
+}
 
 /// The files of the scratch folder, as they are found and opened by their paths: each in its folder, which is held open, so
 /// that nothing is found behind a link, be it put in the folder's place in this moment, and a path may be longer than the
@@ -133,7 +142,7 @@ impl<'a> OwnFiles<'a> {
         files: &R,
         place: &str,
         found: &Metadata,
-    ) -> io::Result<Option<R::File>> {
+    ) -> io::Result<Option<Opened<R::File>>> {
         let mut options = OpenOptions::new();
         let opened = match options.read(true).write(true).open(files, place) {
             Err(e) if may_be_read(&e) => self.open_to_read(files, place),
@@ -141,9 +150,8 @@ impl<'a> OwnFiles<'a> {
         };
         match opened {
             Ok(file) => {
-                let opened = file.metadata()?;
-                let is_found = opened.dev() == found.dev() && opened.ino() == found.ino();
-                Ok(is_found.then_some(file))
+                let stamp = Stamp::of(&file.metadata()?);
+                Ok(stamp.is_of(found).then_some(Opened { file, stamp }))
             }
             Err(e) if is_no_file(&e) => Ok(None),
             Err(e) => Err(e),

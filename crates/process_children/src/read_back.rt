@@ -1,14 +1,14 @@
 //! What a child made of the files of its tree.
 
-use crate::contents::{read_open, stamp_where_equal};
+use crate::contents::{begins_with, read_open};
 use crate::folders::{folder_at, shared_bytes};
 use crate::known_files::KnownFiles;
-use crate::own_files::OwnFiles;
+use crate::own_files::{Opened, OwnFiles};
 use crate::place::{refuse_link, refuse_links_to, standing};
 use crate::trouble::{Trouble, at_place};
 use hook_base::{Bytes, Change, Changes, Content, File, MOST_FILE_BYTES, Tree};
 use std::alloc::{AllocError, Global};
-use std::fs::{Files, Metadata, OpenFile};
+use std::fs::{Files, Metadata};
 use std::io;
 use std::io::{ErrorKind, Read, Seek, SeekFrom};
 
@@ -45,75 +45,126 @@ fn changes_of<R: Files>(
 ) -> Result<Vec<Change>, Trouble> {
     at_place(alloc, folder, refuse_links_to(files, folder))?;
     known.begin();
-    let mut own = OwnFiles::of(files, alloc, folder);
-    let mut changes = Vec::new(alloc);
-    let mut before = "";
-    for index in 0..tree.len() {
-        let file = tree.entry(index);
-        let path = file.path.as_str();
-        let links = refuse_links(files, &mut own, path, shared_bytes(before, path));
-        own.at(path, links)?;
-        let change = change_of(files, alloc, &mut own, file, known, piece);
-        if let Some(change) = own.at(path, change)? {
-            changes.push(change).map_err(AllocError::from)?;
-        }
-        before = path;
-    }
-    Ok(changes)
+    let mut reading = Reading {
+        files,
+        alloc,
+        own: OwnFiles::of(files, alloc, folder),
+        known,
+    };
+    reading.changes(tree, piece)
 }
 
-fn refuse_links<R: Files>(
-    files: &R,
-    own: &mut OwnFiles<'_>,
-    path: &str,
-    shared: usize,
-) -> io::Result<()> {
-    for at in shared..path.len() {
-        if let Some(inner) = folder_at(path, at) {
-            match own.look_place(inner) {
-                Ok(place) => refuse_link(files, place.as_str())?,
-                Err(e) if is_gone(&e) => return Ok(()),
-                Err(e) => return Err(e),
+// What is needed while the files of a tree are read back.
+#[derive(Drop)]
+struct Reading<'a, R: Files> {
+    files: &'a R,
+    alloc: Global,
+    own: OwnFiles<'a>,
+    known: &'a mut KnownFiles,
+}
+
+impl<'a, R: Files> Reading<'a, R> {
+    // Each file that changed, and before the first of each folder that folder.
+    fn changes(&mut self, tree: &Tree, piece: &mut [u8]) -> Result<Vec<Change>, Trouble> {
+        let mut changes = Vec::new(self.alloc);
+        let mut before = "";
+        for index in 0..tree.len() {
+            let file = tree.entry(index);
+            let path = file.path.as_str();
+            let links = self.refuse_links(path, shared_bytes(before, path));
+            self.own.at(path, links)?;
+            let change = self.change_of(file, piece);
+            if let Some(change) = self.own.at(path, change)? {
+                changes.push(change).map_err(AllocError::from)?;
+            }
+            before = path;
+        }
+        Ok(changes)
+    }
+
+    fn refuse_links(&mut self, path: &str, shared: usize) -> io::Result<()> {
+        for at in shared..path.len() {
+            if let Some(inner) = folder_at(path, at) {
+                match self.own.look_place(inner) {
+                    Ok(place) => refuse_link(self.files, place.as_str())?,
+                    Err(e) if is_gone(&e) => return Ok(()),
+                    Err(e) => return Err(e),
+                }
             }
         }
+        Ok(())
     }
-    Ok(())
+
+    // What became of a file. An error where it is another one each time that it is opened.
+    fn change_of(&mut self, file: &File, piece: &mut [u8]) -> io::Result<Option<Change>> {
+        if self.is_unchanged(file)? {
+            return Ok(None);
+        }
+        let place = match self.own.place(file.path.as_str()) {
+            Ok(place) => place,
+            Err(e) if is_gone(&e) => return Ok(Some(change_to(file, None)?)),
+            Err(e) => return Err(e),
+        };
+        let place = place.as_str();
+        for _ in 0..MOST_LOOKS {
+            match look_at(self.files, place)? {
+                Look::Gone => return Ok(Some(change_to(file, None)?)),
+                Look::Open(found) => {
+                    if let Some(opened) = self.own.open(self.files, place, &found)? {
+                        return self.change_in(opened, file, piece);
+                    }
+                }
+            }
+        }
+        Err(io::Error::from(ErrorKind::ResourceBusy))
+    }
+
+    // Whether a file is known and unchanged: then it is what stands at its path, whatever leads there. Of which nothing is known
+    // isn't looked at here.
+    fn is_unchanged(&mut self, file: &File) -> io::Result<bool> {
+        let path = file.path.as_str();
+        if !self.known.has(path) {
+            return Ok(false);
+        }
+        let place = match self.own.look_place(path) {
+            Ok(place) => place,
+            Err(e) if is_gone(&e) => return Ok(false),
+            Err(e) => return Err(e),
+        };
+        match standing(self.files, place.as_str())? {
+            Some(found) => Ok(self.known.are_unchanged(file, &found)),
+            None => Ok(false),
+        }
+    }
+
+    // What an open file says of the change, which is read.
+    fn change_in<F: Read + Seek + Drop>(
+        &mut self,
+        opened: Opened<F>,
+        file: &File,
+        piece: &mut [u8],
+    ) -> io::Result<Option<Change>> {
+        let Opened {
+            file: mut open,
+            stamp,
+        } = opened;
+        let before = file.entry.bytes.as_slice();
+        if stamp.length() == before.len() as u64 {
+            if begins_with(&mut open, before, piece)? {
+                let _known = self.known.confirm(file, &stamp);
+                return Ok(None);
+            }
+            let _start = open.seek(SeekFrom::Start(0))?;
+        }
+        let bytes = Bytes::from(read_open(self.alloc, &mut open, piece)?);
+        let now = Content::hashed(self.alloc, bytes).map_err(|_refused| AllocError)?;
+        Ok(Some(change_to(file, Some(now))?))
+    }
 }
 
 // Whether an error says that no folder stands where a path leads through it.
 fn is_gone(error: &io::Error) -> bool {
     matches!(error.kind(), ErrorKind::NotFound | ErrorKind::NotADirectory)
-}
-
-// What became of a file. An error where it is another one each time that it is opened.
-fn change_of<R: Files>(
-    files: &R,
-    alloc: Global,
-    own: &mut OwnFiles<'_>,
-    file: &File,
-    known: &mut KnownFiles,
-    piece: &mut [u8],
-) -> io::Result<Option<Change>> {
-    if is_unchanged(files, own, file, known)? {
-        return Ok(None);
-    }
-    let place = match own.place(file.path.as_str()) {
-        Ok(place) => place,
-        Err(e) if is_gone(&e) => return Ok(Some(change_to(file, None)?)),
-        Err(e) => return Err(e),
-    };
-    for _ in 0..MOST_LOOKS {
-        match look_at(files, place.as_str())? {
-            Look::Gone => return Ok(Some(change_to(file, None)?)),
-            Look::Open(found) => {
-                let opened = own.open(files, place.as_str(), &found)?;
-                if let Some(mut opened) = opened {
-                    return read_change(alloc, &mut opened, &found, file, known, piece);
-                }
-            }
-        }
-    }
-    Err(io::Error::from(ErrorKind::ResourceBusy))
 }
 
 // What a look at a file's place says.
@@ -122,24 +173,6 @@ enum Look {
     Gone,
     // It has to be read.
     Open(Metadata),
-}
-
-// Whether a file is known and unchanged: then it is what stands at its path, whatever leads there.
-fn is_unchanged<R: Files>(
-    files: &R,
-    own: &mut OwnFiles<'_>,
-    file: &File,
-    known: &mut KnownFiles,
-) -> io::Result<bool> {
-    let place = match own.look_place(file.path.as_str()) {
-        Ok(place) => place,
-        Err(e) if is_gone(&e) => return Ok(false),
-        Err(e) => return Err(e),
-    };
-    match standing(files, place.as_str())? {
-        Some(found) => Ok(known.are_unchanged(file, &found)),
-        None => Ok(false),
-    }
 }
 
 fn look_at<R: Files>(files: &R, place: &str) -> io::Result<Look> {
@@ -155,27 +188,6 @@ fn look_at<R: Files>(files: &R, place: &str) -> io::Result<Look> {
         }
         Some(found) => Ok(Look::Open(found)),
     }
-}
-
-fn read_change<F: Read + Seek + OpenFile>(
-    alloc: Global,
-    opened: &mut F,
-    found: &Metadata,
-    file: &File,
-    known: &mut KnownFiles,
-    piece: &mut [u8],
-) -> io::Result<Option<Change>> {
-    let before = file.entry.bytes.as_slice();
-    if found.len() == before.len() as u64 {
-        if let Some(stamp) = stamp_where_equal(opened, before, piece)? {
-            let _known = known.confirm(file, &stamp);
-            return Ok(None);
-        }
-        let _start = opened.seek(SeekFrom::Start(0))?;
-    }
-    let bytes = Bytes::from(read_open(alloc, opened, piece)?);
-    let now = Content::hashed(alloc, bytes).map_err(|_refused| AllocError)?;
-    Ok(Some(change_to(file, Some(now))?))
 }
 
 fn change_to(file: &File, now: Option<Content>) -> io::Result<Change> {

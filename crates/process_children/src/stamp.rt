@@ -76,6 +76,11 @@ impl Stamp {
         }
     }
 
+    /// Whether it is of the file that was found, be that changed since.
+    pub(crate) fn is_of(&self, found: &Metadata) -> bool {
+        self.device == found.dev() && self.number == found.ino()
+    }
+
     /// The device that the file lies on.
     pub(crate) fn device(&self) -> u64 {
         self.device
