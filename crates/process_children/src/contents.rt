@@ -29,18 +29,11 @@ pub(crate) fn begins_with<F: Read>(
         }
         let count = read_some(file, piece)?;
         match left.split_at_checked(count) {
-            Some((first, rest)) if count > 0 && are_equal(first, &piece[..count]) => left = rest,
+            Some((first, rest)) if count > 0 && first == &piece[..count] => left = rest,
             _ => return Ok(false),
         }
     }
     Ok(false)
-}
-
-/// Whether two slices of one length are equal. It doesn't stop at the first difference, so that many bytes are compared at
-/// once.
-pub(crate) fn are_equal(a: &[u8], b: &[u8]) -> bool {
-    let pairs = a.iter().zip(b);
-    pairs.fold(0u8, |differing, (x, y)| differing | (*x ^ *y)) == 0
 }
 
 /// What the file at a place contains. An error of its own where that is more than a file may have.

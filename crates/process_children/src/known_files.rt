@@ -1,6 +1,5 @@
 //! Files of the scratch folder whose bytes are known without being read.
 
-use crate::contents::are_equal;
 use crate::file_ages::Times;
 use crate::stamp::Stamp;
 use hook_base::{File, SharedFile};
@@ -31,8 +30,7 @@ impl KnownFile {
     }
 
     fn has_bytes_of(&self, file: &File) -> bool {
-        let (known, bytes) = (&self.file.as_file().entry.bytes, &file.entry.bytes);
-        known.len() == bytes.len() && are_equal(known.as_slice(), bytes.as_slice())
+        self.file.as_file().entry.bytes == file.entry.bytes
     }
 }
 
