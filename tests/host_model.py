@@ -15,6 +15,8 @@ from typing import NamedTuple
 
 # The most bytes of a command, with one byte between words.
 MOST_COMMAND = 131_072
+# The pattern that is found in no path.
+NO_PATH = "^$"
 CONFIGURATION, MESSAGE = ".pre-commit-config.yaml", ".git/COMMIT_EDITMSG"
 TRIMMED = b"\t\n\v\f\r "
 NOT_STARTED, MISFIT = "could not be started", "a name does not fit the command"
@@ -29,8 +31,8 @@ FAULTS = {
 OUT_OF_MEMORY = "1 OutOfMemory"
 
 Hook = collections.namedtuple(
-    "Hook", "id name alias language entry args files always_run pass_filenames verbose fail_fast stages",
-    defaults=["", "system", "run", [], "", False, True, False, False, []],
+    "Hook", "id name alias language entry args files always_run pass_filenames verbose fail_fast stages x_reads x_per_file",
+    defaults=["", "system", "run", [], "", False, True, False, False, [], NO_PATH, False],
 )
 File = collections.namedtuple("File", "executable contents")
 Answer = collections.namedtuple("Answer", "status output changes")
@@ -48,7 +50,8 @@ def configuration_text(hooks, fails_fast=False):
 def keys_of(hook):
     """The keys of a hook whose values aren't those that it has without them."""
     keys = hook._asdict()
-    without = {"alias": "", "args": [], "files": "", "always_run": False, "pass_filenames": True, "verbose": False, "fail_fast": False, "stages": []}
+    without = {"alias": "", "args": [], "files": "", "always_run": False, "pass_filenames": True, "verbose": False, "fail_fast": False, "stages": [],
+               "x_reads": NO_PATH, "x_per_file": False}
     return {key: value for key, value in keys.items() if key not in without or without[key] != value}
 
 
@@ -193,7 +196,7 @@ def run_hook(hook, names, tree, memory, is_fresh):
         spoken.status, spoken.output = 1, (hook.entry + "\n\n" + "\n".join(names) + "\n").encode()
         return spoken, tree
     words = command_of(hook, tree)
-    parts = parts_of(words, names)
+    parts = parts_of(words, names, 1 if hook.x_per_file else len(names))
     if parts is None:
         spoken.faults.append(MISFIT)
         return spoken, tree
@@ -208,7 +211,7 @@ def run_hook(hook, names, tree, memory, is_fresh):
 def run_part(hook, words, spoken, tree, memory, is_fresh):
     """Adds what a child answers to what its hook does. The tree that it leaves."""
     named = {word.removeprefix("./") for word in words}
-    seen = {path: file for path, file in tree.items() if not hook.pass_filenames or path in named}
+    seen = {path: file for path, file in tree.items() if not hook.pass_filenames or path in named or re.search(hook.x_reads, path)}
     outcome, is_other = memory.told(words, seen, is_fresh)
     if isinstance(outcome, str):
         spoken.faults.append(outcome)
@@ -232,14 +235,14 @@ def shebang(contents):
     return first[2:].split() if first.startswith("#!") else ["sh"]
 
 
-def parts_of(words, names):
-    """The names of each child, as many as fit one command in turn, or None where one doesn't fit with the words alone."""
+def parts_of(words, names, most):
+    """The names of each child, as many as fit one command in turn and at most so many, or None where one doesn't fit with the words alone."""
     room = MOST_COMMAND - len(" ".join(words))
     if room < 0 or any(room < 1 + len(name) for name in names):
         return None
     parts, left = [[]], room
     for name in names:
-        if left < 1 + len(name):
+        if left < 1 + len(name) or len(parts[-1]) == most:
             parts, left = [*parts, []], room
         parts[-1].append(name)
         left -= 1 + len(name)

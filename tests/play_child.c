@@ -3,8 +3,8 @@
 
      play_child LETTERS WORD..
 
-   and has seen the files below its folder that a word names, or all of them where a word is `--whole`. The letters say what
-   it may do: `c` gives seen files other bytes, `d` removes some, `n` makes files that weren't there and such as can be
+   and has seen the files below its folder that a word names, a word `--also=PATH` too, or all of them where a word is
+   `--whole`. The letters say what it may do: `c` gives seen files other bytes, `d` removes some, `n` makes files that weren't there and such as can be
    executed, `s` strays, which changes a file that it hasn't seen, `f` fails, `o` writes more than is taken of a child, and
    `t` also prints what the file says that PLAY_CLOCK names. Other characters say nothing.
 
@@ -100,11 +100,14 @@ static void write_bytes(const char *path, const char *how, const char *bytes, si
     must(file != NULL && fwrite(bytes, 1, length, file) == length && fclose(file) == 0);
 }
 
+static const char *without(const char *prefix, const char *word) {
+    size_t length = strlen(prefix);
+    return strncmp(word, prefix, length) == 0 ? word + length : word;
+}
+
 static bool is_named(const char *path, char **words) {
-    for (; *words != NULL; words++) {
-        const char *word = *words;
-        if (strcmp(strncmp(word, "./", 2) == 0 ? word + 2 : word, path) == 0) return true;
-    }
+    for (; *words != NULL; words++)
+        if (strcmp(without("./", *words), path) == 0 || strcmp(without("--also=", *words), path) == 0) return true;
     return false;
 }
 

@@ -24,7 +24,7 @@ import subprocess
 import sys
 from concurrent.futures import ProcessPoolExecutor
 
-from host_model import (CONFIGURATION, FAULTS, MESSAGE, MOST_COMMAND, NOT_STARTED, Answer, Hook, Machine, Memory, configuration_text,
+from host_model import (CONFIGURATION, FAULTS, MESSAGE, MOST_COMMAND, NO_PATH, NOT_STARTED, Answer, Hook, Machine, Memory, configuration_text,
                         is_told, words_of_rows)
 
 HERE = os.path.dirname(os.path.abspath(__file__))
@@ -42,6 +42,8 @@ ARGUMENTS = [[], [], [], ["--x"], ["two words", ""], ["a.txt"]]
 CONTENTS = [b"x\n"] * 8 + [b"y\n"] * 6 + [b"1\n\n2\n", b"#!/bin/sh -e\n", b"no end", b""]
 STAGES = ["pre-commit", "prepare-commit-msg", "commit-msg", "post-commit", "manual"]
 PATTERNS = ["", "", r"\.txt$", "^a", "^dir/"]
+# The patterns of further files that children see.
+FURTHER = [NO_PATH] * 6 + ["^b", r"\.txt$", "^dir/", "^[.]pre"]
 MESSAGES = [b"", b"\n", b" \t\n\n", b"first", b"first", b"first\n", b"first\n", b"  first \n\n\n\nbody\t\n\n", b"# kept\r\n\nbody"]
 CHILDREN_WRITE = [b"x\n", b"y\n", b"z \n", b"\n", b"one\n\n\ntwo \n"]
 OUTPUTS = [b"", b"", b"said\n", b" \n\tsaid twice\n\nso\n\n"]
@@ -57,7 +59,7 @@ def random_hook(rng, number):
     stages = rng.choice([[], ["pre-commit"], ["pre-commit"], [rng.choice(STAGES)], ["prepare-commit-msg", "commit-msg"]])
     chance = lambda part: rng.random() < part
     hook = Hook(f"h{number}", rng.choice(["Hook", "A name", "N" * 60]), rng.choice(["", "", "other"]), language, entry, rng.choice(ARGUMENTS),
-                rng.choice(PATTERNS), chance(0.3), not chance(0.2), chance(0.2), chance(0.1), stages)
+                rng.choice(PATTERNS), chance(0.3), not chance(0.2), chance(0.2), chance(0.1), stages, rng.choice(FURTHER), chance(0.2))
     return with_long_argument(rng, hook) if chance(LONG) else hook
 
 

@@ -61,6 +61,7 @@ OTHER_HOOKS = [
     {"language": "pygrep", "entry": "more|y"},
 ]
 ARGUMENTS = [[], [], [], ["--x"], ["two words", ""], ["a.txt"], ["./b.txt", "dir"]]
+FURTHER = ["a.txt", "c", "dir/a.txt", CONFIGURATION]
 PATTERNS = [""] * 5 + [r"\.txt$", "^[ac]", "^dir/"]
 TYPES = [[]] * 6 + [["text"], ["executable"], ["non-executable", "binary"]]
 OF_MESSAGES = ["prepare-commit-msg", "commit-msg"]
@@ -95,7 +96,7 @@ Starts = collections.namedtuple("Starts", "children unsteady said")
 # ---- what is drawn by chance
 
 def random_hook(rng, number, has_clock):
-    """The keys of a hook. Where its children see all files, a word tells them so."""
+    """The keys of a hook. Where its children see all files, or a further one, a word tells them so."""
     chance = lambda part: rng.random() < part
     hook = {"id": f"h{number}", "name": rng.choice(["Hook", "A name"]), **rng.choice(OTHER_HOOKS)}
     if chance(0.85):
@@ -104,10 +105,13 @@ def random_hook(rng, number, has_clock):
     if hook["language"] in ("system", "script"):
         is_whole = chance(0.2)
         hook |= {"args": rng.choice(ARGUMENTS) + ["--whole"] * is_whole, "pass_filenames": not is_whole}
+        if chance(0.25):
+            also = rng.choice(FURTHER)
+            hook |= {"args": [*hook["args"], f"--also={also}"], "x_reads": f"^{re.escape(also)}$"}
     keys = {
         "alias": rng.choice(["", "", "other"]), "files": rng.choice(PATTERNS), "exclude": rng.choice(["", "", "", "b"]),
         "types": rng.choice(TYPES), "stages": rng.choice(STAGES), "always_run": chance(0.4), "verbose": chance(0.4),
-        "fail_fast": chance(0.1), "require_serial": chance(0.2),
+        "fail_fast": chance(0.1), "require_serial": chance(0.2), "x_per_file": chance(0.15),
     }
     hook |= {key: value for key, value in keys.items() if value}
     return with_long_argument(rng, hook) if chance(LONG) else hook
