@@ -8,7 +8,8 @@ to be written and as an earlier run left it, and where all is. Beside them stand
 does nothing else; `cat` of the same files; and pre-commit with the same hooks in a repository of Git, which has to report the
 same. A put is timed beside a staging, as calls on a store that is open and as what each adds to a command of its own. Opening
 10,000 answers is timed beside reading the same rows with the kit's database and hashing their contents, by store_trial. A commit
-whose hooks' answers are remembered is timed beside one without hooks.
+whose hooks' answers are remembered is timed beside one without hooks. With `x_per_file` a slow hook, 5 ms a file, is timed where
+one file of 1,000 was edited, beside pre-commit, which runs it over all; and a hook that is remembered of each of 10,000 files.
 
 Each time is wall time in milliseconds, the least of several runs in which all that is compared takes turns. The load of the last
 minute is told before each part.
@@ -41,6 +42,9 @@ HOOKS, PUTS = 10, 20
 # many files there are.
 AIM_BESIDE_CAT, AIM_BESIDE_PRE_COMMIT = 1, {1000: 0.2, 10000: 0.6}
 AIM_PUT, AIM_OPENING, AIM_COMMIT = 1.5, 1.3, 1.5
+# The most that a run over one edited file should take of opening the store, and of pre-commit's time, and how often `cat` of the
+# files a run may take beside opening that looks all of them up, one by one.
+AIM_EDITED, AIM_EDITED_BESIDE_PRE_COMMIT, AIM_ONE_BY_ONE = 3, 0.02, 3
 # The commands and the states of the files in a store whose answers saw all of them.
 WIDE_COMMANDS, WIDE_STATES = 10, 10
 
@@ -322,6 +326,56 @@ def time_commits(folder, files):
     show("two hooks of which nothing is remembered", times["anew"], times["none"], "no hooks")
 
 
+# ---- one file a child
+
+SLOW = """sh -c 'for file; do sleep 0.005; done' slow"""
+
+
+def per_file(hooks):
+    return [hook.replace("require_serial", "x_per_file: true, require_serial") for hook in hooks]
+
+
+def edit_one(repository, number):
+    write(os.path.join(repository.folder, "many/000000"), f"edited {number} ".ljust(SIZE, "."))
+    repository.time([PROGRAM, "add", "many/000000"])
+    return {"run": repository.time(RUN_ON_ALL), "opening": repository.time(OPENING)}
+
+
+def time_edited_file(folder, files):
+    """A slow hook that was run over each of the files, one of which was edited."""
+    tell_load(f"a hook of 5 ms a file, over {files} files")
+    hooks = [hook(0, SLOW)]
+    ours, git = Repository(os.path.join(folder, "slow"), files, per_file(hooks)), os.path.join(folder, "git.slow")
+    make_git(git, files, hooks)
+    first = ours.time(RUN_ON_ALL)
+    # The configuration is one of the files.
+    ours.look_for_answers(files + 1)
+    times = least_of(edit_one(ours, number) for number in range(RUNS))
+    ours.look_for_answers(files + 1 + RUNS)
+    show(f"one edited file of {files}", times["run"], times["opening"], "opening", AIM_EDITED)
+    show("", times["run"], in_folder(git, ["pre-commit", "run", "--all-files"]), "pre-commit", AIM_EDITED_BESIDE_PRE_COMMIT)
+    print(f"{'':44} the first run, with a child for each, {first:.0f} ms", flush=True)
+
+
+def time_one_by_one(folder, files):
+    """A run that starts nothing, whose hook is remembered of each file by itself."""
+    tell_load(f"a hook remembered of each of {files} files")
+    ours = Repository(os.path.join(folder, "single"), files, per_file(hooks_of_true(1)))
+    names = os.path.join(folder, "names.single")
+    held = [(f"many/{at:06}", 0, contents_of(SIZE, 0, at)) for at in range(files)]
+    for path, _, contents in held:
+        write(path, contents.decode())
+    with open(CONFIGURATION, "rb") as file:
+        held.append((CONFIGURATION, 0, file.read()))
+    write(names, "\0".join(path for path, _, _ in held))
+    plant(STORE, [KeptAnswer([b"true", b"hook0", each[0].encode()], [each], [], 0) for each in held])
+    ways = {"run": (RUN_ON_ALL,), "opening": (OPENING,), "cat": (["xargs", "-0", "/bin/cat"], names)}
+    times = least_of({what: in_folder(ours.folder, *way) for what, way in ways.items()} for _ in range(RUNS))
+    ours.look_for_answers(files + 1)
+    show(f"{files} files, remembered one by one", times["run"] - times["opening"], times["cat"], "cat, beside opening", AIM_ONE_BY_ONE)
+    print(f"{'':44} the run {times['run']:.2f} ms, opening {times['opening']:.2f} ms", flush=True)
+
+
 def main():
     for who in ("AUTHOR", "COMMITTER"):
         os.environ.update({f"GIT_{who}_NAME": "bench", f"GIT_{who}_EMAIL": "bench@localhost"})
@@ -329,6 +383,8 @@ def main():
         os.environ["PRE_COMMIT_HOME"] = os.path.join(folder, "pre-commit")
         for files in AIM_BESIDE_PRE_COMMIT:
             time_runs(folder, files)
+        time_edited_file(folder, 1000)
+        time_one_by_one(folder, 10000)
         time_puts(folder)
         time_openings(folder)
         for files in (10, 1000, 10000):
