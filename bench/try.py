@@ -1,21 +1,23 @@
 #!/usr/bin/env python3
 """Times `hookhost try` beside /bin/true and `cat` of the same files, in one run, and prints ratios.
 
-Usage: bench/try.py [--children] [PROGRAM]   (default: crates/hookhost/out/hookhost)
+Usage: bench/try.py [--children | --settled] [PROGRAM]   (default: crates/hookhost/out/hookhost)
 
 Each figure is the least of several runs, in milliseconds of wall time, so that a busy machine matters little. --children
 times hooks that start children, and nothing else: beside /bin/true started as often, `cat` of the files, and, where it is
 installed, pre-commit on the same configuration and files, whose report has to be the same. The scratch folder is as an
-earlier run left it; what the first run takes, which writes it, is told too.
+earlier run left it; what the first run takes, which writes it, is told too. --settled times ten hooks so long after that
+run, as behind an earlier commit, that the system has written its files to the disk; it waits for some minutes.
 """
 import os
 import shutil
 import subprocess
 import sys
 import tempfile
+import time
 
-CHILDREN = "--children" in sys.argv
-sys.argv = [it for it in sys.argv if it != "--children"]
+CHILDREN, SETTLED = "--children" in sys.argv, "--settled" in sys.argv
+sys.argv = [it for it in sys.argv if it not in ("--children", "--settled")]
 sys.path.insert(0, os.path.dirname(os.path.abspath(__file__)))
 from timing import HERE, least, least_in_turn, once, program, show
 
@@ -92,6 +94,7 @@ def time_hooks(what, hooks, names, started, aim="", changes=False):
     shutil.rmtree(".hookhost", ignore_errors=True)
     ours = [PROGRAM, "try", CONFIGURATION, *paths]
     first = once(ours)
+    time.sleep(seconds_to_settle() if SETTLED else 0)
     true = ["sh", "-c", "for at in $(seq $1); do /bin/true; done", "sh", str(started)]
     here = os.getcwd()
     mine, trues, cat = least_in_turn([(here, ours), (here, true), (here, ["cat", *paths])], 7)
@@ -109,36 +112,53 @@ def time_hooks(what, hooks, names, started, aim="", changes=False):
     return mine
 
 
+def seconds_to_settle():
+    """For how long a file counts as one that a process may have changed without a sign, and some seconds more."""
+    waits = [int(open(f"/proc/sys/vm/dirty_{name}_centisecs", encoding="ascii").read()) for name in ("expire", "writeback")]
+    return 4 * sum(waits) / 100 + 5
+
+
 def peak(words):
     """The peak memory of the command in bytes."""
     done = subprocess.run([os.path.abspath("../peak"), *words], stdin=subprocess.DEVNULL, stdout=subprocess.DEVNULL, stderr=subprocess.PIPE, text=True)
     return int(done.stderr.split()[-1]) * 1024
 
 
+# Each has a word of its own, since a second child of one command on the same files isn't started.
+TEN = [command(number, '"true"', require_serial="true", args=f"[hook{number}]") for number in range(10)]
+
+
+def time_settled():
+    for count, aim in ((1000, 0.25), (10000, 0.7)):
+        time_hooks(f"ten hooks `true`, {count} files, settled", TEN, names_of(count), 10, f"  aim {aim}")
+
+
 def time_children():
+    one = [command(0, '"true"', require_serial="true")]
+    alone = [command(0, '"true"', pass_filenames="false")]
+    twice = {}
+    for count in (1, 1000, 5000, 10000):
+        names = names_of(count)
+        if count != 5000:
+            time_hooks(f"`true`, {count} files", one, names, 1)
+            time_hooks(f"`true` without names, {count} files", alone, names, 1)
+        twice[count] = time_hooks(f"ten hooks `true`, {count} files", TEN, names, 10, {1000: "  aim 0.25", 10000: "  aim 0.7"}.get(count, ""))
+    print(f"{'twice the files (5,000 to 10,000), ten hooks':44} {twice[10000] / twice[5000]:.2f} times the time  aim 2.2")
+    names = names_of(10000)
+    time_hooks("`true`, 10,000 files in 295 parts", [command(0, '"true"', require_serial="true", args=LONG_ARGUMENTS)], names, 295, "  aim 3")
+    names = names_of(1000)
+    time_hooks("a child that changes 1 of 1,000 files", [command(0, "sh -c 'echo x >> f/00000'", pass_filenames="false")], names, 1, changes=True)
+    time_hooks("a child that changes all of 1,000 files", [command(0, "sed -i s/x/y/", require_serial="true", files="^f/")], names, 1, changes=True)
+
+
+def in_repository(time_them):
     folder = tempfile.mkdtemp()
     subprocess.run(["cc", "-O1", "-o", os.path.join(folder, "peak"), os.path.join(HERE, "peak.c")], check=True)
     os.mkdir(os.path.join(folder, "repository"))
     os.chdir(os.path.join(folder, "repository"))
     try:
         subprocess.run(["git", "init", "--quiet", "."], check=True)
-        one = [command(0, '"true"', require_serial="true")]
-        # Each has a word of its own, since a second child of one command on the same files isn't started.
-        ten = [command(number, '"true"', require_serial="true", args=f"[hook{number}]") for number in range(10)]
-        alone = [command(0, '"true"', pass_filenames="false")]
-        twice = {}
-        for count in (1, 1000, 5000, 10000):
-            names = names_of(count)
-            if count != 5000:
-                time_hooks(f"`true`, {count} files", one, names, 1)
-                time_hooks(f"`true` without names, {count} files", alone, names, 1)
-            twice[count] = time_hooks(f"ten hooks `true`, {count} files", ten, names, 10, {1000: "  aim 0.5", 10000: "  aim 2"}.get(count, ""))
-        print(f"{'twice the files (5,000 to 10,000), ten hooks':44} {twice[10000] / twice[5000]:.2f} times the time  aim 2.2")
-        names = names_of(10000)
-        time_hooks("`true`, 10,000 files in 295 parts", [command(0, '"true"', require_serial="true", args=LONG_ARGUMENTS)], names, 295)
-        names = names_of(1000)
-        time_hooks("a child that changes 1 of 1,000 files", [command(0, "sh -c 'echo x >> f/00000'", pass_filenames="false")], names, 1, changes=True)
-        time_hooks("a child that changes all of 1,000 files", [command(0, "sed -i s/x/y/", require_serial="true", files="^f/")], names, 1, changes=True)
+        time_them()
     finally:
         os.chdir("/")
         shutil.rmtree(folder)
@@ -175,4 +195,7 @@ def main():
         shutil.rmtree(folder)
 
 
-time_children() if CHILDREN else main()
+if CHILDREN or SETTLED:
+    in_repository(time_settled if SETTLED else time_children)
+else:
+    main()
