@@ -13,12 +13,14 @@ pub(crate) fn copy_bytes(alloc: Global, bytes: &[u8], other: &[u8]) -> Result<An
     Ok(answer.text(" ").shown(is_same).text(" ").shown(is_other))
 }
 
-/// The length of copied contents, whether their copy and the bytes under their digest are the same, whether the other contents
-/// are, and the digest.
+/// The length of copied contents, whether their copy, the bytes under their digest and the bytes that are hashed at once are
+/// the same, whether the other contents are, and the digest.
 pub(crate) fn copy_content(alloc: Global, bytes: &[u8], other: &[u8]) -> Result<Answer, Stop> {
     let content = Content::copy_of(alloc, bytes)?;
     let under = Content::with_digest(alloc, content.digest(), Bytes::copy_of(alloc, bytes)?)?;
-    let is_same = content.as_slice() == bytes && content.clone()? == under;
+    let hashed = Content::hashed(alloc, Bytes::copy_of(alloc, bytes)?)?;
+    let is_hashed = hashed == under && hashed.digest() == content.digest();
+    let is_same = content.as_slice() == bytes && content.clone()? == under && is_hashed;
     let is_other = Content::copy_of(alloc, other)? == content;
     let answer = Answer::new(alloc).shown(content.len());
     let answer = answer.text(" ").shown(is_same).text(" ").shown(is_other);
