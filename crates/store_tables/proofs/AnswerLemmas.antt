@@ -27,12 +27,12 @@ use Rattle.store_tables.proofs.WriteLemmas.{store_stays, deletes}
 abbrev AreNumbered : List Row → Type 0
 AreNumbered rows = have_rowids rows ≡ true
 
-same_blob : (a b : List ℕ) → is_true (binary (Compare Eq Binary) (Blob a) (Blob b)) ≡ bytes_eq a b
+pub same_blob : (a b : List ℕ) → is_true (binary (Compare Eq Binary) (Blob a) (Blob b)) ≡ bytes_eq a b
 unfolding binary
 same_blob a b = truth_is (is_eq (value_cmp (Blob a) (Blob b))) ∙ ap is_eq (value_cmp-Blob a b) ∙ is_eq-slice_cmp a b
 
 -- whether a row of answers, as it is shown, has another key
-abbrev other_key : List ℕ → List ℕ → Row → Bool
+abbrev pub other_key : List ℕ → List ℕ → Row → Bool
 other_key words seen row = not (is_true (binary (Compare Eq Binary) (column row 0) (Blob words)) && (is_true (binary (Compare Eq Binary) (column row 1) (Blob seen)) && true))
 
 others_kept : (words seen : List ℕ) (xs : List AnswerRow) → filter (λ x. other_key words seen (answer_cells x)) xs ≡ filter (λ row. not (bytes_eq row.words words && bytes_eq row.seen seen)) xs

@@ -13,4 +13,8 @@ pub mod RowLemmas
 pub mod StagedLemmas
 pub mod StepLemmas
 pub mod TableLemmas
+pub mod UsesCompiles
+pub mod UsesLemmas
+pub mod UsesMakeLemmas
+pub mod UsesReadLemmas
 pub mod WriteLemmas

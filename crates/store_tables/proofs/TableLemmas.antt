@@ -52,16 +52,16 @@ cast_null : cast Integer Null ≡ Null
 unfolding unary
 cast_null = either _ Null
 
-cast_int : (n : ℤ) → cast Integer (Int n) ≡ Int n
+pub cast_int : (n : ℤ) → cast Integer (Int n) ≡ Int n
 unfolding unary
 cast_int n = either _ (Int n)
 
 -- ---- rows in and out
 
-chosen_is : (rows : List Row) (cells : Row) → with_rowid Chosen rows (cast Integer Null ∷ cells) ≡ Int (next_rowid rows) ∷ cells
+pub chosen_is : (rows : List Row) (cells : Row) → with_rowid Chosen rows (cast Integer Null ∷ cells) ≡ Int (next_rowid rows) ∷ cells
 chosen_is rows cells = rw cast_null refl
 
-stored_more : {X : Type 0} (cells : X → Row) (places : List ℕ) (x : X) (xs : List X) (row : Row) (rows : List Row) → map (column row) places ≡ cells x → is_taken rows row ≡ false → Stored cells places xs rows
+pub stored_more : {X : Type 0} (cells : X → Row) (places : List ℕ) (x : X) (xs : List X) (row : Row) (rows : List Row) → map (column row) places ≡ cells x → is_taken rows row ≡ false → Stored cells places xs rows
     → Stored cells places (x ∷ xs) (put_row row rows)
 stored_more cells places x xs row rows shows free h =
     let show = λ (r : Row). map (column r) places in

@@ -3,3 +3,4 @@ pub mod Schema
 pub mod Shape
 pub mod Steps
 pub mod Tables
+pub mod Uses

@@ -106,3 +106,24 @@ no_more = record { tables = []; indexes = []; rests = tt }
 
 abbrev pub store_with : MoreTables → Schema
 store_with more = record { tables = store_schema.tables ++ more.tables; indexes = store_schema.indexes ++ more.indexes; views = [] }
+
+-- ---- the table that version 2 of a store lists after the seven
+
+abbrev pub uses : Table
+uses =
+    table_of (codes "uses") 13 (column_of (codes "words") Blob true ∷ column_of (codes "seen") Blob true ∷ column_of (codes "tick") Integer true ∷ []) None (1 ∷ 2 ∷ [])
+    ((3 ∷ []) ∷ (1 ∷ 2 ∷ []) ∷ []) []
+
+-- the indexes that SQLite makes for its UNIQUE column and for its PRIMARY KEY, in the order of the statement
+abbrev pub uses_indexes : List Index
+uses_indexes =
+    record { name = codes "sqlite_autoindex_uses_1"; tree = 14; table = 13; columns = 3 ∷ []; order = plain; is_unique = true }
+    ∷ record { name = codes "sqlite_autoindex_uses_2"; tree = 15; table = 13; columns = 1 ∷ 2 ∷ []; order = plain; is_unique = true } ∷ []
+
+-- the uses, and what a later version lists after them
+abbrev pub uses_then : MoreTables → MoreTables
+uses_then more = record { tables = uses ∷ more.tables; indexes = uses_indexes ++ more.indexes; rests = (tt, more.rests) }
+
+-- version 2 of a store
+abbrev pub schema_with_uses : Schema
+schema_with_uses = store_with (uses_then no_more)

@@ -1,7 +1,7 @@
 //! Each row of a table from the columns that a query shows of it.
 
 use crate::columns::{FromColumns, blob_at, blob_if_any, has_columns, number_at, text_at};
-use crate::rows::{AnswerRow, BlobRow, CommitRow, EntryRow, FixRow, MetaRow, StagedRow};
+use crate::rows::{AnswerRow, BlobRow, CommitRow, EntryRow, FixRow, MetaRow, StagedRow, UseRow};
 use sqlite::{Error, Row};
 use std::alloc::Global;
 
@@ -111,5 +111,19 @@ impl FromColumns for AnswerRow {
             changes,
             status,
         })
+    }
+}
+
+impl FromColumns for UseRow {
+    ghost use Rattle.store_tables.specs.Uses.{use_cells};
+
+    ghost cells = { use_cells };
+
+    fn from_columns(alloc: Global, row: &Row, first: usize) -> Result<Self, Error> {
+        has_columns(row, first + 3)?;
+        let words = blob_at(alloc, row, first)?;
+        let seen = blob_at(alloc, row, first + 1)?;
+        let tick = number_at(row, first + 2)?;
+        Ok(UseRow { words, seen, tick })
     }
 }

@@ -79,3 +79,14 @@ pub struct AnswerRow {
     /// Its exit code, from 0 to 255.
     pub status: i64,
 }
+
+/// How lately an answer was used: of two answers, the one with the greater tick the later.
+#[derive(Debug, Drop)]
+pub struct UseRow {
+    /// The digest of the words of its command.
+    pub words: Bytes,
+    /// The digest of the files that it saw.
+    pub seen: Bytes,
+    /// From 1 to 4,611,686,018,427,387,904; no two are equal.
+    pub tick: i64,
+}

@@ -1,4 +1,5 @@
-//! Whether a database has the tables of a store and no others: its schema is compared part by part.
+//! Whether a database has the tables of a store, of one version or the other, and no others: its schema is compared part
+//! by part.
 
 ghost use Rattle.std.specs.Prelude.{◌≡◌, ◌↔◌, ◌+◌, ◌∷◌, [], ◌<◌, ◌^◌, None, Some, true, false, drop, IsTrue};
 ghost use Rattle.sqlite_value.specs.Keys.{plain};
@@ -6,7 +7,7 @@ ghost use Rattle.sqlite.specs.Effect.{IsDatabase};
 ghost use Rattle.sqlite.specs.Held.{state};
 ghost use Rattle.store_tables.specs.Schema as spec;
 ghost use Rattle.store_tables.specs.Shape.{IsPlain, IsKeyed};
-ghost use Rattle.store_tables.specs.Schema.{column_of, refers_to, store_schema};
+ghost use Rattle.store_tables.specs.Schema.{column_of, refers_to, schema_with_uses, store_schema};
 
 use sqlite::{Alter, Connection};
 use sqlite_items::Items;
@@ -319,4 +320,135 @@ pub fn has_store_tables<S: Alter>(conn: &Connection<S>) -> bool
     schema.views.is_empty()
         && are_tables(schema.tables.as_slice())
         && are_indexes(schema.indexes.as_slice())
+}
+
+fn are_two_keys(keys: &[Items<usize>], first: &[usize], second: &[usize]) -> bool
+    ensures { IsTrue result ↔ (keys.now ≡ first.now ∷ second.now ∷ []) }
+{
+    match keys {
+        [one, two] => is_key(one, first) && is_key(two, second),
+        _ => false,
+    }
+}
+
+fn are_two_orders(orders: &[Order]) -> bool
+    ensures { IsTrue result ↔ (orders.now ≡ plain ∷ plain ∷ []) }
+{
+    match orders {
+        [one, two] => is_plain_order(one) && is_plain_order(two),
+        _ => false,
+    }
+}
+
+// Whether the keys of a table are these places and its primary key, each with an index of its own.
+fn has_two_keys(table: &Table, places: &[usize], primary: &[usize]) -> bool
+    ensures { IsTrue result ↔ IsKeyed table.now None primary.now (places.now ∷ primary.now ∷ []) }
+{
+    table.key.is_none()
+        && table.primary.as_slice() == primary
+        && are_two_keys(table.uniques.as_slice(), places, primary)
+        && are_two_orders(table.orders.as_slice())
+}
+
+fn is_uses(table: &Table) -> bool
+    ensures { IsTrue result ↔ (table.now ≡ spec.uses) }
+{
+    match (table.columns.as_slice(), table.references.as_slice()) {
+        ([words, seen, tick], []) => {
+            is_plain(table, "uses", 13)
+                && has_two_keys(table, &[3], &[1, 2])
+                && is_column(words, "words", Kind::Blob, true)
+                && is_column(seen, "seen", Kind::Blob, true)
+                && is_column(tick, "tick", Kind::Integer, true)
+        }
+        _ => false,
+    }
+}
+
+fn is_uses_index(index: &Index, name: &str, tree: u32, columns: &[usize]) -> bool
+    ensures { IsTrue result ↔ (index.now ≡ record { name = name.now; tree = tree; table = 13; columns = columns.now; order = plain; is_unique = true }) }
+{
+    index.name.as_slice() == name.as_bytes()
+        && index.tree == tree
+        && index.table == 13
+        && index.columns.as_slice() == columns
+        && is_plain_order(&index.order)
+        && index.is_unique
+}
+
+fn are_later_tables_and_uses(tables: &[Table]) -> bool
+    ensures { IsTrue result ↔ (tables.now ≡ drop 4 schema_with_uses.tables) }
+{
+    match tables {
+        [commits, entries, answers, uses] => {
+            is_commits(commits) && is_entries(entries) && is_answers(answers) && is_uses(uses)
+        }
+        _ => false,
+    }
+}
+
+fn are_tables_and_uses(tables: &[Table]) -> bool
+    ensures { IsTrue result ↔ (tables.now ≡ schema_with_uses.tables) }
+{
+    match tables {
+        [meta, blobs, staged, fixes, later @ ..] => {
+            is_meta(meta)
+                && is_blobs(blobs)
+                && is_staged(staged)
+                && is_fixes(fixes)
+                && are_later_tables_and_uses(later)
+        }
+        _ => false,
+    }
+}
+
+fn are_uses_indexes(indexes: &[Index]) -> bool
+    ensures { IsTrue result ↔ (indexes.now ≡ spec.uses_indexes) }
+{
+    match indexes {
+        [ticks, keys] => {
+            is_uses_index(ticks, "sqlite_autoindex_uses_1", 14, &[3])
+                && is_uses_index(keys, "sqlite_autoindex_uses_2", 15, &[1, 2])
+        }
+        _ => false,
+    }
+}
+
+fn are_later_indexes_and_uses(indexes: &[Index]) -> bool
+    ensures { IsTrue result ↔ (indexes.now ≡ drop 3 schema_with_uses.indexes) }
+{
+    match indexes {
+        [fixes, entries, answers, uses @ ..] => {
+            is_key_index(fixes, "sqlite_autoindex_fixes_1", 6, &[1])
+                && is_key_index(entries, "sqlite_autoindex_entries_1", 9, &[1, 2])
+                && is_key_index(answers, "sqlite_autoindex_answers_1", 11, &[1, 2])
+                && are_uses_indexes(uses)
+        }
+        _ => false,
+    }
+}
+
+fn are_indexes_and_uses(indexes: &[Index]) -> bool
+    ensures { IsTrue result ↔ (indexes.now ≡ schema_with_uses.indexes) }
+{
+    match indexes {
+        [meta, blobs, staged, later @ ..] => {
+            is_key_index(meta, "sqlite_autoindex_meta_1", 0, &[1])
+                && is_key_index(blobs, "sqlite_autoindex_blobs_1", 2, &[1])
+                && is_key_index(staged, "sqlite_autoindex_staged_1", 4, &[1])
+                && are_later_indexes_and_uses(later)
+        }
+        _ => false,
+    }
+}
+
+/// Whether a connection shows the tables of a store and that of its uses, and no others.
+pub fn has_uses_tables<S: Alter>(conn: &Connection<S>) -> bool
+    ensures ours { IsTrue result ↔ ((state S.Store conn.now).now.schema ≡ schema_with_uses) }
+    ensures live { IsTrue (state S.Store conn.now).is_open → IsDatabase (state S.Store conn.now).now }
+{
+    let schema = conn.schema();
+    schema.views.is_empty()
+        && are_tables_and_uses(schema.tables.as_slice())
+        && are_indexes_and_uses(schema.indexes.as_slice())
 }
