@@ -12,9 +12,10 @@ use Rattle.sqlite.specs.Held.{Held, state}
 use Rattle.sqlite.specs.State.{State, HasCleanDisk, Survives}
 use Rattle.sqlite.proofs.InsideLemmas.{keeps_then}
 use Rattle.sqlite.proofs.StateLemmas.{survives_then}
-use Rattle.store_tables.specs.Schema.{no_more}
+use Rattle.store_tables.specs.Schema.{no_more, store_with}
 use Rattle.store_tables.specs.Steps.{IsMade, IsStep, IsDone}
 use Rattle.store_tables.specs.Tables.{Tables, Holds, with_schema}
+use Rattle.store_tables.proofs.StepLemmas.{more_then}
 use Rattle.repo_store.specs.Calls.{Rests}
 use Rattle.repo_store.specs.Transactions.{Commits, IsCall}
 
@@ -68,6 +69,7 @@ module _ {S A : Type 0} (g : Ghosts S) (a b c : Held S) (r : Result A Error) (fi
   both_done (Ok x) p q = record {
     shown = record { was_open = p.shown.was_open; is_open = q.shown.is_open; now_is = refl; committed_is = q.shown.committed_is ∙ p.shown.committed_is; mode = q.shown.mode };
     holds = λ more t h. q.holds more (first t) (p.holds more t h);
+    keeps = λ more has. let one = p.keeps more has in more_then (store_with more) (state g a).now (state g b).now (state g c).now one (q.keeps more one.schema);
   }
 
   -- two statements in turn

@@ -93,7 +93,7 @@ holds_same db t u same h = record {
 -- a step, told by rows in another order
 pub step_same : {S A : Type 0} (g : Ghosts S) (old new : Held S) (r : Result A Error) (first second : Tables → Tables) → ((t : Tables) → IsSame (first t) (second t)) → IsStep g old new r first → IsStep g old new r second
 step_same g old new r first second same h = record {
-  done = λ clean inside. on_ok_weaker r (λ (d : IsDone (state g old) (state g new) first). record { shown = d.shown; holds = λ more t before. holds_same (state g new).now (first t) (second t) (same t) (d.holds more t before) }) (h.done clean inside);
+  done = λ clean inside. on_ok_weaker r (λ (d : IsDone (state g old) (state g new) first). record { shown = d.shown; holds = λ more t before. holds_same (state g new).now (first t) (second t) (same t) (d.holds more t before); keeps = d.keeps }) (h.done clean inside);
   kept = h.kept;
   survives = h.survives;
 }

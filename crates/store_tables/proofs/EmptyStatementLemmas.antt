@@ -1,6 +1,8 @@
 -- The empty statement.
-use Rattle.std.proofs.Common.{◌≡◌, ℕ, [], Ok, refl, sym, subst}
+use Rattle.std.proofs.Common.{◌≡◌, ◌<◌, ℕ, [], Ok, refl, sym, subst}
+use Rattle.sqlite_keyed.proofs.ListLemmas.{all_of}
 use Rattle.sqlite_schema.specs.declared.schema.Schema.{Schema}
+use Rattle.sqlite_schema.specs.declared.schema.Table.{Table}
 use Rattle.sqlite_schema.specs.declared.command.Command.TheVariants.{Nothing}
 use Rattle.sqlite_tied.specs.Compute.{everything}
 use Rattle.sqlite.specs.Effect.{Database}
@@ -8,7 +10,7 @@ use Rattle.sqlite.specs.Listing.{understood}
 use Rattle.sqlite.specs.State.{State, Executes}
 use Rattle.sqlite.proofs.Callers.{runs_as}
 use Rattle.store_tables.specs.Schema.{MoreTables, store_with}
-use Rattle.store_tables.specs.Tables.{Tables, HoldsIn}
+use Rattle.store_tables.specs.Tables.{Tables, HoldsIn, KeepsMore, greatest_tree}
 use Rattle.store_tables.proofs.Compiles.{Compiles}
 
 module _ (more : MoreTables) where
@@ -25,3 +27,7 @@ module _ (more : MoreTables) where
   pub changes_nothing : (old new : State) (t : Tables) (count : ℕ) → HoldsIn schema old.now t → Executes [] [] old new (Ok count) → HoldsIn schema new.now t
   changes_nothing old new t count h ran =
       subst (λ (db : Database). HoldsIn schema db t) (sym (is_unchanged old new count h.schema ran)) h
+
+  pub keeps_all : (old new : State) (count : ℕ) → old.now.schema ≡ schema → Executes [] [] old new (Ok count) → KeepsMore schema old.now new.now
+  keeps_all old new count has ran =
+      subst (KeepsMore schema old.now) (sym (is_unchanged old new count has ran)) (record { schema = has; trees = all_of (λ (t : Table). greatest_tree < t.tree → old.now.trees t.tree ≡ old.now.trees t.tree) (λ t above. refl) schema.tables })

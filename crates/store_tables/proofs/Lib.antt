@@ -17,4 +17,5 @@ pub mod UsesCompiles
 pub mod UsesLemmas
 pub mod UsesMakeLemmas
 pub mod UsesReadLemmas
+pub mod UsesStepLemmas
 pub mod WriteLemmas

@@ -1,5 +1,5 @@
 -- From what a transaction says of a statement to what the statement makes of the tables.
-use Rattle.std.proofs.Common.{◌≡◌, ◌≢◌, inl, inr, ℕ, List, true, false, Result, Ok, Err, OnOk, IsTrue, refl, sym, subst, ◌∙◌, arith}
+use Rattle.std.proofs.Common.{◌≡◌, ◌≢◌, ◌≤◌, ◌<◌, inl, inr, ℕ, List, true, false, Result, Ok, Err, OnOk, IsTrue, refl, sym, subst, ◌∙◌, arith}
 use Rattle.std.proofs.lemmas.Bool.{cases_Bool}
 use Rattle.std.proofs.lemmas.Result.{on_ok_weaker}
 use Rattle.sqlite_value.specs.Order.{Row}
@@ -12,10 +12,10 @@ use Rattle.sqlite.specs.Effect.{Database}
 use Rattle.sqlite.specs.State.{State, HasCleanDisk, KeepsCommit, Shows, Survives, Executes, ExecutesInside}
 use Rattle.sqlite.proofs.InsideLemmas.{inside_keeps, keeps_then}
 use Rattle.sqlite.proofs.StateLemmas.{survives_then}
-use Rattle.sqlite_keyed.proofs.ListLemmas.{all_both}
+use Rattle.sqlite_keyed.proofs.ListLemmas.{all_both, all_weaker}
 use Rattle.sqlite_schema.specs.declared.schema.Schema.{Schema}
 use Rattle.sqlite_schema.specs.declared.schema.Table.{Table}
-use Rattle.store_tables.specs.Tables.{Tables, HoldsIn, ChangesOnly}
+use Rattle.store_tables.specs.Tables.{Tables, HoldsIn, ChangesOnly, KeepsMore, greatest_tree}
 use Rattle.store_tables.specs.Schema.{MoreTables, store_with}
 use Rattle.store_tables.specs.Steps.{IsStep, IsDone, IsChange}
 
@@ -37,9 +37,10 @@ module _ {S : Type 0} (g : Ghosts S) (old new : Held S) (sql : List ℕ) (params
 
   pub finishes : (makes : Tables → Tables) (count : ℕ) → r ≡ Ok count
       → ((more : MoreTables) (t : Tables) → HoldsIn (store_with more) (state g old).now t → Executes sql params (state g old) (state g new) (Ok count) → HoldsIn (store_with more) (state g new).now (makes t))
+      → ((more : MoreTables) → (state g old).now.schema ≡ store_with more → Executes sql params (state g old) (state g new) (Ok count) → KeepsMore (store_with more) (state g old).now (state g new).now)
       → IsStep {A = Unit {0}} g old new (Ok tt) makes
-  finishes makes count is does = record {
-    done = λ clean inside. let ran = subst (ExecutesInside 0 sql params (state g old) (state g new)) is (runs clean inside) in record { shown = ran.1; holds = λ more t h. does more t h ran.0 };
+  finishes makes count is does keeps_more = record {
+    done = λ clean inside. let ran = subst (ExecutesInside 0 sql params (state g old) (state g new)) is (runs clean inside) in record { shown = ran.1; holds = λ more t h. does more t h ran.0; keeps = λ more has. keeps_more more has ran.0 };
     kept = keeps;
     survives = survives;
   }
@@ -61,7 +62,7 @@ module _ {S : Type 0} (g : Ghosts S) (old new : Held S) (sql : List ℕ) (params
 abbrev Relation : Type 1
 Relation = Schema → Database → Database → Type 0
 
-abbrev Went : {S : Type 0} (g : Ghosts S) → Held S → Held S → Relation → Type 0
+abbrev pub Went : {S : Type 0} (g : Ghosts S) → Held S → Held S → Relation → Type 0
 Went g x y Change =
     Shows (state g x) (state g y) (state g y).now (state g x).committed true × ((more : MoreTables) → (state g x).now.schema ≡ store_with more → Change (store_with more) (state g x).now (state g y).now)
 
@@ -102,3 +103,19 @@ only_then own listed x y z first later =
           (λ (t : Table). t.tree ≢ own.tree → z.trees t.tree ≡ x.trees t.tree) (λ t a b other. b other ∙ a other) listed.tables first.others second.others;
       keyed = λ k. second.keyed (first.keyed k);
     }
+
+-- a change of one of a store's tables keeps those behind them
+pub only_keeps_more : (own : Table) (listed : Schema) (old new : Database) → own.tree ≤ greatest_tree → ChangesOnly own listed old new → KeepsMore listed old new
+only_keeps_more own listed old new within only = record {
+  schema = only.schema;
+  trees = all_weaker (λ (t : Table). t.tree ≢ own.tree → new.trees t.tree ≡ old.trees t.tree) (λ (t : Table). greatest_tree < t.tree → new.trees t.tree ≡ old.trees t.tree)
+      (λ t other above. other (omega (arith, within, above))) listed.tables only.others;
+}
+
+-- what two statements in turn keep
+pub more_then : (listed : Schema) (x y z : Database) → KeepsMore listed x y → KeepsMore listed y z → KeepsMore listed x z
+more_then listed x y z first second = record {
+  schema = second.schema;
+  trees = all_both (λ (t : Table). greatest_tree < t.tree → y.trees t.tree ≡ x.trees t.tree) (λ (t : Table). greatest_tree < t.tree → z.trees t.tree ≡ y.trees t.tree)
+      (λ (t : Table). greatest_tree < t.tree → z.trees t.tree ≡ x.trees t.tree) (λ t a b above. b above ∙ a above) listed.tables first.trees second.trees;
+}

@@ -1,16 +1,14 @@
 -- What each statement on uses makes of their table, whatever tables stand after it, and that it keeps all others.
-use Rattle.std.proofs.Common.{◌≡◌, ◌≢◌, ℕ, List, [], ◌∷◌, filter, true, not, ◌&&◌, Ok, refl, sym, ap, subst, ◌∙◌, arith}
+use Rattle.std.proofs.Common.{◌≡◌, ℕ, List, [], ◌∷◌, filter, true, not, ◌&&◌, Ok, refl, sym, ap, subst, ◌∙◌, arith}
 use Rattle.std.specs.Str.{bytes_eq}
-use Rattle.std.proofs.lemmas.List.Sorted.{IsPermutation-refl, IsPermutation-cons, IsPermutation-trans, IsPermutation-map}
+use Rattle.std.proofs.lemmas.List.Sorted.{IsPermutation-refl}
 use Rattle.sqlite_value.specs.declared.value.Value.TheVariants.{Null, Int, Blob}
 use Rattle.sqlite_value.specs.declared.keys.Collation.TheVariants.{Binary}
 use Rattle.sqlite_value.specs.Order.{Row}
-use Rattle.sqlite_trees.specs.Tree.{Trees}
 use Rattle.sqlite_sql.specs.Ops.{binary, is_true}
 use Rattle.sqlite_sql.specs.declared.ops.BinaryOp.TheVariants.{Compare}
 use Rattle.sqlite_sql.specs.declared.ops.CompareOp.TheVariants.{Eq}
 use Rattle.sqlite_schema.specs.declared.schema.Schema.{Schema}
-use Rattle.sqlite_schema.specs.declared.schema.Table.{Table}
 use Rattle.sqlite_schema.specs.declared.schema.Kind.TheVariants.{Integer}
 use Rattle.sqlite_schema.specs.declared.command.Source.TheVariants.{Values}
 use Rattle.sqlite_schema.specs.declared.command.Command.TheVariants.{Insert}
@@ -135,11 +133,3 @@ told listed old new makes has does lists = subst (λ s. (t : Tables) (rows : Lis
 
 pub told_only : (listed : Schema) (old new : Database) → old.schema ≡ listed → ((more : MoreTables) → old.schema ≡ store_with (uses_then more) → ChangesOnly uses (store_with (uses_then more)) old new) → ChangesUses listed old new
 told_only listed old new has does lists = subst (λ s. ChangesOnly uses s old new) (sym lists.1) (does lists.0 (has ∙ lists.1))
-
--- ---- what a statement on one of the seven leaves of the uses
-
-pub beside : (own : Table) (listed : Schema) (old new : Database) (rows : List UseRow) → uses.tree ≢ own.tree → ListsUses listed → ChangesOnly own listed old new → HoldsUses old.trees rows → HoldsUses new.trees rows
-beside own listed old new rows apart lists only h =
-    let o = subst (λ (s : Schema). KeepsOthers s own.tree old.trees new.trees) lists.1 only.others in
-    let same : new.trees 13 ≡ old.trees 13 = o.1.1.1.1.1.1.1.0 apart in
-    record { stored = subst (Stored use_cells (1 ∷ 2 ∷ 3 ∷ []) rows) (sym same) h.stored; keyed = subst AreKeyed (sym same) h.keyed }

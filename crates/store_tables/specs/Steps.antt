@@ -8,13 +8,14 @@ use Rattle.sqlite.specs.Held.{Held, state}
 use Rattle.sqlite.specs.State.{State, HasCleanDisk, IsUnchanged, KeepsCommit, Shows, Survives}
 use Rattle.sqlite_schema.specs.declared.schema.Schema.{Schema}
 use Rattle.store_tables.specs.Schema.{MoreTables, store_with}
-use Rattle.store_tables.specs.Tables.{Tables, HoldsIn}
+use Rattle.store_tables.specs.Tables.{Tables, HoldsIn, KeepsMore}
 
 -- A statement inside a transaction is done: nothing is committed, and it makes this of the tables of a store, whatever
--- tables are listed after them.
+-- tables are listed after them, which keep their rows.
 pub record IsDone (old new : State) (makes : Tables → Tables) : Type 0 where
   pub shown : Shows old new new.now old.committed true
   pub holds : (more : MoreTables) (t : Tables) → HoldsIn (store_with more) old.now t → HoldsIn (store_with more) new.now (makes t)
+  pub keeps : (more : MoreTables) → old.now.schema ≡ store_with more → KeepsMore (store_with more) old.now new.now
 
 -- A statement inside a transaction: at `Ok` it is done, and otherwise it was not done or the transaction is rolled
 -- back. A crash leaves no more than before.

@@ -1,5 +1,5 @@
 -- What the trees of a database hold, table by table.
-use Rattle.std.specs.Prelude.{◌≡◌, ◌≢◌, ℕ, Bool, true, false, not, ◌&&◌, List, [], ◌∷◌, map, filter, take, pos, Option, None, Some, IsPermutation}
+use Rattle.std.specs.Prelude.{◌≡◌, ◌≢◌, ◌<◌, ℕ, Bool, true, false, not, ◌&&◌, List, [], ◌∷◌, map, filter, take, pos, Option, None, Some, IsPermutation}
 use Rattle.std.specs.Borrow.{Bor}
 use Rattle.std.specs.Ordering.{is_eq}
 use Rattle.std.specs.Str.{bytes_eq}
@@ -111,6 +111,15 @@ pub record ChangesOnly (own : Table) (listed : Schema) (old new : Database) : Ty
   pub schema : new.schema ≡ listed
   pub others : KeepsOthers listed own.tree old.trees new.trees
   pub keyed : AreKeyed (old.trees own.tree) → AreKeyed (new.trees own.tree)
+
+-- the greatest tree of the tables of a store and of their indexes
+abbrev pub greatest_tree : ℕ
+greatest_tree = 12
+
+-- The same tables are listed, and the trees of those behind the tables of a store are as they were.
+pub record KeepsMore (listed : Schema) (old new : Database) : Type 0 where
+  pub schema : new.schema ≡ listed
+  pub trees : AllByRecursion (λ t. greatest_tree < t.tree → new.trees t.tree ≡ old.trees t.tree) listed.tables
 
 abbrev pub ChangesNothing : Schema → Database → Database → Type 0
 ChangesNothing listed old new = new ≡ old

@@ -29,6 +29,10 @@ pub record HoldsUses (trees : Trees) (rows : List UseRow) : Type 0 where
 abbrev pub ListsUses : Schema → Type 0
 ListsUses listed = (more : MoreTables) × (listed ≡ store_with (uses_then more))
 
+-- the database has the tables of version 2 and no others, obeys their rules, and has these rows in them
+abbrev pub HoldsWithUses : Database → Tables → List UseRow → Type 0
+HoldsWithUses db t rows = HoldsIn schema_with_uses db t × HoldsUses db.trees rows
+
 -- ---- what its statements make
 
 -- It makes this of the rows of the table, and keeps those of the seven.

@@ -1,10 +1,11 @@
 use Rattle.sqlite.specs.Held.{state}
-use Rattle.std.proofs.Common.{pos}
+use Rattle.std.proofs.Common.{pos, arith}
 use Rattle.store_tables.specs.declared.rows.CommitRow.{CommitRow}
 use Rattle.store_tables.specs.Tables.{with_commit}
-use Rattle.store_tables.proofs.StepLemmas.{finishes, changes}
+use Rattle.store_tables.proofs.StepLemmas.{finishes, changes, only_keeps_more}
 use Rattle.store_tables.proofs.TableLemmas.{put_commit}
 use Rattle.store_tables.specs.Schema as spec
+use Rattle.store_tables.specs.Schema.{store_with}
 use Rattle.store_tables.specs.Tables.{ChangesOnly}
 use Rattle.store_tables.proofs.OnlyLemmas as only
 use Rattle.store_tables.proofs.writes.put_commit.Goals as goal
@@ -16,6 +17,7 @@ returns-clause-step g c =
     let row : CommitRow = record { n = pos c.args.n; message = c.args.message.now } in
     finishes g.S.Store old new _ _ c.execute.result c.execute.ensures.ended (rw (c.params-to_sql.ensures, c.params-to_sql-2.ensures) at c.execute.ensures.runs) c.execute.ensures.survives (with_commit row)
     c.in_ok-execute.field-0 c.in_ok-execute.was (λ more t h ran. put_commit more (state g.S.Store old) (state g.S.Store new) t row _ h ran)
+    (λ more has ran. only_keeps_more spec.commits (store_with more) (state g.S.Store old).now (state g.S.Store new).now (omega arith) (only.put_commit more (state g.S.Store old) (state g.S.Store new) _ _ _ has ran))
 
 pub returns-clause-only : goal.returns-clause-only
 returns-clause-only g c =
