@@ -80,16 +80,16 @@ module _ {S X : Type 0} (g : Ghosts S) (a b : Held S) (meta : X) (listed : X →
     along = survives_then (state g a) (state g b) (state g c) _ _ (λ _. ⊥) (λ _ db none. none) (λ _ db none. none) one.survives more
 
   pub rows_fail : {A : Type 0} (c : Held S) (e : Error) (Rows : A → Trees → Type 0) (fault : StoreFault) → AreRead {A = A} g b c (Err e) Rows → IsRefusal ⊥ ⊥ ⊥ fault → AreListed g a c (Err fault)
-  rows_fail c e Rows fault two why = record { found = λ clean ours live. refused_unfit (state g a).now fault why; was_open = λ clean ours. tt; kept = all_kept c two.survives two.kept; survives = along c two.survives }
+  rows_fail c e Rows fault two why = record { found = λ clean ours live. refused_unfit (state g a).now fault why; was_open = λ clean ours. tt; kept = all_kept c two.survives (two.kept no_more); survives = along c two.survives }
 
   pub listed_all : (c : Held S) (rows : StoreRows) (r : Result Mirror StoreFault) → listed meta ≡ version_row ∷ [] → AreRead g b c (Ok rows) AreShown
       → IfOk r (λ lists. IsSame (rows_in rows) (tables_of lists.kept)) → IfErr r (IsDamage (¬ AreStoreRows (rows_in rows))) → AreListed g a c r
-  listed_all c rows r versioned two same broken = record { found = λ clean ours live. decide r (holds clean ours live) same broken; was_open = λ clean ours. open_at r (one.rows no_more (clean_before c two.survives clean) ours).0.0.was_open; kept = all_kept c two.survives two.kept; survives = along c two.survives }
+  listed_all c rows r versioned two same broken = record { found = λ clean ours live. decide r (holds clean ours live) same broken; was_open = λ clean ours. open_at r (one.rows no_more (clean_before c two.survives clean) ours).0.0.was_open; kept = all_kept c two.survives (two.kept no_more); survives = along c two.survives }
     where
       holds : HasCleanDisk (state g c) → (state g a).now.schema ≡ store_schema → (IsTrue (state g a).is_open → IsDatabase (state g a).now) → Holds (state g a).now (rows_in rows)
       holds clean ours live =
           let first = one.rows no_more (clean_before c two.survives clean) ours in
-          let second = two.rows clean (still_ours c two.survives first.0 ours) in
+          let second = two.rows no_more clean (still_ours c two.survives first.0 ours) in
           let shown = subst (λ (db : Database). AreShown rows db.trees) first.0.0.now_is second.1 in
           record {
             schema = ours;

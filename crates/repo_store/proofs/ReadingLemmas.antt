@@ -4,11 +4,12 @@ use Rattle.sqlite_trees.specs.declared.store.Store.{Ghosts}
 use Rattle.sqlite_trees.specs.Tree.{Trees}
 use Rattle.sqlite.specs.declared.error.Error.{Error}
 use Rattle.sqlite.specs.Effect.{Database}
+use Rattle.sqlite_schema.specs.declared.schema.Schema.{Schema}
 use Rattle.sqlite.specs.Held.{Held, state}
 use Rattle.sqlite.specs.State.{State, HasCleanDisk, IsUnchanged, KeepsCommit, Survives}
 use Rattle.sqlite.proofs.InsideLemmas.{keeps_then}
 use Rattle.sqlite.proofs.StateLemmas.{survives_then}
-use Rattle.store_tables.specs.Schema.{no_more, store_schema}
+use Rattle.store_tables.specs.Schema.{MoreTables, store_with}
 use Rattle.store_tables.specs.Steps.{IsRead}
 use Rattle.repo_store.specs.Opening.{AreRead}
 
@@ -24,46 +25,46 @@ unchanged_kept a b one = record { was_open = λ _. one.0.was_open; committed = �
 
 -- some tables are read, and of the trees P is known
 pub record Reached {S : Type 0} (g : Ghosts S) (a b : Held S) (P : Trees → Type 0) : Type 0 where
-  pub same : HasCleanDisk (state g b) → (state g a).now.schema ≡ store_schema → IsUnchanged (state g a) (state g b) × P (state g a).now.trees
+  pub same : (more : MoreTables) → HasCleanDisk (state g b) → (state g a).now.schema ≡ store_with more → IsUnchanged (state g a) (state g b) × P (state g a).now.trees
   pub survives : Survives (state g a) (state g b) (λ _. ⊥)
 
 pub first_read : {S X : Type 0} (g : Ghosts S) (a b : Held S) (x : X) (Rows : X → Trees → Type 0) → IsRead g a b (Ok x) Rows → Reached g a b (Rows x)
-first_read g a b x Rows one = record { same = λ clean ours. one.rows no_more clean ours; survives = one.survives }
+first_read g a b x Rows one = record { same = λ more clean ours. one.rows more clean ours; survives = one.survives }
 
 module _ {S : Type 0} (g : Ghosts S) (a b c : Held S) (P : Trees → Type 0) (so_far : Reached g a b P) where
   clean_before : Survives (state g b) (state g c) (λ _. ⊥) → HasCleanDisk (state g c) → HasCleanDisk (state g b)
   clean_before more clean = omega (arith, more.clean)
 
-  still_ours : IsUnchanged (state g a) (state g b) → (state g a).now.schema ≡ store_schema → (state g b).now.schema ≡ store_schema
-  still_ours same ours = ap (λ (db : Database). db.schema) same.0.now_is ∙ ours
+  still_ours : (listed : Schema) → IsUnchanged (state g a) (state g b) → (state g a).now.schema ≡ listed → (state g b).now.schema ≡ listed
+  still_ours listed same ours = ap (λ (db : Database). db.schema) same.0.now_is ∙ ours
 
   along : Survives (state g b) (state g c) (λ _. ⊥) → Survives (state g a) (state g c) (λ _. ⊥)
   along more = survives_then (state g a) (state g b) (state g c) _ _ (λ _. ⊥) (λ _ db none. none) (λ _ db none. none) so_far.survives more
 
   pub next_read : {X : Type 0} (x : X) (Rows : X → Trees → Type 0) → IsRead g b c (Ok x) Rows → Reached g a c (λ trees. P trees × Rows x trees)
   next_read x Rows two = record {
-    same = λ clean ours.
-        let one = so_far.same (clean_before two.survives clean) ours in
-        let more = two.rows no_more clean (still_ours one.0 ours) in
-        (unchanged_then (state g a) (state g b) (state g c) one.0 more.0, (one.1, subst (λ (db : Database). Rows x db.trees) one.0.0.now_is more.1));
+    same = λ more clean ours.
+        let one = so_far.same more (clean_before two.survives clean) ours in
+        let next = two.rows more clean (still_ours (store_with more) one.0 ours) in
+        (unchanged_then (state g a) (state g b) (state g c) one.0 next.0, (one.1, subst (λ (db : Database). Rows x db.trees) one.0.0.now_is next.1));
     survives = along two.survives;
   }
 
   pub read_stops : {X A : Type 0} (e d : Error) (Rows : X → Trees → Type 0) (out : Result A Error) (Found : A → Trees → Type 0) → out ≡ Err d → IsRead {A = X} g b c (Err e) Rows → AreRead g a c out Found
   read_stops e d Rows out Found is two = record {
-    rows = λ clean ours. rw is tt;
-    kept = λ clean ours inside.
-        let one = so_far.same (clean_before two.survives clean) ours in
+    rows = λ more clean ours. rw is tt;
+    kept = λ more clean ours inside.
+        let one = so_far.same more (clean_before two.survives clean) ours in
         keeps_then (state g a) (state g b) (state g c) (unchanged_kept (state g a) (state g b) one.0) (two.kept clean (one.0.0.mode ∙ inside));
     survives = along two.survives;
   }
 
 pub first_stops : {S X A : Type 0} (g : Ghosts S) (a b : Held S) (e d : Error) (Rows : X → Trees → Type 0) (out : Result A Error) (Found : A → Trees → Type 0) → out ≡ Err d → IsRead {A = X} g a b (Err e) Rows → AreRead g a b out Found
-first_stops g a b e d Rows out Found is one = record { rows = λ clean ours. rw is tt; kept = λ clean ours inside. one.kept clean inside; survives = one.survives }
+first_stops g a b e d Rows out Found is one = record { rows = λ more clean ours. rw is tt; kept = λ more clean ours inside. one.kept clean inside; survives = one.survives }
 
 pub read_ends : {S A : Type 0} (g : Ghosts S) (a b : Held S) (P : Trees → Type 0) (answer : A) (Found : A → Trees → Type 0) → Reached g a b P → ((trees : Trees) → P trees → Found answer trees) → AreRead g a b (Ok answer) Found
 read_ends g a b P answer Found so_far finds = record {
-  rows = λ clean ours. let it = so_far.same clean ours in (it.0, finds (state g a).now.trees it.1);
-  kept = λ clean ours inside. unchanged_kept (state g a) (state g b) (so_far.same clean ours).0;
+  rows = λ more clean ours. let it = so_far.same more clean ours in (it.0, finds (state g a).now.trees it.1);
+  kept = λ more clean ours inside. unchanged_kept (state g a) (state g b) (so_far.same more clean ours).0;
   survives = so_far.survives;
 }

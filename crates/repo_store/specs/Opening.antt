@@ -6,7 +6,7 @@ use Rattle.sqlite.specs.declared.error.Error.{Error}
 use Rattle.sqlite.specs.Effect.{Database, IsDatabase}
 use Rattle.sqlite.specs.Held.{Held, state}
 use Rattle.sqlite.specs.State.{HasCleanDisk, IsUnchanged, KeepsCommit, Survives}
-use Rattle.store_tables.specs.Schema.{store_schema}
+use Rattle.store_tables.specs.Schema.{MoreTables, store_schema, store_with}
 use Rattle.store_tables.specs.Tables.{Holds}
 use Rattle.repo_store.specs.declared.fault.StoreFault.{StoreFault}
 use Rattle.repo_store.specs.Calls.{Rests}
@@ -18,11 +18,11 @@ use Rattle.repo_store.specs.Unfit.{IsUnfit}
 abbrev pub IsFoundIn : Database → Mirror → Type 0
 IsFoundIn db lists = Holds db (tables_of lists.kept)
 
--- Rows are read inside a transaction, where the database has the tables of a store: at `Ok` they are Found in its trees
--- and nothing has changed. Nothing is committed, and a crash leaves no more than before.
+-- Rows are read inside a transaction, where the database has the tables of a store, whatever tables are listed after
+-- them: at `Ok` they are Found in its trees and nothing has changed. Nothing is committed, and a crash leaves no more than before.
 pub record AreRead {S A : Type 0} (g : Ghosts S) (old new : Held S) (result : Result A Error) (Found : A → Trees → Type 0) : Type 0 where
-  pub rows : HasCleanDisk (state g new) → (state g old).now.schema ≡ store_schema → IfOk result (λ answer. IsUnchanged (state g old) (state g new) × Found answer (state g old).now.trees)
-  pub kept : HasCleanDisk (state g new) → (state g old).now.schema ≡ store_schema → IsTrue (state g old).in_transaction → KeepsCommit (state g old) (state g new)
+  pub rows : (more : MoreTables) → HasCleanDisk (state g new) → (state g old).now.schema ≡ store_with more → IfOk result (λ answer. IsUnchanged (state g old) (state g new) × Found answer (state g old).now.trees)
+  pub kept : (more : MoreTables) → HasCleanDisk (state g new) → (state g old).now.schema ≡ store_with more → IsTrue (state g old).in_transaction → KeepsCommit (state g old) (state g new)
   pub survives : Survives (state g old) (state g new) (λ _. ⊥)
 
 -- The lists are read in the same way, or refused.
