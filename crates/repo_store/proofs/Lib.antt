@@ -34,3 +34,5 @@ pub mod SoundLemmas
 pub mod StandLemmas
 pub mod StepLemmas
 pub mod TreeLemmas
+pub mod UseLemmas
+pub mod UseOrderLemmas

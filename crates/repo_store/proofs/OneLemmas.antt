@@ -71,7 +71,7 @@ paths_apart p q below back =
     let two : IsBelow q p = record { is_less = less_if (path_cmp q p) back } in
     below_not_same p p (IsBelow-trans p q p one two) refl
 
-numbers_apart : (m n : ℤ) → is_lt (int_cmp m n) ≡ true → is_lt (int_cmp n m) ≡ true → ⊥
+pub numbers_apart : (m n : ℤ) → is_lt (int_cmp m n) ≡ true → is_lt (int_cmp n m) ≡ true → ⊥
 numbers_apart m n below back =
     let less = int_cmp_total.trans m n m (less_if (int_cmp m n) below) (less_if (int_cmp n m) back) in
     let tied = tied_itself int_cmp_total m in

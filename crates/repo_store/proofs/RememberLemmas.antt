@@ -86,7 +86,7 @@ abbrev other_row : AnswerRow → AnswerRow → Bool
 other_row row other = not (bytes_eq other.words row.words && bytes_eq other.seen row.seen)
 
 -- whether a row has the key of another, by the answers
-row_told : (answer other : KeptAnswer) → TellsKey answer other → other_row (answer_row answer) (answer_row other) ≡ not (have_one_key other answer)
+pub row_told : (answer other : KeptAnswer) → TellsKey answer other → other_row (answer_row answer) (answer_row other) ≡ not (have_one_key other answer)
 row_told answer other tells =
     elim (have_one_key other answer) as (λ b. have_one_key other answer ≡ b → other_row (answer_row answer) (answer_row other) ≡ not b) [
       | true ↦ λ e.

@@ -3,6 +3,7 @@ pub mod AllOrNothing
 pub mod AnswerLemmas
 pub mod AnswerRefs
 pub mod Answers
+pub mod Bounded
 pub mod Calls
 pub mod Clashes
 pub mod Complete
@@ -31,4 +32,6 @@ pub mod Sound
 pub mod SoundAnswers
 pub mod Transactions
 pub mod Unfit
+pub mod UsedAnswers
+pub mod UsesOf
 pub mod WrittenAnswers
