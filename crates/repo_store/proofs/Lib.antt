@@ -1,5 +1,6 @@
 pub mod AcceptLemmas
 pub mod AnswerRowLemmas
+pub mod BoundedLemmas
 pub mod CallLemmas
 pub mod CellLemmas
 pub mod ChangeLemmas

@@ -27,6 +27,7 @@ mod answer_ref;
 mod answer_search;
 mod answers;
 mod blobs;
+mod bounded;
 mod clashes;
 mod commit;
 mod contents;
