@@ -5,6 +5,7 @@ pub mod CompletionLemmas
 pub mod EditLemmas
 pub mod EditedRunLemmas
 pub mod FaultLemmas
+pub mod FurtherLemmas
 pub mod HookRefs
 pub mod NextLemmas
 pub mod PartLemmas

@@ -1,14 +1,18 @@
 -- Where a plan stands, as the code has it. Serves private functions alone.
-use Rattle.std.specs.Prelude.{◌≡◌, ◌+◌, ◌≤◌, All, ℕ, Bool, false, if◌then◌else◌, List, [], ◌∷◌, drop, map, Option, None, Some}
+use Rattle.std.specs.Prelude.{◌≡◌, ◌+◌, ◌≤◌, All, ℕ, Bool, false, not, ◌&&◌, if◌then◌else◌, List, [], ◌∷◌, drop, map, Option, None, Some}
+use Rattle.std.specs.List.{AllByRecursion as Each}
+use Rattle.std.specs.Str.{bytes_eq}
 use Rattle.hook_base.specs.declared.file.File.{File}
 use Rattle.child_port.specs.declared.answer.Outcome.{Outcome}
 use Rattle.child_port.specs.Seen.{seen_of}
+use Rattle.hook_config.specs.Patterns.{no_path}
 use Rattle.hook_config.specs.declared.configuration.Config.{Config}
 use Rattle.report_text.specs.Report.{columns_of, report_text, width_of}
 use Rattle.report_text.specs.declared.hook_result.Ending.{Ending}
 use Rattle.hook_config.specs.declared.configuration.Hook.{Hook}
-use Rattle.path_select.specs.Candidates.{ArePassing}
+use Rattle.path_select.specs.Candidates.{ArePassing, is_candidate}
 use Rattle.path_select.specs.KnownTags.{AreTagsOf}
+use Rattle.path_select.specs.Patterns.{is_found}
 use Rattle.report_text.specs.declared.hook_result.HookResult.{HookResult}
 use Rattle.hook_run.specs.declared.course.Course.{Course}
 use Rattle.hook_run.specs.declared.gathered.Gathered.{Gathered}
@@ -67,10 +71,20 @@ waiting_at (Over report) = None
 abbrev pub with_gathered : AtHook → Gathered → AtHook
 with_gathered at all = record { hook = at.hook; before = at.before; commands = at.commands; gathered = all }
 
--- what the child of the next part sees is made of this tree
+-- the hook's pattern of further files is found in the path
+abbrev pub finds : Hook → List ℕ → Bool
+finds hook path = not (bytes_eq hook.x_reads no_path) && is_found hook.x_reads path
+
+-- of the tree's files those at these paths are its further ones. At some paths it may hold nothing: they are those of the tree on
+-- which the hook began, and parts may have removed files.
+abbrev pub AreFurther : Hook → List (List ℕ) → List File → Type 0
+AreFurther hook paths tree = Each (λ row. is_candidate paths row.path ≡ finds hook row.path) tree
+
+-- what the child of the next part sees is made of this tree, whose further files are at the paths that are kept
 abbrev pub IsSeenOn : List File → Waiting → Type 0
 IsSeenOn tree waiting =
-    waiting.seen ≡ seen_of waiting.command (further_of waiting.work.hook.now tree) (sees_whole waiting.work.hook.now) tree
+    (waiting.seen ≡ seen_of waiting.command (further_of waiting.work.hook.now tree) (sees_whole waiting.work.hook.now) tree)
+    × AreFurther waiting.work.hook.now waiting.work.further tree
 
 -- the part that waits, with this outcome
 abbrev pub part_at : Waiting → List File → Outcome → Bool → Part

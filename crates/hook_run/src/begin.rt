@@ -12,6 +12,7 @@ use crate::asked::is_skipped;
 use crate::begun::Begun;
 use crate::command::command_of;
 use crate::course::Course;
+use crate::further::further_of;
 use crate::gathered::nothing_gathered;
 use crate::limits::{MOST_COMMAND_BYTES, MOST_NAMES};
 use crate::work::{Work, go_on};
@@ -141,10 +142,12 @@ fn begin_command<'a>(
         return Ok(Begun::Ended(ending_of_misfit(alloc)?, false));
     };
     let before = tree.copy()?;
+    let further = further_of(alloc, hook, tree)?;
     let gathered = nothing_gathered(alloc);
     let work = Work {
         hook,
         before,
+        further,
         words,
         names,
         cuts,

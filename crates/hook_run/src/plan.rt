@@ -6,7 +6,7 @@ ghost use Rattle.hook_run.specs.Asks.{names_no_hook};
 ghost use Rattle.hook_run.specs.PlanBounds.{most_left, most_of_hooks, parts_at};
 ghost use Rattle.hook_run.specs.Plans.{IsPlanAfter, IsPlanOf, need_of, out_of_plan, seen_of_plan, tree_of_plan, words_of};
 ghost use Rattle.hook_run.specs.Refusals.{is_of_book};
-ghost use Rattle.hook_run.specs.Standing.{FitsName, FitsResults, IsCourse, IsPlanAt, IsPlanBehindHook, IsToldFrom, at_part, at_work, hooks_from};
+ghost use Rattle.hook_run.specs.Standing.{AreFurther, FitsName, FitsResults, IsCourse, IsPlanAt, IsPlanBehindHook, IsToldFrom, at_part, at_work, hooks_from};
 
 use crate::advance::{advance, place_behind};
 use crate::asked::{hooks_of_run, names_no_hook};
@@ -218,6 +218,7 @@ fn told<'a>(
     requires fits { FitsResults course done.results }
     requires known { AreTagsOf done.tree course.among tags }
     requires fits_at { FitsName course waiting.work.hook.now.name }
+    requires further { AreFurther waiting.work.hook.now waiting.work.further done.tree }
     ensures from { IfOk result (IsToldFrom course.entry done place waiting.entry outcome unsteady) }
     ensures fewer { IfOk result (λ plan. most_left plan < parts_at (Some (at_part waiting.entry)) + most_of_hooks (hooks_from course.entry place) done.tree) }
 {
@@ -242,6 +243,7 @@ fn plan_at<'a>(
     requires fits { FitsResults course done.results }
     requires known { AreTagsOf done.tree course.among tags }
     requires fits_at { FitsName course work.hook.now.name }
+    requires further { AreFurther work.hook.now work.further done.tree }
     ensures from { IfOk result (IsPlanAt course.entry done place (at_work work.entry)) }
     ensures within { IfOk result (λ plan. most_left plan ≤ length (at_work work.entry).commands + most_of_hooks (hooks_from course.entry place) done.tree) }
 {

@@ -5,10 +5,9 @@ ghost use Rattle.arg_partition.specs.Parts.{names_of};
 ghost use Rattle.child_port.specs.Seen.{seen_of};
 ghost use Rattle.hook_run.specs.HookRun.{further_of, sees_whole};
 ghost use Rattle.hook_run.specs.Plans.{gathered_with};
-ghost use Rattle.hook_run.specs.Standing.{HasGoneOn, at_work, with_gathered};
+ghost use Rattle.hook_run.specs.Standing.{AreFurther, HasGoneOn, at_work, with_gathered};
 
 use crate::begun::Begun;
-use crate::further::further_of;
 use crate::gathered::{Gathered, gathered_with};
 use crate::modified::is_modified;
 use crate::waiting::Waiting;
@@ -25,6 +24,9 @@ pub(crate) struct Work<'a> {
     pub(crate) hook: &'a Hook,
     /// The tree on which the hook began.
     pub(crate) before: Tree,
+    /// The paths of the further files that its children see, of that tree. They aren't looked for anew for each part: parts add
+    /// no files.
+    pub(crate) further: Items<RepoPath>,
     /// The words of its command, without names.
     pub(crate) words: Items<Text>,
     /// The names of all its parts.
@@ -43,6 +45,7 @@ pub(crate) fn go_on<'a>(
     work: Work<'a>,
     tree: &Tree,
 ) -> Result<Begun<'a>, OutOfMemory>
+    requires further { AreFurther work.hook.now work.further tree.now }
     ensures { IfOk result (HasGoneOn (at_work work.entry) tree.now) }
 {
     if work.begun < work.cuts.len() {
@@ -54,14 +57,15 @@ pub(crate) fn go_on<'a>(
 
 // The next part of the hook, which isn't begun yet, waits.
 fn waits<'a>(alloc: Global, work: Work<'a>, tree: &Tree) -> Result<Begun<'a>, OutOfMemory>
-    requires { work.begun < length work.cuts }
+    requires left { work.begun < length work.cuts }
+    requires further { AreFurther work.hook.now work.further tree.now }
     ensures { IfOk result (HasGoneOn (at_work work.entry) tree.now) }
 {
     let mut work = work;
     let cut = work.cuts.as_slice()[work.begun];
     let names = names_of(work.names.as_slice(), cut);
     let command = command_with(alloc, work.words.as_slice(), names)?;
-    let seen = seen_by(alloc, work.hook, command.as_slice(), tree)?;
+    let seen = seen_by(alloc, &work, command.as_slice(), tree)?;
     work.begun += 1;
     Ok(Begun::Waits(Waiting {
         work,
@@ -71,12 +75,14 @@ fn waits<'a>(alloc: Global, work: Work<'a>, tree: &Tree) -> Result<Begun<'a>, Ou
 }
 
 // The files of the tree that a child of this command of the hook sees.
-fn seen_by(alloc: Global, hook: &Hook, command: &[Text], tree: &Tree) -> Result<Tree, OutOfMemory>
-    ensures { IfOk result (λ seen. seen ≡ seen_of command.now (further_of hook.now tree.now) (sees_whole hook.now) tree.now) }
+#[tactic(auto, using(crate::proofs::FurtherLemmas::seen_further))]
+fn seen_by(alloc: Global, work: &Work, command: &[Text], tree: &Tree) -> Result<Tree, OutOfMemory>
+    requires { AreFurther work.now.hook.now work.now.further tree.now }
+    ensures { IfOk result (λ seen. seen ≡ seen_of command.now (further_of work.now.hook.now tree.now) (sees_whole work.now.hook.now) tree.now) }
 {
-    let further = further_of(alloc, hook, tree)?;
-    let whole = !hook.pass_filenames;
-    seen_of(alloc, command, further.as_slice(), whole, tree)
+    let further = work.further.as_slice();
+    let whole = !work.hook.pass_filenames;
+    seen_of(alloc, command, further, whole, tree)
 }
 
 // The hook has ended, as what its parts came to says.
@@ -141,11 +147,14 @@ pub(crate) fn work_with<'a>(
     outcome: &Outcome,
     unsteady: bool,
 ) -> Result<Work<'a>, OutOfMemory>
-    ensures { IfOk result (λ after. at_work after ≡ with_gathered (at_work work.entry) (gathered_with work.entry.gathered outcome.now unsteady)) }
+    ensures work { IfOk result (λ after. at_work after ≡ with_gathered (at_work work.entry) (gathered_with work.entry.gathered outcome.now unsteady)) }
+    ensures hook { IfOk result (λ after. after.hook.now ≡ work.entry.hook.now) }
+    ensures further { IfOk result (λ after. after.further ≡ work.entry.further) }
 {
     let Work {
         hook,
         before,
+        further,
         words,
         names,
         cuts,
@@ -156,6 +165,7 @@ pub(crate) fn work_with<'a>(
     Ok(Work {
         hook,
         before,
+        further,
         words,
         names,
         cuts,

@@ -1,7 +1,7 @@
 -- What a pattern selects where all others are those that a configuration has by default, of which the one is found in every
 -- path, and the other in none.
 use Rattle.std.proofs.Common.{◌≡◌, ◌∙◌, ap, ap₂, sym, refl, ℕ, zero, suc, ◌+◌, ◌≤◌, ◌<◌, Bool, true, false, List, [], ◌∷◌, map, filter, Option, None, Some, is_some, length, codes, inl, inr, true≢false, arith}
-use Rattle.std.specs.Prelude.{IsSome, ◌&&◌, ◌||◌, if◌then◌else◌}
+use Rattle.std.specs.Prelude.{IsSome, ◌&&◌, if◌then◌else◌}
 use Rattle.std.specs.List.{AllByRecursion as Each}
 use Rattle.std.specs.Str.{bytes_eq, chars}
 use Rattle.std.proofs.lemmas.Option.{slice_get-get_or}
@@ -14,11 +14,11 @@ use Rattle.regex_syntax.specs.Reading.{first, skip}
 use Rattle.regex_syntax.specs.Grammar.{atom, branches, char_meaning, item, items, join_parts, names_below, read, repetitions, with_repetitions}
 use Rattle.hook_base.specs.declared.file.File.{File}
 use Rattle.hook_base.specs.declared.file.FileEntry.{FileEntry}
-use Rattle.hook_base.specs.RisingLemmas.{bytes_same}
 use Rattle.hook_base.specs.Trees.{entry_of, path_of}
 use Rattle.path_select.specs.Candidates.{is_candidate}
 use Rattle.path_select.specs.Patterns.{is_found}
 use Rattle.path_select.specs.Selection.{found_in, is_selected, rules_of_pattern, selected}
+use Rattle.path_select.specs.SelectionLaws.{all_are_candidates}
 
 -- what the grammar reads in the two texts
 abbrev every : Re
@@ -73,19 +73,6 @@ not-empty (byte ∷ path) some = no_path byte path
 
 -- ---- a pattern alone
 
-or-true : (b : Bool) → (b || true) ≡ true
-or-true true = refl
-or-true false = refl
-
--- all files are candidates where their paths are
-each-candidate : (candidates : List (List ℕ)) (rows : List File) → ((path : List ℕ) → is_candidate (map path_of rows) path ≡ true → is_candidate candidates path ≡ true)
-    → Each (λ row. is_candidate candidates row.path ≡ true) rows
-each-candidate candidates [] within = tt
-each-candidate candidates (row ∷ rows) within = (
-  within row.path (rw (bytes_same row.path row.path refl) refl),
-  each-candidate candidates rows (λ path is. within path (rw is (or-true (bytes_eq row.path path)))),
-)
-
 none-first : (b : Bool) (entry : FileEntry) (rest : Option FileEntry) → (if b then Some entry else rest) ≡ None → (b ≡ false) × (rest ≡ None)
 none-first true entry rest none_there = absurd (cc)
 none-first false entry rest none_there = (refl, none_there)
@@ -110,4 +97,4 @@ module _ (pattern : List ℕ) (candidates : List (List ℕ)) where
 pub selected_alone : (pattern : List ℕ) (tree : List File) → entry_of [] tree ≡ None → selected (rules_of_pattern pattern) (map path_of tree) tree ≡ found_in pattern tree
 selected_alone pattern tree none_there =
     let all = map path_of tree in
-    ap (map path_of) (rows-alone pattern all tree (each-candidate all tree (λ path is. is)) none_there)
+    ap (map path_of) (rows-alone pattern all tree (all_are_candidates tree) none_there)

@@ -1,5 +1,15 @@
+use Rattle.std.proofs.Common.{sym, subst, ℕ, List}
+use Rattle.hook_run.specs.Standing.{AreFurther}
 use Rattle.hook_run.proofs.BeginLemmas.{command-begun_if, cuts-given}
+use Rattle.hook_run.proofs.FurtherLemmas.{further-first}
 use Rattle.hook_run.proofs.begin.begin_command.Goals as goal
+
+pub go_on-requires : goal.go_on-requires
+go_on-requires c =
+    record {
+      further = subst (λ (paths : List (List ℕ)). AreFurther c.args.hook.now paths c.args.tree.now) (sym c.in_ok-further.ensures)
+          (further-first c.args.hook.now c.args.tree.now)
+    }
 
 pub returns : goal.returns
 returns c =
