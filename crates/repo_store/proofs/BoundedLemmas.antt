@@ -1,5 +1,5 @@
 -- Statements on the tables of a store of version 2, as steps from one content to the next.
-use Rattle.std.proofs.Common.{◌≡◌, ◌+◌, ◌≤◌, List, [], true, Result, refl, arith}
+use Rattle.std.proofs.Common.{◌≡◌, ◌+◌, ◌≤◌, List, [], true, Result, refl, sym, subst, arith}
 use Rattle.std.proofs.lemmas.List.Sorted.{IsPermutation-refl}
 use Rattle.std.proofs.lemmas.Result.{on_ok_weaker}
 use Rattle.sqlite_trees.specs.declared.store.Store.{Ghosts}
@@ -7,22 +7,24 @@ use Rattle.sqlite.specs.declared.error.Error.{Error}
 use Rattle.sqlite.specs.Effect.{Database}
 use Rattle.sqlite.specs.Held.{Held, state}
 use Rattle.sqlite.specs.State.{Shows}
-use Rattle.store_tables.specs.Schema.{no_more}
 use Rattle.store_tables.specs.Steps.{IsChange, IsMade}
-use Rattle.store_tables.specs.Tables.{IsEmptyStore, no_rows}
-use Rattle.store_tables.specs.Uses.{HoldsWithUses, MakesBareUses}
-use Rattle.store_tables.proofs.StepLemmas.{Went}
-use Rattle.repo_store.specs.Bounded.{HoldsBounded, first_limit, tables_within}
+use Rattle.store_tables.specs.Tables.{AreKeyed, Holds, IsEmptyStore, no_rows}
+use Rattle.store_tables.specs.Uses.{AddsUses, HoldsRows, MakesBareUses}
+use Rattle.store_tables.proofs.UsesStepLemmas.{grown_as_made}
+use Rattle.repo_store.specs.Bounded.{HoldsNext, tables_within}
 use Rattle.repo_store.specs.Kept.{nothing_kept}
 
 module _ {S A : Type 0} (g : Ghosts S) (old new : Held S) (r : Result A Error) where
   -- the table of uses, made behind those of an empty store
-  pub bare_as_made : IsChange g old new r MakesBareUses → IsMade g old new r IsEmptyStore (λ db. HoldsWithUses db no_rows [])
-  bare_as_made change = record {
-    done = λ clean inside. on_ok_weaker r (λ (d : Went g old new MakesBareUses). (d.0, λ h. d.1 no_more h.1.schema refl no_rows h.1)) (change.done clean inside);
-    kept = change.kept;
-    survives = change.survives;
-  }
+  pub bare_as_made : IsChange g old new r MakesBareUses → IsChange g old new r AddsUses → IsMade g old new r IsEmptyStore (λ db. HoldsRows db no_rows [])
+  bare_as_made change added =
+      let made = grown_as_made g old new r no_rows change added in
+      record {
+        done = λ clean inside. on_ok_weaker r (λ (d : Shows (state g old) (state g new) (state g new).now (state g old).committed true × (Holds (state g old).now no_rows × AreKeyed ((state g old).now.trees 0) → HoldsRows (state g new).now no_rows [])).
+            (d.0, λ empty. d.1 (empty.1, subst AreKeyed (sym empty.0.empty.0) (record { numbered = refl; apart = tt })))) (made.done clean inside);
+        kept = made.kept;
+        survives = made.survives;
+      }
 
   -- what is made, told of more
   pub made_as : (P Q R : Database → Type 0) → ((db : Database) → Q db → R db) → IsMade g old new r P Q → IsMade g old new r P R
@@ -33,12 +35,10 @@ module _ {S A : Type 0} (g : Ghosts S) (old new : Held S) (r : Result A Error) w
   }
 
 -- an empty store of version 2
-pub holds_nothing : (db : Database) → HoldsWithUses db (tables_within first_limit nothing_kept) [] → HoldsBounded db first_limit nothing_kept
+pub holds_nothing : (db : Database) → HoldsRows db (tables_within nothing_kept) [] → HoldsNext 1 db nothing_kept
 holds_nothing db h = record {
   rows = [];
-  next = 1;
   holds = h;
   uses = record { ticks = []; as_many = refl; fall = tt; rows_are = IsPermutation-refl [] };
   ticks_fit = omega arith;
-  few = omega arith;
 }

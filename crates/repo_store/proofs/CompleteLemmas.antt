@@ -184,7 +184,7 @@ records_grown old new answers grows all =
     }) all
 
 pub complete_empty : IsComplete nothing_kept
-complete_empty = record { sound = sound_empty; staged = tt; fixes = tt; trees = tt; sound_answers = tt; answers = tt; keys = tt; apart = λ i j i_in j_in same. absurd (omega arith) }
+complete_empty = record { sound = sound_empty; staged = tt; fixes = tt; trees = tt; sound_answers = tt; answers = tt; keys = tt; apart = λ i j i_in j_in same. absurd (omega arith); limited = refl }
 
 pub complete_staged : (path : List ℕ) (entry : FileEntry) (kept : Kept) → IsComplete kept → Fits (put_file path entry kept.repo.staged) → ¬ Collides entry.bytes kept.contents → IsComplete (staging path entry kept)
 complete_staged path entry kept it fits clear =
@@ -199,10 +199,11 @@ complete_staged path entry kept it fits clear =
       answers = records_grown kept.contents new kept.answers grows it.answers;
       keys = it.keys;
       apart = apart_with entry.bytes kept.contents clear it.apart;
+      limited = it.limited;
     }
 
 pub complete_unstaged : (path : List ℕ) (kept : Kept) → IsComplete kept → IsComplete (unstaging path kept)
-complete_unstaged path kept it = record { sound = sound_unstaged path kept.repo it.sound; staged = have_removed (IsAmong kept.contents) path kept.repo.staged it.staged; fixes = tt; trees = it.trees; sound_answers = it.sound_answers; answers = it.answers; keys = it.keys; apart = it.apart }
+complete_unstaged path kept it = record { sound = sound_unstaged path kept.repo it.sound; staged = have_removed (IsAmong kept.contents) path kept.repo.staged it.staged; fixes = tt; trees = it.trees; sound_answers = it.sound_answers; answers = it.answers; keys = it.keys; apart = it.apart; limited = it.limited }
 
 pub complete_kept : (bytes : List ℕ) (kept : Kept) → IsComplete kept → ¬ Collides bytes kept.contents → IsComplete (keeping bytes kept)
 complete_kept bytes kept it clear =
@@ -217,6 +218,7 @@ complete_kept bytes kept it clear =
       answers = records_grown kept.contents new kept.answers grows it.answers;
       keys = it.keys;
       apart = apart_with bytes kept.contents clear it.apart;
+      limited = it.limited;
     }
 
 pub complete_committed : (message : List ℕ) (kept : Kept) → IsComplete kept → length kept.repo.history < most_commits → IsComplete (committing message kept)
@@ -229,13 +231,14 @@ complete_committed message kept it few = record {
   answers = it.answers;
   keys = it.keys;
   apart = it.apart;
+  limited = it.limited;
 }
 
 pub complete_forgotten : (kept : Kept) → IsComplete kept → IsComplete (forgetting kept)
-complete_forgotten kept it = record { sound = it.sound; staged = it.staged; fixes = it.fixes; trees = it.trees; sound_answers = tt; answers = tt; keys = tt; apart = it.apart }
+complete_forgotten kept it = record { sound = it.sound; staged = it.staged; fixes = it.fixes; trees = it.trees; sound_answers = tt; answers = tt; keys = tt; apart = it.apart; limited = it.limited }
 
 pub complete_accepted : (kept : Kept) → IsComplete kept → IsComplete (accepting kept)
-complete_accepted kept it = record { sound = sound_accepted kept.repo it.sound; staged = have_applied (IsAmong kept.contents) kept.repo.fixes kept.repo.staged it.fixes it.staged; fixes = tt; trees = it.trees; sound_answers = it.sound_answers; answers = it.answers; keys = it.keys; apart = it.apart }
+complete_accepted kept it = record { sound = sound_accepted kept.repo it.sound; staged = have_applied (IsAmong kept.contents) kept.repo.fixes kept.repo.staged it.fixes it.staged; fixes = tt; trees = it.trees; sound_answers = it.sound_answers; answers = it.answers; keys = it.keys; apart = it.apart; limited = it.limited }
 
 pub complete_set : (changes : List Change) (kept : Kept) → IsComplete kept → IsRisingChanges changes → ¬ FixCollides (staged_changes changes kept.repo.staged) kept.contents → IsComplete (setting changes kept)
 complete_set changes kept it rising clear =
@@ -258,4 +261,5 @@ complete_set changes kept it rising clear =
       answers = records_grown kept.contents new kept.answers grows it.answers;
       keys = it.keys;
       apart = apart_all fixes kept.contents clear it.apart;
+      limited = it.limited;
     }

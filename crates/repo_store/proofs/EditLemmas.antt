@@ -81,7 +81,7 @@ whole : (front all : List (List ℕ)) → take (length front) all ≡ front → 
 whole front all is = ap (λ (l : List (List ℕ)). l ++ drop (length front) all) (sym is) ∙ take-append-drop (length front) all
 
 pub longer_itself : (kept : Kept) → IsLonger kept kept
-longer_itself kept = record { history = refl; answers = refl; front = take-length kept.contents }
+longer_itself kept = record { history = refl; answers = refl; limit = refl; front = take-length kept.contents }
 
 pub longer_then : (a b c : Kept) → IsLonger a b → IsLonger b c → IsLonger a c
 longer_then a b c one two =
@@ -92,6 +92,7 @@ longer_then a b c one two =
     record {
       history = two.history ∙ one.history;
       answers = two.answers ∙ one.answers;
+      limit = two.limit ∙ one.limit;
       front = ap (take (length a.contents)) parts ∙ take-append_seam a.contents (more ++ last);
     }
 
@@ -101,8 +102,8 @@ longer_grows a b longer =
     omega (arith, parts, length-append a.contents (drop (length a.contents) b.contents))
 
 pub edited_longer : (edit : StagingEdit) (kept : Kept) → IsLonger kept (edited edit kept)
-edited_longer (Add path bytes asked) kept = record { history = refl; answers = refl; front = contents_before bytes kept.contents }
-edited_longer (Remove path) kept = record { history = refl; answers = refl; front = take-length kept.contents }
+edited_longer (Add path bytes asked) kept = record { history = refl; answers = refl; limit = refl; front = contents_before bytes kept.contents }
+edited_longer (Remove path) kept = record { history = refl; answers = refl; limit = refl; front = take-length kept.contents }
 
 pub all_longer : (edits : List StagingEdit) (kept : Kept) → IsLonger kept (all_edited edits kept)
 all_longer [] kept = longer_itself kept
@@ -140,7 +141,7 @@ module _ (kept after : Kept) (before : Before) (is : IsBefore kept before) (long
   all_same now now_is =
       now_is ∙ ap (λ (r : Repository). record after { repo = r; contents = take before.count after.contents }) same_repository
       ∙ ap (λ (l : List (List ℕ)). record after { repo = kept.repo; contents = l }) (ap (λ (n : ℕ). take n after.contents) is.count ∙ longer.front)
-      ∙ ap (λ (l : List KeptAnswer). record kept { answers = l }) longer.answers
+      ∙ ap₂ (λ (l : List KeptAnswer) (n : ℕ). record kept { answers = l; limit = n }) longer.answers longer.limit
 
 -- ---- what is left is a store
 

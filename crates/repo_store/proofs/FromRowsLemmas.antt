@@ -38,7 +38,7 @@ use Rattle.repo_store.specs.Repository.{Commit}
 use Rattle.repo_store.specs.Rows.{answer_row, blob_row, commit_rows, entry_row, entry_rows, fix_at, fix_row, staged_row, tables_of, version_row}
 use Rattle.repo_store.specs.RowRules.{AreCommitRows, AreStagedRows, IsAnswerRow, IsBlobRow, IsEntryRow, IsFileRow, IsFixRow, AreStoreRows, is_staged, number_in, numbers_from}
 use Rattle.store_tables.specs.declared.rows.CommitRow.{CommitRow}
-use Rattle.repo_store.specs.Limits.{Fits, IsSmall, most_commits}
+use Rattle.repo_store.specs.Limits.{Fits, IsSmall, first_limit, most_commits}
 use Rattle.repo_store.proofs.SoundLemmas.{AreStaged, few}
 
 pub all_pushed : {X : Type 0} (P : X → Type 0) (xs : List X) (x : X) → AllByRecursion P xs → P x → AllByRecursion P (xs ++ x ∷ [])
@@ -286,7 +286,7 @@ perm_same xs ys same = subst (IsPermutation xs) same (IsPermutation-refl xs)
 
 pub lists_same : (rows : StoreRows) (contents : List (List ℕ)) (history : List SharedCommit) (staged : List FileParts) (fixes : List SharedFix) (answers : List KeptAnswer) (kept : Kept) → map blob_row contents ≡ rows.blobs.items → map staged_row (map file_of staged) ≡ rows.staged.items
     → map fix_row (map fix_of fixes) ≡ rows.fixes.items → commit_rows 1 (map commit_of history) ≡ rows.commits.items → IsPermutation (entry_rows 1 (map commit_of history)) rows.entries.items → map answer_row answers ≡ rows.answers.items
-    → kept ≡ record { repo = repository_of history staged fixes; contents = contents; answers = answers } → IsSame (rows_in rows) (tables_of kept)
+    → kept ≡ record { repo = repository_of history staged fixes; contents = contents; answers = answers; limit = first_limit } → IsSame (rows_in rows) (tables_of kept)
 lists_same rows contents history staged fixes answers kept blobs files changes commits entries remembered is =
     subst (λ (k : Kept). IsSame (rows_in rows) (tables_of k)) (sym is) (record {
       meta = IsPermutation-refl (version_row ∷ []);

@@ -181,6 +181,7 @@ alike_from_same a b obeys other same =
       repo = ap₂ (λ (h : List Commit) (r : List File × List Change). record { history = h; staged = r.0; fixes = r.1 }) history (ap₂ (λ (s : List File) (f : List Change). (s, f)) staged fixes);
       contents = contents;
       answers = same_answers a.contents b.contents contents other.apart a.answers b.answers obeys.sound_answers obeys.answers other.sound_answers other.answers same.answers;
+      limit = obeys.limited ∙ sym other.limited;
     }
 
 pub held_alike : (db : Database) (a b : Kept) → IsComplete a → IsComplete b → Holds db (tables_of a) → Holds db (tables_of b) → AreAlike a b

@@ -148,6 +148,7 @@ module _ (answer : KeptAnswer) (kept : Kept) (it : IsComplete kept) (sound : IsS
     answers = all_with (HasRecords new) answer (records_there kept.contents answer) kept.answers (records_grown kept.contents new kept.answers grows it.answers);
     keys = own_keys_with answer kept.answers it.keys;
     apart = new_apart;
+    limited = it.limited;
   }
 
   -- the digests of the answers tell their keys

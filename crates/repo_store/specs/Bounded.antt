@@ -12,21 +12,14 @@ use Rattle.store_tables.specs.declared.rows.AnswerRow.{AnswerRow}
 use Rattle.store_tables.specs.declared.rows.MetaRow.{MetaRow}
 use Rattle.store_tables.specs.declared.rows.UseRow.{UseRow}
 use Rattle.store_tables.specs.Tables.{Tables}
-use Rattle.store_tables.specs.Uses.{HoldsWithUses}
+use Rattle.store_tables.specs.Uses.{HoldsRows}
 use Rattle.repo_store.specs.Answers.{KeptAnswer}
 use Rattle.repo_store.specs.Index.{Key, key_of}
 use Rattle.repo_store.specs.Kept.{Kept}
+use Rattle.repo_store.specs.Limits.{first_limit, most_answers}
 use Rattle.repo_store.specs.RowRules.{AreStoreRows}
 use Rattle.repo_store.specs.Rows.{tables_of}
 use Rattle.repo_store.specs.UsesOf.{AreUsesOf, greatest_tick}
-
--- the greatest limit, and so the most answers that a store remembers
-abbrev pub greatest_limit : ℕ
-greatest_limit = 100000
-
--- how many answers a new store remembers
-abbrev pub first_limit : ℕ
-first_limit = 10000
 
 abbrev pub second_version_row : MetaRow
 second_version_row = record { name = codes "version"; value = pos 2 }
@@ -35,17 +28,21 @@ abbrev pub limit_row : ℤ → MetaRow
 limit_row limit = record { name = codes "limit"; value = limit }
 
 -- the tables of a store that keeps this, but for the uses
-abbrev pub tables_within : ℕ → Kept → Tables
-tables_within limit kept = record (tables_of kept) { meta = second_version_row ∷ limit_row (pos limit) ∷ [] }
+abbrev pub tables_within : Kept → Tables
+tables_within kept = record (tables_of kept) { meta = second_version_row ∷ limit_row (pos kept.limit) ∷ [] }
 
--- The database is a store of version 2 that keeps this, with the answers in their order.
-pub record HoldsBounded (db : Database) (limit : ℕ) (kept : Kept) : Type 0 where
+-- The database is a store of version 2 that keeps this, with the answers in their order. The next use gets the tick `next`, unless
+-- it is past the greatest.
+pub record HoldsNext (next : ℕ) (db : Database) (kept : Kept) : Type 0 where
   pub rows : List UseRow
-  pub next : ℕ
-  pub holds : HoldsWithUses db (tables_within limit kept) rows
+  pub holds : HoldsRows db (tables_within kept) rows
   pub uses : AreUsesOf next rows kept.answers
   pub ticks_fit : next ≤ greatest_tick + 1
-  pub few : length kept.answers ≤ limit
+
+-- The same with some next tick.
+pub record HoldsBounded (db : Database) (kept : Kept) : Type 0 where
+  pub next : ℕ
+  pub holds : HoldsNext next db kept
 
 -- ---- the rules that its rows obey
 
@@ -72,7 +69,7 @@ pub record AreBoundedRows (t : Tables) (rows : List UseRow) : Type 0 where
   pub limit : ℕ
   pub limited : IsPermutation t.meta (second_version_row ∷ limit_row (pos limit) ∷ [])
   pub at_least : 1 ≤ limit
-  pub at_most : limit ≤ greatest_limit
+  pub at_most : limit ≤ most_answers
   -- there are no more answers
   pub few : length t.answers ≤ limit
   -- each answer has a use, and each use an answer

@@ -7,6 +7,7 @@ use Rattle.hook_base.specs.declared.change.Change.{Change}
 use Rattle.repo_store.specs.Answers.{KeptAnswer, HaveOwnKeys}
 use Rattle.repo_store.specs.Contents.{has_content}
 use Rattle.repo_store.specs.Kept.{Kept}
+use Rattle.repo_store.specs.Limits.{first_limit}
 use Rattle.repo_store.specs.Repository.{Commit}
 use Rattle.repo_store.specs.Sound.{IsSound}
 use Rattle.repo_store.specs.SoundAnswers.{IsSoundAnswer}
@@ -50,9 +51,12 @@ pub record IsComplete (kept : Kept) : Type 0 where
   pub answers : HaveRecords kept.contents kept.answers
   pub keys : HaveOwnKeys kept.answers
   pub apart : HaveDistinctDigests kept.contents
+  -- no other limit can be set yet
+  pub limited : kept.limit ≡ first_limit
 
--- the same repository, and the same contents and answers in some order
+-- the same repository and limit, and the same contents and answers in some order
 pub record AreAlike (a b : Kept) : Type 0 where
   pub repo : a.repo ≡ b.repo
   pub contents : IsPermutation a.contents b.contents
   pub answers : IsPermutation a.answers b.answers
+  pub limit : a.limit ≡ b.limit

@@ -9,7 +9,7 @@ use Rattle.hook_base.specs.contracts.change.Change as change
 use Rattle.hook_base.specs.declared.file.FileEntry.{FileEntry}
 use Rattle.repo_store.specs.Answers.{KeptAnswer, answer_code}
 use Rattle.repo_store.specs.Contents.{with_content, with_changes, Collides}
-use Rattle.repo_store.specs.Limits.{IsSmall}
+use Rattle.repo_store.specs.Limits.{IsSmall, first_limit}
 use Rattle.repo_store.specs.Repository.{Commit, Repository, empty, with_staged, without_staged, with_new_commit, accepted, with_fixes, staged_changes}
 
 pub record Kept : Type 0 where
@@ -18,10 +18,12 @@ pub record Kept : Type 0 where
   pub contents : List (List ℕ)
   -- as they were first put; the tables don't tell this order either
   pub answers : List KeptAnswer
+  -- how many answers are remembered at most
+  pub limit : ℕ
 
 -- what an empty store keeps
 abbrev pub nothing_kept : Kept
-nothing_kept = record { repo = empty; contents = []; answers = [] }
+nothing_kept = record { repo = empty; contents = []; answers = []; limit = first_limit }
 
 -- ---- what the calls make of it
 
@@ -76,8 +78,8 @@ repository_code =
 
 abbrev pub kept_code : Coded Kept
 kept_code =
-    code_by (Repository × (List (List ℕ) × List KeptAnswer)) (coded× repository_code (coded× (coded_list (coded_list coded_ℕ)) (coded_list answer_code))) (λ k. (k.repo, (k.contents, k.answers)))
-    (λ p. record { repo = p.0; contents = p.1.0; answers = p.1.1 }) (λ _. refl)
+    code_by (Repository × (List (List ℕ) × (List KeptAnswer × ℕ))) (coded× repository_code (coded× (coded_list (coded_list coded_ℕ)) (coded× (coded_list answer_code) coded_ℕ))) (λ k. (k.repo, (k.contents, (k.answers, k.limit))))
+    (λ p. record { repo = p.0; contents = p.1.0; answers = p.1.1.0; limit = p.1.1.1 }) (λ _. refl)
 
 -- What is kept, and whether the lists in memory have room for one more staged file, one more commit and one more answer.
 pub record Mirror : Type 0 where

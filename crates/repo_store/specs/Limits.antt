@@ -22,6 +22,14 @@ most_content_bytes = most_file_bytes
 abbrev pub most_status : ℕ
 most_status = 255
 
+-- the most answers that a store may be told to remember
+abbrev pub most_answers : ℕ
+most_answers = 100000
+
+-- how many answers a new store remembers
+abbrev pub first_limit : ℕ
+first_limit = 10000
+
 -- the bytes of the paths together
 abbrev pub path_bytes : List File → ℕ
 path_bytes files = sum_by (λ (file : File). length file.path) files

@@ -47,6 +47,7 @@ all_rows (edit ∷ edits) rows = all_rows edits (edited_rows edit rows)
 pub record IsLonger (old new : Kept) : Type 0 where
   pub history : new.repo.history ≡ old.repo.history
   pub answers : new.answers ≡ old.answers
+  pub limit : new.limit ≡ old.limit
   pub front : take (length old.contents) new.contents ≡ old.contents
 
 -- what is put back where an edit is refused

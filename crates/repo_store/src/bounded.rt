@@ -4,9 +4,9 @@ ghost use Rattle.std.specs.Prelude.{◌≡◌, List};
 ghost use Rattle.store_tables.specs.Schema.{no_schema};
 ghost use Rattle.store_tables.specs.Steps.{IsMade};
 ghost use Rattle.store_tables.specs.Tables.{IsBare, Tables, without_answer};
-ghost use Rattle.store_tables.specs.Uses.{HoldsWithUses, with_use, without_use};
+ghost use Rattle.store_tables.specs.Uses.{HoldsRows, with_use, without_use};
 ghost use Rattle.store_tables.specs.declared.rows.UseRow.{UseRow};
-ghost use Rattle.repo_store.specs.Bounded.{HoldsBounded, first_limit};
+ghost use Rattle.repo_store.specs.Bounded.{HoldsNext};
 ghost use Rattle.repo_store.specs.Kept.{nothing_kept};
 
 use sqlite::{Alter, Error, Transaction};
@@ -15,7 +15,7 @@ use store_tables::{make_tables, make_uses, put_meta, put_use, take_answer, take_
 /// Makes the tables of an empty store.
 pub(crate) fn make_bounded_in<S: Alter>(tx: &mut Transaction<'_, S>) -> Result<(), Error>
     ensures same_reference { tx.new.conn.ghost_name ≡ tx.old.conn.ghost_name }
-    ensures made { IsMade S.Store tx.old.conn.now tx.new.conn.now result (IsBare no_schema) (λ db. HoldsBounded db first_limit nothing_kept) }
+    ensures made { IsMade S.Store tx.old.conn.now tx.new.conn.now result (IsBare no_schema) (λ db. HoldsNext 1 db nothing_kept) }
 {
     make_tables(tx)?;
     make_uses(tx)?;
@@ -31,7 +31,7 @@ pub(crate) fn use_in<S: Alter>(
     tick: i64,
 ) -> Result<(), Error>
     ensures same_reference { tx.new.conn.ghost_name ≡ tx.old.conn.ghost_name }
-    ensures made { (t : Tables) (rows : List UseRow) → IsMade S.Store tx.old.conn.now tx.new.conn.now result (λ db. HoldsWithUses db t rows) (λ db. HoldsWithUses db t (with_use (record { words = words.now; seen = seen.now; tick = tick }) (without_use words.now seen.now rows))) }
+    ensures made { (t : Tables) (rows : List UseRow) → IsMade S.Store tx.old.conn.now tx.new.conn.now result (λ db. HoldsRows db t rows) (λ db. HoldsRows db t (with_use (record { words = words.now; seen = seen.now; tick = tick }) (without_use words.now seen.now rows))) }
 {
     take_use(tx, words, seen)?;
     put_use(tx, words, seen, tick)
@@ -44,7 +44,7 @@ pub(crate) fn drop_in<S: Alter>(
     seen: &[u8],
 ) -> Result<(), Error>
     ensures same_reference { tx.new.conn.ghost_name ≡ tx.old.conn.ghost_name }
-    ensures made { (t : Tables) (rows : List UseRow) → IsMade S.Store tx.old.conn.now tx.new.conn.now result (λ db. HoldsWithUses db t rows) (λ db. HoldsWithUses db (without_answer words.now seen.now t) (without_use words.now seen.now rows)) }
+    ensures made { (t : Tables) (rows : List UseRow) → IsMade S.Store tx.old.conn.now tx.new.conn.now result (λ db. HoldsRows db t rows) (λ db. HoldsRows db (without_answer words.now seen.now t) (without_use words.now seen.now rows)) }
 {
     take_answer(tx, words, seen)?;
     take_use(tx, words, seen)

@@ -18,7 +18,7 @@ ghost use Rattle.repo_store.specs.Lists.{commit_of, file_of, fix_of, repository_
 ghost use Rattle.repo_store.specs.Contents.{Collides, with_changes, with_new};
 ghost use Rattle.repo_store.specs.Faults.{IsRefusal};
 ghost use Rattle.repo_store.specs.KeptContents.{AreAllKept};
-ghost use Rattle.repo_store.specs.Limits.{Fits, IsSmall, most_commits, most_files};
+ghost use Rattle.repo_store.specs.Limits.{Fits, IsSmall, first_limit, most_commits, most_files};
 ghost use Rattle.repo_store.specs.Log.{log_from};
 ghost use Rattle.repo_store.specs.Remembered.{TellsKey};
 ghost use Rattle.repo_store.specs.Remembering.{AnyCollides, AreSmall, HasPlacedKey, SomeCollides, with_answer, with_contents};
@@ -65,6 +65,7 @@ pub(crate) struct Lists {
 impl Model for Lists {
     ghost use Rattle.std.specs.Prelude.{◌&&◌, nat_lt, vec_len, vec_capacity};
     ghost use Rattle.repo_store.specs.Kept.{Mirror, mirror_code};
+    ghost use Rattle.repo_store.specs.Limits.{first_limit};
 
     ghost Value = { Mirror };
 
@@ -77,6 +78,7 @@ impl Model for Lists {
         repo = repository_of lists.history.items lists.staged.items lists.fixes.items;
         contents = lists.contents;
         answers = lists.answers.answers;
+        limit = first_limit;
       };
       has_room = nat_lt (vec_len lists.history) (vec_capacity lists.history) && nat_lt (vec_len lists.staged) (vec_capacity lists.staged) && lists.answers.has_room;
     } };
@@ -107,7 +109,7 @@ impl Lists {
         answers: Answers,
     ) -> Lists
         requires { IsSound (repository_of history.items staged.items fixes.items) }
-        ensures { result.kept ≡ record { repo = repository_of history.items staged.items fixes.items; contents = contents; answers = answers.answers } }
+        ensures { result.kept ≡ record { repo = repository_of history.items staged.items fixes.items; contents = contents; answers = answers.answers; limit = first_limit } }
     {
         let staged_bytes = count_path_bytes(staged.as_slice());
         Lists {
@@ -304,6 +306,7 @@ impl Lists {
         ensures sound { IsSound self.old.kept.repo }
         ensures repo { self.new.kept.repo ≡ self.old.kept.repo }
         ensures answers { self.new.kept.answers ≡ self.old.kept.answers }
+        ensures limit { self.new.kept.limit ≡ self.old.kept.limit }
         ensures front { take (length self.old.kept.contents) self.new.kept.contents ≡ self.old.kept.contents }
         ensures within { OnOk result (¬ HasLarge (staged_changes changes.now self.old.kept.repo.staged)) }
         ensures apart { OnOk result (¬ FixCollides (staged_changes changes.now self.old.kept.repo.staged) self.old.kept.contents) }

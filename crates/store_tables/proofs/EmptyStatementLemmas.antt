@@ -30,4 +30,4 @@ module _ (more : MoreTables) where
 
   pub keeps_all : (old new : State) (count : ℕ) → old.now.schema ≡ schema → Executes [] [] old new (Ok count) → KeepsMore schema old.now new.now
   keeps_all old new count has ran =
-      subst (KeepsMore schema old.now) (sym (is_unchanged old new count has ran)) (record { schema = has; trees = all_of (λ (t : Table). greatest_tree < t.tree → old.now.trees t.tree ≡ old.now.trees t.tree) (λ t above. refl) schema.tables })
+      subst (KeepsMore schema old.now) (sym (is_unchanged old new count has ran)) (record { schema = has; trees = all_of (λ (t : Table). greatest_tree < t.tree → old.now.trees t.tree ≡ old.now.trees t.tree) (λ t above. refl) schema.tables; meta_keyed = λ keyed. keyed })

@@ -1,5 +1,5 @@
 -- From what a transaction says of a statement to what the statement makes of the tables.
-use Rattle.std.proofs.Common.{◌≡◌, ◌≢◌, ◌≤◌, ◌<◌, inl, inr, ℕ, List, true, false, Result, Ok, Err, OnOk, IsTrue, refl, sym, subst, ◌∙◌, arith}
+use Rattle.std.proofs.Common.{◌≡◌, ◌≢◌, ◌≤◌, ◌<◌, inl, inr, ℕ, zero, suc, List, true, false, Result, Ok, Err, OnOk, IsTrue, refl, sym, subst, ◌∙◌, arith}
 use Rattle.std.proofs.lemmas.Bool.{cases_Bool}
 use Rattle.std.proofs.lemmas.Result.{on_ok_weaker}
 use Rattle.sqlite_value.specs.Order.{Row}
@@ -15,7 +15,7 @@ use Rattle.sqlite.proofs.StateLemmas.{survives_then}
 use Rattle.sqlite_keyed.proofs.ListLemmas.{all_both, all_weaker}
 use Rattle.sqlite_schema.specs.declared.schema.Schema.{Schema}
 use Rattle.sqlite_schema.specs.declared.schema.Table.{Table}
-use Rattle.store_tables.specs.Tables.{Tables, HoldsIn, ChangesOnly, KeepsMore, greatest_tree}
+use Rattle.store_tables.specs.Tables.{Tables, AreKeyed, HoldsIn, ChangesOnly, KeepsMore, greatest_tree}
 use Rattle.store_tables.specs.Schema.{MoreTables, store_with}
 use Rattle.store_tables.specs.Steps.{IsStep, IsDone, IsChange}
 
@@ -105,11 +105,15 @@ only_then own listed x y z first later =
     }
 
 -- a change of one of a store's tables keeps those behind them
-pub only_keeps_more : (own : Table) (listed : Schema) (old new : Database) → own.tree ≤ greatest_tree → ChangesOnly own listed old new → KeepsMore listed old new
-only_keeps_more own listed old new within only = record {
+pub only_keeps_more : (own : Table) (more : MoreTables) (old new : Database) → own.tree ≤ greatest_tree → ChangesOnly own (store_with more) old new → KeepsMore (store_with more) old new
+only_keeps_more own more old new within only = record {
   schema = only.schema;
   trees = all_weaker (λ (t : Table). t.tree ≢ own.tree → new.trees t.tree ≡ old.trees t.tree) (λ (t : Table). greatest_tree < t.tree → new.trees t.tree ≡ old.trees t.tree)
-      (λ t other above. other (omega (arith, within, above))) listed.tables only.others;
+      (λ t other above. other (omega (arith, within, above))) (store_with more).tables only.others;
+  meta_keyed = λ keyed. (elim own.tree as (λ (n : ℕ). own.tree ≡ n → AreKeyed (new.trees 0)) [
+    | zero ↦ λ e. subst (λ (n : ℕ). AreKeyed (new.trees n)) e (only.keyed (subst (λ (n : ℕ). AreKeyed (old.trees n)) (sym e) keyed))
+    | suc n ↦ λ e. subst AreKeyed (sym (only.others.0 (omega (arith, e)))) keyed
+  ]) refl;
 }
 
 -- what two statements in turn keep
@@ -118,4 +122,5 @@ more_then listed x y z first second = record {
   schema = second.schema;
   trees = all_both (λ (t : Table). greatest_tree < t.tree → y.trees t.tree ≡ x.trees t.tree) (λ (t : Table). greatest_tree < t.tree → z.trees t.tree ≡ y.trees t.tree)
       (λ (t : Table). greatest_tree < t.tree → z.trees t.tree ≡ x.trees t.tree) (λ t a b above. b above ∙ a above) listed.tables first.trees second.trees;
+  meta_keyed = λ keyed. second.meta_keyed (first.meta_keyed keyed);
 }

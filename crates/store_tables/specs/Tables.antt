@@ -116,10 +116,12 @@ pub record ChangesOnly (own : Table) (listed : Schema) (old new : Database) : Ty
 abbrev pub greatest_tree : ℕ
 greatest_tree = 12
 
--- The same tables are listed, and the trees of those behind the tables of a store are as they were.
+-- The same tables are listed, and the trees of those behind the tables of a store are as they were. Where each row of `meta` had a
+-- rowid of its own, each still has.
 pub record KeepsMore (listed : Schema) (old new : Database) : Type 0 where
   pub schema : new.schema ≡ listed
   pub trees : AllByRecursion (λ t. greatest_tree < t.tree → new.trees t.tree ≡ old.trees t.tree) listed.tables
+  pub meta_keyed : AreKeyed (old.trees 0) → AreKeyed (new.trees 0)
 
 abbrev pub ChangesNothing : Schema → Database → Database → Type 0
 ChangesNothing listed old new = new ≡ old

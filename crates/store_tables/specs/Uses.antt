@@ -33,6 +33,14 @@ ListsUses listed = (more : MoreTables) × (listed ≡ store_with (uses_then more
 abbrev pub HoldsWithUses : Database → Tables → List UseRow → Type 0
 HoldsWithUses db t rows = HoldsIn schema_with_uses db t × HoldsUses db.trees rows
 
+-- the same, and each row of `meta` has a rowid of its own, so that it can be replaced
+abbrev pub HoldsRows : Database → Tables → List UseRow → Type 0
+HoldsRows db t rows = HoldsWithUses db t rows × AreKeyed (db.trees 0)
+
+-- the database of these trees, where they list the tables of version 2
+abbrev pub as_store : Trees → Database
+as_store trees = record { schema = schema_with_uses; trees = trees }
+
 -- ---- what its statements make
 
 -- It makes this of the rows of the table, and keeps those of the seven.

@@ -1,7 +1,7 @@
 use Rattle.std.proofs.Common.{Ok}
 use Rattle.std.proofs.lemmas.Result.{err_from_is_err_and}
 use Rattle.store_tables.specs.Tables.{without_answer}
-use Rattle.store_tables.specs.Uses.{HoldsWithUses, without_use}
+use Rattle.store_tables.specs.Uses.{HoldsRows, without_use}
 use Rattle.store_tables.proofs.MakeLemmas.{made_then, stopped}
 use Rattle.store_tables.proofs.UsesStepLemmas.{change_as_made, step_as_made}
 use Rattle.repo_store.proofs.bounded.drop_in.Goals as goal
@@ -13,14 +13,14 @@ returns-clause-made g c t rows =
     let new = c.take_use.new.tx.conn.now in
     let words = c.args.words.now in
     let seen = c.args.seen.now in
-    made_then g.S.Store old mid new c.take_use.result (λ db. HoldsWithUses db t rows) (λ db. HoldsWithUses db (without_answer words seen t) rows) (λ db. HoldsWithUses db (without_answer words seen t) (without_use words seen rows))
+    made_then g.S.Store old mid new c.take_use.result (λ db. HoldsRows db t rows) (λ db. HoldsRows db (without_answer words seen t) rows) (λ db. HoldsRows db (without_answer words seen t) (without_use words seen rows))
     (step_as_made g.S.Store old mid (Ok tt) t rows (without_answer words seen) c.in_ok-take_answer.ensures.step)
-    (change_as_made g.S.Store mid new c.take_use.result (without_answer words seen t) rows (without_use words seen) c.take_use.ensures.step)
+    (change_as_made g.S.Store mid new c.take_use.result (without_answer words seen t) rows (without_use words seen) c.take_use.ensures.step c.take_use.ensures.only)
 
 pub returns-in_err-take_answer-clause-made : goal.returns-in_err-take_answer-clause-made
 returns-in_err-take_answer-clause-made g c t rows =
     let p = err_from_is_err_and c.from_residual.result c.from_residual.ensures.1 in
     let words = c.args.words.now in
     let seen = c.args.seen.now in
-    stopped g.S.Store c.args.tx.now.conn.now c.take_answer.new.tx.conn.now _ p.0 c.from_residual.result (λ db. HoldsWithUses db t rows) (λ db. HoldsWithUses db (without_answer words seen t) rows) (λ db. HoldsWithUses db (without_answer words seen t) (without_use words seen rows)) p.1
+    stopped g.S.Store c.args.tx.now.conn.now c.take_answer.new.tx.conn.now _ p.0 c.from_residual.result (λ db. HoldsRows db t rows) (λ db. HoldsRows db (without_answer words seen t) rows) (λ db. HoldsRows db (without_answer words seen t) (without_use words seen rows)) p.1
     (step_as_made g.S.Store c.args.tx.now.conn.now c.take_answer.new.tx.conn.now _ t rows (without_answer words seen) c.in_err-take_answer.ensures.step)

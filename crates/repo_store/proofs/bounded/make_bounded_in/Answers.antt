@@ -3,10 +3,11 @@ use Rattle.std.proofs.lemmas.Result.{err_from_is_err_and}
 use Rattle.sqlite.specs.Effect.{Database}
 use Rattle.store_tables.specs.Schema.{no_schema}
 use Rattle.store_tables.specs.Tables.{IsBare, IsEmptyStore, no_rows, with_meta}
-use Rattle.store_tables.specs.Uses.{HoldsWithUses}
+use Rattle.store_tables.specs.Uses.{HoldsRows}
 use Rattle.store_tables.proofs.MakeLemmas.{made_then, stopped}
 use Rattle.store_tables.proofs.UsesStepLemmas.{step_as_made}
-use Rattle.repo_store.specs.Bounded.{HoldsBounded, first_limit, limit_row, second_version_row}
+use Rattle.repo_store.specs.Bounded.{HoldsNext, limit_row, second_version_row}
+use Rattle.repo_store.specs.Limits.{first_limit}
 use Rattle.repo_store.specs.Kept.{nothing_kept}
 use Rattle.repo_store.proofs.BoundedLemmas.{bare_as_made, holds_nothing, made_as}
 use Rattle.repo_store.proofs.bounded.make_bounded_in.Goals as goal
@@ -15,16 +16,16 @@ abbrev Bare : Database → Type 0
 Bare = IsBare no_schema
 
 abbrev Grown : Database → Type 0
-Grown db = HoldsWithUses db no_rows []
+Grown db = HoldsRows db no_rows []
 
 abbrev Limited : Database → Type 0
-Limited db = HoldsWithUses db (with_meta (limit_row (pos first_limit)) no_rows) []
+Limited db = HoldsRows db (with_meta (limit_row (pos first_limit)) no_rows) []
 
 abbrev Versioned : Database → Type 0
-Versioned db = HoldsWithUses db (with_meta second_version_row (with_meta (limit_row (pos first_limit)) no_rows)) []
+Versioned db = HoldsRows db (with_meta second_version_row (with_meta (limit_row (pos first_limit)) no_rows)) []
 
 abbrev Bounded : Database → Type 0
-Bounded db = HoldsBounded db first_limit nothing_kept
+Bounded db = HoldsNext 1 db nothing_kept
 
 pub returns-clause-made : goal.returns-clause-made
 returns-clause-made g c =
@@ -33,7 +34,7 @@ returns-clause-made g c =
     let grown = c.make_uses.new.tx.conn.now in
     let limited = c.put_meta.new.tx.conn.now in
     let new = c.put_meta-2.new.tx.conn.now in
-    let first = made_then g.S.Store old made grown (Ok tt) Bare IsEmptyStore Grown c.in_ok-make_tables.ensures.made (bare_as_made g.S.Store made grown (Ok tt) c.in_ok-make_uses.ensures.step) in
+    let first = made_then g.S.Store old made grown (Ok tt) Bare IsEmptyStore Grown c.in_ok-make_tables.ensures.made (bare_as_made g.S.Store made grown (Ok tt) c.in_ok-make_uses.ensures.step c.in_ok-make_uses.ensures.only) in
     let second = made_then g.S.Store old grown limited (Ok tt) Bare Grown Limited first (step_as_made g.S.Store grown limited (Ok tt) no_rows [] (with_meta (limit_row (pos first_limit))) c.in_ok-put_meta.ensures.step) in
     made_as g.S.Store old new c.put_meta-2.result Bare Versioned Bounded holds_nothing (made_then g.S.Store old limited new c.put_meta-2.result Bare Limited Versioned second
     (step_as_made g.S.Store limited new c.put_meta-2.result (with_meta (limit_row (pos first_limit)) no_rows) [] (with_meta second_version_row) c.put_meta-2.ensures.step))
@@ -51,7 +52,7 @@ returns-in_err-make_uses-clause-made g c =
     let made = c.make_tables.new.tx.conn.now in
     let grown = c.make_uses.new.tx.conn.now in
     stopped g.S.Store old grown _ p.0 r.result Bare Grown Bounded p.1
-    (made_then g.S.Store old made grown (Err c.in_err-make_uses.field-0.0) Bare IsEmptyStore Grown c.in_ok-make_tables.ensures.made (bare_as_made g.S.Store made grown (Err c.in_err-make_uses.field-0.0) c.in_err-make_uses.ensures.step))
+    (made_then g.S.Store old made grown (Err c.in_err-make_uses.field-0.0) Bare IsEmptyStore Grown c.in_ok-make_tables.ensures.made (bare_as_made g.S.Store made grown (Err c.in_err-make_uses.field-0.0) c.in_err-make_uses.ensures.step c.in_err-make_uses.ensures.only))
 
 pub returns-in_err-put_meta-clause-made : goal.returns-in_err-put_meta-clause-made
 returns-in_err-put_meta-clause-made g c =
@@ -61,6 +62,6 @@ returns-in_err-put_meta-clause-made g c =
     let made = c.make_tables.new.tx.conn.now in
     let grown = c.make_uses.new.tx.conn.now in
     let limited = c.put_meta.new.tx.conn.now in
-    let first = made_then g.S.Store old made grown (Ok tt) Bare IsEmptyStore Grown c.in_ok-make_tables.ensures.made (bare_as_made g.S.Store made grown (Ok tt) c.in_ok-make_uses.ensures.step) in
+    let first = made_then g.S.Store old made grown (Ok tt) Bare IsEmptyStore Grown c.in_ok-make_tables.ensures.made (bare_as_made g.S.Store made grown (Ok tt) c.in_ok-make_uses.ensures.step c.in_ok-make_uses.ensures.only) in
     stopped g.S.Store old limited _ p.0 r.result Bare Limited Bounded p.1
     (made_then g.S.Store old grown limited (Err c.in_err-put_meta.field-0.0) Bare Grown Limited first (step_as_made g.S.Store grown limited (Err c.in_err-put_meta.field-0.0) no_rows [] (with_meta (limit_row (pos first_limit))) c.in_err-put_meta.ensures.step))

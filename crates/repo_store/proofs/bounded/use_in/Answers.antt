@@ -1,7 +1,7 @@
 use Rattle.std.proofs.Common.{Ok, SFits, w64, rules, to_z-of_z}
 use Rattle.std.proofs.lemmas.Result.{err_from_is_err_and}
 use Rattle.store_tables.specs.declared.rows.UseRow.{UseRow}
-use Rattle.store_tables.specs.Uses.{HoldsWithUses, with_use, without_use}
+use Rattle.store_tables.specs.Uses.{HoldsRows, with_use, without_use}
 use Rattle.store_tables.proofs.MakeLemmas.{made_then, stopped}
 use Rattle.store_tables.proofs.UsesStepLemmas.{change_as_made}
 use Rattle.repo_store.proofs.bounded.use_in.Goals as goal
@@ -14,14 +14,14 @@ returns-clause-made g c t rows =
     let fits : SFits w64 c.args.tick = search rules in
     let row : UseRow = record { words = c.args.words.now; seen = c.args.seen.now; tick = c.args.tick } in
     let others = without_use c.args.words.now c.args.seen.now rows in
-    made_then g.S.Store old mid new c.put_use.result (λ db. HoldsWithUses db t rows) (λ db. HoldsWithUses db t others) (λ db. HoldsWithUses db t (with_use row others))
-    (change_as_made g.S.Store old mid (Ok tt) t rows (without_use c.args.words.now c.args.seen.now) c.in_ok-take_use.ensures.step)
-    (change_as_made g.S.Store mid new c.put_use.result t others (with_use row) (rw (to_z-of_z fits) at c.put_use.ensures.step))
+    made_then g.S.Store old mid new c.put_use.result (λ db. HoldsRows db t rows) (λ db. HoldsRows db t others) (λ db. HoldsRows db t (with_use row others))
+    (change_as_made g.S.Store old mid (Ok tt) t rows (without_use c.args.words.now c.args.seen.now) c.in_ok-take_use.ensures.step c.in_ok-take_use.ensures.only)
+    (change_as_made g.S.Store mid new c.put_use.result t others (with_use row) (rw (to_z-of_z fits) at c.put_use.ensures.step) c.put_use.ensures.only)
 
 pub returns-in_err-take_use-clause-made : goal.returns-in_err-take_use-clause-made
 returns-in_err-take_use-clause-made g c t rows =
     let p = err_from_is_err_and c.from_residual.result c.from_residual.ensures.1 in
     let row : UseRow = record { words = c.args.words.now; seen = c.args.seen.now; tick = c.args.tick } in
     let others = without_use c.args.words.now c.args.seen.now rows in
-    stopped g.S.Store c.args.tx.now.conn.now c.take_use.new.tx.conn.now _ p.0 c.from_residual.result (λ db. HoldsWithUses db t rows) (λ db. HoldsWithUses db t others) (λ db. HoldsWithUses db t (with_use row others)) p.1
-    (change_as_made g.S.Store c.args.tx.now.conn.now c.take_use.new.tx.conn.now _ t rows (without_use c.args.words.now c.args.seen.now) c.in_err-take_use.ensures.step)
+    stopped g.S.Store c.args.tx.now.conn.now c.take_use.new.tx.conn.now _ p.0 c.from_residual.result (λ db. HoldsRows db t rows) (λ db. HoldsRows db t others) (λ db. HoldsRows db t (with_use row others)) p.1
+    (change_as_made g.S.Store c.args.tx.now.conn.now c.take_use.new.tx.conn.now _ t rows (without_use c.args.words.now c.args.seen.now) c.in_err-take_use.ensures.step c.in_err-take_use.ensures.only)

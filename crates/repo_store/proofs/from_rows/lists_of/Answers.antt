@@ -1,4 +1,4 @@
-use Rattle.std.proofs.Common.{List, map, sym, subst}
+use Rattle.std.proofs.Common.{List, map, refl, sym, subst}
 use Rattle.std.specs.List.{AllByRecursion}
 use Rattle.repo_store.specs.Shared.{FileParts}
 use Rattle.repo_store.specs.Complete.{HaveDistinctDigests, IsComplete}
@@ -28,7 +28,7 @@ returns-clause-complete c =
     lists_sound c.in_ok-history.history.items staged c.in_ok-fixes.fixes.items blobs rows.fixes.items rows.commits.items c.in_ok-staged.ensures.rising c.in_ok-staged.ensures.fits
     c.in_ok-fixes.ensures.rising c.in_ok-fixes.ensures.fixes fixes c.in_ok-history.ensures.rising c.in_ok-history.ensures.commits c.in_ok-history.ensures.obeys.0 in
     let apart = subst HaveDistinctDigests c.contents.view_is (index_apart c.contents.inside.places c.contents.inside.items.items c.contents.invariant) in
-    subst IsComplete (sym c.of.ensures) (record { sound = sound; staged = c.in_ok-staged.ensures.among; fixes = c.in_ok-fixes.ensures.among; trees = c.in_ok-history.ensures.among; sound_answers = c.in_ok-answers.ensures.sound; answers = c.in_ok-answers.ensures.records; keys = c.in_ok-answers.ensures.keys; apart = apart })
+    subst IsComplete (sym c.of.ensures) (record { sound = sound; staged = c.in_ok-staged.ensures.among; fixes = c.in_ok-fixes.ensures.among; trees = c.in_ok-history.ensures.among; sound_answers = c.in_ok-answers.ensures.sound; answers = c.in_ok-answers.ensures.records; keys = c.in_ok-answers.ensures.keys; apart = apart; limited = refl })
 
 pub returns-clause-same : goal.returns-clause-same
 returns-clause-same c =

@@ -17,7 +17,7 @@ returns-clause-step g c =
     let row : BlobRow = record { digest = c.args.digest.now; bytes = c.args.bytes.now } in
     finishes g.S.Store old new _ _ c.execute.result c.execute.ensures.ended (rw (c.params-to_sql.ensures, c.params-to_sql-2.ensures) at c.execute.ensures.runs) c.execute.ensures.survives (with_blob row)
     c.in_ok-execute.field-0 c.in_ok-execute.was (λ more t h ran. put_blob more (state g.S.Store old) (state g.S.Store new) t row _ h ran)
-    (λ more has ran. only_keeps_more spec.blobs (store_with more) (state g.S.Store old).now (state g.S.Store new).now (omega arith) (only.put_blob more (state g.S.Store old) (state g.S.Store new) _ _ _ has ran))
+    (λ more has ran. only_keeps_more spec.blobs more (state g.S.Store old).now (state g.S.Store new).now (omega arith) (only.put_blob more (state g.S.Store old) (state g.S.Store new) _ _ _ has ran))
 
 pub returns-clause-only : goal.returns-clause-only
 returns-clause-only g c =

@@ -59,6 +59,7 @@ changes-preserved c =
           record {
             repo = ap (λ (m : Mirror). m.kept.repo) w.self-is ∙ ap (λ (k : Kept). k.repo) held ∙ inv.repo;
             answers = ap (λ (m : Mirror). m.kept.answers) w.self-is ∙ ap (λ (k : Kept). k.answers) held ∙ inv.answers;
+            limit = ap (λ (m : Mirror). m.kept.limit) w.self-is ∙ ap (λ (k : Kept). k.limit) held ∙ inv.limit;
             fixes = rw w.fixes-is (ap (map fix_of) pushed ∙ map-append fix_of c.changes.fixes.items (w.in-Ok.fix ∷ []) ∙ ap₂ (λ (a : List Change) (b : Change). a ++ b ∷ []) inv.fixes (w.in-Ok.ensures).fix ∙ sym one);
             contents = ap (λ (m : Mirror). m.kept.contents) w.self-is ∙ ap (λ (k : Kept). k.contents) held ∙ ap (with_new change.now) inv.contents ∙ sym (ap (λ (l : List Change). with_changes l old.contents) one ∙ with_changes-push front change old.contents);
             within = none_large front change (staged_changes (take (i + 1) all) old.repo.staged) one inv.within (w.in-Ok.ensures).within;
@@ -69,6 +70,7 @@ changes-preserved c =
           record {
             repo = ap (λ (m : Mirror). m.kept.repo) w.self-is ∙ inv.repo;
             answers = ap (λ (m : Mirror). m.kept.answers) w.self-is ∙ inv.answers;
+            limit = ap (λ (m : Mirror). m.kept.limit) w.self-is ∙ inv.limit;
             fixes = rw w.fixes-is (inv.fixes ∙ sym none);
             contents = ap (λ (m : Mirror). m.kept.contents) w.self-is ∙ inv.contents ∙ sym (ap (λ (l : List Change). with_changes l old.contents) none);
             within = subst (λ (l : List Change). ¬ HasLarge l) (sym none) inv.within;
