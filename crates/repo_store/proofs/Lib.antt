@@ -1,4 +1,5 @@
 pub mod AcceptLemmas
+pub mod AnswerListLemmas
 pub mod AnswerRowLemmas
 pub mod BoundedLemmas
 pub mod CallLemmas

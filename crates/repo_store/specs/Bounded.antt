@@ -16,7 +16,7 @@ use Rattle.store_tables.specs.Uses.{HoldsRows}
 use Rattle.repo_store.specs.Answers.{KeptAnswer}
 use Rattle.repo_store.specs.Index.{Key, key_of}
 use Rattle.repo_store.specs.Kept.{Kept}
-use Rattle.repo_store.specs.Limits.{first_limit, most_answers}
+use Rattle.repo_store.specs.Limits.{first_limit, greatest_limit}
 use Rattle.repo_store.specs.RowRules.{AreStoreRows}
 use Rattle.repo_store.specs.Rows.{tables_of}
 use Rattle.repo_store.specs.UsesOf.{AreUsesOf, greatest_tick}
@@ -69,7 +69,7 @@ pub record AreBoundedRows (t : Tables) (rows : List UseRow) : Type 0 where
   pub limit : ℕ
   pub limited : IsPermutation t.meta (second_version_row ∷ limit_row (pos limit) ∷ [])
   pub at_least : 1 ≤ limit
-  pub at_most : limit ≤ most_answers
+  pub at_most : limit ≤ greatest_limit
   -- there are no more answers
   pub few : length t.answers ≤ limit
   -- each answer has a use, and each use an answer

@@ -16,6 +16,7 @@ pub mod Index
 pub mod Kept
 pub mod KeptContents
 pub mod Limits
+pub mod ListedAnswers
 pub mod Lists
 pub mod Log
 pub mod Opening

@@ -13,7 +13,7 @@
 //! (the refusals, and when each may come), `specs/Rows` (the tables of a repository), `specs/RowRules` (the rules of their rows),
 //! `specs/Sound` and `specs/SoundAnswers` (a repository in order and within the limits, and such an answer), `specs/Complete` (a
 //! complete one, with its contents), `specs/Calls` and `specs/Shown` (what is seen of a store, and what a refusal or a crash
-//! leaves), and `specs/Unfit` (why a database isn't opened). `specs/Lists`, `specs/Accepted`, `specs/FromRows`, `specs/Index`,
+//! leaves), and `specs/Unfit` (why a database isn't opened). `specs/Lists`, `specs/ListedAnswers`, `specs/Accepted`, `specs/FromRows`, `specs/Index`,
 //! `specs/KeptContents`, `specs/Remembered`, `specs/Shared`, `specs/SharedAnswers`, `specs/SharedEdits`, `specs/Opening` and `specs/Transactions`
 //! serve private functions only. `specs/AnswerLemmas` has the lemmas on remembered answers that callers need: which is found, and
 //! what remembering one makes of that. [`laws`] says that a database holds one complete repository at most, and that what the
@@ -23,6 +23,7 @@
 mod accept;
 mod accepted;
 mod answer_contents;
+mod answer_list;
 mod answer_ref;
 mod answer_search;
 mod answers;
