@@ -1,6 +1,7 @@
 pub mod AdvanceLemmas
 pub mod BeginLemmas
 pub mod BoundLemmas
+pub mod CandidateLemmas
 pub mod CompletionLemmas
 pub mod EditLemmas
 pub mod EditedRunLemmas

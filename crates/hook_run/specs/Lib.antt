@@ -2,6 +2,7 @@ pub mod AgreeLemmas
 pub mod AnswerLemmas
 pub mod Answers
 pub mod Asks
+pub mod CandidateFiles
 pub mod ChildFaults
 pub mod Commands
 pub mod CountLemmas

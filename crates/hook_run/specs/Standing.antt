@@ -11,7 +11,6 @@ use Rattle.report_text.specs.Report.{columns_of, report_text, width_of}
 use Rattle.report_text.specs.declared.hook_result.Ending.{Ending}
 use Rattle.hook_config.specs.declared.configuration.Hook.{Hook}
 use Rattle.path_select.specs.Candidates.{ArePassing, is_candidate}
-use Rattle.path_select.specs.KnownTags.{AreTagsOf}
 use Rattle.path_select.specs.Patterns.{is_found}
 use Rattle.report_text.specs.declared.hook_result.HookResult.{HookResult}
 use Rattle.hook_run.specs.declared.course.Course.{Course}
@@ -26,6 +25,7 @@ use Rattle.hook_run.specs.declared.work.Work.{Work}
 use Rattle.hook_run.specs.declared.standing.Standing.{Standing}
 use Rattle.hook_run.specs.declared.standing.Standing.TheVariants.{Waits, Over}
 use Rattle.hook_run.specs.Asks.{hooks_of_run, names_of_run}
+use Rattle.hook_run.specs.CandidateFiles.{files_at}
 use Rattle.hook_run.specs.HookRun.{commands_of, further_of, sees_whole}
 use Rattle.hook_run.specs.Parts.{ArePartsOf, Part}
 use Rattle.hook_run.specs.PartsEnding.{ending_of_parts}
@@ -120,11 +120,11 @@ FitsAt course (Over report) = Unit {0}
 -- ---- a plan
 
 -- what a plan's fields are to each other
-pub record IsPlanned (course : Course) (done : Progress) (tags : List (Option (List (List ℕ)))) (standing : Standing) : Type 0 where
+pub record IsPlanned (course : Course) (done : Progress) (files : List File) (standing : Standing) : Type 0 where
   pub fits : FitsResults course done.results
   pub fits_at : FitsAt course standing
   pub planned : IsCourse course
-  pub known : AreTagsOf done.tree course.among tags
+  pub held : files ≡ files_at course.ask.now.candidates done.tree
   pub stored : IsStored course.config.now course.ask.now done standing
 
 -- ---- how a hook goes on

@@ -1,22 +1,22 @@
 //! The hooks of a run one after another, up to one that waits.
 
 ghost use Rattle.std.specs.Prelude.{◌≡◌, ◌<◌, ◌≤◌, ◌+◌, ◌-◌, ◌∷◌, IfOk, length};
+ghost use Rattle.hook_run.specs.CandidateFiles.{files_at};
 ghost use Rattle.hook_run.specs.PlanBounds.{most_left, most_of_hooks};
 ghost use Rattle.hook_run.specs.Plans.{hooks_after};
 ghost use Rattle.hook_run.specs.StageRun.{is_last};
-ghost use Rattle.path_select.specs.KnownTags.{AreTagsOf};
 ghost use Rattle.hook_run.specs.Standing.{FitsName, FitsResults, IsCourse, IsPlanFrom, hooks_from};
 
 use crate::RunPlan;
 use crate::begin::begin_hook;
 use crate::begun::Begun;
+use crate::candidate_files::CandidateFiles;
 use crate::course::Course;
 use crate::progress::{Progress, progress_with};
 use crate::report::report_of;
 use crate::standing::Standing;
 use hook_base::{Bytes, OutOfMemory};
 use hook_config::{Config, Hook};
-use path_select::CandidateTags;
 use report_text::Ending;
 use std::alloc::Global;
 
@@ -25,27 +25,26 @@ pub(crate) fn advance<'a>(
     alloc: Global,
     course: Course<'a>,
     done: Progress,
-    tags: CandidateTags,
+    files: CandidateFiles,
     place: usize,
 ) -> Result<RunPlan<'a>, OutOfMemory>
     requires course { IsCourse course }
     requires fits { FitsResults course done.results }
-    requires known { AreTagsOf done.tree course.among tags }
+    requires held { files ≡ files_at course.ask.now.candidates done.tree }
     ensures from { IfOk result (IsPlanFrom course.entry done place) }
     ensures within { IfOk result (λ plan. most_left plan ≤ most_of_hooks (hooks_from course.entry place) done.tree) }
 {
     let mut done = done;
-    let mut tags = tags;
     let mut place = place;
     'hooks: while place < course.hooks.len() {
         let hook = hook_at(&course, place);
         place += 1;
-        match begin_hook(alloc, &course, hook, &done.tree, &mut tags)? {
+        match begin_hook(alloc, &course, hook, &done.tree, &files)? {
             Begun::Waits(waiting) => {
                 return Ok(RunPlan {
                     course,
                     done,
-                    tags,
+                    files,
                     place,
                     standing: Standing::Waits(waiting),
                 });
@@ -56,7 +55,7 @@ pub(crate) fn advance<'a>(
             }
         }
     }
-    over(alloc, course, done, tags, place)
+    over(alloc, course, done, files, place)
 }
 
 // The hook at a place.
@@ -92,12 +91,12 @@ fn over<'a>(
     alloc: Global,
     course: Course<'a>,
     done: Progress,
-    tags: CandidateTags,
+    files: CandidateFiles,
     place: usize,
 ) -> Result<RunPlan<'a>, OutOfMemory>
     requires course { IsCourse course }
     requires fits { FitsResults course done.results }
-    requires known { AreTagsOf done.tree course.among tags }
+    requires held { files ≡ files_at course.ask.now.candidates done.tree }
     requires none { length course.hooks.items ≤ place }
     ensures from { IfOk result (IsPlanFrom course.entry done place) }
     ensures within { IfOk result (λ plan. most_left plan ≤ most_of_hooks (hooks_from course.entry place) done.tree) }
@@ -106,7 +105,7 @@ fn over<'a>(
     Ok(RunPlan {
         course,
         done,
-        tags,
+        files,
         place,
         standing: Standing::Over(Bytes::from(report)),
     })

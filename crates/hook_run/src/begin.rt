@@ -2,14 +2,15 @@
 
 ghost use Rattle.std.specs.Prelude.{◌≡◌, ◌≤◌, IfOk, IsSome, MatchOption, None};
 ghost use Rattle.arg_partition.specs.Parts.{AreParts, fits, too_long_at};
-ghost use Rattle.path_select.specs.KnownTags.{AreTagsOf};
 ghost use Rattle.path_select.specs.Selection.{texts_of_rules};
+ghost use Rattle.hook_run.specs.CandidateFiles.{files_at};
 ghost use Rattle.hook_run.specs.HookRun.{IsCommandRun, IsEnding, IsHookRun, IsLanguageRun, ending_of_answer, ending_of_misfit, most_names_of, names_for, rules_of};
 ghost use Rattle.hook_run.specs.Limits.{most_command_bytes};
 ghost use Rattle.hook_run.specs.Standing.{HasBegun, IsCourse};
 
 use crate::asked::is_skipped;
 use crate::begun::Begun;
+use crate::candidate_files::CandidateFiles;
 use crate::command::command_of;
 use crate::course::Course;
 use crate::further::further_of;
@@ -21,30 +22,29 @@ use builtin_hooks::fail_answer;
 use child_port::Answer;
 use hook_base::{Bytes, Items, OutOfMemory, RepoPath, Text, Tree};
 use hook_config::{Config, Hook, Language};
-use path_select::{CandidateTags, Rules, select_tagged};
+use path_select::Rules;
 use report_text::{Ending, LineFault};
 use std::alloc::Global;
 
 /// How the hook begins on the tree: it has ended where it needs no child, else the first of its parts waits. Nothing is
-/// selected for a hook that is to be skipped. The tags that the hook asks for are known afterwards.
+/// selected for a hook that is to be skipped.
 pub(crate) fn begin_hook<'a>(
     alloc: Global,
     course: &Course<'a>,
     hook: &'a Hook,
     tree: &Tree,
-    tags: &mut CandidateTags,
+    files: &CandidateFiles,
 ) -> Result<Begun<'a>, OutOfMemory>
     requires course { IsCourse course.now }
-    requires known { AreTagsOf tree.now course.now.among tags.old }
+    requires held { files.now ≡ files_at course.now.ask.now.candidates tree.now }
     ensures begun { IfOk result (HasBegun (IsEnding course.now.config.now course.now.ask.now tree.now hook.now) hook.now tree.now) }
-    ensures known { AreTagsOf tree.now course.now.among tags.new }
 {
     if is_skipped(course.ask, hook) {
         return Ok(Begun::Ended(Ending::SkippedAsked, false));
     }
     let rules = rules_of(course.config, hook);
-    let files = select_tagged(alloc, &rules, &course.among, tree, tags)?;
-    begin_with(alloc, hook, files, tree)
+    let chosen = files.select(alloc, &rules, &course.among)?;
+    begin_with(alloc, hook, chosen, tree)
 }
 
 fn rules_of<'a>(config: &'a Config, hook: &'a Hook) -> Rules<'a>

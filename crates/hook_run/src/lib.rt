@@ -10,8 +10,8 @@
 //! `specs/Answers.antt` and `Starts` of `specs/Starts.antt`. They stand on `specs/StageRun.antt` (the hooks of a run one
 //! after another), `specs/HookRun.antt` (one of them), `specs/Commands.antt` (its command), `specs/Parts.antt` and
 //! `specs/PartsEnding.antt` (its children, and what they come to), `specs/Asks.antt` (which hooks a run goes through, and
-//! `names_no_hook`) and `specs/Limits.antt`; `specs/Refusals.antt` has the numbers. `specs/Standing.antt` and
-//! `specs/PlanRuns.antt` serve private functions alone.
+//! `names_no_hook`) and `specs/Limits.antt`; `specs/Refusals.antt` has the numbers. `specs/Standing.antt`,
+//! `specs/CandidateFiles.antt` and `specs/PlanRuns.antt` serve private functions alone.
 //!
 //! [`laws`] says that the outcomes decide all else of a run (`specs/SameRuns.antt`), so that there is one run alone over
 //! children that give one answer (`specs/OneAnswer.antt`), and that an edit of files at which no hook looks changes no result
@@ -25,6 +25,7 @@ mod advance;
 mod asked;
 mod begin;
 mod begun;
+mod candidate_files;
 mod command;
 mod course;
 mod further;

@@ -1,8 +1,8 @@
 //! The plan of a run.
 
 ghost use Rattle.std.specs.Prelude.{◌≡◌, ◌≢◌, ◌↔◌, ◌+◌, ◌<◌, ◌≤◌, IfOk, IfErr, Some, length, true, false};
-ghost use Rattle.path_select.specs.KnownTags.{AreTagsOf};
 ghost use Rattle.hook_run.specs.Asks.{names_no_hook};
+ghost use Rattle.hook_run.specs.CandidateFiles.{files_at};
 ghost use Rattle.hook_run.specs.PlanBounds.{most_left, most_of_hooks, parts_at};
 ghost use Rattle.hook_run.specs.Plans.{IsPlanAfter, IsPlanOf, need_of, out_of_plan, seen_of_plan, tree_of_plan, words_of};
 ghost use Rattle.hook_run.specs.Refusals.{is_of_book};
@@ -11,8 +11,9 @@ ghost use Rattle.hook_run.specs.Standing.{AreFurther, FitsName, FitsResults, IsC
 use crate::advance::{advance, place_behind};
 use crate::asked::{hooks_of_run, names_no_hook};
 use crate::begun::Begun;
+use crate::candidate_files::CandidateFiles;
 use crate::course::Course;
-use crate::progress::{Progress, progress_after, progress_with, tags_after};
+use crate::progress::{Progress, files_after, progress_after, progress_with};
 use crate::report::has_passed;
 use crate::standing::Standing;
 use crate::waiting::Waiting;
@@ -21,7 +22,7 @@ use crate::{Need, RunAsk, RunOut, RunRefusal};
 use child_port::Outcome;
 use hook_base::{Items, OutOfMemory, Text, Tree};
 use hook_config::{Config, Hook};
-use path_select::{CandidateTags, Candidates};
+use path_select::Candidates;
 use report_text::Ending;
 use std::alloc::Global;
 use std::marker::Model;
@@ -33,8 +34,8 @@ use std::marker::Model;
 pub struct RunPlan<'a> {
     pub(crate) course: Course<'a>,
     pub(crate) done: Progress,
-    /// The tags of the candidates' files in the tree of `done`, as far as hooks asked for them.
-    pub(crate) tags: CandidateTags,
+    /// The candidates' files in the tree of `done`.
+    pub(crate) files: CandidateFiles,
     pub(crate) place: usize,
     pub(crate) standing: Standing<'a>,
 }
@@ -47,7 +48,7 @@ impl<'a> Model for RunPlan<'a> {
 
     ghost view = { λ plan. record { config = plan.course.config.now; ask = plan.course.ask.now; done = plan.done; waiting = waiting_at plan.standing; hooks = hooks_from plan.course plan.place } };
 
-    ghost invariant = { λ plan. IsPlanned plan.course plan.done plan.tags plan.standing };
+    ghost invariant = { λ plan. IsPlanned plan.course plan.done plan.files plan.standing };
 }
 
 impl<'a> RunPlan<'a> {
@@ -140,7 +141,7 @@ impl<'a> RunPlan<'a> {
         let RunPlan {
             course,
             done,
-            tags,
+            files,
             place,
             standing,
         } = self;
@@ -148,7 +149,7 @@ impl<'a> RunPlan<'a> {
             Standing::Waits(waiting) => waiting,
             Standing::Over(_) => unreachable!(),
         };
-        told(course, done, tags, place, waiting, outcome, unsteady)
+        told(course, done, files, place, waiting, outcome, unsteady)
     }
 
     /// What the run gives. It takes no memory.
@@ -186,9 +187,11 @@ fn plan_of<'a>(
     ensures { IfOk result (IsPlanOf config.now ask.now tree.now) }
 {
     let hooks = hooks_of_run(alloc, config, ask)?;
-    let files = config.files.as_pattern();
-    let exclude = config.exclude.as_pattern();
-    let among = Candidates::passing(alloc, files, exclude, ask.candidates.as_slice())?;
+    let candidates = ask.candidates.as_slice();
+    let top_files = config.files.as_pattern();
+    let top_exclude = config.exclude.as_pattern();
+    let among = Candidates::passing(alloc, top_files, top_exclude, candidates)?;
+    let files = CandidateFiles::of(alloc, candidates, tree)?;
     let tree = tree.copy()?;
     let course = Course {
         config,
@@ -201,14 +204,14 @@ fn plan_of<'a>(
         unsteady: Items::new(alloc),
         tree,
     };
-    advance(alloc, course, done, CandidateTags::new(alloc), 0)
+    advance(alloc, course, done, files, 0)
 }
 
 // The plan behind an outcome for the hook that waits.
 fn told<'a>(
     course: Course<'a>,
     done: Progress,
-    tags: CandidateTags,
+    files: CandidateFiles,
     place: usize,
     waiting: Waiting<'a>,
     outcome: Outcome,
@@ -216,7 +219,7 @@ fn told<'a>(
 ) -> Result<RunPlan<'a>, OutOfMemory>
     requires course { IsCourse course }
     requires fits { FitsResults course done.results }
-    requires known { AreTagsOf done.tree course.among tags }
+    requires held { files ≡ files_at course.ask.now.candidates done.tree }
     requires fits_at { FitsName course waiting.work.hook.now.name }
     requires further { AreFurther waiting.work.hook.now waiting.work.further done.tree }
     ensures from { IfOk result (IsToldFrom course.entry done place waiting.entry outcome unsteady) }
@@ -225,9 +228,9 @@ fn told<'a>(
     let alloc = *course.hooks.allocator();
     let Waiting { work, .. } = waiting;
     let work = work_with(work, &outcome, unsteady)?;
-    let tags = tags_after(tags, &course.among, &outcome);
+    let files = files_after(files, &outcome)?;
     let done = progress_after(done, outcome)?;
-    plan_at(alloc, course, done, tags, place, work)
+    plan_at(alloc, course, done, files, place, work)
 }
 
 // The plan of a hook that goes on from here.
@@ -235,13 +238,13 @@ fn plan_at<'a>(
     alloc: Global,
     course: Course<'a>,
     done: Progress,
-    tags: CandidateTags,
+    files: CandidateFiles,
     place: usize,
     work: Work<'a>,
 ) -> Result<RunPlan<'a>, OutOfMemory>
     requires course { IsCourse course }
     requires fits { FitsResults course done.results }
-    requires known { AreTagsOf done.tree course.among tags }
+    requires held { files ≡ files_at course.ask.now.candidates done.tree }
     requires fits_at { FitsName course work.hook.now.name }
     requires further { AreFurther work.hook.now work.further done.tree }
     ensures from { IfOk result (IsPlanAt course.entry done place (at_work work.entry)) }
@@ -252,12 +255,12 @@ fn plan_at<'a>(
         Begun::Waits(waiting) => Ok(RunPlan {
             course,
             done,
-            tags,
+            files,
             place,
             standing: Standing::Waits(waiting),
         }),
         Begun::Ended(ending, unsteady) => {
-            plan_behind_hook(alloc, course, done, tags, place, hook, ending, unsteady)
+            plan_behind_hook(alloc, course, done, files, place, hook, ending, unsteady)
         }
     }
 }
@@ -267,7 +270,7 @@ fn plan_behind_hook<'a>(
     alloc: Global,
     course: Course<'a>,
     done: Progress,
-    tags: CandidateTags,
+    files: CandidateFiles,
     place: usize,
     hook: &Hook,
     ending: Ending,
@@ -275,12 +278,12 @@ fn plan_behind_hook<'a>(
 ) -> Result<RunPlan<'a>, OutOfMemory>
     requires course { IsCourse course }
     requires fits { FitsResults course done.results }
-    requires known { AreTagsOf done.tree course.among tags }
+    requires held { files ≡ files_at course.ask.now.candidates done.tree }
     requires fits_at { FitsName course hook.now.name }
     ensures from { IfOk result (IsPlanBehindHook course.entry done place hook.now ending unsteady) }
     ensures within { IfOk result (λ plan. most_left plan ≤ most_of_hooks (hooks_from course.entry place) done.tree) }
 {
     let place = place_behind(&course, hook, &ending, place);
     let done = progress_with(alloc, done, hook, ending, unsteady)?;
-    advance(alloc, course, done, tags, place)
+    advance(alloc, course, done, files, place)
 }

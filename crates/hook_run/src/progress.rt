@@ -1,16 +1,14 @@
 //! What the hooks of a run that are done left.
 
-ghost use Rattle.std.specs.Prelude.{◌≡◌, IfOk, List};
-ghost use Rattle.hook_base.specs.declared.file.File.{File};
+ghost use Rattle.std.specs.Prelude.{◌≡◌, IfOk};
 ghost use Rattle.child_port.specs.Outcomes.{after_outcome};
-ghost use Rattle.path_select.specs.KnownTags.{AreTagsOf};
 ghost use Rattle.hook_run.specs.Plans.{progress_with, result_of};
 ghost use Rattle.hook_run.specs.Standing.{id_if, on_tree};
 
+use crate::candidate_files::CandidateFiles;
 use child_port::Outcome;
 use hook_base::{Items, OutOfMemory, Text, Tree};
 use hook_config::Hook;
-use path_select::{CandidateTags, Candidates};
 use report_text::{Ending, HookResult};
 use std::alloc::Global;
 
@@ -82,17 +80,16 @@ pub(crate) fn progress_after(done: Progress, outcome: Outcome) -> Result<Progres
     })
 }
 
-/// The tags that stay known behind a part with this outcome: those of the files that it names are forgotten.
-pub(crate) fn tags_after(
-    tags: CandidateTags,
-    among: &Candidates,
+/// The candidates' files behind a part with this outcome, with their tags.
+pub(crate) fn files_after(
+    files: CandidateFiles,
     outcome: &Outcome,
-) -> CandidateTags
-    ensures { (tree : List File) → AreTagsOf tree among.now tags → AreTagsOf (after_outcome tree outcome.now) among.now result }
+) -> Result<CandidateFiles, OutOfMemory>
+    ensures { IfOk result (λ after. after ≡ after_outcome files outcome.now) }
 {
-    let mut tags = tags;
+    let mut files = files;
     if let Outcome::Done(answer) = outcome {
-        tags.forget(among, answer.changes.as_slice());
+        files.follow(answer.changes.as_slice())?;
     }
-    tags
+    Ok(files)
 }

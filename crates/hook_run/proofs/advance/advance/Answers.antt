@@ -1,6 +1,6 @@
-use Rattle.std.proofs.Common.{sym, subst, arith}
-use Rattle.path_select.specs.KnownTags.{AreTagsOf}
+use Rattle.std.proofs.Common.{◌≡◌, sym, subst, arith}
 use Rattle.hook_run.specs.declared.progress.Progress.{Progress}
+use Rattle.hook_run.specs.CandidateFiles.{files_at}
 use Rattle.hook_run.specs.HookRun.{IsEnding}
 use Rattle.hook_run.specs.Standing.{FitsName}
 use Rattle.hook_config.specs.declared.configuration.Hook.{Hook}
@@ -16,7 +16,7 @@ invariant_of-result c =
       fits = c.hooks.invariant.0.fits;
       fits_at = subst (λ (h : Hook). FitsName c.args.course h.name) (sym is.0.of_hook) c.hook_at-hook.ensures.fits;
       planned = c.requires.course;
-      known = c.begin_hook.ensures.known;
+      held = c.hooks.invariant.1;
       stored = is.1;
     }
 
@@ -36,7 +36,7 @@ returns-in-Waits-clause-within c =
     within-waits c.args.course c.args.done c.args.place c.hooks.done c.hooks.place hook c.in-Waits.waiting c.hooks.invariant.0 c.hook_at-hook.ensures.left is.0
 
 pub hooks-init : goal.hooks-init
-hooks-init c = (leads_on-none c.args.course c.args.done c.args.place c.requires.fits, c.requires.known)
+hooks-init c = (leads_on-none c.args.course c.args.done c.args.place c.requires.fits, c.requires.held)
 
 pub hooks-smaller : goal.hooks-smaller
 hooks-smaller c = let later = c.place_behind-place.ensures.later in omega arith
@@ -49,5 +49,5 @@ hooks-preserved c =
       leads_on-ended c.args.course c.args.done c.args.place c.hooks.done c.in_ok-done-in-Ended.done c.hooks.place c.place_behind-place.result hook
           c.in-Ended.ending c.in-Ended.unsteady c.hooks.invariant.0 c.hook_at-hook.ensures.left c.hook_at-hook.ensures.fits is.0 is.1
           c.place_behind-place.ensures.left c.in_ok-done-in-Ended.ensures,
-      subst (λ (p : Progress). AreTagsOf p.tree c.args.course.among c.begin_hook.new.tags) (sym c.in_ok-done-in-Ended.ensures) c.begin_hook.ensures.known,
+      subst (λ (p : Progress). c.hooks.files ≡ files_at c.args.course.ask.now.candidates p.tree) (sym c.in_ok-done-in-Ended.ensures) c.hooks.invariant.1,
     )

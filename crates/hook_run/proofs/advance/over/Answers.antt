@@ -9,7 +9,7 @@ invariant_of-result c = record {
   fits = c.requires.fits;
   fits_at = tt;
   planned = c.requires.course;
-  known = c.requires.known;
+  held = c.requires.held;
   stored = c.from.ensures ∙ report-of_run c.args.course c.args.done.results c.in_ok-report.report.items c.requires.course
       (c.in_ok-report.ensures ∙ ap (λ hooks. report_text (map (λ hook. hook.now.name) hooks) c.as_slice-2.result.now) c.as_slice.ensures.value
       ∙ ap (report_text (names_in c.args.course)) c.as_slice-2.ensures);

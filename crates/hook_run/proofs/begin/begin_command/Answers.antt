@@ -8,7 +8,7 @@ pub go_on-requires : goal.go_on-requires
 go_on-requires c =
     record {
       further = subst (λ (paths : List (List ℕ)). AreFurther c.args.hook.now paths c.args.tree.now) (sym c.in_ok-further.ensures)
-          (further-first c.args.hook.now c.args.tree.now)
+          (further-first c.args.hook.now c.args.tree.now);
     }
 
 pub returns : goal.returns

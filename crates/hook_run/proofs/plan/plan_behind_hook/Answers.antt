@@ -1,6 +1,6 @@
-use Rattle.std.proofs.Common.{sym, subst}
-use Rattle.path_select.specs.KnownTags.{AreTagsOf}
+use Rattle.std.proofs.Common.{◌≡◌, sym, subst}
 use Rattle.hook_run.specs.declared.progress.Progress.{Progress}
+use Rattle.hook_run.specs.CandidateFiles.{files_at}
 use Rattle.hook_run.specs.Standing.{id_if}
 use Rattle.hook_run.proofs.AdvanceLemmas.{behind-hook_if, behind-within_if, progress-fits}
 use Rattle.hook_run.proofs.plan.plan_behind_hook.Goals as goal
@@ -10,9 +10,9 @@ advance-requires-clause-fits c =
     progress-fits c.args.course c.args.done c.in_ok-done.done c.args.hook.now c.args.ending (id_if c.args.unsteady c.args.hook.now) c.args.done.tree
     c.in_ok-done.ensures c.requires.fits c.requires.fits_at
 
-pub advance-requires-clause-known : goal.advance-requires-clause-known
-advance-requires-clause-known c =
-    subst (λ (p : Progress). AreTagsOf p.tree c.args.course.among c.args.tags) (sym c.in_ok-done.ensures) c.requires.known
+pub advance-requires-clause-held : goal.advance-requires-clause-held
+advance-requires-clause-held c =
+    subst (λ (p : Progress). c.args.files ≡ files_at c.args.course.ask.now.candidates p.tree) (sym c.in_ok-done.ensures) c.requires.held
 
 pub returns-clause-from : goal.returns-clause-from
 returns-clause-from c =

@@ -1,9 +1,10 @@
-use Rattle.std.proofs.Common.{sym, subst}
-use Rattle.path_select.specs.KnownTags.{AreTagsOf}
+use Rattle.std.proofs.Common.{◌≡◌, ◌∙◌, sym, subst}
 use Rattle.hook_run.specs.declared.progress.Progress.{Progress}
+use Rattle.hook_run.specs.CandidateFiles.{files_at}
 use Rattle.hook_run.specs.Plans.{AtHook}
 use Rattle.hook_run.specs.Standing.{FitsName, FitsResults}
 use Rattle.hook_run.proofs.AdvanceLemmas.{told-part_if, told-within_if}
+use Rattle.hook_run.proofs.CandidateLemmas.{files-told}
 use Rattle.hook_run.proofs.FurtherLemmas.{further-told}
 use Rattle.hook_run.proofs.plan.told.Goals as goal
 
@@ -13,10 +14,10 @@ plan_at-requires-clause-fits c = subst (λ (p : Progress). FitsResults c.args.co
 pub plan_at-requires-clause-fits_at : goal.plan_at-requires-clause-fits_at
 plan_at-requires-clause-fits_at c = subst (λ (at : AtHook). FitsName c.args.course at.hook.name) (sym c.in_ok-work.ensures.work) c.requires.fits_at
 
-pub plan_at-requires-clause-known : goal.plan_at-requires-clause-known
-plan_at-requires-clause-known c =
-    subst (λ (p : Progress). AreTagsOf p.tree c.args.course.among c.tags_after-tags.result) (sym c.in_ok-done.ensures)
-    (c.tags_after-tags.ensures c.args.done.tree c.requires.known)
+pub plan_at-requires-clause-held : goal.plan_at-requires-clause-held
+plan_at-requires-clause-held c =
+    subst (λ (p : Progress). c.in_ok-files.files ≡ files_at c.args.course.ask.now.candidates p.tree) (sym c.in_ok-done.ensures)
+    (c.in_ok-files.ensures ∙ files-told c.args.course.ask.now.candidates c.args.done.tree c.args.files c.args.outcome c.requires.held)
 
 pub plan_at-requires-clause-further : goal.plan_at-requires-clause-further
 plan_at-requires-clause-further c =

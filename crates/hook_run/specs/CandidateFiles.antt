@@ -1,0 +1,8 @@
+-- The files of a tree that hooks may get. Serves private functions alone.
+use Rattle.std.specs.Prelude.{ℕ, List, filter}
+use Rattle.hook_base.specs.declared.file.File.{File}
+use Rattle.path_select.specs.Candidates.{is_candidate}
+
+-- the files of the tree at the candidates' paths, in its order
+abbrev pub files_at : List (List ℕ) → List File → List File
+files_at candidates tree = filter (λ file. is_candidate candidates file.path) tree
