@@ -101,6 +101,6 @@ fn fits_tags(test: &mut PathFilter, rules: &Rules, path: &RepoPath, tags: Option
 {
     match tags {
         None => false,
-        Some(tags) => test.passes(path.as_str()) && have_types(rules, tags),
+        Some(tags) => have_types(rules, tags) && test.passes(path.as_str()),
     }
 }
