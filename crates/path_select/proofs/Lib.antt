@@ -2,7 +2,6 @@ pub mod DefaultPatternLemmas
 pub mod FoundLemmas
 pub mod IndexLemmas
 pub mod KeptLemmas
-pub mod KnownLemmas
 pub mod PatternLemmas
 pub mod SelectionLemmas
 pub mod TypeLemmas

@@ -1,7 +1,6 @@
 pub mod Candidates
 pub mod Chosen
 pub mod KeptTags
-pub mod KnownTags
 pub mod PatternFaults
 pub mod Patterns
 pub mod Regexes

@@ -2,17 +2,15 @@
 //!
 //! [`Pattern`] is a pattern in the syntax of `regex` (`PatternFault` says why a text is none). [`select`] gives the files
 //! that [`Rules`] select: candidates whose paths pass the patterns of the whole configuration and of the hook, and that
-//! have the tags that the hook asks for. A run with many hooks makes the [`Candidates`] once and calls [`select_tagged`] for
-//! each hook: what it learns of the tags of their files stays in [`CandidateTags`] until a file changes. [`select_among`]
-//! makes them anew; [`laws`] says that both select what [`select`] does. [`select_kept`] and [`select_kept_among`] go by tags
-//! that are kept for all files of a tree, in `KeptTags` of the crate `file_tags`.
+//! have the tags that the hook asks for. A run with many hooks makes the [`Candidates`] once and calls [`select_kept_among`]
+//! for each hook, by tags that are kept for all files of a tree, in `KeptTags` of the crate `file_tags`; [`select_among`]
+//! makes them anew. [`laws`] says that both select what [`select`] does, and so does [`select_kept`].
 //!
-//! The contracts cite `specs/Patterns.antt`, `specs/PatternFaults.antt`, `specs/Candidates.antt`, `specs/Selection.antt`
-//! and `specs/KnownTags.antt`; `specs/SelectionLaws.antt` is for callers' proofs, and `specs/Regexes.antt`,
-//! `specs/Chosen.antt` and `specs/KeptTags.antt` serve private fields and functions alone.
+//! The contracts cite `specs/Patterns.antt`, `specs/PatternFaults.antt`, `specs/Candidates.antt` and `specs/Selection.antt`;
+//! `specs/SelectionLaws.antt` is for callers' proofs, and `specs/Regexes.antt`, `specs/Chosen.antt` and
+//! `specs/KeptTags.antt` serve private fields and functions alone.
 #![tactic(auto)]
 
-mod candidate_tags;
 mod candidates;
 mod found_files;
 mod index;
@@ -21,16 +19,13 @@ pub mod laws;
 mod near;
 mod ordered;
 mod path_filter;
-mod path_place;
 mod pattern;
 mod pattern_fault;
 mod rules;
 mod search;
 mod selection;
-mod tagged_selection;
 mod type_rules;
 
-pub use candidate_tags::CandidateTags;
 pub use candidates::Candidates;
 pub use found_files::select_found;
 pub use kept_selection::{select_kept, select_kept_among};
@@ -38,4 +33,3 @@ pub use pattern::Pattern;
 pub use pattern_fault::PatternFault;
 pub use rules::Rules;
 pub use selection::{select, select_among};
-pub use tagged_selection::select_tagged;

@@ -39,8 +39,8 @@ pub(crate) fn have_types(rules: &Rules, tags: &Tags) -> bool
         && !has_one(tags, rules.exclude_types)
 }
 
-/// Whether the hook asks for nothing but what every file has.
-pub(crate) fn asks_for_none(rules: &Rules) -> bool
+// Whether the hook asks for nothing but what every file has.
+fn asks_for_none(rules: &Rules) -> bool
     ensures { IsTrue result → AsksForNone (texts_of_rules rules.now) }
 {
     rules.types_or.is_empty() && rules.exclude_types.is_empty() && every_file_has(rules.types)

@@ -6,7 +6,6 @@ ghost use Rattle.file_tags.specs.TreeTags.{tags_of_tree};
 use crate::files::{changes_of, paths_of, tree_of};
 use crate::paths::lines_of;
 use crate::rules::{patterns_of, rules_of, tag_lists_of};
-use crate::tagged::are_alike_after;
 use file_tags::{KeptTags, Tags, tags_of};
 use hook_base::{Change, File, Items, OutOfMemory, RepoPath, Tree};
 use path_select::{Rules, select, select_kept};
@@ -80,8 +79,7 @@ fn file_shown(
 }
 
 /// `select_kept TOP_FILES TOP_EXCLUDE FILES EXCLUDE TYPES TYPES_OR EXCLUDE_TYPES CANDIDATES TREE CHANGES`: what is selected of
-/// the tree that the changes leave, by the tags that followed them. `TwoAnswers` where `select` gives other paths, or hooks get
-/// others before the changes or behind them, by tags of candidates that are kept from one hook to the next.
+/// the tree that the changes leave, by the tags that followed them. `TwoAnswers` where `select` gives other paths.
 pub(crate) fn selected_after(alloc: Global, arguments: &[Vec<u8>]) -> Result<Answer, Stop> {
     let [rules @ .., paths, tree, changes] = arguments else {
         return Err(Stop::BadLine);
@@ -106,12 +104,11 @@ fn selected_by(
     let patterns = patterns_of(alloc, patterns)?;
     let lists = tag_lists_of(alloc, lists)?;
     let rules = rules_of(patterns.as_slice(), lists.as_slice())?;
-    all_ways(alloc, &rules, paths, tree, changes)
+    both_ways(alloc, &rules, paths, tree, changes)
 }
 
-// What is selected by the tags that followed the changes, by those that are made, and by those that stay known of candidates:
-// all must be the same.
-fn all_ways(
+// What is selected by the tags that followed the changes, and by those that are made: both must be the same.
+fn both_ways(
     alloc: Global,
     rules: &Rules,
     paths: &[RepoPath],
@@ -120,9 +117,7 @@ fn all_ways(
 ) -> Result<Items<RepoPath>, Stop> {
     let followed = follow(alloc, tree, changes)?;
     let chosen = select_kept(alloc, rules, paths, &followed.tree, &followed.tags)?;
-    if select(alloc, rules, paths, &followed.tree)? == chosen
-        && are_alike_after(alloc, rules, paths, tree, changes)?
-    {
+    if select(alloc, rules, paths, &followed.tree)? == chosen {
         Ok(chosen)
     } else {
         Err(Stop::TwoAnswers)

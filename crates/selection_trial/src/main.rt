@@ -11,7 +11,6 @@ mod greps;
 mod kept;
 mod paths;
 mod rules;
-mod tagged;
 mod tags;
 
 use calls::Calls;

@@ -2,7 +2,6 @@
 
 use crate::files::{paths_of, tree_of};
 use crate::rules::{patterns_of, rules_of, tag_lists_of};
-use crate::tagged::are_alike;
 use file_tags::KeptTags;
 use hook_base::{Items, RepoPath, Tree};
 use path_select::{
@@ -62,8 +61,8 @@ fn selected_by(
     all_ways(alloc, &rules, paths, tree)
 }
 
-// What is selected, among all candidates and among those that pass first, by tags that are made, by tags that are kept of a
-// tree's files, and by tags that are kept of candidates from hook to hook: all must be the same.
+// What is selected, among all candidates and among those that pass first, by tags that are made and by tags that are kept of
+// the tree's files: all must be the same.
 fn all_ways(
     alloc: Global,
     rules: &Rules,
@@ -76,7 +75,6 @@ fn all_ways(
     if select_among(alloc, rules, &among, tree)? == chosen
         && select_kept(alloc, rules, paths, tree, &tags)? == chosen
         && select_kept_among(alloc, rules, &among, tree, &tags)? == chosen
-        && are_alike(alloc, rules, paths, tree)?
     {
         Ok(chosen)
     } else {
