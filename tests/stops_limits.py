@@ -42,6 +42,8 @@ LONELY, NOBODY = 64_321, 65_534
 IS_ROOT = os.geteuid() == 0
 # Children that need no room on the disk: what one does without it is its own answer.
 SMALL_HOOKS = HOOKS.replace(b"""entry: "sh -c 'echo a line >> $1' --", stages: [prepare""", b"entry: cat, stages: [prepare")
+# What the loader says where there is no room for a library, or for the data of the first thread.
+UNLOADED = (b"error while loading shared libraries", b"cannot allocate TLS data structures")
 
 
 class Limit:
@@ -174,7 +176,7 @@ def told_within(run, how):
     except (OSError, subprocess.SubprocessError) as error:
         check(not isinstance(error, subprocess.TimeoutExpired), f"it doesn't end: {error}")
         return None
-    is_unloaded = told.status == 127 and b"error while loading shared libraries" in told.err
+    is_unloaded = told.status == 127 and any(words in told.err for words in UNLOADED)
     return None if is_unloaded or (told.status, told.err) == (-signal.SIGSEGV, b"") else told
 
 
