@@ -1,4 +1,5 @@
-"""A model of a host: the commits, the staged files, the fixes and the book of remembered answers as plain lists and dictionaries.
+"""A model of a host: the commits, the staged files and the fixes as plain lists and dictionaries, and the book of remembered answers
+as the list of tests/list_book.py.
 
 tests/plays.py plays it beside the program hook_trial, and the table tests/rows/fused_plays.py and tests/refused_memory.py have
 their answers from it. It says of each command what a host replies, as the program prints it and as hook_trial tells it; what is
@@ -12,6 +13,8 @@ import collections
 import json
 import re
 from typing import NamedTuple
+
+from list_book import ListBook
 
 # The most bytes of a command, with one byte between words.
 MOST_COMMAND = 131_072
@@ -97,21 +100,22 @@ class Want(Exception):
 
 
 class Memory:
-    """The children of a host, and the book of what it remembers of them. The call of the number `kth` fails with `fault`. `want` is
-    where memory is refused, if anywhere: the number of a call and whether it is refused before its `start` or at the `put` of its
-    answer, or the number of a command (`Machine`)."""
+    """The children of a host, and the book of what it remembers of them, with the limit of a new one. The call of the number `kth` fails
+    with `fault`. `want` is where memory is refused, if anywhere: the number of a call and whether it is refused before its `start` or at
+    the `put` of its answer, or the number of a command (`Machine`)."""
 
     def __init__(self, table, kth=0, fault=None, want=None):
         self.table, self.kth, self.fault, self.want = table, kth, fault, want
-        self.book, self.asked, self.calls, self.faults, self.started = {}, collections.Counter(), 0, 0, []
+        self.book, self.asked, self.calls, self.faults, self.started = ListBook(), collections.Counter(), 0, 0, []
         self.ends = collections.Counter()
         # The words and the seen files of the child that failed by the fuse.
         self.fused = None
 
     def told(self, words, seen, is_fresh):
-        """What becomes of the child of these words that has seen these files, and whether it now answers otherwise than is remembered."""
+        """What becomes of the child of these words that has seen these files, and whether it now answers otherwise than is remembered.
+        It is looked for in a fresh run too, and so is used."""
         key = tuple(words), tuple(sorted(seen.items()))
-        found = self.book.get(key)
+        found = self.book.find(key)
         if found is not None and not is_fresh:
             self.ends["remembered"] += 1
             return found, False
@@ -122,7 +126,8 @@ class Memory:
         strays = any(path not in seen for path in outcome.changes)
         if not strays:
             self.refuse_at(self.calls, "put")
-            self.book[key] = outcome
+            self.ends["dropped"] += key not in self.book and len(self.book) == self.book.limit
+            self.book.put(key, outcome)
         is_other = found is not None and found != outcome
         self.ends["strayed" if strays else "put" if found is None else "put in place of another" if is_other else "put again"] += 1
         return outcome, is_other
@@ -149,9 +154,8 @@ class Memory:
             raise Want
 
     def forget(self):
-        """How many answers are forgotten."""
-        number, self.book = len(self.book), {}
-        return number
+        """How many answers are forgotten. The limit stays."""
+        return self.book.forget()
 
     def counts(self):
         """How many children were started, how many of them failed, and how many answers are remembered."""
@@ -372,6 +376,14 @@ class HooksFailed(NamedTuple):
         return f"failed at {name}\n".encode() + told_reports(self.reports)
 
 
+class Limited(NamedTuple):
+    """At most so many answers are remembered, which is no command of `Host::play`."""
+    left: int
+
+    def printed(self):
+        return ended(0, f"remembered: {self.left}\n".encode())
+
+
 class Forgot(NamedTuple):
     count: int
 
@@ -489,6 +501,11 @@ class Machine:
     def forget(self):
         self.refuse_command()
         return Forgot(self.memory.forget())
+
+    def limit(self, number):
+        self.refuse_command()
+        self.memory.book.keep_to(number)
+        return Limited(len(self.memory.book))
 
     def run(self, stage, files, only, is_fresh, skip):
         configuration = self.configuration()

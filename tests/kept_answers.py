@@ -55,9 +55,12 @@ def contents_of(answer):
     return seen + [contents for _, contents in answer.changes if contents is not None] + records_of(answer)
 
 
-# All rows, as `row_of` writes each.
+# Version 2 of a store keeps these beside the answers, and the greatest of them in front.
+GREATEST_TICK = 2 ** 62
+# All rows, as `row_of` writes each, and the uses from the front on, as `use_of` does.
 SELECT_ROWS = ("SELECT lower(hex(words)), lower(hex(seen)), lower(hex(output)), lower(hex(changes)), status FROM answers "
                "ORDER BY words, seen")
+SELECT_USES = "SELECT lower(hex(words)), lower(hex(seen)) FROM uses ORDER BY tick DESC"
 
 
 def row_of(answer):
@@ -65,16 +68,30 @@ def row_of(answer):
     return "|".join([*(digest(record).hex() for record in records_of(answer)), str(answer.status)])
 
 
-def planting(contents, records, status):
-    """SQL that puts contents and the row of four records into a store."""
+def use_of(answer):
+    """The key of its use, as sqlite3 prints the columns in hexadecimal."""
+    return "|".join(row_of(answer).split("|")[:2])
+
+
+def using(words, seen):
+    """SQL that brings the answer under two digests, in hexadecimal, to the front of a store of version 2, where it has no use yet."""
+    return f"INSERT INTO uses SELECT x'{words}', x'{seen}', coalesce(max(tick), 0) + 1 FROM uses"
+
+
+def planting(contents, records, status, version=2):
+    """SQL that puts contents and the row of four records into a store, and in front of a store of version 2."""
     blobs = "".join(f"INSERT OR IGNORE INTO blobs VALUES (x'{digest(each).hex()}', x'{each.hex()}'); " for each in [*contents, *records])
-    return blobs + f"INSERT INTO answers VALUES ({', '.join(f'''x'{digest(record).hex()}' ''' for record in records)}, {status})"
+    digests = [digest(record).hex() for record in records]
+    use = f"; {using(*digests[:2])}" if version == 2 else ""
+    return blobs + f"INSERT INTO answers VALUES ({', '.join(f'''x'{each}' ''' for each in digests)}, {status})" + use
 
 
-def planting_all(answers):
-    """SQL that puts answers with all that they name into a store, in one transaction. Contents that many name are put once."""
+def planting_all(answers, version=2):
+    """SQL that puts answers with all that they name into a store, in one transaction. Contents that many name are put once. The last
+    one stands in front of a store of version 2 then; nothing sees to its limit."""
     kept = sorted({each for answer in answers for each in contents_of(answer)})
     blobs = "".join(f"INSERT OR IGNORE INTO blobs VALUES (x'{digest(each).hex()}', x'{each.hex()}');\n" for each in kept)
-    columns = (row_of(answer).split("|") for answer in answers)
+    columns = [row_of(answer).split("|") for answer in answers]
     rows = "".join("INSERT INTO answers VALUES (x'{}', x'{}', x'{}', x'{}', {});\n".format(*each) for each in columns)
-    return f"BEGIN;\n{blobs}{rows}COMMIT;\n"
+    uses = "".join(f"{using(*each[:2])};\n" for each in columns) if version == 2 else ""
+    return f"BEGIN;\n{blobs}{rows}{uses}COMMIT;\n"

@@ -10,8 +10,8 @@ class ListBook:
         self.held = {}
 
     def __eq__(self, other):
-        """Whether both keep the same, in whatever order: what a store of version 1 has in its tables tells none."""
-        return (self.limit, self.held) == (other.limit, other.held)
+        """Whether both keep the same in one order."""
+        return (self.limit, self.rows()) == (other.limit, other.rows())
 
     def __len__(self):
         return len(self.held)
@@ -23,6 +23,10 @@ class ListBook:
     def rows(self):
         """The keys with what is remembered for them, in their order."""
         return list(reversed(self.held.items()))
+
+    def is_in_front(self, key):
+        """Whether a key's row is the first, so that a look-up leaves all as it was."""
+        return bool(self.held) and next(reversed(self.held)) == key
 
     def find(self, key):
         """What is remembered for a key, or none."""

@@ -3,11 +3,11 @@
 
 Usage: tests/plays.py [PLAYS [SEED]]   (default: 1,000 plays of 200 commands each, seed 1)
 
-One host remembers what children answered as long as it lives, the other forgets it before each command. The model has the
-commits, the staged files, the fixes and the book of remembered answers as plain lists and dictionaries. It says of each host
-what every command prints, its exit status, and what it leaves: the repository, how many answers are remembered, and which
-children were started, told by the rows of the table. hook_trial plays the same commands through `command_over`, and all that
-has to be the model's.
+One host remembers what children answered, the other forgets it before each command. Among the commands is one that limits what is
+remembered, to one answer, to two or three, or to as many as a new host does. The model has the commits, the staged files and the
+fixes as plain lists and dictionaries, and the book of remembered answers as a list with a limit. It says of each host what every
+command prints, its exit status, and what it leaves: the repository, how many answers are remembered, and which children were
+started, told by the rows of the table. hook_trial plays the same commands through `command_over`, and all that has to be the model's.
 
 Where the model asks a child for an outcome, it is drawn by chance the first time, and the same for these words and these files
 ever after: this is the table. Some outcomes aren't drawn, so that the child isn't started. Then both hosts have to answer the
@@ -47,6 +47,8 @@ FURTHER = [NO_PATH] * 6 + ["^b", r"\.txt$", "^dir/", "^[.]pre"]
 MESSAGES = [b"", b"\n", b" \t\n\n", b"first", b"first", b"first\n", b"first\n", b"  first \n\n\n\nbody\t\n\n", b"# kept\r\n\nbody"]
 CHILDREN_WRITE = [b"x\n", b"y\n", b"z \n", b"\n", b"one\n\n\ntwo \n"]
 OUTPUTS = [b"", b"", b"said\n", b" \n\tsaid twice\n\nso\n\n"]
+# How many answers are remembered at most.
+LIMITS = [1, 2, 3, 10_000]
 # What a report says of a child that was started and failed.
 FAILING = [said for said in FAULTS if said != NOT_STARTED]
 
@@ -119,7 +121,7 @@ class Table:
 def random_command(rng, machine, kind=None):
     """A command of this kind, or of any: its words, and the call that it is of a machine."""
     skip = [f"h{rng.randint(0, 3)}"] if rng.random() < 0.15 else ["other"] if rng.random() < 0.05 else []
-    kind = kind or rng.choices(["add", "configuration", "rm", "accept", "run", "commit", "log", "show", "forget"], [27, 7, 7, 12, 33, 20, 2, 3, 2])[0]
+    kind = kind or rng.choices(["add", "configuration", "rm", "accept", "run", "commit", "log", "show", "forget", "limit"], [27, 7, 7, 12, 33, 20, 2, 3, 2, 4])[0]
     if kind == "configuration":
         found, text = random_configuration(rng)
         machine.configurations[text] = found
@@ -137,6 +139,9 @@ def random_command(rng, machine, kind=None):
     if kind == "commit":
         message, how = rng.choice(MESSAGES), rng.choice(["verified", "verified", "verified", "unverified"])
         return ("commit", message, how, ",".join(skip)), lambda host: host.commit(message, how, skip)
+    if kind == "limit":
+        limit = rng.choice(LIMITS)
+        return ("limit", str(limit)), lambda host: host.limit(limit)
     if kind == "show" and machine.history:
         number = rng.randint(1, len(machine.history))
         return ("show", str(number)), lambda host: host.show(number)
@@ -151,15 +156,16 @@ class Player:
         self.words, self.replies, self.answers, self.ends = [], [], [], collections.Counter()
 
     def play(self, command, call):
-        """Plays a command, and then has told what it leaves. The command `forget` is a step of its own."""
+        """Plays a command, and then has told what it leaves. The command `forget` is a step of its own. How many answers a limit leaves is
+        told by each host for itself."""
         forgets = self.forgets_first + (call is None)
         forgotten = b"".join(f"{self.host.memory.forget()} forgotten\n".encode() for _ in range(forgets))
         reply = self.host.reply(call).printed() if call else b""
         self.ends[f"{command[0]} {reply[len('status '):][:1].decode()}".strip()] += 1
-        reply += self.host.list_fixes().printed() + self.host.shown()
+        left = self.host.list_fixes().printed() + self.host.shown()
         self.words += ["forget"] * forgets + (["line", "all", "all", *command] if call else []) + ["line", "all", "all", "fixes", "store", "counts"]
-        self.replies.append(reply)
-        self.answers.append(forgotten + reply + self.host.memory.counts() + self.host.memory.take_rows())
+        self.replies.append(left if command[0] == "limit" else reply + left)
+        self.answers.append(forgotten + reply + left + self.host.memory.counts() + self.host.memory.take_rows())
 
 
 def play_of(number):

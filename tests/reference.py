@@ -40,6 +40,10 @@ LIMITS = [
     ("staged tree of a store", "{} files", "repo_store", "most_files", 0),
     ("staged tree of a store", "8 MiB ({} bytes) together", "repo_store", "most_tree_path_bytes", 0),
     ("commits of a store", "{}", "repo_store", "most_commits", 0),
+    ("remembered answers of a store", "{}", "repo_store", "most_answers", 0),
+    ("remembered answers of a store", "{}", "command_line", "most_limit", 0),
+    ("remembered answers of a store", "{} in a new store", "repo_store", "first_limit", 0),
+    ("number that tells how lately an answer was used", "{}", "repo_store", "greatest_tick", 0),
     ("exit code of a remembered answer", "{}", "repo_store", "most_status", 0),
 ]
 # The constants of command_line with what the help of a command says, and the enum whose refusals the command prints.
@@ -201,9 +205,9 @@ def wrong_widths():
 
 
 def value_of(crate, name):
-    """A limit, from the one definition of this name in the crate's specs/."""
-    found = [it for _, text in sources(f"crates/{crate}/specs", ".antt") for it in re.findall(rf"^{name} = ([\d_]+)$", text, re.MULTILINE)]
-    return int(found[0]) if len(found) == 1 else None
+    """A limit, from the one definition of this name in the crate's specs/, which may be a power."""
+    found = [it for _, text in sources(f"crates/{crate}/specs", ".antt") for it in re.findall(rf"^{name} = ([\d_]+)(?: \^ (\d+))?$", text, re.MULTILINE)]
+    return int(found[0][0]) ** int(found[0][1] or 1) if len(found) == 1 else None
 
 
 def wrong_limits(reference):

@@ -4,7 +4,7 @@ import random
 
 from kept_answers import KeptAnswer, contents_of, digest, records_of
 from list_book import ListBook
-from store_cases import CHILDREN, CONFIG, CONFIG_PATH, HOOKS, MESSAGE, OTHER_PATHS, SHOWN
+from store_cases import CHILDREN, CONFIG, CONFIG_PATH, HOOKS, MESSAGE, OTHER_PATHS, PLANTED_STORES, SHOWN, TO_VERSION_1
 
 NO_CONFIG, NOTHING_STAGED = "refused\t7\tNoConfig\tnone", "refused\t10\tNothingStaged\tnone"
 MODES = {"plain": 0, "executable": 1}
@@ -57,6 +57,26 @@ def tracked(tree):
     return {path: file for path, file in tree.items() if path != MESSAGE}
 
 
+def key_records(answer):
+    """The records of an answer's words and seen files, by which a book finds it."""
+    words, seen, *_ = records_of(answer)
+    return words, seen
+
+
+def book_of(answers):
+    """A book of answers, the last of them in front."""
+    book = ListBook()
+    for answer in answers:
+        book.put(key_records(answer), answer)
+    return book
+
+
+def migrated(book):
+    """The book that a migration makes of the answers of a store of version 1: the greatest key is in front. A key is what the columns
+    have, two digests, and those are compared by their bytes."""
+    return book_of(sorted((answer for _, answer in book.rows()), key=lambda answer: [digest(record) for record in key_records(answer)]))
+
+
 def begun_message(message):
     return message if not message or message.endswith("\\n") else message + "\\n"
 
@@ -67,7 +87,7 @@ class Model:
 
     def __init__(self):
         self.store, self.is_open, self.waiting, self.children = None, False, {}, []
-        # The store behind each answer that a command of the host put, before its end.
+        # The store behind each answer that a command of the host looked up or put, before its end.
         self.passed = []
 
     def play(self, line):
@@ -77,6 +97,8 @@ class Model:
             return self.child(rest)
         if word in ("create", "open", "close"):
             return getattr(self, word)()
+        if word == "execute":
+            return self.execute(rest)
         if not self.is_open:
             return "no store"
         call = getattr(self, word.replace("-", "_"))
@@ -85,12 +107,24 @@ class Model:
     def create(self):
         if self.store is not None:
             return "refused\t3\tSql\tthere is already an object of this name"
-        self.store, self.is_open = {"staged": {}, "fixes": {}, "history": [], "blobs": set(), "answers": ListBook()}, True
+        self.store, self.is_open = {"version": 2, "staged": {}, "fixes": {}, "history": [], "blobs": set(), "answers": ListBook()}, True
         return "ok"
+
+    def execute(self, text):
+        """Makes one of the planted stores in an empty database, and opens it not; or one of version 1 of that which is there."""
+        if text == TO_VERSION_1:
+            self.store |= {"version": 1}
+            return "ok"
+        version, answers = PLANTED_STORES[text]
+        self.create()
+        self.store |= {"version": version, "blobs": {each for answer in answers for each in contents_of(answer)}, "answers": book_of(answers)}
+        return self.close()
 
     def open(self):
         if self.store is None:
             return "refused\t1\tNotAStore\tthe database holds no store of this version"
+        if self.store["version"] == 1:
+            self.store |= {"version": 2, "answers": migrated(self.store["answers"])}
         self.is_open = True
         return "ok"
 
@@ -184,13 +218,11 @@ class Model:
         return "ok"
 
     def put(self, answer):
-        words, seen, *_ = records_of(answer)
-        self.store["answers"].put((words, seen), answer)
+        self.store["answers"].put(key_records(answer), answer)
         self.store["blobs"].update(contents_of(answer))
 
     def recall(self, text):
-        words, seen, *_ = records_of(answer_in(text + " | | 0"))
-        answer = self.store["answers"].find((words, seen))
+        answer = self.store["answers"].find(key_records(answer_in(text + " | | 0")))
         if answer is None:
             return "ok\tnone"
         changes = "".join(f"\t{path}\tgone" if now is None else f"\t{path}\tnow\t{escaped(now)}" for path, now in answer.changes)
@@ -199,8 +231,22 @@ class Model:
     def answers(self):
         return f"ok\t{len(self.store['answers'])}"
 
+    def limit(self):
+        return f"ok\t{self.store['answers'].limit}"
+
+    def set_limit(self, number):
+        self.store["answers"].keep_to(int(number))
+        return "ok"
+
     def forget(self):
         return f"ok\t{self.store['answers'].forget()}"
+
+    def answer_limit(self):
+        return self.limit()
+
+    def limit_answers(self, number):
+        self.set_limit(number)
+        return self.answers()
 
     def forget_answers(self):
         return self.forget()
@@ -232,16 +278,18 @@ class Model:
         """What is remembered for the words and the seen files, or else the answer of a child, which is remembered then; none where
         no row has one, since it isn't started."""
         files = [(path, MODES[mode], unescaped(content)) for path, (mode, content) in sorted(seen.items())]
-        key = tuple(records_of(KeptAnswer([word.encode() for word in words], files, [], 0))[:2])
-        if key not in self.store["answers"]:
+        asked = KeptAnswer([word.encode() for word in words], files, [], 0)
+        answer = self.store["answers"].find(key_records(asked))
+        if answer is None:
             rows = [(changes, status) for row, held, changes, status in self.children
                     if row == words and seen == {path: ("plain", content) for path, content in held.items()}]
             if not rows:
                 return None
             changes = [(path, None if now is None else unescaped(now)) for path, now in sorted(rows[0][0].items())]
-            self.put(KeptAnswer([word.encode() for word in words], files, changes, rows[0][1]))
-            self.passed.append(copy.deepcopy(self.store))
-        return self.store["answers"].find(key)
+            answer = asked._replace(changes=changes, status=rows[0][1])
+            self.put(answer)
+        self.passed.append(copy.deepcopy(self.store))
+        return answer
 
     def candidates(self, which):
         """The paths of the staged files that the hooks of a run may get."""
@@ -395,7 +443,7 @@ def lines_behind(play, count):
     """The lines that open a store behind a stop, have told what is remembered, go on with the line of the play that was stopped, and
     have told what stands and is remembered then. None where no line was."""
     told = recalled_by(play)
-    return ["open", "answers", *told, *play[count + (play[count] == "create"):], *SHOWN, "answers", *told] if count < len(play) else []
+    return ["open", "answers", *told, *play[count + (play[count] in ("create", "open")):], *SHOWN, "answers", *told] if count < len(play) else []
 
 
 def random_answer(chance, paths, contents):
@@ -424,7 +472,7 @@ def random_play(seed, length):
     lines = ["create", *CHILDREN, f"stage plain {CONFIG}"]
     while len(lines) < length:
         path, content = chance.choice(paths), chance.choice(contents)
-        kind = chance.randrange(23)
+        kind = chance.randrange(25)
         if kind < 4:
             lines.append(f"stage {chance.choice(['plain', 'executable'])} {path} {content}")
         elif kind == 4:
@@ -451,6 +499,10 @@ def random_play(seed, length):
             lines.append(chance.choice(["answers", "answers", "answers", "forget"]))
         elif kind < 21:
             lines.append(f"{chance.choice(['edit-all', 'stage-all'])} {random_edits(chance, paths, contents)}")
+        elif kind < 23:
+            # A limit of a few rows is met soon, and stays for a while.
+            limit = chance.choice([1, 2, 2, 3, 3, 3, 10_000])
+            lines.append(chance.choice(["limit", "answer-limit", f"set-limit {limit}", f"limit-answers {limit}"]))
         else:
             lines.append(f"{chance.choice(['commit-verified', 'commit-unverified'])} {chance.choice(['m', 'm', content])}")
     return lines

@@ -7,6 +7,7 @@ use hook_base::{Bytes, Content, FileEntry, Mode, OutOfMemory, RepoPath, Text, Tr
 use hook_config::{Config, read_config};
 use hook_run::run_hooks;
 use process_children::ProcessChildren;
+use repo_store::FIRST_LIMIT;
 use result_book::{Book, ListBook};
 use std::alloc::Global;
 use trial_rows::{Row, Stop, number_of, only, text_of};
@@ -27,7 +28,7 @@ impl Play {
             alloc,
             tree: Tree::new(alloc),
             children,
-            book: ListBook::new(alloc),
+            book: ListBook::new(alloc, FIRST_LIMIT),
         }
     }
 

@@ -13,6 +13,7 @@ use Rattle.clap.specs.declared.error.Error.{Error}
 use Rattle.clap.specs.declared.error.kind.ErrorKind.TheVariants.{InvalidValue}
 use Rattle.hook_base.specs.declared.file.Mode.{Mode}
 use Rattle.hook_base.specs.declared.file.Mode.TheVariants.{Executable}
+use Rattle.command_line.specs.AnswerLimit.{most_limit}
 use Rattle.command_line.specs.MessageWords.{words_for_clap}
 use Rattle.command_line.specs.declared.line.FileChoice.{FileChoice}
 use Rattle.command_line.specs.declared.line.FileChoice.TheVariants.{Changed, All, Named, Listed as ListedFiles}
@@ -26,7 +27,7 @@ use Rattle.command_line.specs.declared.line.StageChoice.TheVariants.{PreCommit, 
 use Rattle.command_line.specs.declared.line.Line.TheVariants as line
 use Rattle.command_line.specs.declared.line.LookUp.TheVariants.{Status, Fixes, Cat, Log, Show, Memory}
 use Rattle.command_line.specs.declared.line.Standalone.TheVariants.{Init, Try, Check, Explain}
-use Rattle.command_line.specs.declared.line.Update.TheVariants.{Add, Remove, Run, Accept, Commit, Forget}
+use Rattle.command_line.specs.declared.line.Update.TheVariants.{Add, Remove, Run, Accept, Commit, Forget, Limit}
 
 -- ---- the commands and their values, as `clap` takes them
 
@@ -65,6 +66,10 @@ stage_rule = record (new_rule (codes "hook-stage")) { long = Some (codes "hook-s
 -- `--commit=N`, which may be left out
 abbrev pub commit_rule : Rule
 commit_rule = record (new_rule (codes "commit")) { long = Some (codes "commit"); value_names = 1 }
+
+-- `--limit=N`, which may be left out
+abbrev pub limit_rule : Rule
+limit_rule = record (new_rule (codes "limit")) { long = Some (codes "limit"); value_names = 1 }
 
 -- `-m TEXT`: 109 is the character `m`
 abbrev pub message_rule : Rule
@@ -134,8 +139,9 @@ log_app = new_app (codes "log")
 abbrev pub show_app : App
 show_app = with_rule (new_app (codes "show")) (word_rule (codes "N"))
 
+-- `memory [--limit=N]`
 abbrev pub memory_app : App
-memory_app = new_app (codes "memory")
+memory_app = with_rule (new_app (codes "memory")) limit_rule
 
 abbrev pub forget_app : App
 forget_app = new_app (codes "forget")
@@ -198,6 +204,16 @@ abbrev pub number_in : Text → Option ℕ
 number_in text =
     if is_unsigned_in 0 (2 ^ 32 - 1) text then Some (digits_value 10 (without_leading_plus text)) else None
 
+-- the limit of remembered answers that a text tells: decimal digits, which a `+` may precede, of a number from 1 to 100,000
+abbrev pub limit_number : Text → Option ℕ
+limit_number text =
+    if is_unsigned_in 1 most_limit text then Some (digits_value 10 (without_leading_plus text)) else None
+
+-- the limit that `--limit` asks for, and where nothing is asked for that is an answer too
+abbrev pub limit_in : Option Text → Option (Option ℕ)
+limit_in None = Some None
+limit_in (Some text) = option_map Some (limit_number text)
+
 -- the bytes that `--fixed` or `--commit` asks for: those of a commit by its number, and not both beside one another
 abbrev pub version_in : Bool → Option Text → Option FileVersion
 version_in true None = Some Fixed
@@ -257,6 +273,14 @@ cat_line rows =
 abbrev pub show_line : List Row → Option Line
 show_line rows = option_map (λ (number : ℕ). line.LookUp (Show number)) (number_in (word_in (codes "N") rows))
 
+-- without a limit something is looked up, and with one something is changed
+abbrev pub memory_by : Option ℕ → Line
+memory_by None = line.LookUp Memory
+memory_by (Some limit) = line.Update (Limit limit)
+
+abbrev pub memory_line : List Row → Option Line
+memory_line rows = option_map memory_by (limit_in (first_of (codes "limit") rows))
+
 -- what a command asks for with its values, unless one of them can't be taken
 abbrev pub line_by : Text → List Row → Option Line
 line_by name rows =
@@ -269,7 +293,7 @@ line_by name rows =
     else (if bytes_eq name (codes "cat") then cat_line rows
     else (if bytes_eq name (codes "log") then Some (line.LookUp Log)
     else (if bytes_eq name (codes "show") then show_line rows
-    else (if bytes_eq name (codes "memory") then Some (line.LookUp Memory)
+    else (if bytes_eq name (codes "memory") then memory_line rows
     else (if bytes_eq name (codes "add") then add_line rows
     else (if bytes_eq name (codes "rm") then remove_line rows
     else (if bytes_eq name (codes "run") then run_line rows

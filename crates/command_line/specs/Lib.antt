@@ -1,3 +1,4 @@
+pub mod AnswerLimit
 pub mod CommandLine
 pub mod HelpLengths
 pub mod MessageWords

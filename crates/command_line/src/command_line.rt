@@ -4,14 +4,14 @@
 
 ghost use Rattle.std.specs.Prelude.{◌≡◌, IfOk, Some, is_some, map, option_map, true};
 ghost use Rattle.clap.specs.Words.{FailsBy, fault_of, found_of, rows_of, subcommand_of, subcommand_rows_of};
-ghost use Rattle.command_line.specs.CommandLine.{IsValueOf, add_line, cat_line, commit_line, explain_line, files_in, hookhost_app, is_command, line_asked, line_by, line_fault, line_fault_of, line_in, named_in, remove_line, run_files_line, run_line, show_line, try_line};
+ghost use Rattle.command_line.specs.CommandLine.{IsValueOf, add_line, cat_line, commit_line, explain_line, files_in, hookhost_app, is_command, line_asked, line_by, line_fault, line_fault_of, line_in, memory_line, named_in, remove_line, run_files_line, run_line, show_line, try_line};
 
 use crate::commands::hookhost;
 use crate::help_length::help_asked;
 use crate::message_words::around_message;
 use crate::paths::paths_of;
 use crate::values::{
-    flag_of, maybe_text_of, mode_of, number_of, stage_of, text_of, texts_of, version_of,
+    flag_of, limit_of, maybe_text_of, mode_of, number_of, stage_of, text_of, texts_of, version_of,
 };
 use crate::{FileChoice, Line, LookUp, PathSource, Standalone, Update};
 use clap::{ArgMatches, Error};
@@ -23,7 +23,8 @@ use std::alloc::{AllocError, Global};
 /// An error's text says what the words lack, or which value can't be taken, or is the help that they ask for. Its kind
 /// is `OutOfMemory` where memory was refused, the one that `clap` states for these words, or else `InvalidValue`: for
 /// another `--chmod` than `+x` or another `--hook-stage` than `pre-commit` and `manual`, for `--commit` beside `--fixed`, where
-/// the number of `show` or of `--commit` isn't one of 32 bits, or where there is neither a path nor `--paths-from`, or both.
+/// the number of `show` or of `--commit` isn't one of 32 bits or that of `--limit` none from 1 to 100,000, or where there is neither
+/// a path nor `--paths-from`, or both.
 pub fn line_of<'a>(alloc: Global, words: &'a [&'a str]) -> Result<Line, Error>
     ensures line { IfOk result (λ line. line_asked (map (λ s. s.now) words.entry.now) ≡ Some line) }
     ensures fault { FailsBy (line_fault (map (λ s. s.now) words.entry.now)) result }
@@ -81,7 +82,7 @@ fn line_by(alloc: Global, name: &str, values: &ArgMatches<'_>) -> Result<Line, E
         "cat" => cat_line(alloc, values),
         "log" => Ok(Line::LookUp(LookUp::Log)),
         "show" => show_line(alloc, values),
-        "memory" => Ok(Line::LookUp(LookUp::Memory)),
+        "memory" => memory_line(alloc, values),
         "add" => add_line(alloc, values),
         "rm" => remove_line(alloc, values),
         "run" => run_line(alloc, values),
@@ -194,4 +195,14 @@ fn show_line(alloc: Global, values: &ArgMatches<'_>) -> Result<Line, Error>
     Ok(Line::LookUp(LookUp::Show {
         number: number_of(alloc, values)?,
     }))
+}
+
+// With a limit it is a change of what is remembered, and without one a look-up.
+fn memory_line(alloc: Global, values: &ArgMatches<'_>) -> Result<Line, Error>
+    ensures { IsValueOf (memory_line (rows_of (found_of values.now))) result }
+{
+    match limit_of(alloc, values)? {
+        Some(limit) => Ok(Line::Update(Update::Limit(limit))),
+        None => Ok(Line::LookUp(LookUp::Memory)),
+    }
 }

@@ -5,7 +5,7 @@
 ghost use Rattle.std.specs.Prelude.{◌≡◌, ◌∷◌, IfOk, [], false};
 ghost use Rattle.clap.specs.Words.{app_of, new_rule, rule_of};
 ghost use Rattle.clap.specs.declared.builder.Command.TheViews.{out-Command as fields_of};
-ghost use Rattle.command_line.specs.CommandLine.{accept_app, add_app, cat_app, check_app, chmod_rule, commit_app, commit_rule, explain_app, fixes_app, flag_rule, forget_app, hookhost_app, hookhost_base, init_app, log_app, memory_app, message_rule, optional_words_rule, paths_from_rule, remove_app, run_app, run_files_app, run_files_with_options_app, run_with_options_app, show_app, stage_rule, status_app, try_app, with_commands, word_rule, words_rule};
+ghost use Rattle.command_line.specs.CommandLine.{accept_app, add_app, cat_app, check_app, chmod_rule, commit_app, commit_rule, explain_app, fixes_app, flag_rule, forget_app, hookhost_app, hookhost_base, init_app, limit_rule, log_app, memory_app, message_rule, optional_words_rule, paths_from_rule, remove_app, run_app, run_files_app, run_files_with_options_app, run_with_options_app, show_app, stage_rule, status_app, try_app, with_commands, word_rule, words_rule};
 
 use crate::help::{CHECK_HELP, EXPLAIN_HELP, PROGRAM_HELP, TRY_HELP};
 use crate::help_length::HelpLength;
@@ -139,7 +139,7 @@ fn with_answers<'a>(
     ensures { IfOk result (λ command. app_of command ≡ with_commands (app_of program.entry) (memory_app ∷ forget_app ∷ [])) }
 {
     program
-        .subcommand(memory_command(alloc, help))?
+        .subcommand(memory_command(alloc, help)?)?
         .subcommand(forget_command(alloc, help))
 }
 
@@ -382,14 +382,16 @@ pub(crate) fn show_command<'a>(alloc: Global, help: HelpLength) -> Result<Comman
         .arg(word(alloc, "N", "The commit's number"))
 }
 
-fn memory_command<'a>(alloc: Global, help: HelpLength) -> Command<'a>
-    ensures app { app_of result ≡ memory_app }
-    ensures local { (fields_of result).has_globals ≡ false }
+/// `memory [--limit=N]`.
+pub(crate) fn memory_command<'a>(alloc: Global, help: HelpLength) -> Result<Command<'a>, AllocError>
+    ensures app { IfOk result (λ command. app_of command ≡ memory_app) }
+    ensures local { IfOk result (λ command. (fields_of command).has_globals ≡ false) }
 {
     Command::new(alloc, "memory")
-        .about("Prints how many answers of hooks' commands are remembered")
-        .override_usage("hookhost memory")
+        .about("Prints how many answers of hooks' commands are remembered, or limits them")
+        .override_usage("hookhost memory [--limit=<N>]")
         .after_help(help.of(MEMORY_HELP))
+        .arg(limit(alloc))
 }
 
 fn forget_command<'a>(alloc: Global, help: HelpLength) -> Command<'a>
@@ -462,6 +464,15 @@ fn commit_number<'a>(alloc: Global) -> Arg<'a>
         .long("commit")
         .value_name("N")
         .help("Prints the bytes in the commit with this number")
+}
+
+fn limit<'a>(alloc: Global) -> Arg<'a>
+    ensures rule { rule_of result ≡ limit_rule }
+    ensures local { result.global ≡ false }
+{
+    Arg::new(alloc, "limit").long("limit").value_name("N").help(
+        "Remembers at most so many answers from now on: from 1 to 100000",
+    )
 }
 
 fn flag<'a>(alloc: Global, id: &'a str, help: &'a str) -> Arg<'a>

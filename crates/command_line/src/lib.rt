@@ -1,8 +1,10 @@
-//! The command line of `hookhost`: what a line of words asks for (`line_of`), as a value (`Line`), and the help.
+//! The command line of `hookhost`: what a line of words asks for (`line_of`), as a value (`Line`), and the help. A line that sets how
+//! many answers are remembered holds an `AnswerLimit`.
 //!
-//! The contract cites `specs/CommandLine.antt`, which states the command line as `clap` sees it.
+//! The contracts cite `specs/CommandLine.antt`, which states the command line as `clap` sees it, and `specs/AnswerLimit.antt`.
 #![tactic(auto)]
 
+mod answer_limit;
 mod command_line;
 mod commands;
 mod help;
@@ -14,6 +16,7 @@ mod repository_help;
 mod values;
 mod version;
 
+pub use answer_limit::AnswerLimit;
 pub use command_line::line_of;
 pub use line::{
     FileChoice, FileVersion, Line, LookUp, PathSource, StageChoice, Standalone, Update,

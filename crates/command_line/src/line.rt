@@ -1,5 +1,6 @@
 //! What a line of words asks the program for, as a value.
 
+use crate::AnswerLimit;
 use hook_base::{Items, Mode, Text};
 
 /// What a line of words asks the program for.
@@ -96,6 +97,8 @@ pub enum Update {
     },
     /// All remembered answers are forgotten.
     Forget,
+    /// So many answers are remembered at most.
+    Limit(AnswerLimit),
 }
 
 /// The staged files that the hooks of a run may get.

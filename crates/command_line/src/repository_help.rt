@@ -23,9 +23,10 @@ Exit status:
 'hookhost: cannot use .hookhost/store.db' says that no store is here, or that it
 can't be opened: hookhost init makes one. 'hookhost: cannot use .hookhost/lock' says
 that another hookhost works here: wait for it. 'hookhost: standard output was not
-taken' says that what is printed didn't go out whole: what was done stays. What
-opening the store refuses is told as 'hookhost: refused: NUMBER NAME':
-   1 NotAStore    the file is no store of this version
+taken' says that what is printed didn't go out whole: what was done stays. A store
+of an earlier version is taken over as it is opened: no earlier hookhost opens it
+then. What opening the store refuses is told as 'hookhost: refused: NUMBER NAME':
+   1 NotAStore    the file is no store of a version that this program knows
                   move it away, and make a store by hookhost init
    2 Damaged      the store holds what no store holds
                   take it from a backup: nothing here mends it
@@ -147,10 +148,10 @@ commas between them, are skipped. What the hooks change isn't staged: these are 
 fixes, which hookhost fixes lists and hookhost accept applies.
 
 The commands of hooks run in .hookhost/scratch, over copies of the staged files.
-What a command answered is remembered in the repository: on the same files no run
-and no commit starts it again. With --fresh each is started, and unsteady: ID tells
-of each hook that answers otherwise than is remembered. hookhost memory --help says
-when that is of use.
+What a command answered is remembered in the repository: as long as it is, no run
+and no commit starts it again on the same files. With --fresh each is started, and
+unsteady: ID tells of each hook that answers otherwise than is remembered. hookhost
+memory --help says when that is of use, and how long an answer is remembered.
 
 Examples:
   hookhost run
@@ -317,8 +318,9 @@ Example:
 them."
 );
 
-/// Behind the help of `memory`, which refuses nothing once the store is open.
-pub(crate) const MEMORY_HELP: &str = "\
+/// Behind the help of `memory`, which refuses nothing without a limit once the store is open.
+pub(crate) const MEMORY_HELP: &str = opening_help!(
+    "\
 The line is remembered: N, the number of the answers.
 
 What the command of a hook answered is remembered in the repository, for its words
@@ -328,34 +330,24 @@ has a table, isn't known. Once that has changed, as with another version of a to
 hookhost run --fresh starts every command again, prints unsteady: ID of each hook
 whose answers differ, and puts the new answers in place of the old ones.
 
-Example:
+At most 10,000 answers are remembered, or as many as --limit has set, from 1 to
+100000. Where one more comes, the one goes that no run and no commit has used for
+longest. With --limit=N those beyond N go at once, and the line is remembered: N for
+those that are left. Without it the command itself refuses nothing.
+
+Examples:
   hookhost memory
-
-Exit status:
-   0  the command did what it says
-   2  the words are wrong, or ask for help
-   3  something was refused: standard error says what
-
-'hookhost: cannot use .hookhost/store.db' says that no store is here, or that it
-can't be opened: hookhost init makes one. 'hookhost: cannot use .hookhost/lock' says
-that another hookhost works here: wait for it. 'hookhost: standard output was not
-taken' says that what is printed didn't go out whole. What opening the store refuses
-is told as 'hookhost: refused: NUMBER NAME':
-   1 NotAStore    the file is no store of this version
-                  move it away, and make a store by hookhost init
-   2 Damaged      the store holds what no store holds
-                  take it from a backup: nothing here mends it
-   3 Sql          the database refused
-                  see that the disk can be read and has room
-   4 OutOfMemory  memory was refused
-                  free some memory, and run it again";
+  hookhost memory --limit=1000",
+    ""
+);
 
 /// Behind the help of `forget`.
 pub(crate) const FORGET_HELP: &str = opening_help!(
     "\
 All remembered answers are taken out of the repository, and each command is started
 again once a run or a commit needs it. The line is forgotten: N, how many answers
-there were. hookhost memory --help says what is remembered.
+there were. The limit that hookhost memory --limit has set stays. hookhost memory
+--help says what is remembered.
 
 The commits, the staged files and the fixes stay as they were. So do the contents
 that the answers name: .hookhost/store.db gets no smaller. To start the commands of

@@ -5,11 +5,13 @@
 ghost use Rattle.std.specs.Prelude.{◌≡◌, ◌∷◌, IfOk, Some, [], codes, false, map};
 ghost use Rattle.clap.specs.Words.{HasKind, first_of, found_of, rows_of};
 ghost use Rattle.clap.specs.declared.error.kind.ErrorKind.TheVariants.{InvalidValue};
-ghost use Rattle.command_line.specs.CommandLine.{IsValueOf, flag_in, mode_in, number_in, stage_in, version_in, word_in, words_in};
+ghost use Rattle.command_line.specs.CommandLine.{IsValueOf, flag_in, limit_in, limit_number, mode_in, number_in, stage_in, version_in, word_in, words_in};
 
-use crate::commands::{add_command, cat_command, run_command, run_files_command, show_command};
+use crate::commands::{
+    add_command, cat_command, memory_command, run_command, run_files_command, show_command,
+};
 use crate::help_length::HelpLength;
-use crate::{FileVersion, StageChoice};
+use crate::{AnswerLimit, FileVersion, StageChoice};
 use clap::error::ErrorKind;
 use clap::{ArgMatches, Command, Error};
 use hook_base::{Items, Mode, Text};
@@ -135,6 +137,36 @@ fn commit_of(alloc: Global, text: &str) -> Result<FileVersion, Error>
     }
 }
 
+/// The number that `--limit` asks for, or `None` where nothing is asked for. Another text than a number from 1 to 100,000 is an
+/// error.
+pub(crate) fn limit_of(alloc: Global, values: &ArgMatches<'_>) -> Result<Option<AnswerLimit>, Error>
+    ensures { IsValueOf (limit_in (first_of (codes "limit") (rows_of (found_of values.now)))) result }
+{
+    match values.get_str("limit") {
+        None => Ok(None),
+        Some(text) => limit_from(alloc, text),
+    }
+}
+
+// The limit that a text tells.
+fn limit_from(alloc: Global, text: &str) -> Result<Option<AnswerLimit>, Error>
+    ensures { IsValueOf (limit_in (Some text.now)) result }
+{
+    match limit_number(text) {
+        Some(limit) => Ok(Some(limit)),
+        None => Err(limit_error(alloc, text)),
+    }
+}
+
+fn limit_number(text: &str) -> Option<AnswerLimit>
+    ensures { result ≡ limit_number text.now }
+{
+    match text.parse::<u32>() {
+        Ok(number) => AnswerLimit::read(number),
+        Err(_) => None,
+    }
+}
+
 fn chmod_error(alloc: Global, text: &str) -> Error
     ensures { HasKind (InvalidValue ∷ []) result }
 {
@@ -186,6 +218,21 @@ fn commit_error(alloc: Global, text: &str) -> Error
         Ok(message) => error_of(cat_command(alloc, HelpLength::Short), message.as_str()),
         Err(refused) => Error::from(refused),
     }
+}
+
+fn limit_error(alloc: Global, text: &str) -> Error
+    ensures { HasKind (InvalidValue ∷ []) result }
+{
+    match limit_message(alloc, text) {
+        Ok(message) => error_of(memory_command(alloc, HelpLength::Short), message.as_str()),
+        Err(refused) => Error::from(refused),
+    }
+}
+
+fn limit_message(alloc: Global, text: &str) -> Result<String, AllocError> {
+    format!(in alloc;
+        "invalid value '{text}' for '--limit <N>': it has to be a number from 1 to 100000"
+    )
 }
 
 fn number_message(alloc: Global, text: &str, name: &str) -> Result<String, AllocError> {

@@ -1,6 +1,6 @@
 -- What a command leaves, from what the store's call leaves.
-use Rattle.std.proofs.Common.{◌≡◌, ℕ, List, length, Option, Ok, Err, inl, refl, sym, subst, arith}
-use Rattle.std.proofs.lemmas.List.{length-map}
+use Rattle.std.proofs.Common.{◌≡◌, ℕ, List, length, Option, Ok, Err, ap, inl, refl, sym, subst, arith}
+use Rattle.std.proofs.lemmas.List.{length-map, take-map}
 use Rattle.sqlite_trees.specs.declared.store.Store.{Ghosts}
 use Rattle.sqlite_trees.specs.Tree.{Trees}
 use Rattle.sqlite.specs.Held.{state}
@@ -13,10 +13,10 @@ use Rattle.repo_store.specs.declared.fault.StoreFault.TheVariants as store
 use Rattle.repo_store.specs.Contents.{Collides}
 use Rattle.repo_store.specs.Faults.{IsRefusal}
 use Rattle.repo_store.specs.Limits.{Fits, IsSmall}
-use Rattle.repo_store.specs.Kept.{Kept, accepting, forgetting, staging, unstaging}
+use Rattle.repo_store.specs.Kept.{Kept, accepting, forgetting, limiting, staging, unstaging}
 use Rattle.repo_store.specs.Shown.{IsOneTransaction, Leaves, LeavesOnly, Shown}
 use Rattle.result_book.specs.Calls.{AfterForget}
-use Rattle.result_book.specs.Contents.{count_of}
+use Rattle.result_book.specs.Contents.{count_of, with_rows}
 use Rattle.result_book.specs.StoreBooks.{remembered_by, row_of}
 use Rattle.commit_flow.specs.declared.command.Command.{Command}
 use Rattle.commit_flow.specs.declared.command.Command.TheVariants.{Add, Remove, Accept, Forget}
@@ -24,6 +24,7 @@ use Rattle.commit_flow.specs.declared.host_refusal.HostRefusal.{HostRefusal}
 use Rattle.commit_flow.specs.declared.host_refusal.HostRefusal.TheVariants.{Collision}
 use Rattle.commit_flow.specs.declared.reply.Reply.{Reply}
 use Rattle.commit_flow.specs.declared.reply.Reply.TheVariants.{Added, Removed, Accepted, Forgot, Refused}
+use Rattle.commit_flow.specs.AnswerLimits.{IsLimitRefusal, IsLimitedTo}
 use Rattle.commit_flow.specs.Refusals.{of_store}
 use Rattle.commit_flow.specs.StagedPaths.{IsLegal, IsStaged}
 use Rattle.commit_flow.specs.Steps.{HasFixes, IsAddable, entry_to_add, mode_to_add}
@@ -121,7 +122,7 @@ forget_reached kept trees leaves = record {
   reply = Forgot (length kept.answers);
   done = tt;
   step = (refl, refl);
-  remembers = record { none = refl };
+  remembers = record { none = refl; limit = refl };
   leaves = leaves;
 }
 
@@ -138,4 +139,29 @@ pub count_remembered : (kept : Kept) → length kept.answers ≡ count_of (remem
 count_remembered kept = sym (length-map kept.answers row_of)
 
 pub forgotten_all : (old new : Kept) → new ≡ forgetting old → AfterForget (remembered_by old) (remembered_by new)
-forgotten_all old new same = subst (λ (kept : Kept). AfterForget (remembered_by old) (remembered_by kept)) (sym same) (record { none = refl })
+forgotten_all old new same = subst (λ (kept : Kept). AfterForget (remembered_by old) (remembered_by kept)) (sym same) (record { none = refl; limit = refl })
+
+-- ---- the limit of what is remembered
+
+-- one transaction of the store is one of the host
+module _ {S : Type 0} (g : Ghosts S) (old new : Shown S) (after : Kept) where
+  pub refused_transaction : {A B E F : Type 0} (fault : E) (refusal : F) → IsOneTransaction {A = A} g old new (Err fault) after → IsOneTransaction {A = B} g old new (Err refusal) after
+  refused_transaction fault refusal one = record { stands = one.stands; crash = one.crash; durable = tt; shut = one.shut; opened = λ _. tt }
+
+  pub done_transaction : {A B E F : Type 0} (x : A) (y : B) → IsOneTransaction {E = E} g old new (Ok x) after → IsOneTransaction {E = F} g old new (Ok y) after
+  done_transaction x y one = record { stands = one.stands; crash = one.crash; durable = one.durable; shut = one.shut; opened = one.opened }
+
+-- the first answers are left, as many as the limit
+pub limited_so : (limit : ℕ) (old new : Kept) → new ≡ limiting limit old → IsLimitedTo limit (remembered_by old) (remembered_by new)
+limited_so limit old new same =
+    subst (λ (kept : Kept). IsLimitedTo limit (remembered_by old) (remembered_by kept)) (sym same)
+    (ap (with_rows limit) (sym (take-map row_of limit old.answers)))
+
+pub limit_refusal : (fault : StoreFault) → IsRefusal ⊥ ⊥ ⊥ fault → IsLimitRefusal (of_store fault)
+limit_refusal (store.Sql error) why = tt
+limit_refusal store.OutOfMemory why = tt
+limit_refusal store.NotAStore why = absurd why
+limit_refusal store.Damaged why = absurd why
+limit_refusal store.Collision why = absurd why
+limit_refusal store.TooLarge why = absurd why
+limit_refusal store.TooMany why = absurd why

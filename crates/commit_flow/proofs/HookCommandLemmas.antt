@@ -1,6 +1,6 @@
 -- What a command that runs hooks leaves in the store's tables and remembered, from what rests over its hooks, and what its change
 -- of the store leaves.
-use Rattle.std.proofs.Common.{◌≡◌, ◌⊎◌, inl, inr, ℕ, List, refl, sym, subst, arith, Result, Ok, Err}
+use Rattle.std.proofs.Common.{◌≡◌, ◌⊎◌, inl, inr, ℕ, List, map, refl, sym, subst, arith, Result, Ok, Err}
 use Rattle.sqlite_trees.specs.declared.store.Store.{Ghosts}
 use Rattle.sqlite_trees.specs.Tree.{Trees}
 use Rattle.sqlite.specs.Held.{state}
@@ -14,11 +14,10 @@ use Rattle.repo_store.specs.Answers.{KeptAnswer}
 use Rattle.repo_store.specs.Kept.{Kept}
 use Rattle.repo_store.specs.Repository.{Repository}
 use Rattle.repo_store.specs.Shown.{Leaves, Shown}
-use Rattle.repo_store.proofs.OneLemmas.{left_alike}
-use Rattle.result_book.specs.Contents.{Holds}
-use Rattle.result_book.specs.StoreBooks.{IsAtRest, LeavesRepository, MayRemember, remembered_by}
+use Rattle.repo_store.proofs.AlikeLemmas.{left_alike}
+use Rattle.result_book.specs.Contents.{HaveRow, Holds}
+use Rattle.result_book.specs.StoreBooks.{IsAtRest, LeavesRepository, MayRemember, remembered_by, row_of}
 use Rattle.result_book.specs.Told.{AddsTold}
-use Rattle.result_book.proofs.StoreBookLemmas.{have_moved}
 use Rattle.commit_flow.specs.declared.command.Command.{Command}
 use Rattle.commit_flow.specs.declared.host_refusal.HostRefusal.{HostRefusal}
 use Rattle.commit_flow.specs.declared.reply.Reply.{Reply}
@@ -39,7 +38,7 @@ change_left g tells old new result after same one = λ left may.
       | inr made ↦ inr (λ words seen answer holds.
           let there : Holds words seen answer (remembered_by may.kept) = subst (Holds words seen answer) may.remembers holds in
           let moved : Holds words seen answer (remembered_by after) =
-          have_moved words seen answer may.kept.answers after.answers (left_alike may.trees may.kept after may.leaves made).answers there in
+          subst (λ (answers : List KeptAnswer). HaveRow words seen answer (map row_of answers)) (left_alike may.trees may.kept after may.leaves made).answers there in
           inl (subst (λ (answers : List KeptAnswer). Holds words seen answer (remembered_by (record old.kept { answers = answers }))) same moved))
     ]
 

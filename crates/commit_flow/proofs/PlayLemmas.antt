@@ -1,5 +1,5 @@
 -- What a command that is played comes to, and a list of them.
-use Rattle.std.proofs.Common.{◌≡◌, ◌⊎◌, ◌∙◌, inl, inr, sym, subst, refl, ap, ℕ, ◌-◌, ◌^◌, Bool, List, [], ◌∷◌, map}
+use Rattle.std.proofs.Common.{◌≡◌, ◌⊎◌, ◌∙◌, inl, inr, sym, subst, refl, ap, ap₂, ℕ, ◌-◌, ◌^◌, Bool, List, [], ◌∷◌, map}
 use Rattle.hook_base.specs.declared.change.Change.{Change}
 use Rattle.hook_base.specs.declared.file.File.{File}
 use Rattle.child_port.specs.declared.answer.Outcome.{Outcome}
@@ -97,9 +97,9 @@ runless_played tells from to before after command reply runless step makes = rec
   needed = λ says. absurd (unspent before after command reply [] step runless says);
 }
 
--- a store remembers its answers
-pub same_remembered : (before after : Kept) → after.answers ≡ before.answers → remembered_by after ≡ remembered_by before
-same_remembered before after same = ap (λ (answers : List KeptAnswer). with_rows (map row_of answers)) same
+-- a store remembers its answers, up to its limit
+pub same_remembered : (before after : Kept) → after.answers ≡ before.answers → after.limit ≡ before.limit → remembered_by after ≡ remembered_by before
+same_remembered before after same limits = ap₂ (λ (limit : ℕ) (answers : List KeptAnswer). with_rows limit (map row_of answers)) limits same
 
 -- where nothing is remembered or forgotten either, nothing happens
 pub unmade_of : (tells : List (List ℕ) → List File → Outcome → Type 0) (fresh : Bool) (calls faults : ℕ) (book book_after : Contents) → book_after ≡ book

@@ -1,5 +1,5 @@
 -- What a stop leaves of a list of commands, and of sessions one after another.
-use Rattle.std.proofs.Common.{◌≡◌, ◌⊎◌, inl, inr, sym, subst, refl, ap, arith, ℕ, List, [], ◌∷◌, ◌++◌}
+use Rattle.std.proofs.Common.{◌≡◌, ◌⊎◌, inl, inr, sym, subst, refl, ap, arith, ℕ, List, [], ◌∷◌, ◌++◌, map}
 use Rattle.sqlite_trees.specs.declared.store.Store.{Ghosts}
 use Rattle.sqlite_trees.specs.Tree.{Trees}
 use Rattle.sqlite.specs.Held.{state}
@@ -8,15 +8,15 @@ use Rattle.hook_base.specs.declared.file.File.{File}
 use Rattle.child_port.specs.declared.answer.Outcome.{Outcome}
 use Rattle.hook_run.specs.Moments.{Moment}
 use Rattle.hook_run.specs.Parts.{Part}
+use Rattle.repo_store.specs.Answers.{KeptAnswer}
 use Rattle.repo_store.specs.Kept.{Kept}
 use Rattle.repo_store.specs.Repository.{Repository}
 use Rattle.repo_store.specs.Shown.{Leaves, Shown}
-use Rattle.repo_store.proofs.OneLemmas.{left_alike}
-use Rattle.result_book.specs.Contents.{Contents}
-use Rattle.result_book.specs.StoreBooks.{MayRemember, remembered_by}
+use Rattle.repo_store.proofs.AlikeLemmas.{left_alike}
+use Rattle.result_book.specs.Contents.{Contents, HaveRow}
+use Rattle.result_book.specs.StoreBooks.{MayRemember, remembered_by, row_of}
 use Rattle.result_book.specs.Told.{IsTold}
 use Rattle.result_book.specs.ToldLemmas.{told-adds}
-use Rattle.result_book.proofs.StoreBookLemmas.{have_moved}
 use Rattle.commit_flow.specs.declared.command.Command.{Command}
 use Rattle.commit_flow.specs.declared.reply.Reply.{Reply}
 use Rattle.commit_flow.specs.declared.reply.Reply.TheVariants.{Added, Removed, Accepted, Ran, Committed, HooksFailed, Forgot, Refused}
@@ -30,7 +30,7 @@ use Rattle.commit_flow.proofs.PlayLemmas.{one_adds}
 -- two stores that the same trees are remember the same
 told_alike : (tells : List (List ℕ) → List File → Outcome → Type 0) (trees : Trees) (a b : Kept) → Leaves a trees → Leaves b trees → IsTold tells (remembered_by a) → IsTold tells (remembered_by b)
 told_alike tells trees a b first second told = λ words seen answer holds.
-    told words seen answer (have_moved words seen answer b.answers a.answers (left_alike trees b a second first).answers holds)
+    told words seen answer (subst (λ (answers : List KeptAnswer). HaveRow words seen answer (map row_of answers)) (left_alike trees b a second first).answers holds)
 
 -- ---- a reply is one of a command that is done, or of one that isn't
 

@@ -1,3 +1,4 @@
+pub mod AnswerLimits
 pub mod Commands
 pub mod CommitCalls
 pub mod CommitStages

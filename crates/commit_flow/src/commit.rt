@@ -47,8 +47,8 @@ impl<S: Alter> Host<S> {
     /// the hooks come, in this order, a cleaned message that is empty (`EmptyMessage`), one of more than 16 MiB (`Store`), and
     /// more than 100,000 commits (`TooMany`); where a hook failed, fixes whose contents have the digest of others
     /// (`Collision`), and fixes of more than 16 MiB (`Store`). `Store` comes also where the database refuses a commit that none
-    /// of these speaks against, or fixes, and both come where the store can't remember an answer; `OutOfMemory` comes where memory is
-    /// refused. A refusal leaves the repository as it was, the children with the outcomes that they have told, and what was
+    /// of these speaks against, or fixes, and both come where the store can't look an answer up, which notes its use, or remember it;
+    /// `OutOfMemory` comes where memory is refused. A refusal leaves the repository as it was, the children with the outcomes that they have told, and what was
     /// remembered by then. No stage is run afresh: where the answer to a child is remembered, none is started, behind the commit
     /// too.
     pub fn commit<C: Children>(

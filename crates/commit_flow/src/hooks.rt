@@ -13,7 +13,7 @@ use result_book::Book;
 use std::alloc::Global;
 
 /// Runs hooks on the files of the tree, with what the book remembers and the children's outcomes, as [`run_hooks`] does. A refusal
-/// leaves the children with the outcomes that they have told, and the book with the answers that were put by then.
+/// leaves the children with the outcomes that they have told, and the book with what was put and used by then.
 pub(crate) fn run_with_book<C: Children, B: Book>(
     alloc: Global,
     children: &mut C,

@@ -1,19 +1,22 @@
 //! The commands of a host that run no hooks. Each looks for what the host itself refuses, in a fixed order, and then makes at most
 //! one call that changes the store.
 
-ghost use Rattle.std.specs.Prelude.{◌≡◌, ◌≢◌, ◌↔◌, [], IsTrue, IfOk, IfErr, IfSome, MatchOption, OnOk, OnErr, option_map};
+ghost use Rattle.std.specs.Prelude.{◌≡◌, ◌≢◌, ◌↔◌, ◌≤◌, [], IsTrue, IfOk, IfErr, IfSome, MatchOption, OnOk, OnErr, option_map};
 ghost use Rattle.hook_base.specs.Trees.{IsRising, IsRisingChanges, entry_of};
 ghost use Rattle.repo_store.specs.AllOrNothing.{IsAllOrNothing};
 ghost use Rattle.repo_store.specs.Contents.{Collides};
 ghost use Rattle.repo_store.specs.Edits.{all_edited};
-ghost use Rattle.repo_store.specs.Kept.{accepting, forgetting, staging, unstaging};
+ghost use Rattle.repo_store.specs.Kept.{accepting, forgetting, limiting, staging, unstaging};
+ghost use Rattle.repo_store.specs.Limits.{IsLimit};
 ghost use Rattle.repo_store.specs.Log.{log_from};
 ghost use Rattle.repo_store.specs.Repository.{Commit, commit_at, last_tree};
+ghost use Rattle.repo_store.specs.Shown.{IsOneTransaction};
 ghost use Rattle.result_book.specs.Calls.{AfterForget};
 ghost use Rattle.result_book.specs.Contents.{count_of};
 ghost use Rattle.result_book.specs.StoreBooks.{remembered_by};
 ghost use Rattle.commit_flow.specs.declared.command.Command.TheVariants.{Add, Remove, Accept, Forget};
 ghost use Rattle.commit_flow.specs.declared.reply.Reply.TheVariants.{Added, Removed, Accepted, Forgot};
+ghost use Rattle.commit_flow.specs.AnswerLimits.{IsLimitRefusal, IsLimitedTo};
 ghost use Rattle.commit_flow.specs.Commands.{reply_of};
 ghost use Rattle.commit_flow.specs.EditSteps.{AreOneCommand, AreSteps, CollidesAt, IsStagingStop, NoEditCollides};
 ghost use Rattle.commit_flow.specs.StagedPaths.{IsLegal, IsStaged};
@@ -151,6 +154,32 @@ impl<S: Alter> Host<S> {
         ensures { result ≡ count_of (remembered_by self.now.store.kept) }
     {
         self.store.len()
+    }
+
+    /// How many answers are remembered at most: from 1 to 100,000. It takes no memory.
+    pub fn limit(&self) -> u32
+        ensures limit { result ≡ (remembered_by self.now.store.kept).limit }
+        ensures within { IsLimit (remembered_by self.now.store.kept).limit }
+        ensures few { count_of (remembered_by self.now.store.kept) ≤ (remembered_by self.now.store.kept).limit }
+    {
+        self.store.answer_limit()
+    }
+
+    /// Sets how many answers are remembered at most, which must be from 1 to 100,000, and answers how many are left. Where more are
+    /// remembered, those that were used least lately go; their contents stay in the store. It is one transaction, also where the limit
+    /// is this one already. `OutOfMemory` comes where memory is refused, and `Store` where the database refuses. A refusal leaves
+    /// what is remembered and the limit as they were, and the repository stays in any case.
+    pub fn set_limit(&mut self, limit: u32) -> Result<u64, HostRefusal>
+        requires { IsLimit limit }
+        ensures change { IsAllOrNothing self.old.store.kept self.new.store.kept result (limiting limit self.old.store.kept) }
+        ensures transaction { IsOneTransaction S.Store self.old.store self.new.store result (limiting limit self.old.store.kept) }
+        ensures number { IfOk result (λ number. number ≡ count_of (remembered_by self.new.store.kept)) }
+        ensures limited { OnOk result (IsLimitedTo limit (remembered_by self.old.store.kept) (remembered_by self.new.store.kept)) }
+        ensures refused { OnErr result (remembered_by self.new.store.kept ≡ remembered_by self.old.store.kept) }
+        ensures why { IfErr result IsLimitRefusal }
+    {
+        self.store.set_answer_limit(limit)?;
+        Ok(self.store.len())
     }
 
     /// The staged files. It fails for want of memory alone.

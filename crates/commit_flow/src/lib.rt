@@ -1,13 +1,13 @@
 //! The host of a repository: the commands by which files are staged, and what each answers.
 //!
-//! A [`Host`] works on a store, which keeps the repository and remembers what children answered; runs and commits look that up
-//! and have more remembered. A [`HostAsk`] says what is asked of a run of hooks on the staged files, and a [`StagedRun`] what it
+//! A [`Host`] works on a store, which keeps the repository and remembers what children answered, up to a limit; runs and commits
+//! look that up and have more remembered. A [`HostAsk`] says what is asked of a run of hooks on the staged files, and a [`StagedRun`] what it
 //! gave; a [`CommitEnding`] says how a commit through its hooks ended. A [`HostRefusal`] says why a command is refused;
 //! [`Command`] and [`Reply`] are the commands and their answers as values. Several changes of the staged files are made at once by
 //! [`StagingEdit`]s, and a [`StagingStop`] says which of them is refused.
 //!
 //! The contracts cite `Step` of `specs/Steps.antt` (what each command may answer, and what it makes of the repository),
-//! `specs/Commands.antt` (the reply that a call's answer is), `IsOneCommand` and `IsPlayedSafely` of `specs/Stops.antt` (what a
+//! `specs/Commands.antt` (the reply that a call's answer is), `specs/AnswerLimits.antt` (what a new limit makes of what is remembered), `IsOneCommand` and `IsPlayedSafely` of `specs/Stops.antt` (what a
 //! stop leaves), `specs/EditSteps.antt` (several changes as steps, and at which they are refused), `IsRunStep` and
 //! `IsStoppedStep` of `specs/RunSteps.antt` and `IsCommitStep` of `specs/CommitSteps.antt` (how a run and a commit stand to
 //! what was remembered and what children told), `specs/Runs.antt`, `specs/Commits.antt` and `specs/CommitStages.antt` (the

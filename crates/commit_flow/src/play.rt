@@ -67,6 +67,7 @@ impl<S: Alter> Host<S> {
         ensures step { Step self.old.store.kept.repo (Add path.now bytes.now mode) result [] self.new.store.kept.repo }
         ensures one { IsOneCommand S.Store self.old.store self.new.store (Add path.now bytes.now mode) result }
         ensures answers { self.new.store.kept.answers ≡ self.old.store.kept.answers }
+        ensures limit { self.new.store.kept.limit ≡ self.old.store.kept.limit }
     {
         match self.add(alloc, path.as_str(), bytes.as_slice(), mode) {
             Ok(()) => Reply::Added,
@@ -78,6 +79,7 @@ impl<S: Alter> Host<S> {
         ensures step { Step self.old.store.kept.repo (Remove path.now) result [] self.new.store.kept.repo }
         ensures one { IsOneCommand S.Store self.old.store self.new.store (Remove path.now) result }
         ensures answers { self.new.store.kept.answers ≡ self.old.store.kept.answers }
+        ensures limit { self.new.store.kept.limit ≡ self.old.store.kept.limit }
     {
         match self.remove(alloc, path.as_str()) {
             Ok(()) => Reply::Removed,
@@ -89,6 +91,7 @@ impl<S: Alter> Host<S> {
         ensures step { Step self.old.store.kept.repo Accept result [] self.new.store.kept.repo }
         ensures one { IsOneCommand S.Store self.old.store self.new.store Accept result }
         ensures answers { self.new.store.kept.answers ≡ self.old.store.kept.answers }
+        ensures limit { self.new.store.kept.limit ≡ self.old.store.kept.limit }
     {
         match self.accept() {
             Ok(number) => Reply::Accepted(number),

@@ -30,8 +30,8 @@ impl<S: Alter> Host<S> {
     /// name that is no path (`BadPath`) or isn't staged (`NotStaged`), and a name that no hook of the stage has
     /// (`NoSuchHook`); no child is started then. `Spent` comes where a child is needed and the children have told as many
     /// outcomes as can be counted. `Collision` comes where the contents of a fix, behind the last child, or of an answer that is
-    /// remembered, have the digest of others, and `Store` where the database refuses or one of them has more than 16 MiB.
-    /// `OutOfMemory` comes where memory is refused. A refusal leaves the repository as it was, the children with the outcomes that
+    /// remembered, have the digest of others, and `Store` where the database refuses, a look-up too, which notes that an answer was
+    /// used, or one of them has more than 16 MiB. `OutOfMemory` comes where memory is refused. A refusal leaves the repository as it was, the children with the outcomes that
     /// they have told, and what was remembered by then.
     pub fn run<C: Children>(
         &mut self,

@@ -10,6 +10,7 @@ use Rattle.hook_config.specs.declared.stage.Stage.TheVariants.{PreCommit}
 use Rattle.hook_config.specs.Configuration.{configuration_of}
 use Rattle.hook_config.specs.Gives.{UnlessLeftOpen}
 use Rattle.hook_config.specs.Refusals.{TellsTooLarge}
+use Rattle.repo_store.specs.Limits.{first_limit}
 use Rattle.result_book.specs.Contents.{Contents, nothing}
 use Rattle.hook_run.specs.Moments.{moment}
 use Rattle.hook_run.specs.declared.run_ask.RunAsk.{RunAsk}
@@ -55,15 +56,15 @@ ask_for_all tree =
     record { stage = PreCommit; candidates = map (λ row. row.path) tree; only = None; skip = []; fresh = false }
 
 -- a run of the hooks of this configuration on the tree gives this, between these counts. No answer is remembered before it, so
--- that each outcome is one that the children may tell
+-- that each outcome is one that the children may tell; of its own answers as many are as a new store remembers
 pub record IsRunOnAll (tells : List (List ℕ) → List File → Outcome → Type 0) (calls calls_after faults faults_after : ℕ) (config : Config) (tree : List File) (out : RunOut) : Type 0 where
   pub remembered : Contents
-  pub run : IsRunOver tells (moment calls faults nothing) (moment calls_after faults_after remembered) config (ask_for_all tree) tree out
+  pub run : IsRunOver tells (moment calls faults (nothing first_limit)) (moment calls_after faults_after remembered) config (ask_for_all tree) tree out
 
 -- such a run is refused so
 pub record IsStoppedOnAll (tells : List (List ℕ) → List File → Outcome → Type 0) (calls calls_after faults faults_after : ℕ) (config : Config) (tree : List File) (refusal : RunRefusal) : Type 0 where
   pub remembered : Contents
-  pub stopped : IsStoppedRun tells (moment calls faults nothing) (moment calls_after faults_after remembered) config (ask_for_all tree) tree refusal
+  pub stopped : IsStoppedRun tells (moment calls faults (nothing first_limit)) (moment calls_after faults_after remembered) config (ask_for_all tree) tree refusal
 
 -- What was read is a configuration, and a run of its hooks on the tree gives this.
 pub record IsReadAndRun (given left : Option (List ℕ)) (tells : List (List ℕ) → List File → Outcome → Type 0)

@@ -15,6 +15,7 @@ use child_port::Children;
 use hook_base::Tree;
 use hook_config::{Config, read_config};
 use hook_run::{RunOut, RunRefusal, run_hooks};
+use repo_store::FIRST_LIMIT;
 use result_book::ListBook;
 use std::alloc::Global;
 use std::io::{Read, Write};
@@ -84,7 +85,7 @@ fn run_on_all<C: Children>(
         ≤ C.fault_count children.old + C.call_count children.new }
 {
     let ask = ask_for_all(alloc, tree)?;
-    let mut book = ListBook::new(alloc);
+    let mut book = ListBook::new(alloc, FIRST_LIMIT);
     match run_hooks(alloc, children, &mut book, config, &ask, tree) {
         Ok(out) => Ok(out),
         Err(RunRefusal::OutOfMemory) => Err(TryFault::OutOfMemory),

@@ -1,18 +1,25 @@
 -- How the commands over a repository end.
-use Rattle.std.proofs.Common.{◌≡◌, subst, refl, inl, inr, ℕ, List, [], Option, None, Some, option_map, Ok, Err}
+use Rattle.std.proofs.Common.{◌≡◌, sym, subst, refl, inl, inr, ℕ, List, [], Option, None, Some, option_map, Ok, Err}
 use Rattle.sqlite_trees.specs.declared.store.Store.{Ghosts}
 use Rattle.repo_store.specs.AllOrNothing.{IsAllOrNothing}
-use Rattle.repo_store.specs.Kept.{Kept, accepting}
+use Rattle.repo_store.specs.Kept.{Kept, accepting, limiting}
+use Rattle.repo_store.specs.Limits.{IsLimit}
+use Rattle.repo_store.specs.Shown.{IsOneTransaction}
+use Rattle.result_book.specs.Contents.{count_of}
+use Rattle.result_book.specs.StoreBooks.{remembered_by}
+use Rattle.commit_flow.specs.AnswerLimits.{IsLimitRefusal}
 use Rattle.commit_flow.specs.declared.command.Command.TheVariants as command
 use Rattle.commit_flow.specs.declared.host_refusal.HostRefusal.{HostRefusal}
 use Rattle.commit_flow.specs.declared.reply.Reply.TheVariants.{Accepted, Refused}
 use Rattle.commit_flow.specs.Stops.{IsOneCommand}
 use Rattle.commit_flow.specs.declared.host.Host.{Host}
 use Rattle.commit_flow.specs.Steps.{IsAcceptRefusal, Step}
+use Rattle.command_line.specs.AnswerLimit.{IsAnswerLimit}
 use Rattle.command_line.specs.declared.line.LookUp.{LookUp}
 use Rattle.hook_cli.specs.declared.command_ending.CommandEnding.{CommandEnding}
 use Rattle.hook_cli.specs.declared.command_ending.CommandEnding.TheVariants as ends
-use Rattle.hook_cli.specs.CommandOver.{IsAcceptOver, IsAnswer, IsLookUp, IsRefusalText}
+use Rattle.hook_cli.specs.CommandOver.{IsAcceptOver, IsAnswer, IsLimitOver, IsLookUp, IsRefusalText}
+use Rattle.hook_cli.specs.MemoryText.{remembered_text}
 use Rattle.repository_text.specs.FixesText.{accepted_text}
 use Rattle.text_output.specs.Outputs.{IsSilent, Output}
 use Rattle.hook_cli.specs.Printing.{IsSaid, IsTold, untaken_line}
@@ -67,3 +74,25 @@ accept-refused g old new out err ending refusal step change one told silent = re
   collides = λ is. subst (λ (r : HostRefusal). IsAcceptRefusal old.store.kept.repo r) is step.0.0;
   replied = (silent, told);
 }
+
+-- ---- the limit is set
+
+-- a limit that the command line takes is one of the store's
+pub limit-fits : (limit number : ℕ) → number ≡ limit → IsAnswerLimit limit → IsLimit number
+limit-fits limit number is within = subst IsLimit (sym is) (record { at_least = within.at_least; at_most = within.at_most })
+
+module _ {S : Type 0} (g : Ghosts S) (old new : Host S) (out err : Output) (ending : CommandEnding) (limit taken : ℕ) (is : taken ≡ limit) where
+  pub limit-said : (number : ℕ) → IsAllOrNothing {E = HostRefusal} old.store.kept new.store.kept (Ok number) (limiting taken old.store.kept)
+      → IsOneTransaction {E = HostRefusal} g old.store new.store (Ok number) (limiting taken old.store.kept)
+      → number ≡ count_of (remembered_by new.store.kept) → IsSaid ends.Done out (remembered_text number) err untaken_line ending
+      → IsLimitOver g old new limit out err ending
+  limit-said number change one left said =
+      subst (λ (n : ℕ). IsLimitOver g old new n out err ending) is
+      (record { answer = Ok number; change = change; transaction = one; left = left; refused = tt; said = said })
+
+  pub limit-refused : (refusal : HostRefusal) → IsAllOrNothing {A = ℕ} old.store.kept new.store.kept (Err refusal) (limiting taken old.store.kept)
+      → IsOneTransaction {A = ℕ} g old.store new.store (Err refusal) (limiting taken old.store.kept)
+      → IsLimitRefusal refusal → IsTold ends.Refused err (refusal_text refusal) ending → IsSilent out → IsLimitOver g old new limit out err ending
+  limit-refused refusal change one why told silent =
+      subst (λ (n : ℕ). IsLimitOver g old new n out err ending) is
+      (record { answer = Err refusal; change = change; transaction = one; left = tt; refused = why; said = (silent, told) })

@@ -1,5 +1,5 @@
 -- The commands over a repository: what each makes of it, which children it calls, what it prints, and the exit status.
-use Rattle.std.specs.Prelude.{◌≡◌, ◌⊎◌, ℕ, Bool, List, [], ◌∷◌, length, Option, None, Some, IsSome, option_map, Result, IfErr, IfOk, OnOk}
+use Rattle.std.specs.Prelude.{◌≡◌, ◌⊎◌, ℕ, Bool, List, [], ◌∷◌, length, Option, None, Some, IsSome, option_map, Result, Ok, Err, IfErr, IfOk, OnOk}
 use Rattle.sqlite_trees.specs.declared.store.Store.{Ghosts}
 use Rattle.hook_base.specs.declared.file.File.{File}
 use Rattle.hook_base.specs.declared.file.FileEntry.{FileEntry}
@@ -10,8 +10,9 @@ use Rattle.child_port.specs.declared.answer.Outcome.{Outcome}
 use Rattle.hook_run.specs.Moments.{Moment, moment}
 use Rattle.repo_store.specs.AllOrNothing.{IsAllOrNothing}
 use Rattle.repo_store.specs.Contents.{Collides}
-use Rattle.repo_store.specs.Kept.{Kept, accepting, forgetting, staging, unstaging}
+use Rattle.repo_store.specs.Kept.{Kept, accepting, forgetting, limiting, staging, unstaging}
 use Rattle.repo_store.specs.Repository.{Repository, commit_at, fixed_bytes, last_tree, tree_at}
+use Rattle.repo_store.specs.Shown.{IsOneTransaction}
 use Rattle.result_book.specs.Contents.{count_of}
 use Rattle.result_book.specs.StoreBooks.{remembered_by}
 use Rattle.commit_flow.specs.declared.command.Command.{Command}
@@ -27,6 +28,7 @@ use Rattle.commit_flow.specs.declared.host_refusal.HostRefusal.TheVariants.{OutO
 use Rattle.commit_flow.specs.declared.reply.Reply.{Reply}
 use Rattle.commit_flow.specs.declared.reply.Reply.TheVariants.{Added, Removed, Accepted, Ran, Committed, HooksFailed, Forgot, Refused}
 use Rattle.commit_flow.specs.declared.staged_run.StagedRun.{StagedRun}
+use Rattle.commit_flow.specs.AnswerLimits.{IsLimitRefusal}
 use Rattle.commit_flow.specs.Commands.{reply_of, reply_of_ending}
 use Rattle.commit_flow.specs.Stops.{IsOneCommand, IsPlayedSafely}
 use Rattle.commit_flow.specs.KeptByHooks.{KeepsForCommit, KeepsForRun}
@@ -50,7 +52,7 @@ use Rattle.command_line.specs.declared.line.PathSource.TheVariants.{Words}
 use Rattle.command_line.specs.declared.line.StageChoice.{StageChoice}
 use Rattle.command_line.specs.declared.line.StageChoice.TheVariants.{PreCommit, Manual}
 use Rattle.command_line.specs.declared.line.Update.{Update}
-use Rattle.command_line.specs.declared.line.Update.TheVariants.{Add, Remove, Run, Accept, Commit, Forget}
+use Rattle.command_line.specs.declared.line.Update.TheVariants.{Add, Remove, Run, Accept, Commit, Forget, Limit}
 use Rattle.hook_cli.specs.declared.command_ending.CommandEnding.{CommandEnding}
 use Rattle.hook_cli.specs.declared.command_ending.CommandEnding.TheVariants as ends
 use Rattle.text_output.specs.Outputs.{IsSilent, Output}
@@ -82,6 +84,7 @@ IsOneCall (Run files only stage fresh) = IsNamed files
 IsOneCall Accept = Unit {0}
 IsOneCall (Commit message no_verify) = Unit {0}
 IsOneCall Forget = Unit {0}
+IsOneCall (Limit limit) = Unit {0}
 
 -- the line is a command over a repository, which one call of the host does
 abbrev pub IsOverHost : Line → Type 0
@@ -143,6 +146,22 @@ pub record IsForgetOver {S : Type 0} (g : Ghosts S) (old new : Host S) (out err 
   pub forgotten : HasForgotten (remembered_by old.store.kept) (remembered_by new.store.kept) (reply_of Forgot answer)
   pub replied : IsReplied out err (reply_of Forgot answer) ending
 
+-- how many answers are left is printed, and a refusal why
+abbrev pub IsLeftSaid : Output → Output → Result ℕ HostRefusal → CommandEnding → Type 0
+IsLeftSaid out err (Ok number) ending = IsSaid ends.Done out (remembered_text number) err untaken_line ending
+IsLeftSaid out err (Err refusal) ending = IsSilent out × IsTold ends.Refused err (refusal_text refusal) ending
+
+-- How many answers are remembered at most is set by one call of the host, in one transaction, and its answer is printed: how many
+-- are left, those that were used last. Refused, all of them stay remembered, and the limit stays. The repository and the contents
+-- that are kept stay in any case. A writer's error undoes none of it.
+pub record IsLimitOver {S : Type 0} (g : Ghosts S) (old new : Host S) (limit : ℕ) (out err : Output) (ending : CommandEnding) : Type 0 where
+  pub answer : Result ℕ HostRefusal
+  pub change : IsAllOrNothing old.store.kept new.store.kept answer (limiting limit old.store.kept)
+  pub transaction : IsOneTransaction g old.store new.store answer (limiting limit old.store.kept)
+  pub left : IfOk answer (λ number. number ≡ count_of (remembered_by new.store.kept))
+  pub refused : IfErr answer IsLimitRefusal
+  pub said : IsLeftSaid out err answer ending
+
 -- ---- runs of hooks
 
 -- how many outcomes children told before a command and after it, and how many of these were faults
@@ -202,7 +221,7 @@ bytes_in repo Staged path = option_map (λ (entry : FileEntry). entry.bytes) (en
 bytes_in repo Fixed path = fixed_bytes path repo.fixes
 bytes_in repo (versions.Committed number) path = option_map (λ (entry : FileEntry). entry.bytes) (entry_of path (tree_at number repo.history))
 
--- the text that a look-up prints: `memory` how many answers are remembered, the others something of the repository
+-- the text that a look-up prints: `memory` without a limit how many answers are remembered, the others something of the repository
 abbrev pub IsAnswer : Kept → LookUp → List ℕ → Type 0
 IsAnswer kept Status text = text ≡ status_text kept.repo.staged (last_tree kept.repo.history)
 IsAnswer kept Fixes text = text ≡ fixes_text kept.repo.fixes
@@ -232,7 +251,7 @@ IsCatText repo version path text =
     ((refusal : HostRefusal) × IsPathRefusal path refusal × (text ≡ refusal_text refusal))
     ⊎ (IsLegal path × (bytes_in repo version path ≡ None) × IsMissingText repo version path text)
 
--- the text that a refused look-up tells; `memory` is never refused
+-- the text that a refused look-up tells; `memory` without a limit is never refused
 abbrev pub IsRefusalText : Repository → LookUp → List ℕ → Type 0
 IsRefusalText repo Status text = text ≡ refusal_text OutOfMemory
 IsRefusalText repo Fixes text = text ≡ refusal_text OutOfMemory
@@ -276,6 +295,7 @@ IsUpdated g tells counts old new Accept bytes skip out err ending = IsAcceptOver
 IsUpdated g tells counts old new (Commit message no_verify) bytes skip out err ending =
     IsCommitOverHost g tells counts old new message no_verify skip out err ending
 IsUpdated g tells counts old new Forget bytes skip out err ending = IsForgetOver g old new out err ending
+IsUpdated g tells counts old new (Limit limit) bytes skip out err ending = IsLimitOver g old new limit out err ending
 
 -- the line is done so; a look-up leaves the host as it was
 abbrev pub IsEnded : {S : Type 0} → Ghosts S → (List (List ℕ) → List File → Outcome → Type 0) → Counts → Host S → Host S → Line → List ℕ → List (List ℕ) → Output → Output → CommandEnding → Type 0

@@ -1,11 +1,12 @@
-//! The command that changes the remembered answers of a repository's host alone.
+//! The commands that change the remembered answers of a repository's host alone.
 //!
-//! The contract cites `specs/CommandOver.antt`.
+//! The contracts cite `specs/CommandOver.antt`.
 
-ghost use Rattle.hook_cli.specs.CommandOver.{IsForgetOver};
+ghost use Rattle.hook_cli.specs.CommandOver.{IsForgetOver, IsLimitOver};
 
 use crate::CommandEnding;
-use crate::printing::{say_forgotten, tell};
+use crate::printing::{say_forgotten, say_remembered, tell};
+use command_line::AnswerLimit;
 use commit_flow::Host;
 use sqlite::Alter;
 use std::io::Write;
@@ -20,6 +21,21 @@ pub(crate) fn forget<S: Alter, O: Write, E: Write>(
 {
     match host.forget() {
         Ok(number) => say_forgotten(out, err, number),
+        Err(refusal) => tell(err, &refusal),
+    }
+}
+
+/// `memory` with a limit: sets how many answers are remembered at most. It prints how many are left.
+pub(crate) fn set_limit<S: Alter, O: Write, E: Write>(
+    limit: &AnswerLimit,
+    host: &mut Host<S>,
+    out: &mut O,
+    err: &mut E,
+) -> CommandEnding
+    ensures { IsLimitOver S.Store host.old host.new limit.now (record { held = O.contents out.old; holds = O.contents out.new }) (record { held = E.contents err.old; holds = E.contents err.new }) result }
+{
+    match host.set_limit(limit.number()) {
+        Ok(number) => say_remembered(out, err, number),
         Err(refusal) => tell(err, &refusal),
     }
 }

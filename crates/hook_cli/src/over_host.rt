@@ -10,7 +10,7 @@ ghost use Rattle.text_output.specs.Outputs.{IsSilent, Output};
 
 use crate::command_ending::status_of;
 use crate::look_up::looked_up;
-use crate::over_answers::forget;
+use crate::over_answers::{forget, set_limit};
 use crate::over_runs::{ask_of, commit, run};
 use crate::printing::{say_accepted, tell};
 use crate::{CommandEnding, Line, PathSource, Update};
@@ -26,19 +26,19 @@ use std::io::Write;
 /// doesn't look at them.
 ///
 /// Done, it is 0: what the command looks up stands on `out` and nothing else, for `accept` how many fixes there were, for
-/// `memory` how many answers are remembered and for `forget` how many there were, for a run the report of its hooks and a line
+/// `memory` how many answers are remembered, with a limit how many are left, and for `forget` how many there were, for a run the report of its hooks and a line
 /// for each that is unsteady, and for a commit the reports of its stages and its number; `add` and `rm` print nothing. It is 1
 /// where a hook failed in a run or before a commit, with what is reported on `out`. Where the hooks behind a commit are stopped,
 /// `err` says why, and it is 0. Refused, it is 3: `hookhost: refused: NUMBER NAME` stands on `err`, with the inner number where
 /// the refusal has one, or for `show` of a number that no commit has `hookhost: no commit N`; nothing is on `out`. Want of memory
-/// is refused as `OutOfMemory`; `memory` is never refused.
+/// is refused as `OutOfMemory`; `memory` without a limit is never refused.
 ///
 /// A writer's error gives 3 too: what it took before is out, and what the command changed stays. Where `out` gives one,
 /// `hookhost: standard output was not taken` stands on `err`, and behind it of a commit `hookhost: commit N was made`, and why
 /// the hooks behind it were stopped.
 ///
 /// `add`, `rm`, `accept`, runs and commits change the repository as the host's calls do, and a refusal leaves it as it was;
-/// `forget` changes what is remembered alone, all of it or, refused, nothing; the others change nothing. Runs and commits alone
+/// `forget` and `memory` with a limit change what is remembered alone, as a whole or, refused, not at all; the others change nothing. Runs and commits alone
 /// call children, and remember what these answered.
 pub fn command_over<S: Alter, C: Children, O: Write, E: Write>(
     alloc: Global,
@@ -120,6 +120,7 @@ fn updated<S: Alter, C: Children, O: Write, E: Write>(
             err,
         ),
         Update::Forget => forget(host, out, err),
+        Update::Limit(limit) => set_limit(limit, host, out, err),
     }
 }
 

@@ -1,5 +1,5 @@
 -- Which parts of a run are started, and what is remembered of their answers. For each part, in a fresh run too, its words and
--- seen files are looked up in what is remembered at that moment.
+-- seen files are looked up in what is remembered at that moment: a found row comes to the front, and a put may drop the last row.
 use Rattle.std.specs.Prelude.{◌≡◌, ◌≢◌, ◌↔◌, ℕ, Bool, false, IsTrue, MatchBool, List, [], ◌∷◌, ◌++◌, Option, Some}
 use Rattle.hook_base.specs.declared.file.File.{File}
 use Rattle.child_port.specs.declared.answer.Answer.{Answer}
@@ -10,8 +10,8 @@ use Rattle.result_book.specs.Calls.{AfterFind, AfterPut}
 use Rattle.result_book.specs.Contents.{Contents, Finds}
 use Rattle.hook_run.specs.Parts.{Part}
 
--- what is remembered behind a child with this outcome: a completed answer that changes the seen files alone is put, in place
--- of the one that was; no other outcome is
+-- what is remembered behind a child with this outcome: a completed answer that changes the seen files alone is put, in front, and
+-- the one that was is gone; no other outcome is
 abbrev pub AfterOutcome : List (List ℕ) → List File → Outcome → Contents → Contents → Type 0
 AfterOutcome words seen (Done answer) before after = MatchBool (is_stray answer seen) (after ≡ before) (AfterPut words seen answer before after)
 AfterOutcome words seen (Failed fault) before after = after ≡ before

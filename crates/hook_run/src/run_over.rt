@@ -20,15 +20,15 @@ use result_book::Book;
 use std::alloc::Global;
 
 /// Runs the configuration's hooks on the files of the tree, as [`RunPlan::begin`] says. The words and the seen files of each
-/// part are looked up in the book. Where they are remembered, the part has that answer, changes included, and no child is
-/// started; `fresh` starts one for each part. A completed answer that changes the seen files alone is put in the book, in place
-/// of an earlier one; a fault never is. In a fresh run a hook is unsteady where an answer is another than the one that was
-/// remembered at that moment.
+/// part are looked up in the book, in a fresh run too. Where they are remembered, the part has that answer, changes included, and
+/// no child is started; `fresh` starts one for each part. A completed answer that changes the seen files alone is put in the book,
+/// in place of an earlier one; a fault never is. In a fresh run a hook is unsteady where an answer is another than the one that
+/// was remembered at that moment.
 ///
 /// `NoSuchHook` exactly where `only` has a name that no hook of the stage has; then `OutOfMemory` where memory is refused, `Book`
 /// where the book refuses, and `Spent` where a child is needed and the children have told as many outcomes as can be counted. A
-/// refusal leaves the children with the outcomes that they have told, with which a run begins, and the book with the answers that
-/// were put by then.
+/// refusal leaves the children with the outcomes that they have told, with which a run begins, and the book with the rows that
+/// were found and the answers that were put by then, each in front of those before it.
 pub fn run_hooks<C: Children, B: Book>(
     alloc: Global,
     children: &mut C,

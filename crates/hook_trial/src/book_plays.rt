@@ -4,11 +4,16 @@
 //! change the files, `child ROW` adds a row to the table by which children answer (`child_rows.rt`), and `others` begins
 //! another table. `run HOW CALLS KTH FAULT BOOK REFUSAL` runs the hooks of `pre-commit` on all files, HOW being `plain` or
 //! `fresh`, over children that have told CALLS outcomes (`child_runs.rt`) and fail their call of the number KTH by FAULT; the
-//! look-up or put of the number BOOK is refused by REFUSAL. `forget` forgets what is remembered.
+//! look-up or put of the number BOOK is refused by REFUSAL. `forget` forgets what is remembered. `limit NUMBER` begins another book,
+//! which remembers so many answers at most; without it there are as many as in a new store.
 //!
 //! A run is answered by its verdict or its refusal and by how many outcomes it added, how many of these are faults; then by a line
 //! for each unsteady hook, for each file that is changed, by the report, and by how many answers are remembered and whether
-//! that of each row of the table is: `held`, `lacking`, or `other` where another is in its place.
+//! that of each row of the table is: `held`, `lacking`, or `other` where another is in its place. That looks them up in the order
+//! of the table, so that the last one that is held was used last.
+
+ghost use Rattle.std.specs.Prelude.{IfOk};
+ghost use Rattle.repo_store.specs.Limits.{IsLimit};
 
 use crate::book_told::{with_ran, with_remembered};
 use crate::child_rows::fault_of;
@@ -20,7 +25,7 @@ use child_port::{Children, Fault, FuseChildren};
 use hook_base::{Content, FileEntry, Items, RepoPath, Tree};
 use hook_config::{Config, Stage, read_config};
 use hook_run::{RunAsk, run_hooks};
-use repo_store::StoreFault;
+use repo_store::{FIRST_LIMIT, MOST_ANSWERS, StoreFault};
 use result_book::{Book, BookFault};
 use std::alloc::Global;
 use trial_rows::{Answer, Stop, text_of};
@@ -46,7 +51,7 @@ fn over_config(alloc: Global, config: &Config, words: &mut Words<'_>) -> Result<
     let mut play = BookPlay {
         tree: Tree::new(alloc),
         rows: Vec::new(alloc),
-        book: FusedBook::new(alloc),
+        book: FusedBook::new(alloc, FIRST_LIMIT),
     };
     let mut answer = Answer::new(alloc);
     for _ in 0..words.left.len() {
@@ -71,11 +76,22 @@ fn stepped(
         "gone" => remove_file(alloc, words, &mut play.tree)?,
         "child" => play.rows.push(words.bytes()?.to_vec(alloc)?)?,
         "others" => play.rows.clear(),
+        "limit" => play.book = FusedBook::new(alloc, limit_of(words)?),
         "run" => return run(words, config, play, answer),
         "forget" => return Ok(with_forgotten(play, answer)),
         _ => return Err(Stop::BadLine),
     }
     Ok(answer)
+}
+
+fn limit_of(words: &mut Words<'_>) -> Result<u32, Stop>
+    ensures { IfOk result (λ limit. IsLimit limit) }
+{
+    let limit = words.number()?;
+    if limit < 1 || MOST_ANSWERS < limit {
+        return Err(Stop::BadLine);
+    }
+    Ok(limit)
 }
 
 fn put_file(alloc: Global, words: &mut Words<'_>, tree: &mut Tree) -> Result<(), Stop> {

@@ -8,6 +8,7 @@ use child_port::{Children, FuseChildren, TableChildren, TableRow};
 use hook_base::{Change, Items, Tree};
 use hook_config::{Config, read_config};
 use hook_run::{Need, RunAsk, RunOut, RunPlan, RunRefusal, run_hooks};
+use repo_store::FIRST_LIMIT;
 use result_book::ListBook;
 use std::alloc::Global;
 use trial_rows::{Answer, Stop, number_of, text_of};
@@ -102,7 +103,7 @@ fn run_over(
     tree: &Tree,
 ) -> Result<Answer, Stop> {
     let (calls, faults) = (children.calls(), children.faults());
-    let mut book = ListBook::new(alloc);
+    let mut book = ListBook::new(alloc, FIRST_LIMIT);
     match run_hooks(alloc, children, &mut book, config, ask, tree) {
         Ok(out) => {
             let calls = children.calls().saturating_sub(calls);

@@ -70,6 +70,7 @@ fn told_update(answer: Answer, update: &Update) -> Answer {
             message,
         ),
         Update::Forget => answer.text("forget\n"),
+        Update::Limit(limit) => answer.text("limit ").shown(limit.number()).text("\n"),
     }
 }
 

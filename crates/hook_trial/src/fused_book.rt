@@ -16,11 +16,14 @@ pub(crate) struct FusedBook {
 
 impl FusedBook {
     ghost use Rattle.std.specs.Prelude.{◌≡◌};
+    ghost use Rattle.repo_store.specs.Limits.{IsLimit};
 
-    /// A book that remembers nothing, none of whose calls is refused.
-    pub(crate) fn new(alloc: Global) -> FusedBook {
+    /// A book of a limit that remembers nothing, none of whose calls is refused.
+    pub(crate) fn new(alloc: Global, limit: u32) -> FusedBook
+        requires { IsLimit limit }
+    {
         FusedBook {
-            inner: ListBook::new(alloc),
+            inner: ListBook::new(alloc, limit),
             kth: 0,
             fault: BookFault::OutOfMemory,
             calls: 0,

@@ -1,6 +1,6 @@
 //! Commands over a repository, from the words of a row: `add MODE PATH CONTENTS`, `add_zeros MODE PATH COUNT`, `rm PATH`,
-//! `status`, `fixes`, `accept`, `cat PATH`, `cat_fixed PATH`, `cat_commit NUMBER PATH`, `log`, `show NUMBER`, `memory`, `forget`,
-//! `run STAGE FILES ONLY HOW SKIP` or `commit MESSAGE HOW SKIP`.
+//! `status`, `fixes`, `accept`, `cat PATH`, `cat_fixed PATH`, `cat_commit NUMBER PATH`, `log`, `show NUMBER`, `memory`, `limit NUMBER`,
+//! `forget`, `run STAGE FILES ONLY HOW SKIP` or `commit MESSAGE HOW SKIP`.
 //! MODE is `plain`, `executable` or `none`; SKIP is a list of the hooks that are skipped, with commas between them; the others are
 //! those of `host_asks.rt`.
 
@@ -15,7 +15,9 @@ use crate::host_words::{Words, mode_of};
 use crate::host_writers::HabitWriter;
 use crate::turn_children::TurnChildren;
 use hook_base::{Items, Text};
-use hook_cli::{FileVersion, Line, LookUp, PathSource, Update, command_over, skip_list_of};
+use hook_cli::{
+    AnswerLimit, FileVersion, Line, LookUp, PathSource, Update, command_over, skip_list_of,
+};
 use std::alloc::Global;
 use std::mem;
 use trial_rows::{Answer, Stop};
@@ -112,8 +114,13 @@ fn update_of(alloc: Global, command: &str, words: &mut Words<'_>) -> Result<Upda
             no_verify: is_unverified(words)?,
         }),
         "forget" => Ok(Update::Forget),
+        "limit" => Ok(Update::Limit(asked_limit(words)?)),
         _ => Err(Stop::BadLine),
     }
+}
+
+fn asked_limit(words: &mut Words<'_>) -> Result<AnswerLimit, Stop> {
+    AnswerLimit::read(words.number()?).ok_or(Stop::BadLine)
 }
 
 fn asked_path(alloc: Global, words: &mut Words<'_>) -> Result<Text, Stop> {

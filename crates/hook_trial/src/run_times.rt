@@ -6,6 +6,7 @@ use child_port::{Children, is_stray};
 use hook_base::{Bytes, Content, FileEntry, Items, Mode, RepoPath, Text, Tree};
 use hook_config::{Config, Stage, read_config};
 use hook_run::{RunAsk, RunOut, run_hooks};
+use repo_store::MOST_ANSWERS;
 use result_book::{Book, ListBook};
 use std::alloc::Global;
 use trial_rows::{Answer, Stop, number_of};
@@ -23,7 +24,7 @@ pub(crate) fn first_runs(alloc: Global, arguments: &[Vec<u8>]) -> Result<Answer,
         number_of(size.as_slice())?,
     )?;
     for _ in 0..number_of(count.as_slice())? {
-        times.book = ListBook::new(alloc);
+        times.book = ListBook::new(alloc, MOST_ANSWERS);
         times.run(&tree)?;
     }
     Ok(times.told())
@@ -91,7 +92,7 @@ impl Times {
                 alloc,
                 config,
                 children: QuietChildren::new(alloc),
-                book: ListBook::new(alloc),
+                book: ListBook::new(alloc, MOST_ANSWERS),
                 report: Bytes::new(alloc),
             }),
             Err(_) => Err(Stop::BadLine),

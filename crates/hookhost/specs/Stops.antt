@@ -15,7 +15,7 @@ use Rattle.command_line.specs.declared.line.FileChoice.TheVariants.{Listed as Li
 use Rattle.command_line.specs.declared.line.PathSource.{PathSource}
 use Rattle.command_line.specs.declared.line.PathSource.TheVariants.{Words, Listed}
 use Rattle.command_line.specs.declared.line.Update.{Update}
-use Rattle.command_line.specs.declared.line.Update.TheVariants.{Add, Remove, Run, Accept, Commit, Forget}
+use Rattle.command_line.specs.declared.line.Update.TheVariants.{Add, Remove, Run, Accept, Commit, Forget, Limit}
 use Rattle.hook_base.specs.declared.file.File.{File}
 use Rattle.repository_files.specs.RepositoryFaults.{IsFaultOfOpening}
 use Rattle.hookhost.specs.FileTrees.{AreFilesOf}
@@ -149,6 +149,7 @@ IsStopOfItsList (Run files only stage fresh) stop = IsStopOfChoice files stop
 IsStopOfItsList Accept stop = ⊥
 IsStopOfItsList (Commit message no_verify) stop = ⊥
 IsStopOfItsList Forget stop = ⊥
+IsStopOfItsList (Limit limit) stop = ⊥
 
 -- what stops an update for what it needs beside the store: the files that it stages can't be used, or memory was refused for these or
 -- for what runs of hooks need, which is then the host's refusal
@@ -159,6 +160,7 @@ IsStopOfWork (Run files only stage fresh) stop = stop ≡ RefusedCommand NoMemor
 IsStopOfWork Accept stop = ⊥
 IsStopOfWork (Commit message no_verify) stop = stop ≡ RefusedCommand NoMemoryOfHost
 IsStopOfWork Forget stop = ⊥
+IsStopOfWork (Limit limit) stop = ⊥
 
 -- what stops a look-up: the store can't be used, or its lock
 abbrev pub IsStopOfLookUp : Stop → Type 0

@@ -35,8 +35,8 @@ const HOOK_FAILED: u8 = 1;
 
 /// Looks something up in the repository, and answers the exit status, as `command_over` does. The errors are, in this order:
 /// `RepositoryFault::CannotUseStore` where the store's file isn't there, `RepositoryFault::CannotUseLock`, and what the store says
-/// when it is opened. In any case the folder is as it was, but for its lock, and a log of a command that was killed, which is in
-/// the database then.
+/// when it is opened. In any case the folder is as it was, but for its lock, a log of a command that was killed, which is in the
+/// database then, and a store of an earlier version, which is taken over.
 pub(crate) fn look_up(rt: &HostRuntime, asked: LookUp) -> Result<u8, Stop>
     ensures status { IfOk result (λ status. (status ≡ 0) ⊎ (status ≡ 1) ⊎ (status ≡ 3)) }
     ensures stopped { IfErr result IsStopOfLookUp }
@@ -54,7 +54,8 @@ pub(crate) fn look_up(rt: &HostRuntime, asked: LookUp) -> Result<u8, Stop>
 /// order: `RepositoryFault::CannotUseStore` where the store's file isn't there, what `names_of` says of the file of
 /// `--paths-from`, `RepositoryFault::CannotUseLock`, what `work_of` says of the files of `add` and of what runs of hooks need, and
 /// what the store says when it is opened. After an error or a refusal the folder is as it was, but for its lock, the folder of
-/// children, and a log of a command that was killed, which is in the database then.
+/// children, a log of a command that was killed, which is in the database then, and a store of an earlier version, which is taken
+/// over; after a refused run or commit it remembers what was answered by then.
 pub(crate) fn change(rt: &HostRuntime, update: Update) -> Result<u8, Stop>
     ensures status { IfOk result (λ status. (status ≡ 0) ⊎ (status ≡ 1) ⊎ (status ≡ 3)) }
     ensures stopped { IfErr result (IsStopOfUpdate update) }

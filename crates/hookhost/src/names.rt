@@ -37,7 +37,8 @@ pub(crate) fn names_of(rt: &HostRuntime, update: &Update) -> Result<Items<Text>,
         | Update::Run { .. }
         | Update::Accept
         | Update::Commit { .. }
-        | Update::Forget => Ok(Items::new(rt.alloc())),
+        | Update::Forget
+        | Update::Limit(_) => Ok(Items::new(rt.alloc())),
     }
 }
 

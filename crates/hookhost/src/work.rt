@@ -91,6 +91,10 @@ pub(crate) fn work_of(rt: &HostRuntime, update: Update, names: Items<Text>) -> R
             line: Line::Update(Update::Forget),
             bytes: Vec::new(rt.alloc()),
         }),
+        Update::Limit(limit) => Ok(Work::Call {
+            line: Line::Update(Update::Limit(limit)),
+            bytes: Vec::new(rt.alloc()),
+        }),
     }
 }
 

@@ -21,12 +21,11 @@ use Rattle.repo_store.specs.declared.shared.SharedFix.{SharedFix}
 use Rattle.repo_store.specs.Accepted.{HaveSameFixed, all_rewritten, rewritten, with_entry_at}
 use Rattle.repo_store.specs.Kept.{Kept, accepting}
 use Rattle.repo_store.specs.Lists.{fix_of}
-use Rattle.repo_store.specs.Rows.{staged_row, with_staged_rows}
+use Rattle.repo_store.specs.Rows.{staged_row, with_staged_rows, tables_of}
 use Rattle.repo_store.specs.Sound.{IsSound}
 use Rattle.repo_store.proofs.CallLemmas.{step_then}
 use Rattle.repo_store.proofs.ListLemmas.{others_staged}
 use Rattle.repo_store.proofs.SameLemmas.{IsSame, same_staged, step_same}
-use Rattle.repo_store.proofs.StandLemmas.{tables_of}
 
 -- ---- one path
 

@@ -1,5 +1,5 @@
 -- The answers in memory, the most recently used first.
-use Rattle.std.proofs.Common.{◌≡◌, ℕ, zero, suc, ◌+◌, ◌-◌, ◌^◌, ◌<◌, ◌≤◌, Bool, true, false, not, cond, List, [], ◌∷◌, filter, length, map, take, drop, reverse, get_or, Bor, Option, None, Some, IsSome, IfSome, IfNone, if◌then◌else◌, refl, sym, ap, ap₂, subst, ◌∙◌, arith}
+use Rattle.std.proofs.Common.{◌≡◌, ℕ, zero, suc, ◌-◌, ◌^◌, ◌<◌, ◌≤◌, Bool, true, false, not, cond, List, [], ◌∷◌, length, map, take, drop, reverse, get_or, Bor, Option, None, Some, Result, Ok, Err, OnOk, is_ok, IsSome, IfSome, IfNone, if◌then◌else◌, refl, sym, ap, ap₂, subst, ◌∙◌, arith}
 use mathlib.Core.List.{reverse_aux}
 use Rattle.std.specs.List.{AllByRecursion, Any, Contains, IsDistinct, slice_get}
 use Rattle.std.specs.Map.{keys_of, lookup, lookup_entry, remove_entry, values_of}
@@ -11,7 +11,7 @@ use Rattle.std.proofs.lemmas.Map.Keys.{IsDistinct-head, IsDistinct-tail}
 use Rattle.std.proofs.lemmas.Option.{slice_get-map}
 use Rattle.lru.specs.LruCache.{LruCache, lru_cache, promoted, put_entries}
 use Rattle.hook_base.specs.declared.file.File.{File}
-use Rattle.repo_store.specs.AnswerLemmas.{found_among as found_for, is_for_decides, is_for_itself, none_among, one_key, one_key_for, other_key_back}
+use Rattle.repo_store.specs.AnswerLemmas.{found_among as found_for, is_for_decides}
 use Rattle.repo_store.specs.Answers.{KeptAnswer, HaveOwnKeys, answer_for, have_one_key, is_for}
 use Rattle.repo_store.specs.Complete.{HasRecords, HaveDistinctDigests, HaveRecords}
 use Rattle.repo_store.specs.Index.{Key, key_of, keys_eq}
@@ -19,9 +19,9 @@ use Rattle.repo_store.specs.Limits.{IsLimit}
 use Rattle.repo_store.specs.ListedAnswers.{IsListed, IsNextTick, ListedAnswers, brought, entry_of, first_key, has_key, keyed, of_key, of_other_keys}
 use Rattle.repo_store.specs.Remembered.{TellsKey}
 use Rattle.repo_store.specs.SoundAnswers.{IsSoundAnswer}
-use Rattle.repo_store.specs.UsedAnswers.{in_front, in_front_if_any, used, with_answer_within, within_limit, without_key}
+use Rattle.repo_store.specs.UsedAnswers.{in_front, in_front_if_any, used, without_key}
 use Rattle.repo_store.proofs.KeyLemmas.{keys_decide, keys_same}
-use Rattle.repo_store.proofs.SameAnswerLemmas.{keys_told}
+use Rattle.repo_store.proofs.RememberLemmas.{told_by}
 
 abbrev Entries : Type 0
 Entries = List (Key × KeptAnswer)
@@ -282,211 +282,18 @@ pub first_is : (list : ListedAnswers) (entries : Entries) (key : Key) (answer : 
     → first_key list.answers ≡ Some key
 first_is list entries key answer keys shown is = ap first_key (sym shown) ∙ sym (key_at entries keys 0) ∙ ap (option_map (λ (e : Key × KeptAnswer). e.0)) (sym is)
 
+pub ok_done : {T E P : Type 0} (r : Result T E) → is_ok r ≡ true → OnOk r P → P
+ok_done (Ok x) e p = p
+ok_done (Err y) e p = absurd (let never : false ≡ true = e in cc)
+
 pub same_key : {a b : Key} → Some a ≡ Some b → a ≡ b
 same_key e = cc
 
--- ---- the answers of which some are left out
-
-all_left : (P : KeptAnswer → Type 0) (stays : KeptAnswer → Bool) (answers : List KeptAnswer) → AllByRecursion P answers → AllByRecursion P (filter stays answers)
-all_left P stays [] all = tt
-all_left P stays (answer ∷ answers) all =
-    let rest = all_left P stays answers all.1 in
-    elim (stays answer) as (λ b. AllByRecursion P (if b then answer ∷ filter stays answers else filter stays answers)) [ true ↦ (all.0, rest) | false ↦ rest ]
-
-own_left : (stays : KeptAnswer → Bool) (answers : List KeptAnswer) → HaveOwnKeys answers → HaveOwnKeys (filter stays answers)
-own_left stays [] own = tt
-own_left stays (answer ∷ answers) own =
-    let rest = own_left stays answers own.1 in
-    elim (stays answer) as (λ b. HaveOwnKeys (if b then answer ∷ filter stays answers else filter stays answers)) [
-      | true ↦ (all_left (λ (other : KeptAnswer). have_one_key answer other ≡ false) stays answers own.0, rest)
-      | false ↦ rest
-    ]
-
-few_left : (stays : KeptAnswer → Bool) (answers : List KeptAnswer) → length (filter stays answers) ≤ length answers
-few_left stays [] = omega arith
-few_left stays (answer ∷ answers) =
-    let rest = few_left stays answers in
-    elim (stays answer) as (λ b. length (if b then answer ∷ filter stays answers else filter stays answers) ≤ suc (length answers)) [ true ↦ omega arith | false ↦ omega arith ]
-
--- those that are left have another key
-apart_left : (answer : KeptAnswer) (answers : List KeptAnswer) → AllByRecursion (λ (other : KeptAnswer). have_one_key answer other ≡ false) (without_key answer.words answer.seen answers)
-apart_left answer [] = tt
-apart_left answer (other ∷ others) =
-    let left = without_key answer.words answer.seen others in
-    let rest = apart_left answer others in
-    elim (have_one_key other answer) as (λ b. have_one_key other answer ≡ b → AllByRecursion (λ (other : KeptAnswer). have_one_key answer other ≡ false) (if not b then other ∷ left else left)) [
-      | true ↦ λ e. rest
-      | false ↦ λ e. (other_key_back other answer e, rest)
-    ] refl
-
-module _ (words : List (List ℕ)) (seen : List File) where
-  all_stay : (answers : List KeptAnswer) → AllByRecursion (λ (answer : KeptAnswer). is_for words seen answer ≡ false) answers → without_key words seen answers ≡ answers
-  all_stay [] none = refl
-  all_stay (answer ∷ answers) none = ap₂ (λ (b : Bool) (l : List KeptAnswer). if not b then answer ∷ l else l) none.0 (all_stay answers none.1)
-
-  others_apart : (answer : KeptAnswer) (answers : List KeptAnswer) → is_for words seen answer ≡ true → AllByRecursion (λ (other : KeptAnswer). have_one_key answer other ≡ false) answers
-      → AllByRecursion (λ (other : KeptAnswer). is_for words seen other ≡ false) answers
-  others_apart answer [] here apart = tt
-  others_apart answer (other ∷ others) here apart = (
-    false_from_ne_true (is_for words seen other) (λ there. let never : true ≡ false = sym (one_key_for words seen answer other here there) ∙ apart.0 in absurd (cc)),
-    others_apart answer others here apart.1,
-  )
-
-  -- one is left out
-  one_less : (other : KeptAnswer) (answers : List KeptAnswer) → HaveOwnKeys answers → answer_for words seen answers ≡ Some other → suc (length (without_key words seen answers)) ≡ length answers
-  one_less other [] own found = absurd (let never : ◌≡◌ {A = Option KeptAnswer} None (Some other) = found in cc)
-  one_less other (answer ∷ answers) own found =
-      let left = without_key words seen answers in
-      elim (is_for words seen answer) as (λ b. is_for words seen answer ≡ b → (if b then Some answer else answer_for words seen answers) ≡ Some other → suc (length (if not b then answer ∷ left else left)) ≡ suc (length answers)) [
-        | true ↦ λ e here. ap (λ (l : List KeptAnswer). suc (length l)) (all_stay answers (others_apart answer answers e own.0))
-        | false ↦ λ e later. ap suc (one_less other answers own.1 later)
-      ] refl found
-
--- ---- what holds of all answers, once one is used or remembered
-
-module _ (P : KeptAnswer → Type 0) where
-  pub all_in_front : (answer : KeptAnswer) (answers : List KeptAnswer) → P answer → AllByRecursion P answers → AllByRecursion P (in_front answer answers)
-  all_in_front answer answers here all = (here, all_left P (λ other. not (is_for answer.words answer.seen other)) answers all)
-
-  pub all_used : (words : List (List ℕ)) (seen : List File) (answers : List KeptAnswer) → AllByRecursion P answers → AllByRecursion P (used words seen answers)
-  all_used words seen answers all =
-      elim (answer_for words seen answers) as (λ o. answer_for words seen answers ≡ o → AllByRecursion P (in_front_if_any o answers)) [
-        | None ↦ λ e. all
-        | Some answer ↦ λ e. all_in_front answer answers (All-contains P answers answer (All-from_recursion P answers all) (found_for words seen answer answers e).0) all
-      ] refl
-
-  pub all_within : (limit : ℕ) (answers : List KeptAnswer) → AllByRecursion P answers → AllByRecursion P (within_limit limit answers)
-  all_within zero answers all = tt
-  all_within (suc limit) [] all = tt
-  all_within (suc limit) (answer ∷ answers) all = (all.0, all_within limit answers all.1)
-
--- ---- keys stay their own
-
-pub own_in_front : (answer : KeptAnswer) (answers : List KeptAnswer) → HaveOwnKeys answers → HaveOwnKeys (in_front answer answers)
-own_in_front answer answers own = (apart_left answer answers, own_left (λ other. not (is_for answer.words answer.seen other)) answers own)
-
-pub own_used : (words : List (List ℕ)) (seen : List File) (answers : List KeptAnswer) → HaveOwnKeys answers → HaveOwnKeys (used words seen answers)
-own_used words seen answers own = elim (answer_for words seen answers) as (λ o. HaveOwnKeys (in_front_if_any o answers)) [ None ↦ own | Some answer ↦ own_in_front answer answers own ]
-
-pub own_within : (limit : ℕ) (answers : List KeptAnswer) → HaveOwnKeys answers → HaveOwnKeys (within_limit limit answers)
-own_within zero answers own = tt
-own_within (suc limit) [] own = tt
-own_within (suc limit) (answer ∷ answers) own = (all_within (λ (other : KeptAnswer). have_one_key answer other ≡ false) limit answers own.0, own_within limit answers own.1)
-
--- ---- how many there are
-
-pub most_in_front : (answer : KeptAnswer) (answers : List KeptAnswer) → length (in_front answer answers) ≤ length answers + 1
-most_in_front answer answers = let few = few_left (λ other. not (is_for answer.words answer.seen other)) answers in omega arith
-
-pub same_in_front : (answer other : KeptAnswer) (answers : List KeptAnswer) → HaveOwnKeys answers → answer_for answer.words answer.seen answers ≡ Some other → length (in_front answer answers) ≡ length answers
-same_in_front answer other answers own found = one_less answer.words answer.seen other answers own found
-
-pub more_in_front : (answer : KeptAnswer) (answers : List KeptAnswer) → answer_for answer.words answer.seen answers ≡ None → in_front answer answers ≡ answer ∷ answers
-more_in_front answer answers none = ap (λ (l : List KeptAnswer). answer ∷ l) (all_stay answer.words answer.seen answers (none_among answer.words answer.seen answers none))
-
-pub same_used : (words : List (List ℕ)) (seen : List File) (answers : List KeptAnswer) → HaveOwnKeys answers → length (used words seen answers) ≡ length answers
-same_used words seen answers own =
-    elim (answer_for words seen answers) as (λ o. answer_for words seen answers ≡ o → length (in_front_if_any o answers) ≡ length answers) [
-      | None ↦ λ e. refl
-      | Some answer ↦ λ e.
-          let same = (is_for_decides words seen answer).0 (found_for words seen answer answers e).1 in
-          same_in_front answer answer answers own (ap₂ (λ (w : List (List ℕ)) (s : List File). answer_for w s answers) same.0 same.1 ∙ e)
-    ] refl
-
--- ---- which answer is found
-
-found_without : (words : List (List ℕ)) (seen : List File) (answer : KeptAnswer) (answers : List KeptAnswer) → is_for words seen answer ≡ false
-    → answer_for words seen (without_key answer.words answer.seen answers) ≡ answer_for words seen answers
-found_without words seen answer [] other = refl
-found_without words seen answer (first ∷ rest) other =
-    let left = without_key answer.words answer.seen rest in
-    let same = found_without words seen answer rest other in
-    elim (have_one_key first answer) as (λ b. have_one_key first answer ≡ b → answer_for words seen (if not b then first ∷ left else left) ≡ (if is_for words seen first then Some first else answer_for words seen rest)) [
-      | true ↦ λ e.
-          let not_first : is_for words seen first ≡ false = false_from_ne_true (is_for words seen first) (λ h.
-          let one = one_key first answer e in
-          let it = (is_for_decides words seen first).0 h in
-          let here : is_for words seen answer ≡ true = (is_for_decides words seen answer).1 (sym one.0 ∙ it.0, sym one.1 ∙ it.1) in
-          let never : true ≡ false = sym here ∙ other in
-          absurd (cc)) in
-          same ∙ sym (ap (λ b. if b then Some first else answer_for words seen rest) not_first)
-      | false ↦ λ e. ap (λ (o : Option KeptAnswer). if is_for words seen first then Some first else o) same
-    ] refl
-
-pub found_in_front : (answer : KeptAnswer) (answers : List KeptAnswer) → answer_for answer.words answer.seen (in_front answer answers) ≡ Some answer
-found_in_front answer answers = ap (λ b. if b then Some answer else answer_for answer.words answer.seen (without_key answer.words answer.seen answers)) (is_for_itself answer)
-
--- what is found for other words or seen files stays
-pub found_behind : (words : List (List ℕ)) (seen : List File) (answer : KeptAnswer) (answers : List KeptAnswer) → is_for words seen answer ≡ false
-    → answer_for words seen (in_front answer answers) ≡ answer_for words seen answers
-found_behind words seen answer answers other = ap (λ b. if b then Some answer else answer_for words seen (without_key answer.words answer.seen answers)) other ∙ found_without words seen answer answers other
-
--- a use changes nothing of what is found
-pub found_used : (words w : List (List ℕ)) (seen s : List File) (answers : List KeptAnswer) → answer_for w s (used words seen answers) ≡ answer_for w s answers
-found_used words w seen s answers =
-    elim (answer_for words seen answers) as (λ o. answer_for words seen answers ≡ o → answer_for w s (in_front_if_any o answers) ≡ answer_for w s answers) [
-      | None ↦ λ e. refl
-      | Some answer ↦ λ e.
-          elim (is_for w s answer) as (λ b. is_for w s answer ≡ b → answer_for w s (in_front answer answers) ≡ answer_for w s answers) [
-            | true ↦ λ h.
-                let one = (is_for_decides w s answer).0 h in
-                let two = (is_for_decides words seen answer).0 (found_for words seen answer answers e).1 in
-                let asked = ap₂ (λ (x : List (List ℕ)) (y : List File). answer_for x y answers) (sym one.0 ∙ two.0) (sym one.1 ∙ two.1) in
-                ap (λ b. if b then Some answer else answer_for w s (without_key answer.words answer.seen answers)) h ∙ sym (asked ∙ e)
-            | false ↦ λ h. found_behind w s answer answers h
-          ] refl
-    ] refl
-
--- what a limit leaves, was there
-pub found_within : (words : List (List ℕ)) (seen : List File) (answer : KeptAnswer) (limit : ℕ) (answers : List KeptAnswer) → answer_for words seen (within_limit limit answers) ≡ Some answer
-    → answer_for words seen answers ≡ Some answer
-found_within words seen answer zero answers found = absurd (let never : ◌≡◌ {A = Option KeptAnswer} None (Some answer) = found in cc)
-found_within words seen answer (suc limit) [] found = found
-found_within words seen answer (suc limit) (first ∷ rest) found =
-    elim (is_for words seen first) as (λ b. (if b then Some first else answer_for words seen (take limit rest)) ≡ Some answer → (if b then Some first else answer_for words seen rest) ≡ Some answer) [
-      | true ↦ λ here. here
-      | false ↦ λ later. found_within words seen answer limit rest later
-    ] found
-
--- ---- an answer that is remembered within a limit
-
-module _ (limit : ℕ) (answer : KeptAnswer) (answers : List KeptAnswer) where
-  taken_with : 1 ≤ limit → take limit (answer ∷ answers) ≡ answer ∷ take (limit - 1) answers
-  taken_with least = elim limit as (λ n. 1 ≤ n → take n (answer ∷ answers) ≡ answer ∷ take (n - 1) answers) [ zero ↦ λ h. absurd (omega arith) | suc n ↦ λ h. ap (λ (m : ℕ). answer ∷ take m answers) (omega arith) ] least
-
-  module _ (none : answer_for answer.words answer.seen answers ≡ None) where
-    -- the last one goes where the list is full
-    pub within_full : 1 ≤ limit → with_answer_within limit answer answers ≡ answer ∷ take (limit - 1) answers
-    within_full least = ap (take limit) (more_in_front answer answers none) ∙ taken_with least
-
-    -- so it does in a list of one more
-    pub within_more : length answers ≡ limit → take (length (answer ∷ answers) - 1) (answer ∷ answers) ≡ with_answer_within limit answer answers
-    within_more full =
-        let same : length (answer ∷ answers) - 1 ≡ limit = omega arith in
-        ap (λ (n : ℕ). take n (answer ∷ answers)) same ∙ sym (ap (take limit) (more_in_front answer answers none))
-
-    pub within_room : length answers < limit → with_answer_within limit answer answers ≡ answer ∷ answers
-    within_room room = ap (take limit) (more_in_front answer answers none) ∙ take_all limit (answer ∷ answers) (omega arith)
-
-  pub within_there : (other : KeptAnswer) → HaveOwnKeys answers → answer_for answer.words answer.seen answers ≡ Some other → length answers ≤ limit → with_answer_within limit answer answers ≡ in_front answer answers
-  within_there other own found few = let same = same_in_front answer other answers own found in take_all limit (in_front answer answers) (omega arith)
-
 -- ---- keys by their digests
-
--- where none has the digests of the key, none has the key
-pub absent_for : (answer : KeptAnswer) (answers : List KeptAnswer) → AllByRecursion (λ (other : KeptAnswer). ¬ (key_of other ≡ key_of answer)) answers → answer_for answer.words answer.seen answers ≡ None
-absent_for answer [] none = refl
-absent_for answer (other ∷ others) none =
-    ap (λ b. if b then Some other else answer_for answer.words answer.seen others) (false_from_ne_true (have_one_key other answer) (λ one. none.0 (keys_same other answer one))) ∙ absent_for answer others none.1
 
 told_for : (answer : KeptAnswer) (answers : List KeptAnswer) → AllByRecursion (TellsKey answer) answers → of_key (key_of answer) answers ≡ answer_for answer.words answer.seen answers
 told_for answer [] tells = refl
 told_for answer (other ∷ others) tells = ap₂ (λ (b : Bool) (o : Option KeptAnswer). if b then Some other else o) (has_told answer other tells.0) (told_for answer others tells.1)
-
--- where one has the digests of the key, one has the key
-pub there_for : (answer : KeptAnswer) (answers : List KeptAnswer) → AllByRecursion (TellsKey answer) answers → Any (λ (other : KeptAnswer). key_of other ≡ key_of answer) answers
-    → (other : KeptAnswer) × (answer_for answer.words answer.seen answers ≡ Some other)
-there_for answer answers tells any = let one = one_found (key_of answer) answers any in (one.0, sym (told_for answer answers tells) ∙ one.1)
 
 brought_told : (words : List (List ℕ)) (seen : List File) (answer : KeptAnswer) (answers : List KeptAnswer) → AllByRecursion (TellsKey answer) answers → answer_for words seen answers ≡ Some answer
     → brought (key_of answer) answers ≡ used words seen answers
@@ -497,14 +304,9 @@ brought_told words seen answer answers tells found =
     ∙ sym (ap (λ (o : Option KeptAnswer). in_front_if_any o answers) found)
 
 module _ (contents : List (List ℕ)) (apart : HaveDistinctDigests contents) where
-  -- the digests of the answers tell the key of one more whose contents are kept
-  pub told_among : (answer : KeptAnswer) (answers : List KeptAnswer) → HasRecords contents answer → AllByRecursion IsSoundAnswer answers → HaveRecords contents answers → AllByRecursion (TellsKey answer) answers
-  told_among answer [] kept sound have = tt
-  told_among answer (other ∷ others) kept sound have = (keys_told contents apart other answer sound.0 have.0 kept, told_among answer others kept sound.1 have.1)
-
   -- the answer that is found is brought to the front by the digests of its key
   pub brought_used : (words : List (List ℕ)) (seen : List File) (answer : KeptAnswer) (key : Key) (answers : List KeptAnswer) → AllByRecursion IsSoundAnswer answers → HaveRecords contents answers
       → answer_for words seen answers ≡ Some answer → key_of answer ≡ key → brought key answers ≡ used words seen answers
   brought_used words seen answer key answers sound have found is =
       let kept = All-contains (HasRecords contents) answers answer (All-from_recursion (HasRecords contents) answers have) (found_for words seen answer answers found).0 in
-      ap (λ (k : Key). brought k answers) (sym is) ∙ brought_told words seen answer answers (told_among answer answers kept sound have) found
+      ap (λ (k : Key). brought k answers) (sym is) ∙ brought_told words seen answer answers (told_by contents apart answer kept answers sound have) found

@@ -1,5 +1,5 @@
--- Statements on the tables of a store of version 2, as steps from one content to the next.
-use Rattle.std.proofs.Common.{◌≡◌, ◌+◌, ◌≤◌, List, [], true, Result, refl, sym, subst, arith}
+-- Statements on the tables of a store, as steps from one content to the next.
+use Rattle.std.proofs.Common.{[], true, Result, refl, sym, subst}
 use Rattle.std.proofs.lemmas.List.Sorted.{IsPermutation-refl}
 use Rattle.std.proofs.lemmas.Result.{on_ok_weaker}
 use Rattle.sqlite_trees.specs.declared.store.Store.{Ghosts}
@@ -11,8 +11,9 @@ use Rattle.store_tables.specs.Steps.{IsChange, IsMade}
 use Rattle.store_tables.specs.Tables.{AreKeyed, Holds, IsEmptyStore, no_rows}
 use Rattle.store_tables.specs.Uses.{AddsUses, HoldsRows, MakesBareUses}
 use Rattle.store_tables.proofs.UsesStepLemmas.{grown_as_made}
-use Rattle.repo_store.specs.Bounded.{HoldsNext, tables_within}
+use Rattle.repo_store.specs.Bounded.{HoldsNext}
 use Rattle.repo_store.specs.Kept.{nothing_kept}
+use Rattle.repo_store.specs.Rows.{tables_of}
 
 module _ {S A : Type 0} (g : Ghosts S) (old new : Held S) (r : Result A Error) where
   -- the table of uses, made behind those of an empty store
@@ -34,11 +35,10 @@ module _ {S A : Type 0} (g : Ghosts S) (old new : Held S) (r : Result A Error) w
     survives = made.survives;
   }
 
--- an empty store of version 2
-pub holds_nothing : (db : Database) → HoldsRows db (tables_within nothing_kept) [] → HoldsNext 1 db nothing_kept
+-- an empty store
+pub holds_nothing : (db : Database) → HoldsRows db (tables_of nothing_kept) [] → HoldsNext 1 db nothing_kept
 holds_nothing db h = record {
   rows = [];
   holds = h;
   uses = record { ticks = []; as_many = refl; fall = tt; rows_are = IsPermutation-refl [] };
-  ticks_fit = omega arith;
 }

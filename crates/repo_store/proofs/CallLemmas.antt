@@ -1,7 +1,6 @@
 -- From the steps of a transaction and its end to a whole call.
-use Rattle.std.proofs.Common.{◌≡◌, Bool, true, false, Result, Ok, Err, OnOk, OnErr, IsTrue, refl, sym, subst, ◌∙◌, arith}
+use Rattle.std.proofs.Common.{◌≡◌, ℕ, List, [], Bool, true, false, Result, Ok, Err, OnOk, OnErr, IsTrue, refl, sym, subst, ◌∙◌, arith}
 use Rattle.std.proofs.lemmas.Bool.{both_ways}
-use Rattle.std.proofs.lemmas.Result.{on_ok_weaker}
 use Rattle.sqlite_trees.specs.declared.store.Store.{Ghosts}
 use Rattle.sqlite_trees.specs.Tree.{Trees}
 use Rattle.sqlite_trees.specs.View.{doubt}
@@ -12,20 +11,39 @@ use Rattle.sqlite.specs.Held.{Held, state}
 use Rattle.sqlite.specs.State.{State, HasCleanDisk, Survives}
 use Rattle.sqlite.proofs.InsideLemmas.{keeps_then}
 use Rattle.sqlite.proofs.StateLemmas.{survives_then}
-use Rattle.store_tables.specs.Schema.{no_more, store_with}
+use Rattle.store_tables.specs.declared.rows.UseRow.{UseRow}
+use Rattle.store_tables.specs.Schema.{store_with}
 use Rattle.store_tables.specs.Steps.{IsMade, IsStep, IsDone}
-use Rattle.store_tables.specs.Tables.{Tables, Holds, with_schema}
+use Rattle.store_tables.specs.Tables.{Tables}
+use Rattle.store_tables.specs.Uses.{HoldsRows, as_store}
 use Rattle.store_tables.proofs.StepLemmas.{more_then}
+use Rattle.store_tables.proofs.UsesStepLemmas as uses
+use Rattle.repo_store.specs.Answers.{KeptAnswer}
+use Rattle.repo_store.specs.Bounded.{HoldsListed}
 use Rattle.repo_store.specs.Calls.{Rests}
 use Rattle.repo_store.specs.Transactions.{Commits, IsCall}
+use Rattle.repo_store.specs.UsesOf.{AreUsesOf}
 
--- a statement on the tables, as a step from one content to the next
-pub step_as_made : {S A : Type 0} (g : Ghosts S) (old new : Held S) (r : Result A Error) (t : Tables) (makes : Tables → Tables) → IsStep g old new r makes → IsMade g old new r (λ db. Holds db t) (λ db. Holds db (makes t))
-step_as_made g old new r t makes h = record {
-  done = λ clean inside. on_ok_weaker r (λ (d : IsDone (state g old) (state g new) makes). (d.shown, d.holds no_more t)) (h.done clean inside);
-  kept = h.kept;
-  survives = h.survives;
+-- what is made of the tables and of the rows of uses, whichever these are, as a step from one list of answers to the next
+pub listed_as_made : {S A : Type 0} (g : Ghosts S) (old new : Held S) (r : Result A Error) (t u : Tables) (makes : List UseRow → List UseRow) (next after : ℕ) (answers others : List KeptAnswer)
+    → ((rows : List UseRow) → IsMade g old new r (λ db. HoldsRows db t rows) (λ db. HoldsRows db u (makes rows)))
+    → ((rows : List UseRow) → AreUsesOf next rows answers → AreUsesOf after (makes rows) others)
+    → IsMade g old new r (λ db. HoldsListed next answers db t) (λ db. HoldsListed after others db u)
+listed_as_made g old new (Ok x) t u makes next after answers others made follows = record {
+  done = λ clean inside. (
+    ((made []).done clean inside).0,
+    λ h. record { rows = makes h.rows; holds = ((made h.rows).done clean inside).1 h.holds; uses = follows h.rows h.uses },
+  );
+  kept = (made []).kept;
+  survives = (made []).survives;
 }
+listed_as_made g old new (Err e) t u makes next after answers others made follows = record { done = λ clean inside. tt; kept = (made []).kept; survives = (made []).survives }
+
+-- a statement on the seven tables, which leaves the answers in their order
+pub step_as_made : {S A : Type 0} (g : Ghosts S) (old new : Held S) (r : Result A Error) (t : Tables) (next : ℕ) (answers : List KeptAnswer) (makes : Tables → Tables)
+    → IsStep g old new r makes → IsMade g old new r (λ db. HoldsListed next answers db t) (λ db. HoldsListed next answers db (makes t))
+step_as_made g old new r t next answers makes step =
+    listed_as_made g old new r t (makes t) (λ rows. rows) next next answers answers (λ rows. uses.step_as_made g old new r t rows makes step) (λ rows h. h)
 
 -- a store that is open is on a clean disk
 pub clean_if_open : (clean opened : Bool) → (clean ≡ false → opened ≡ false) → IsTrue opened → doubt clean ≡ 0
@@ -38,7 +56,7 @@ pub record IsCleanCall {S A : Type 0} (g : Ghosts S) (old new : Held S) (result 
   pub outside : new.in_transaction ≡ false
   pub done : HasCleanDisk (state g new) → (IsTrue (state g old).is_open → Before (state g old).now) → OnOk result (Commits (state g new) After)
   pub kept : HasCleanDisk (state g new) → OnErr result (Rests (state g old) (state g new))
-  pub survives : (IsTrue (state g old).is_open → Before (state g old).now) → Survives (state g old) (state g new) (λ trees. After (with_schema trees))
+  pub survives : (IsTrue (state g old).is_open → Before (state g old).now) → Survives (state g old) (state g new) (λ trees. After (as_store trees))
 
 rests_always : {A : Type 0} (r : Result A Error) (old new : State) → (new.is_clean ≡ false → new.is_open ≡ false) → (HasCleanDisk new → OnErr r (Rests old new)) → OnErr r (Rests old new)
 rests_always (Ok x) old new dirty clean = tt
@@ -57,11 +75,11 @@ whole_call g old new r Before After dirty call = record {
 }
 
 -- the trees of a store, under its schema
-pub holds_as : (db : Database) (t : Tables) → Holds db t → Holds (with_schema db.trees) t
-holds_as db t h = subst (λ s. Holds (record { schema = s; trees = db.trees }) t) h.schema h
+pub holds_as : (db : Database) (next : ℕ) (answers : List KeptAnswer) (t : Tables) → HoldsListed next answers db t → HoldsListed next answers (as_store db.trees) t
+holds_as db next answers t h = record { rows = h.rows; holds = subst (λ s. HoldsRows (record { schema = s; trees = db.trees }) t h.rows) h.holds.0.0.schema h.holds; uses = h.uses }
 
-pub leaves_commit : (db : Database) (trees : Trees) (t : Tables) → Holds db t → trees ≡ db.trees → Holds (with_schema trees) t
-leaves_commit db trees t h is = subst (λ (l : Trees). Holds (with_schema l) t) (sym is) (holds_as db t h)
+pub leaves_commit : (db : Database) (trees : Trees) (next : ℕ) (answers : List KeptAnswer) (t : Tables) → HoldsListed next answers db t → trees ≡ db.trees → HoldsListed next answers (as_store trees) t
+leaves_commit db trees next answers t h is = subst (λ (l : Trees). HoldsListed next answers (as_store l) t) (sym is) (holds_as db next answers t h)
 
 module _ {S A : Type 0} (g : Ghosts S) (a b c : Held S) (r : Result A Error) (first second : Tables → Tables) (one : IsStep {A = Unit {0}} g a b (Ok tt) first) (two : IsStep g b c r second) where
   both_done : (r : Result A Error) → IsDone (state g a) (state g b) first → OnOk r (IsDone (state g b) (state g c) second) → OnOk r (IsDone (state g a) (state g c) (λ t. second (first t)))

@@ -14,13 +14,15 @@ use Rattle.hook_base.specs.declared.change.Change.{Change}
 use Rattle.hook_base.specs.Rising.{path_cmp}
 use Rattle.hook_base.specs.RisingLemmas.{bytes_same}
 use Rattle.hook_base.specs.Trees.{IsRisingChanges, apply_at, apply_changes, put_before, put_file, put_row, remove_file, rewrite_file, with_bytes}
+use Rattle.repo_store.specs.AnswerLemmas.{all_within, few_within, own_keys_within}
 use Rattle.repo_store.specs.Answers.{KeptAnswer}
 use Rattle.repo_store.specs.Complete.{HasRecords, HaveDistinctDigests, HaveContents, HaveNewContents, HaveRecords, IsAmong, IsComplete}
 use Rattle.repo_store.specs.Contents.{Collides, has_content, with_content, with_new, with_changes}
-use Rattle.repo_store.specs.Kept.{FixCollides, Kept, accepting, committing, forgetting, keeping, nothing_kept, setting, staging, unstaging}
-use Rattle.repo_store.specs.Limits.{Fits, most_commits}
+use Rattle.repo_store.specs.Kept.{FixCollides, Kept, accepting, committing, forgetting, keeping, limiting, nothing_kept, setting, staging, unstaging}
+use Rattle.repo_store.specs.Limits.{Fits, IsLimit, most_commits}
 use Rattle.repo_store.specs.FromRows.{AreBare, with_file}
 use Rattle.repo_store.specs.Repository.{Commit, Repository, staged_changes}
+use Rattle.repo_store.specs.SoundAnswers.{IsSoundAnswer}
 use Rattle.repo_store.specs.WrittenAnswers.{written_changes, written_seen, written_words}
 use Rattle.repo_store.proofs.FromRowsLemmas.{all_pushed}
 use Rattle.repo_store.proofs.SoundLemmas.{fixes_fit, fixes_rise, sound_accepted, sound_committed, sound_empty, sound_staged, sound_unstaged}
@@ -184,7 +186,7 @@ records_grown old new answers grows all =
     }) all
 
 pub complete_empty : IsComplete nothing_kept
-complete_empty = record { sound = sound_empty; staged = tt; fixes = tt; trees = tt; sound_answers = tt; answers = tt; keys = tt; apart = λ i j i_in j_in same. absurd (omega arith); limited = refl }
+complete_empty = record { sound = sound_empty; staged = tt; fixes = tt; trees = tt; sound_answers = tt; answers = tt; keys = tt; apart = λ i j i_in j_in same. absurd (omega arith); limited = record { at_least = omega arith; at_most = omega arith }; few = omega arith }
 
 pub complete_staged : (path : List ℕ) (entry : FileEntry) (kept : Kept) → IsComplete kept → Fits (put_file path entry kept.repo.staged) → ¬ Collides entry.bytes kept.contents → IsComplete (staging path entry kept)
 complete_staged path entry kept it fits clear =
@@ -200,10 +202,11 @@ complete_staged path entry kept it fits clear =
       keys = it.keys;
       apart = apart_with entry.bytes kept.contents clear it.apart;
       limited = it.limited;
+      few = it.few;
     }
 
 pub complete_unstaged : (path : List ℕ) (kept : Kept) → IsComplete kept → IsComplete (unstaging path kept)
-complete_unstaged path kept it = record { sound = sound_unstaged path kept.repo it.sound; staged = have_removed (IsAmong kept.contents) path kept.repo.staged it.staged; fixes = tt; trees = it.trees; sound_answers = it.sound_answers; answers = it.answers; keys = it.keys; apart = it.apart; limited = it.limited }
+complete_unstaged path kept it = record { sound = sound_unstaged path kept.repo it.sound; staged = have_removed (IsAmong kept.contents) path kept.repo.staged it.staged; fixes = tt; trees = it.trees; sound_answers = it.sound_answers; answers = it.answers; keys = it.keys; apart = it.apart; limited = it.limited; few = it.few }
 
 pub complete_kept : (bytes : List ℕ) (kept : Kept) → IsComplete kept → ¬ Collides bytes kept.contents → IsComplete (keeping bytes kept)
 complete_kept bytes kept it clear =
@@ -219,6 +222,7 @@ complete_kept bytes kept it clear =
       keys = it.keys;
       apart = apart_with bytes kept.contents clear it.apart;
       limited = it.limited;
+      few = it.few;
     }
 
 pub complete_committed : (message : List ℕ) (kept : Kept) → IsComplete kept → length kept.repo.history < most_commits → IsComplete (committing message kept)
@@ -232,13 +236,28 @@ complete_committed message kept it few = record {
   keys = it.keys;
   apart = it.apart;
   limited = it.limited;
+  few = it.few;
 }
 
 pub complete_forgotten : (kept : Kept) → IsComplete kept → IsComplete (forgetting kept)
-complete_forgotten kept it = record { sound = it.sound; staged = it.staged; fixes = it.fixes; trees = it.trees; sound_answers = tt; answers = tt; keys = tt; apart = it.apart; limited = it.limited }
+complete_forgotten kept it = record { sound = it.sound; staged = it.staged; fixes = it.fixes; trees = it.trees; sound_answers = tt; answers = tt; keys = tt; apart = it.apart; limited = it.limited; few = omega arith }
+
+pub complete_limited : (limit : ℕ) (kept : Kept) → IsLimit limit → IsComplete kept → IsComplete (limiting limit kept)
+complete_limited limit kept limited it = record {
+  sound = it.sound;
+  staged = it.staged;
+  fixes = it.fixes;
+  trees = it.trees;
+  sound_answers = all_within IsSoundAnswer limit kept.answers it.sound_answers;
+  answers = all_within (HasRecords kept.contents) limit kept.answers it.answers;
+  keys = own_keys_within limit kept.answers it.keys;
+  apart = it.apart;
+  limited = limited;
+  few = few_within limit kept.answers;
+}
 
 pub complete_accepted : (kept : Kept) → IsComplete kept → IsComplete (accepting kept)
-complete_accepted kept it = record { sound = sound_accepted kept.repo it.sound; staged = have_applied (IsAmong kept.contents) kept.repo.fixes kept.repo.staged it.fixes it.staged; fixes = tt; trees = it.trees; sound_answers = it.sound_answers; answers = it.answers; keys = it.keys; apart = it.apart; limited = it.limited }
+complete_accepted kept it = record { sound = sound_accepted kept.repo it.sound; staged = have_applied (IsAmong kept.contents) kept.repo.fixes kept.repo.staged it.fixes it.staged; fixes = tt; trees = it.trees; sound_answers = it.sound_answers; answers = it.answers; keys = it.keys; apart = it.apart; limited = it.limited; few = it.few }
 
 pub complete_set : (changes : List Change) (kept : Kept) → IsComplete kept → IsRisingChanges changes → ¬ FixCollides (staged_changes changes kept.repo.staged) kept.contents → IsComplete (setting changes kept)
 complete_set changes kept it rising clear =
@@ -262,4 +281,5 @@ complete_set changes kept it rising clear =
       keys = it.keys;
       apart = apart_all fixes kept.contents clear it.apart;
       limited = it.limited;
+      few = it.few;
     }

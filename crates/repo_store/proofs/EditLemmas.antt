@@ -1,5 +1,5 @@
 -- Several changes of the staged files: what they leave of what was kept, and of the rows.
-use Rattle.std.proofs.Common.{◌≡◌, ◌≢◌, ℕ, ◌+◌, ◌<◌, ◌≤◌, not, List, [], ◌∷◌, ◌++◌, map, filter, length, take, drop, get_or, Ok, IsPermutation, refl, sym, ap, ap₂, subst, ◌∙◌, arith, length-append, append_assoc}
+use Rattle.std.proofs.Common.{◌≡◌, pos, ◌≢◌, ℕ, ◌+◌, ◌<◌, ◌≤◌, not, List, [], ◌∷◌, ◌++◌, map, filter, length, take, drop, get_or, Result, Ok, IsPermutation, refl, sym, ap, ap₂, subst, ◌∙◌, arith, length-append, append_assoc}
 use Rattle.std.specs.Str.{bytes_eq}
 use Rattle.std.proofs.lemmas.List.{take_more, map-append}
 use Rattle.std.proofs.lemmas.Option.{slice_get_read}
@@ -20,6 +20,7 @@ use Rattle.repo_store.specs.declared.lists.staging.Before.{Before}
 use Rattle.repo_store.specs.declared.shared_edit.SharedEdit.{SharedEdit}
 use Rattle.repo_store.specs.declared.staging_edit.StagingEdit.{StagingEdit}
 use Rattle.repo_store.specs.declared.staging_edit.StagingEdit.TheVariants.{Add, Remove}
+use Rattle.repo_store.specs.Bounded.{HoldsListed}
 use Rattle.repo_store.specs.Complete.{IsComplete}
 use Rattle.repo_store.specs.declared.staging_refusal.StagingFault.{StagingFault}
 use Rattle.repo_store.specs.Edits.{AreEditable, IsEditFault, IsEditable, IsRefusedAt, all_edited, edited, entry_to_stage}
@@ -28,16 +29,16 @@ use Rattle.repo_store.specs.Limits.{path_bytes}
 use Rattle.repo_store.specs.Lists.{file_of, fix_of}
 use Rattle.repo_store.specs.Repository.{Commit, Repository}
 use Rattle.repo_store.specs.RowRules.{AreStoreRows}
-use Rattle.repo_store.specs.Rows.{answer_row, commit_rows, entry_rows, fix_row, staged_row, version_row, with_blobs, with_staged_rows}
+use Rattle.repo_store.specs.Rows.{answer_row, commit_rows, limit_row, entry_rows, fix_row, staged_row, version_row, with_blobs, with_staged_rows, tables_of}
 use Rattle.repo_store.specs.Answers.{KeptAnswer}
 use Rattle.repo_store.specs.SharedEdits.{IsBefore, IsLonger, PathEdit, all_rows, edit_of, edited_rows, made_edit, made_edits}
+use Rattle.repo_store.specs.Transactions.{IsCall}
 use Rattle.repo_store.proofs.CallLemmas.{step_then}
 use Rattle.repo_store.proofs.CompleteLemmas.{complete_staged, complete_unstaged}
 use Rattle.repo_store.proofs.KeptLemmas.{blobs_after, contents_before, put_moves}
 use Rattle.repo_store.proofs.ListLemmas.{others_staged}
 use Rattle.repo_store.proofs.RuleLemmas.{obeys_staged, obeys_unstaged}
 use Rattle.repo_store.proofs.SameLemmas.{IsSame, same_staged, step_same}
-use Rattle.repo_store.proofs.StandLemmas.{tables_of}
 
 -- ---- one edit more
 
@@ -189,7 +190,7 @@ editing_handed edits kept made news some rising made_is news_is =
     subst (λ (l : List PathEdit). IsSame (with_staged_rows (all_rows l staged) (without_fixes (with_blobs news (tables_of kept)))) (tables_of after)) (sym made_is)
     (subst (λ (l : List (List ℕ)). IsSame (with_staged_rows (all_rows (made_edits edits kept) staged) (without_fixes (with_blobs l (tables_of kept)))) (tables_of after)) (sym news_is)
     (record {
-      meta = IsPermutation-refl (version_row ∷ []);
+      meta = subst (λ (n : ℕ). IsPermutation (version_row ∷ limit_row (pos kept.limit) ∷ []) (version_row ∷ limit_row (pos n) ∷ [])) (sym longer.limit) (IsPermutation-refl (version_row ∷ limit_row (pos kept.limit) ∷ []));
       blobs = blobs_after kept.contents after.contents longer.front;
       staged = rows_edited edits kept staged rising (IsPermutation-refl staged);
       fixes = subst (λ (l : List Change). IsPermutation [] (map fix_row l)) (sym (no_fixes edits kept some)) (IsPermutation-refl []);
@@ -197,6 +198,12 @@ editing_handed edits kept made news some rising made_is news_is =
       entries = subst (λ (l : List Commit). IsPermutation (entry_rows 1 kept.repo.history) (entry_rows 1 l)) (sym longer.history) (IsPermutation-refl (entry_rows 1 kept.repo.history));
       answers = subst (λ (l : List KeptAnswer). IsPermutation (map answer_row kept.answers) (map answer_row l)) (sym longer.answers) (IsPermutation-refl (map answer_row kept.answers));
     }))
+
+-- the answers stay
+pub edits_go : {S A F : Type 0} (g : Ghosts S) (old new : Held S) (r : Result A F) (edits : List StagingEdit) (kept : Kept) (next : ℕ) (t u : Tables) → IsCall g old new r (λ db. HoldsListed next kept.answers db t) (λ db. HoldsListed next kept.answers db u)
+    → IsCall g old new r (λ db. HoldsListed next kept.answers db t) (λ db. HoldsListed next (all_edited edits kept).answers db u)
+edits_go g old new r edits kept next t u call =
+    subst (λ (l : List KeptAnswer). IsCall g old new r (λ db. HoldsListed next kept.answers db t) (λ db. HoldsListed next l db u)) (sym (all_longer edits kept).answers) call
 
 -- ---- one edit more, at a step of the loop
 

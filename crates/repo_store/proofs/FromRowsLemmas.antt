@@ -1,14 +1,14 @@
 -- Rows read one after another, and what they make of the lists.
-use Rattle.std.proofs.Common.{◌≡◌, ℕ, zero, suc, ◌+◌, ◌-◌, ◌<◌, ◌≤◌, ◌||◌, ℤ, pos, true, false, List, [], ◌∷◌, ◌++◌, map, length, get_or, set, take, is_some, Option, None, Some, if◌then◌else◌, IsPermutation, Vec, Global, refl, sym, ap, ap₂, subst, ◌∙◌, arith}
+use Rattle.std.proofs.Common.{◌≡◌, ℕ, zero, suc, ◌+◌, ◌-◌, ◌<◌, ◌≤◌, ◌||◌, ℤ, pos, true, false, List, [], ◌∷◌, ◌++◌, map, length, get_or, reverse, set, take, is_some, Option, None, Some, if◌then◌else◌, IsPermutation, Vec, Global, refl, sym, ap, ap₂, subst, ◌∙◌, arith}
 use Rattle.std.specs.List.{AllByRecursion}
 use Rattle.std.specs.Str.{bytes_eq}
-use Rattle.std.proofs.lemmas.List.{take_more, map-append, length-map}
+use Rattle.std.proofs.lemmas.List.{take_more, map-append, length-map, reverse-append}
 use Rattle.std.specs.Ordering.{int_cmp, is_lt}
 use Rattle.std.proofs.lemmas.Bool.{lt-ltb}
 use Rattle.std.specs.List.Sorted.{IsSorted}
 use Rattle.std.specs.declared.cmp.Ordering.TheVariants.{Less}
 use Rattle.std.proofs.lemmas.Cmp.{int_cmp_total}
-use Rattle.std.proofs.lemmas.List.Sorted.{IsPermutation-refl, IsPermutation-cons, IsPermutation-trans, IsPermutation-sym, IsPermutation-middle, IsPermutation-to_front, IsPermutation-append_left, IsPermutation-append_right}
+use Rattle.std.proofs.lemmas.List.Sorted.{IsPermutation-refl, IsPermutation-cons, IsPermutation-trans, IsPermutation-sym, IsPermutation-middle, IsPermutation-reverse, IsPermutation-to_front, IsPermutation-append_left, IsPermutation-append_right}
 use lib.ListN.{get_or-map}
 use Rattle.hook_base.specs.declared.file.File.{File}
 use Rattle.hook_base.specs.Rising.{IsBelow, IsBelowAll, IsRisingBy}
@@ -21,6 +21,7 @@ use Rattle.store_tables.proofs.RisingLemmas.{RisesTo, rises_on}
 use Rattle.store_tables.specs.declared.rows.BlobRow.{BlobRow}
 use Rattle.store_tables.specs.declared.rows.EntryRow.{EntryRow}
 use Rattle.store_tables.specs.declared.rows.FixRow.{FixRow}
+use Rattle.store_tables.specs.declared.rows.MetaRow.{MetaRow}
 use Rattle.store_tables.specs.declared.rows.StagedRow.{StagedRow}
 use Rattle.repo_store.specs.declared.fault.StoreFault.{StoreFault}
 use Rattle.repo_store.specs.declared.fault.StoreFault.TheVariants.{NotAStore, Damaged, Sql, OutOfMemory, Collision, TooLarge, TooMany}
@@ -33,12 +34,12 @@ use Rattle.repo_store.specs.Sound.{IsSound}
 use Rattle.repo_store.specs.declared.shared.SharedCommit.{SharedCommit}
 use Rattle.repo_store.specs.Faults.{IsDamage}
 use Rattle.repo_store.specs.Lists.{commit_of, file_of, fix_of, repository_of}
-use Rattle.repo_store.specs.FromRows.{AreBare, AreEntered, IsSame, rows_in, with_file}
+use Rattle.repo_store.specs.FromRows.{AreBare, AreEntered, IsSame, rows_in, tables_with, with_file}
 use Rattle.repo_store.specs.Repository.{Commit}
-use Rattle.repo_store.specs.Rows.{answer_row, blob_row, commit_rows, entry_row, entry_rows, fix_at, fix_row, staged_row, tables_of, version_row}
+use Rattle.repo_store.specs.Rows.{answer_row, blob_row, commit_rows, entry_row, entry_rows, fix_at, fix_row, staged_row}
 use Rattle.repo_store.specs.RowRules.{AreCommitRows, AreStagedRows, IsAnswerRow, IsBlobRow, IsEntryRow, IsFileRow, IsFixRow, AreStoreRows, is_staged, number_in, numbers_from}
 use Rattle.store_tables.specs.declared.rows.CommitRow.{CommitRow}
-use Rattle.repo_store.specs.Limits.{Fits, IsSmall, first_limit, most_commits}
+use Rattle.repo_store.specs.Limits.{Fits, IsSmall, most_commits}
 use Rattle.repo_store.proofs.SoundLemmas.{AreStaged, few}
 
 pub all_pushed : {X : Type 0} (P : X → Type 0) (xs : List X) (x : X) → AllByRecursion P xs → P x → AllByRecursion P (xs ++ x ∷ [])
@@ -52,6 +53,10 @@ front_more {X} xs i x within is = take_more xs i x within ∙ ap (λ (y : X). ta
 pub rows_more : {X Y : Type 0} (row : Y → X) (rows : List X) (x : X) (held now : List Y) (one : Y) → map row held ≡ rows → now ≡ held ++ one ∷ [] → row one ≡ x → map row now ≡ rows ++ x ∷ []
 rows_more {X} row rows x held now one same added this =
     ap (map row) added ∙ map-append row held (one ∷ []) ∙ ap (λ (l : List X). l ++ row one ∷ []) same ∙ ap (λ (y : X). rows ++ y ∷ []) this
+
+-- one row more stands in front of the lists
+pub rows_front : {X Y : Type 0} (row : Y → X) (rows : List X) (x : X) (held now : List Y) (one : Y) → map row held ≡ reverse rows → now ≡ one ∷ held → row one ≡ x → map row now ≡ reverse (rows ++ x ∷ [])
+rows_front {X} row rows x held now one same added this = ap (map row) added ∙ ap₂ (λ (y : X) (l : List X). y ∷ l) this same ∙ sym (reverse-append rows (x ∷ []))
 
 -- what holds of each, holds of the one at a place
 pub all_of_at : {A X : Type 0} (f : A → X) (P : X → Type 0) (xs : List A) (i : ℕ) (x : A) → i < length xs → x ≡ get_or xs i x → AllByRecursion P (map f xs) → P (f x)
@@ -284,23 +289,24 @@ perm_same xs ys same = subst (IsPermutation xs) same (IsPermutation-refl xs)
 
 -- ---- all of them
 
-pub lists_same : (rows : StoreRows) (contents : List (List ℕ)) (history : List SharedCommit) (staged : List FileParts) (fixes : List SharedFix) (answers : List KeptAnswer) (kept : Kept) → map blob_row contents ≡ rows.blobs.items → map staged_row (map file_of staged) ≡ rows.staged.items
-    → map fix_row (map fix_of fixes) ≡ rows.fixes.items → commit_rows 1 (map commit_of history) ≡ rows.commits.items → IsPermutation (entry_rows 1 (map commit_of history)) rows.entries.items → map answer_row answers ≡ rows.answers.items
-    → kept ≡ record { repo = repository_of history staged fixes; contents = contents; answers = answers; limit = first_limit } → IsSame (rows_in rows) (tables_of kept)
-lists_same rows contents history staged fixes answers kept blobs files changes commits entries remembered is =
-    subst (λ (k : Kept). IsSame (rows_in rows) (tables_of k)) (sym is) (record {
-      meta = IsPermutation-refl (version_row ∷ []);
+pub lists_same : (rows : StoreRows) (contents : List (List ℕ)) (history : List SharedCommit) (staged : List FileParts) (fixes : List SharedFix) (answers : List KeptAnswer) (limit : ℕ) (kept : Kept) → map blob_row contents ≡ rows.blobs.items
+    → map staged_row (map file_of staged) ≡ rows.staged.items → map fix_row (map fix_of fixes) ≡ rows.fixes.items → commit_rows 1 (map commit_of history) ≡ rows.commits.items → IsPermutation (entry_rows 1 (map commit_of history)) rows.entries.items
+    → map answer_row answers ≡ reverse rows.answers.items → kept ≡ record { repo = repository_of history staged fixes; contents = contents; answers = answers; limit = limit } → (meta : List MetaRow) → IsSame (rows_in meta rows) (tables_with meta kept)
+lists_same rows contents history staged fixes answers limit kept blobs files changes commits entries remembered is meta =
+    subst (λ (k : Kept). IsSame (rows_in meta rows) (tables_with meta k)) (sym is) (record {
+      meta = IsPermutation-refl meta;
       blobs = perm_same rows.blobs.items (map blob_row contents) (sym blobs);
       staged = perm_same rows.staged.items (map staged_row (map file_of staged)) (sym files);
       fixes = perm_same rows.fixes.items (map fix_row (map fix_of fixes)) (sym changes);
       commits = perm_same rows.commits.items (commit_rows 1 (map commit_of history)) (sym commits);
       entries = IsPermutation-sym _ _ entries;
-      answers = perm_same rows.answers.items (map answer_row answers) (sym remembered);
+      answers = subst (IsPermutation rows.answers.items) (sym remembered) (IsPermutation-reverse rows.answers.items);
     })
 
 pub lists_obey : (rows : StoreRows) (blobs : List BlobRow) (staged : List StagedRow) → blobs ≡ rows.blobs.items → staged ≡ rows.staged.items → AllByRecursion IsBlobRow rows.blobs.items → AreStagedRows blobs rows.staged.items
-    → AllByRecursion (IsFixRow blobs staged) rows.fixes.items → AreCommitRows rows.commits.items → AllByRecursion (IsEntryRow blobs (length rows.commits.items)) rows.entries.items → AllByRecursion (IsAnswerRow blobs) rows.answers.items → AreStoreRows (rows_in rows)
-lists_obey rows blobs staged blobs_are staged_are contents files fixes commits entries answers = record {
+    → AllByRecursion (IsFixRow blobs staged) rows.fixes.items → AreCommitRows rows.commits.items → AllByRecursion (IsEntryRow blobs (length rows.commits.items)) rows.entries.items → AllByRecursion (IsAnswerRow blobs) rows.answers.items
+    → (meta : List MetaRow) → AreStoreRows (rows_in meta rows)
+lists_obey rows blobs staged blobs_are staged_are contents files fixes commits entries answers meta = record {
   blobs = contents;
   staged = subst (λ (l : List BlobRow). AreStagedRows l rows.staged.items) blobs_are files;
   fixes = subst (λ (l : List BlobRow). AllByRecursion (IsFixRow l rows.staged.items) rows.fixes.items) blobs_are (subst (λ (l : List StagedRow). AllByRecursion (IsFixRow blobs l) rows.fixes.items) staged_are fixes);

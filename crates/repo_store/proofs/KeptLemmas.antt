@@ -18,12 +18,11 @@ use Rattle.store_tables.specs.Tables.{Tables, without_fixes}
 use Rattle.repo_store.specs.Contents.{has_content, with_content, with_changes}
 use Rattle.repo_store.specs.Kept.{Kept, staging, unstaging, keeping, committing, setting}
 use Rattle.repo_store.specs.Repository.{Commit, staged_changes}
-use Rattle.repo_store.specs.Rows.{answer_row, blob_row, staged_row, with_blobs, with_entries, commit_row, commit_rows, entry_row, entry_rows, version_row, fix_row, with_fix_rows}
+use Rattle.repo_store.specs.Rows.{answer_row, blob_row, limit_row, staged_row, with_blobs, with_entries, commit_row, commit_rows, entry_row, entry_rows, version_row, fix_row, tables_of, with_fix_rows}
 use Rattle.repo_store.proofs.FixLemmas.{changes_before}
 use Rattle.hook_base.specs.declared.change.Change.{Change}
 use Rattle.repo_store.proofs.ListLemmas.{others_staged}
 use Rattle.repo_store.proofs.SameLemmas.{IsSame, same_itself, same_blobs}
-use Rattle.repo_store.proofs.StandLemmas.{tables_of}
 
 -- the contents before, and those that came
 pub contents_before : (bytes : List ℕ) (contents : List (List ℕ)) → take (length contents) (with_content bytes contents) ≡ contents
@@ -63,7 +62,7 @@ module _ (file : File) (kept : Kept) (rising : IsRising kept.repo.staged) where
 
   pub staging_tables : IsSame (tables.with_staged (staged_row file) (tables.without_staged file.path (without_fixes (with_blobs (news_of file.entry.bytes kept) (tables_of kept))))) (tables_of (staging file.path file.entry kept))
   staging_tables = record {
-    meta = IsPermutation-refl (version_row ∷ []);
+    meta = IsPermutation-refl (version_row ∷ limit_row (pos kept.limit) ∷ []);
     blobs = blobs_after kept.contents (with_content file.entry.bytes kept.contents) (contents_before file.entry.bytes kept.contents);
     staged = staged_after;
     fixes = IsPermutation-refl [];
@@ -116,7 +115,7 @@ committing_tables message kept =
     let commits : commit_rows 1 (history ++ commit ∷ []) ≡ commit_rows 1 history ++ commit_row (length history + 1) commit ∷ [] = commits_more 1 history commit ∙ ap (λ (m : ℕ). commit_rows 1 history ++ commit_row m commit ∷ []) next in
     let entries : entry_rows 1 (history ++ commit ∷ []) ≡ entry_rows 1 history ++ map (entry_row (length history + 1)) kept.repo.staged = entries_more 1 history commit ∙ ap (λ (m : ℕ). entry_rows 1 history ++ map (entry_row m) kept.repo.staged) next in
     record {
-      meta = IsPermutation-refl (version_row ∷ []);
+      meta = IsPermutation-refl (version_row ∷ limit_row (pos kept.limit) ∷ []);
       blobs = IsPermutation-refl (map blob_row kept.contents);
       staged = IsPermutation-refl (map staged_row kept.repo.staged);
       fixes = IsPermutation-refl [];

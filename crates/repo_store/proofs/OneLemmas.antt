@@ -6,10 +6,9 @@ use Rattle.std.proofs.lemmas.Bool.{false_from_ne_true}
 use Rattle.std.proofs.lemmas.Cmp.{int_cmp_total, tied_itself}
 use Rattle.std.proofs.lemmas.List.{append-nil}
 use Rattle.std.proofs.lemmas.List.Elements.{filter-append}
-use Rattle.std.proofs.lemmas.List.Sorted.{length_permutation, IsPermutation-sym}
+use Rattle.std.proofs.lemmas.List.Sorted.{length_permutation, IsPermutation-refl, IsPermutation-sym}
 use Rattle.sqlite_keyed.proofs.ListLemmas.{IsPermutation-filter, filter_all, filter_none}
-use Rattle.sqlite.specs.Effect.{Database}
-use Rattle.sqlite_trees.specs.Tree.{IsAscending, Trees}
+use Rattle.sqlite_trees.specs.Tree.{IsAscending}
 use Rattle.hook_base.specs.declared.file.File.{File}
 use Rattle.hook_base.specs.declared.change.Change.{Change}
 use Rattle.hook_base.specs.Rising.{path_cmp, IsBelow, IsBelowAll, IsRisingBy}
@@ -19,16 +18,15 @@ use Rattle.store_tables.specs.declared.rows.CommitRow.{CommitRow}
 use Rattle.store_tables.specs.declared.rows.EntryRow.{EntryRow}
 use Rattle.store_tables.specs.declared.rows.FixRow.{FixRow}
 use Rattle.store_tables.specs.declared.rows.StagedRow.{StagedRow}
-use Rattle.store_tables.specs.Tables.{Holds, with_schema}
 use Rattle.repo_store.specs.Complete.{AreAlike, HaveDistinctDigests, HaveContents, IsComplete}
 use Rattle.repo_store.specs.Kept.{Kept}
 use Rattle.repo_store.specs.FromRows.{IsSame}
 use Rattle.repo_store.specs.Repository.{Commit}
-use Rattle.repo_store.specs.Shown.{Leaves}
-use Rattle.repo_store.specs.Rows.{commit_row, commit_rows, entry_row, entry_rows, fix_row, staged_row, tables_of}
+use Rattle.repo_store.specs.Rows.{commit_row, commit_rows, entry_row, entry_rows, fix_row, limit_row, staged_row, tables_of, version_row}
 use Rattle.repo_store.proofs.DigestLemmas.{same_contents, same_files, same_fixes}
 use Rattle.repo_store.proofs.FromRowsLemmas.{fix_path, pos_less}
-use Rattle.repo_store.proofs.RowRuleLemmas.{all_both, all_same, all_weaker, holds_one}
+use Rattle.repo_store.proofs.RowRuleLemmas.{all_both, all_same, all_weaker}
+use Rattle.repo_store.proofs.MetaLemmas.{one_limit}
 use Rattle.repo_store.proofs.SameAnswerLemmas.{same_answers}
 
 -- ---- lists in one order
@@ -165,8 +163,8 @@ module _ (a b : List (List ℕ)) (same : IsPermutation a b) (apart : HaveDistinc
 
 -- ---- all of it
 
-alike_from_same : (a b : Kept) → IsComplete a → IsComplete b → IsSame (tables_of a) (tables_of b) → AreAlike a b
-alike_from_same a b obeys other same =
+pub alike_from_same : (a b : Kept) → IsComplete a → IsComplete b → IsSame (tables_of a) (tables_of b) → (IsPermutation a.answers b.answers → a.answers ≡ b.answers) → AreAlike a b
+alike_from_same a b obeys other same ordered =
     let contents = same_contents a.contents b.contents same.blobs in
     let staged =
     same_files a.contents b.contents contents other.apart staged_row (λ (row : StagedRow). row) (λ file. refl) a.repo.staged b.repo.staged obeys.staged other.staged
@@ -180,12 +178,6 @@ alike_from_same a b obeys other same =
     record {
       repo = ap₂ (λ (h : List Commit) (r : List File × List Change). record { history = h; staged = r.0; fixes = r.1 }) history (ap₂ (λ (s : List File) (f : List Change). (s, f)) staged fixes);
       contents = contents;
-      answers = same_answers a.contents b.contents contents other.apart a.answers b.answers obeys.sound_answers obeys.answers other.sound_answers other.answers same.answers;
-      limit = obeys.limited ∙ sym other.limited;
+      answers = ordered (same_answers a.contents b.contents contents other.apart a.answers b.answers obeys.sound_answers obeys.answers other.sound_answers other.answers same.answers);
+      limit = one_limit (version_row ∷ limit_row (pos a.limit) ∷ []) a.limit b.limit (IsPermutation-refl (version_row ∷ limit_row (pos a.limit) ∷ [])) same.meta;
     }
-
-pub held_alike : (db : Database) (a b : Kept) → IsComplete a → IsComplete b → Holds db (tables_of a) → Holds db (tables_of b) → AreAlike a b
-held_alike db a b obeys other holds also = alike_from_same a b obeys other (holds_one db (tables_of a) (tables_of b) holds also)
-
-pub left_alike : (trees : Trees) (a b : Kept) → Leaves a trees → Leaves b trees → AreAlike a b
-left_alike trees a b left also = held_alike (with_schema trees) a b left.complete also.complete left.holds also.holds

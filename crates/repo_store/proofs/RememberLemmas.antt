@@ -1,32 +1,29 @@
--- What an answer that is remembered makes of what is kept, and of the tables.
-use Rattle.std.proofs.Common.{◌≡◌, ℕ, ◌&&◌, Bool, true, false, not, List, [], ◌∷◌, ◌++◌, map, option_to_list, Option, None, Some, MatchOption, filter, length, take, drop, if◌then◌else◌, IsPermutation, refl, sym, ap, ap₂, subst, ◌∙◌, inl, inr}
+-- What an answer that is remembered makes of what is kept.
+use Rattle.std.proofs.Common.{◌≡◌, ℕ, ◌&&◌, Bool, true, false, not, List, [], ◌∷◌, ◌++◌, map, option_to_list, Option, None, Some, MatchOption, filter, length, take, if◌then◌else◌, refl, sym, ap, ap₂, subst, ◌∙◌, inl, inr}
 use Rattle.std.specs.List.{AllByRecursion}
 use Rattle.std.specs.Str.{bytes_eq}
 use Rattle.std.proofs.lemmas.Bool.{false_from_ne_true}
-use Rattle.std.proofs.lemmas.List.Sorted.{IsPermutation-refl, IsPermutation-cons, IsPermutation-middle, IsPermutation-sym, IsPermutation-trans}
-use Rattle.sqlite_keyed.proofs.ListLemmas.{filter_all}
 use Rattle.hook_base.specs.declared.change.Change.{Change}
 use Rattle.hook_base.specs.declared.file.File.{File}
 use Rattle.hook_base.specs.RisingLemmas.{bytes_same}
 use Rattle.store_tables.specs.declared.rows.AnswerRow.{AnswerRow}
-use Rattle.repo_store.specs.AnswerLemmas.{all_with, other_key, other_key_back, own_keys_with}
-use Rattle.repo_store.specs.Answers.{KeptAnswer, HaveOwnKeys, have_one_key}
-use Rattle.repo_store.specs.Complete.{HasRecords, HaveDistinctDigests, IsAmong, IsComplete}
+use Rattle.repo_store.specs.AnswerLemmas.{all_with, few_within, own_keys_with}
+use Rattle.repo_store.specs.Answers.{KeptAnswer, have_one_key}
+use Rattle.repo_store.specs.Complete.{HasRecords, HaveDistinctDigests, HaveRecords, IsAmong, IsComplete}
 use Rattle.repo_store.specs.Contents.{with_content}
-use Rattle.repo_store.specs.FromRows.{IsSame}
 use Rattle.repo_store.specs.Index.{Key, key_of, keys_eq}
 use Rattle.repo_store.specs.Kept.{Kept}
 use Rattle.repo_store.specs.Remembered.{TellsKey}
-use Rattle.repo_store.specs.Remembering.{AreSmall, SomeCollides, remembering, with_answer, with_answer_row, with_contents}
+use Rattle.repo_store.specs.Remembering.{AreSmall, SomeCollides, remembering, with_contents}
 use Rattle.repo_store.specs.RowRules.{AreStoreRows}
-use Rattle.repo_store.specs.Rows.{answer_row, commit_rows, entry_rows, fix_row, staged_row, tables_of, version_row, with_blobs}
+use Rattle.repo_store.specs.Rows.{answer_row, tables_of}
 use Rattle.repo_store.specs.SoundAnswers.{IsSoundAnswer}
+use Rattle.repo_store.specs.Standing.{TellKeys}
+use Rattle.repo_store.specs.UsedAnswers.{in_front, without_key}
 use Rattle.repo_store.specs.WrittenAnswers.{contents_for, contents_in_changes, contents_in_files, records_of}
 use Rattle.repo_store.proofs.CompleteLemmas.{apart_with, files_grown, fixes_grown, grown, here_now, records_grown, still}
-use Rattle.repo_store.proofs.KeptLemmas.{blobs_after}
 use Rattle.repo_store.proofs.KeyLemmas.{keys_decide, keys_same}
 use Rattle.repo_store.proofs.ManyLemmas.{contents_front}
-use Rattle.repo_store.proofs.RowRuleLemmas.{all_weaker}
 use Rattle.repo_store.proofs.RuleLemmas.{obeys_by, rules_in, small_with}
 use Rattle.repo_store.proofs.SameAnswerLemmas.{keys_told}
 
@@ -82,7 +79,7 @@ records_there contents answer =
 
 -- ---- its row
 
-abbrev other_row : AnswerRow → AnswerRow → Bool
+abbrev pub other_row : AnswerRow → AnswerRow → Bool
 other_row row other = not (bytes_eq other.words row.words && bytes_eq other.seen row.seen)
 
 -- whether a row has the key of another, by the answers
@@ -100,31 +97,36 @@ row_told answer other tells =
           absurd (cc)))
     ] refl
 
-others_stay : (answer : KeptAnswer) (answers : List KeptAnswer) → AllByRecursion (TellsKey answer) answers → AllByRecursion (λ other. have_one_key answer other ≡ false) answers → AllByRecursion (λ row. other_row (answer_row answer) row ≡ true) (map answer_row answers)
-others_stay answer [] tells apart = tt
-others_stay answer (other ∷ others) tells apart = (row_told answer other tells.0 ∙ ap not (other_key_back answer other apart.0), others_stay answer others tells.1 apart.1)
-
-pub answer_rows_with : (answer : KeptAnswer) (answers : List KeptAnswer) → HaveOwnKeys answers → AllByRecursion (TellsKey answer) answers
-    → IsPermutation (answer_row answer ∷ filter (other_row (answer_row answer)) (map answer_row answers)) (map answer_row (with_answer answer answers))
-answer_rows_with answer [] own tells = IsPermutation-refl (answer_row answer ∷ [])
-answer_rows_with answer (other ∷ others) own tells =
-    elim (have_one_key other answer) as (λ b. have_one_key other answer ≡ b
-    → IsPermutation (answer_row answer ∷ (if other_row (answer_row answer) (answer_row other) then answer_row other ∷ filter (other_row (answer_row answer)) (map answer_row others) else filter (other_row (answer_row answer)) (map answer_row others)))
-    (map answer_row (if b then answer ∷ others else other ∷ with_answer answer others))) [
-      | true ↦ λ e.
-          let out : other_row (answer_row answer) (answer_row other) ≡ false = row_told answer other tells.0 ∙ ap not e in
-          let apart = all_weaker (λ x. have_one_key other x ≡ false) (λ x. have_one_key answer x ≡ false) others (λ x there. other_key other answer x e there) own.0 in
-          rw (out, filter_all (other_row (answer_row answer)) (map answer_row others) (others_stay answer others tells.1 apart)) (IsPermutation-refl (answer_row answer ∷ map answer_row others))
-      | false ↦ λ e.
-          let in_place : other_row (answer_row answer) (answer_row other) ≡ true = row_told answer other tells.0 ∙ ap not e in
-          rw in_place (IsPermutation-trans _ _ _ (IsPermutation-sym _ _ (IsPermutation-middle (answer_row other ∷ []) (answer_row answer) (filter (other_row (answer_row answer)) (map answer_row others))))
-          (IsPermutation-cons (answer_row other) _ _ (answer_rows_with answer others own.1 tells.1)))
-    ] refl
+-- the rows of other keys are those of the answers of other keys
+pub rows_left : (answer : KeptAnswer) (answers : List KeptAnswer) → AllByRecursion (TellsKey answer) answers
+    → filter (other_row (answer_row answer)) (map answer_row answers) ≡ map answer_row (without_key answer.words answer.seen answers)
+rows_left answer [] tells = refl
+rows_left answer (other ∷ others) tells =
+    let left = without_key answer.words answer.seen others in
+    ap₂ (λ (b : Bool) (l : List AnswerRow). if b then answer_row other ∷ l else l) (row_told answer other tells.0) (rows_left answer others tells.1)
+    ∙ elim (have_one_key other answer) as (λ b. (if not b then answer_row other ∷ map answer_row left else map answer_row left) ≡ map answer_row (if not b then other ∷ left else left)) [ true ↦ refl | false ↦ refl ]
 
 -- what came is forgotten
-pub forgotten_answer : (all : List (List ℕ)) (kept mid now : Kept) (count : ℕ) → count ≡ length kept.contents → mid ≡ record kept { contents = with_contents all kept.contents } → now ≡ record mid { contents = take count mid.contents } → now ≡ kept
+pub forgotten_answer : (all : List (List ℕ)) (kept mid now : Kept) (count : ℕ) → count ≡ length kept.contents → mid ≡ record kept { contents = with_contents all kept.contents }
+    → now ≡ record mid { contents = take count mid.contents } → now ≡ kept
 forgotten_answer all kept mid now count count_is mid_is is =
-    is ∙ ap₂ (λ (n : ℕ) (k : Kept). record k { contents = take n k.contents }) count_is mid_is ∙ ap (λ (l : List (List ℕ)). record kept { contents = l }) (contents_front all kept.contents (with_contents all kept.contents) refl)
+    is ∙ ap₂ (λ (n : ℕ) (k : Kept). record k { contents = take n k.contents }) count_is mid_is ∙ ap (λ (l : List (List ℕ)). record kept { contents = l })
+    (contents_front all kept.contents (with_contents all kept.contents) refl)
+
+-- ---- the digests of the answers tell their keys
+
+module _ (contents : List (List ℕ)) (apart : HaveDistinctDigests contents) where
+  pub told_by : (answer : KeptAnswer) → HasRecords contents answer → (others : List KeptAnswer) → AllByRecursion IsSoundAnswer others → HaveRecords contents others → AllByRecursion (TellsKey answer) others
+  told_by answer here [] sound have = tt
+  told_by answer here (other ∷ others) sound have = (keys_told contents apart other answer sound.0 have.0 here, told_by answer here others sound.1 have.1)
+
+  pub told_all : (answers : List KeptAnswer) → AllByRecursion IsSoundAnswer answers → HaveRecords contents answers → (some : List KeptAnswer) → HaveRecords contents some
+      → AllByRecursion (λ (answer : KeptAnswer). AllByRecursion (TellsKey answer) answers) some
+  told_all answers sound have [] here = tt
+  told_all answers sound have (answer ∷ some) here = (told_by answer here.0 answers sound have, told_all answers sound have some here.1)
+
+pub tell_keys : (kept : Kept) → IsComplete kept → TellKeys kept.answers
+tell_keys kept it = told_all kept.contents it.apart kept.answers it.sound_answers it.answers kept.answers it.answers
 
 -- ---- all of it
 
@@ -138,40 +140,32 @@ module _ (answer : KeptAnswer) (kept : Kept) (it : IsComplete kept) (sound : IsS
   new_apart : HaveDistinctDigests new
   new_apart = apart_contents (contents_for answer) kept.contents clear it.apart
 
+  here : HasRecords new answer
+  here = records_there kept.contents answer
+
+  records : HaveRecords new kept.answers
+  records = records_grown kept.contents new kept.answers grows it.answers
+
   pub complete_remembered : IsComplete (remembering answer kept)
   complete_remembered = record {
     sound = it.sound;
     staged = files_grown kept.contents new kept.repo.staged grows it.staged;
     fixes = fixes_grown kept.contents new kept.repo.fixes grows it.fixes;
     trees = grown kept.contents new kept.repo grows it.trees;
-    sound_answers = all_with IsSoundAnswer answer sound kept.answers it.sound_answers;
-    answers = all_with (HasRecords new) answer (records_there kept.contents answer) kept.answers (records_grown kept.contents new kept.answers grows it.answers);
-    keys = own_keys_with answer kept.answers it.keys;
+    sound_answers = all_with IsSoundAnswer kept.limit answer kept.answers sound it.sound_answers;
+    answers = all_with (HasRecords new) kept.limit answer kept.answers here records;
+    keys = own_keys_with kept.limit answer kept.answers it.keys;
     apart = new_apart;
     limited = it.limited;
+    few = few_within kept.limit (in_front answer kept.answers);
   }
 
-  -- the digests of the answers tell their keys
-  pub all_told : AllByRecursion (TellsKey answer) kept.answers
-  all_told = told_by kept.answers it.sound_answers (records_grown kept.contents new kept.answers grows it.answers)
-    where
-      told_by : (others : List KeptAnswer) → AllByRecursion IsSoundAnswer others → AllByRecursion (HasRecords new) others → AllByRecursion (TellsKey answer) others
-      told_by [] sounds have = tt
-      told_by (other ∷ others) sounds have = (keys_told new new_apart other answer sounds.0 have.0 (records_there kept.contents answer), told_by others sounds.1 have.1)
+  pub tell_keys_with : TellKeys (answer ∷ kept.answers)
+  tell_keys_with = told_all new new_apart (answer ∷ kept.answers) (sound, it.sound_answers) (here, records) (answer ∷ kept.answers) (here, records)
 
-  pub remembering_handed : (news : List (List ℕ)) (handed : KeptAnswer) → news ≡ drop (length kept.contents) new → handed ≡ answer
-      → IsSame (with_answer_row (answer_row handed) (with_blobs news (tables_of kept))) (tables_of (remembering answer kept))
-  remembering_handed news handed news_is is =
-      subst (λ (l : List (List ℕ)). IsSame (with_answer_row (answer_row handed) (with_blobs l (tables_of kept))) (tables_of (remembering answer kept))) (sym news_is)
-      (subst (λ (a : KeptAnswer). IsSame (with_answer_row (answer_row a) (with_blobs (drop (length kept.contents) new) (tables_of kept))) (tables_of (remembering answer kept))) (sym is) (record {
-        meta = IsPermutation-refl (version_row ∷ []);
-        blobs = blobs_after kept.contents new (contents_front (contents_for answer) kept.contents new refl);
-        staged = IsPermutation-refl (map staged_row kept.repo.staged);
-        fixes = IsPermutation-refl (map fix_row kept.repo.fixes);
-        commits = IsPermutation-refl (commit_rows 1 kept.repo.history);
-        entries = IsPermutation-refl (entry_rows 1 kept.repo.history);
-        answers = answer_rows_with answer kept.answers it.keys all_told;
-      }))
+  -- the same, of what the code hands over
+  pub tell_keys_handed : (handed : KeptAnswer) → handed ≡ answer → TellKeys (handed ∷ kept.answers)
+  tell_keys_handed handed is = subst (λ (a : KeptAnswer). TellKeys (a ∷ kept.answers)) (sym is) tell_keys_with
 
   pub obeys_remembered : AreStoreRows (tables_of kept) → AreSmall (contents_for answer) → AreStoreRows (tables_of (remembering answer kept))
   obeys_remembered obeys small =

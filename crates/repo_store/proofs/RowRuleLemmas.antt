@@ -18,7 +18,10 @@ use Rattle.store_tables.specs.declared.rows.FixRow.{FixRow}
 use Rattle.store_tables.specs.declared.rows.CommitRow.{CommitRow}
 use Rattle.store_tables.specs.declared.rows.EntryRow.{EntryRow}
 use Rattle.store_tables.specs.declared.rows.AnswerRow.{AnswerRow}
-use Rattle.store_tables.specs.Tables.{Tables, Holds, Stored, meta_cells, blob_cells, staged_cells, fix_cells, commit_cells, entry_cells, answer_cells}
+use Rattle.store_tables.specs.declared.rows.UseRow.{UseRow}
+use Rattle.store_tables.specs.Uses.{use_cells}
+use Rattle.sqlite_schema.specs.declared.schema.Schema.{Schema}
+use Rattle.store_tables.specs.Tables.{Tables, HoldsIn, Stored, meta_cells, blob_cells, staged_cells, fix_cells, commit_cells, entry_cells, answer_cells}
 use Rattle.repo_store.specs.FromRows.{IsSame}
 use Rattle.repo_store.specs.RowRules.{AreCommitRows, AreStagedRows, HasKept, HaveKeptContents, HaveKeptNewContents, IsAnswerRow, IsBlobRow, IsEntryRow, IsFileRow, IsFixRow, IsMarked, IsNumbered, IsStagedRow, AreStoreRows, is_kept, number_in, numbers_from}
 
@@ -54,8 +57,11 @@ module _ {X : Type 0} (cells : X → Row) (from : Row → X) (back : (x : X) →
 pub same_meta : (xs ys : List MetaRow) (rows : List Row) → Stored meta_cells (1 ∷ 2 ∷ []) xs rows → Stored meta_cells (1 ∷ 2 ∷ []) ys rows → IsPermutation xs ys
 same_meta xs ys rows one two = same_stored meta_cells (λ row. record { name = text_in (column row 0); value = int_in (column row 1) }) (λ x. refl) (1 ∷ 2 ∷ []) xs ys rows one two
 
+pub same_uses : (xs ys : List UseRow) (rows : List Row) → Stored use_cells (1 ∷ 2 ∷ 3 ∷ []) xs rows → Stored use_cells (1 ∷ 2 ∷ 3 ∷ []) ys rows → IsPermutation xs ys
+same_uses xs ys rows one two = same_stored use_cells (λ row. record { words = blob_in (column row 0); seen = blob_in (column row 1); tick = int_in (column row 2) }) (λ x. refl) (1 ∷ 2 ∷ 3 ∷ []) xs ys rows one two
+
 -- a database holds one set of rows in each table
-pub holds_one : (db : Database) (t u : Tables) → Holds db t → Holds db u → IsSame t u
+pub holds_one : {listed other : Schema} (db : Database) (t u : Tables) → HoldsIn listed db t → HoldsIn other db u → IsSame t u
 holds_one db t u a b = record {
   meta = same_meta t.meta u.meta (db.trees 0) a.meta b.meta;
   blobs = same_stored blob_cells (λ row. record { digest = blob_in (column row 0); bytes = blob_in (column row 1) }) (λ x. refl) (1 ∷ 2 ∷ []) t.blobs u.blobs (db.trees 2) a.blobs b.blobs;

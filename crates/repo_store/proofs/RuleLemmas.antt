@@ -20,9 +20,11 @@ use Rattle.store_tables.specs.declared.rows.CommitRow.{CommitRow}
 use Rattle.store_tables.specs.declared.rows.EntryRow.{EntryRow}
 use Rattle.repo_store.specs.Complete.{HaveContents, HaveNewContents, IsAmong, IsComplete}
 use Rattle.repo_store.specs.Contents.{has_content, with_content, with_new, with_changes}
-use Rattle.repo_store.specs.Kept.{HasLarge, Kept, accepting, committing, forgetting, keeping, nothing_kept, setting, staging, unstaging}
+use Rattle.repo_store.specs.Index.{Key}
+use Rattle.repo_store.specs.Kept.{HasLarge, Kept, accepting, committing, forgetting, keeping, limiting, nothing_kept, setting, staging, unstaging}
 use Rattle.repo_store.specs.Limits.{IsSmall, most_content_bytes, most_tree_path_bytes}
 use Rattle.repo_store.specs.Repository.{Commit, staged_changes}
+use Rattle.repo_store.specs.Standing.{bringing}
 use Rattle.repo_store.specs.Rows.{blob_row, commit_rows, entry_row, entry_rows, fix_at, fix_row, mode_number, staged_row, tables_of}
 use Rattle.repo_store.specs.RowRules.{IsBlobRow, IsEntryRow, IsFileRow, IsFixRow, IsMarked, IsPathText, IsStagedRow, AreStoreRows, is_staged}
 use Rattle.repo_store.proofs.AnswerRowLemmas.{answer_rows, kept_row}
@@ -256,6 +258,26 @@ module _ (kept : Kept) (obeys : AreStoreRows (tables_of kept)) where
   pub obeys_forgotten : After (forgetting kept)
   obeys_forgotten complete =
       obeys_by (forgetting kept) complete (record {
+        staged_legal = rules.staged_legal;
+        trees_legal = rules.trees_legal;
+        fixes_staged = rules.fixes_staged;
+        messages_small = rules.messages_small;
+        contents_small = rules.contents_small;
+      })
+
+  pub obeys_limited : (limit : ℕ) → After (limiting limit kept)
+  obeys_limited limit complete =
+      obeys_by (limiting limit kept) complete (record {
+        staged_legal = rules.staged_legal;
+        trees_legal = rules.trees_legal;
+        fixes_staged = rules.fixes_staged;
+        messages_small = rules.messages_small;
+        contents_small = rules.contents_small;
+      })
+
+  pub obeys_brought : (key : Key) → After (bringing key kept)
+  obeys_brought key complete =
+      obeys_by (bringing key kept) complete (record {
         staged_legal = rules.staged_legal;
         trees_legal = rules.trees_legal;
         fixes_staged = rules.fixes_staged;

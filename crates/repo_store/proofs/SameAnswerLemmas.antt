@@ -18,7 +18,6 @@ use Rattle.store_tables.specs.declared.rows.StagedRow.{StagedRow}
 use Rattle.repo_store.specs.AnswerLemmas.{own_key}
 use Rattle.repo_store.specs.Answers.{KeptAnswer}
 use Rattle.repo_store.specs.Complete.{HasRecords, HaveDistinctDigests, HaveRecords, IsAmong}
-use Rattle.repo_store.specs.Index.{blank}
 use Rattle.repo_store.specs.Remembered.{TellsKey}
 use Rattle.repo_store.specs.Rows.{answer_row, mode_number}
 use Rattle.repo_store.specs.SoundAnswers.{IsSoundAnswer}
@@ -79,6 +78,9 @@ code_in (negsuc n) = 0
 abbrev shows : AnswerRow → KeptAnswer → Bool
 shows row answer =
     bytes_eq row.words (sha256 (written_words answer)) && (bytes_eq row.seen (sha256 (written_seen answer)) && (bytes_eq row.output (sha256 answer.output) && (bytes_eq row.changes (sha256 (written_changes answer)) && eqb (code_in row.status) answer.status)))
+
+abbrev blank : KeptAnswer
+blank = record { words = []; seen = []; output = []; changes = []; status = 0 }
 
 -- the first of the answers whose row it is
 abbrev first_shown : List KeptAnswer → AnswerRow → KeptAnswer

@@ -1,5 +1,5 @@
 -- The rows of uses tell the answers in one order alone.
-use Rattle.std.proofs.Common.{◌≡◌, ℕ, ◌<◌, ◌≤◌, pos, Bool, true, is_lt, List, [], ◌∷◌, map, length, IsPermutation, refl, sym, ap, ◌∙◌, arith}
+use Rattle.std.proofs.Common.{◌≡◌, ℕ, pos, Bool, true, is_lt, List, [], ◌∷◌, map, length, refl, sym, ap, ◌∙◌, arith}
 use Rattle.std.specs.List.{AllByRecursion}
 use Rattle.std.specs.Ordering.{int_cmp}
 use Rattle.std.proofs.lemmas.List.Sorted.{IsPermutation-sym, IsPermutation-trans}
@@ -7,7 +7,7 @@ use Rattle.sqlite_trees.specs.Tree.{IsAscending}
 use Rattle.store_tables.specs.declared.rows.UseRow.{UseRow}
 use Rattle.repo_store.specs.Answers.{KeptAnswer}
 use Rattle.repo_store.specs.Index.{Key, key_of}
-use Rattle.repo_store.specs.UsesOf.{AreUsesOf, FallBelow, use_row, use_rows}
+use Rattle.repo_store.specs.UsesOf.{AreUsesOf, FallBelow, use_rows}
 use Rattle.repo_store.proofs.FromRowsLemmas.{pos_less}
 use Rattle.repo_store.proofs.OneLemmas.{numbers_apart, one_order}
 use Rattle.repo_store.proofs.UseLemmas.{fall_higher}

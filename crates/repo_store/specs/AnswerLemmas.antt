@@ -1,19 +1,20 @@
--- Lemmas: which answer is found for words and seen files, and what becomes of that where an answer is remembered.
-use Rattle.std.specs.Prelude.{◌≡◌, ◌↔◌, ℕ, zero, suc, ◌<◌, ◌&&◌, true, false, List, [], ◌∷◌, length, Option, None, Some, if◌then◌else◌, IsPermutation, refl}
+-- Lemmas: which answer is found for words and seen files, and what becomes of that after a use, a new answer or a new limit.
+use Rattle.std.specs.Prelude.{◌≡◌, ◌↔◌, ◌⊎◌, ℕ, zero, suc, ◌<◌, ◌≤◌, ◌&&◌, not, true, false, List, [], ◌∷◌, length, Option, None, Some, if◌then◌else◌, IsPermutation, refl}
 use Rattle.std.specs.Bool.{Decides}
 use Rattle.std.specs.Cmp.Lexicographic.{bytes_decides, pointwise, pointwise_decides}
 use Rattle.std.specs.List.{AllByRecursion, Contains}
 use Rattle.std.specs.Str.{bytes_eq}
-use Rattle.std.proofs.Common.{sym, ap, subst, ◌∙◌, get_or, arith}
+use Rattle.std.proofs.Common.{inl, inr, sym, ap, ap₂, subst, ◌∙◌, get_or, arith}
 use Rattle.std.proofs.lemmas.Bool.{false_from_ne_true}
-use Rattle.std.proofs.lemmas.List.Elements.{All-from_recursion, recursion_from_All}
+use Rattle.std.proofs.lemmas.List.Elements.{All-contains, All-from_recursion, recursion_from_All}
 use Rattle.std.proofs.lemmas.List.Sorted.{All-permutation, Contains-permutation}
+use Rattle.sqlite_keyed.proofs.ListLemmas.{all-filter, ascending-filter}
 use Rattle.hook_base.specs.declared.file.File.{File}
 use Rattle.hook_base.specs.declared.file.Mode.{Mode}
 use Rattle.hook_base.specs.declared.file.Mode.TheVariants.{Plain, Executable}
 use Rattle.hook_base.specs.AlikeLemmas.{and_decides, same_decides}
 use Rattle.repo_store.specs.Answers.{KeptAnswer, HaveOwnKeys, answer_for, have_one_key, is_for, is_same_file, is_same_mode}
-use Rattle.repo_store.specs.Remembering.{with_answer}
+use Rattle.repo_store.specs.UsedAnswers.{in_front, in_front_if_any, used, with_answer_within, within_limit, without_key}
 
 -- ---- whether an answer is that of words and seen files
 
@@ -136,10 +137,11 @@ module _ (words : List (List ℕ)) (seen : List File) where
       ] refl
 
   -- what is remembered for other words or seen files stays
-  pub answer_for_others : (answer : KeptAnswer) (answers : List KeptAnswer) → is_for words seen answer ≡ false → answer_for words seen (with_answer answer answers) ≡ answer_for words seen answers
-  answer_for_others answer [] other = ap (λ b. if b then Some answer else None) other
-  answer_for_others answer (first ∷ rest) other =
-      elim (have_one_key first answer) as (λ b. have_one_key first answer ≡ b → answer_for words seen (if b then answer ∷ rest else first ∷ with_answer answer rest) ≡ (if is_for words seen first then Some first else answer_for words seen rest)) [
+  others_found : (answer : KeptAnswer) (answers : List KeptAnswer) → is_for words seen answer ≡ false → answer_for words seen (without_key answer.words answer.seen answers) ≡ answer_for words seen answers
+  others_found answer [] other = refl
+  others_found answer (first ∷ rest) other =
+      let left = without_key answer.words answer.seen rest in
+      elim (have_one_key first answer) as (λ b. have_one_key first answer ≡ b → answer_for words seen (if not b then first ∷ left else left) ≡ (if is_for words seen first then Some first else answer_for words seen rest)) [
         | true ↦ λ e.
             let same = one_key first answer e in
             let not_first : is_for words seen first ≡ false = false_from_ne_true (is_for words seen first) (λ h.
@@ -147,35 +149,95 @@ module _ (words : List (List ℕ)) (seen : List File) where
             let one : is_for words seen answer ≡ true = (is_for_decides words seen answer).1 (sym same.0 ∙ it.0, sym same.1 ∙ it.1) in
             let never : true ≡ false = sym one ∙ other in
             absurd (cc)) in
-            ap (λ b. if b then Some answer else answer_for words seen rest) other ∙ sym (ap (λ b. if b then Some first else answer_for words seen rest) not_first)
-        | false ↦ λ e. ap (λ (o : Option KeptAnswer). if is_for words seen first then Some first else o) (answer_for_others answer rest other)
+            others_found answer rest other ∙ sym (ap (λ b. if b then Some first else answer_for words seen rest) not_first)
+        | false ↦ λ e. ap (λ (o : Option KeptAnswer). if is_for words seen first then Some first else o) (others_found answer rest other)
       ] refl
 
--- an answer that is remembered is found
-pub answer_for_remembered : (answer : KeptAnswer) (answers : List KeptAnswer) → answer_for answer.words answer.seen (with_answer answer answers) ≡ Some answer
-answer_for_remembered answer [] = ap (λ b. if b then Some answer else None) (is_for_itself answer)
-answer_for_remembered answer (first ∷ rest) =
-    elim (have_one_key first answer) as (λ b. have_one_key first answer ≡ b → answer_for answer.words answer.seen (if b then answer ∷ rest else first ∷ with_answer answer rest) ≡ Some answer) [
-      | true ↦ λ e. ap (λ b. if b then Some answer else answer_for answer.words answer.seen rest) (is_for_itself answer)
-      | false ↦ λ e. ap (λ b. if b then Some first else answer_for answer.words answer.seen (with_answer answer rest)) e ∙ answer_for_remembered answer rest
+  pub answer_for_others : (answer : KeptAnswer) (answers : List KeptAnswer) → is_for words seen answer ≡ false → answer_for words seen (in_front answer answers) ≡ answer_for words seen answers
+  answer_for_others answer answers other = ap (λ b. if b then Some answer else answer_for words seen (without_key answer.words answer.seen answers)) other ∙ others_found answer answers other
+
+  -- within a limit the same answer is found, or none
+  pub answer_for_within : (limit : ℕ) (answers : List KeptAnswer) → (answer_for words seen (within_limit limit answers) ≡ answer_for words seen answers) ⊎ (answer_for words seen (within_limit limit answers) ≡ None)
+  answer_for_within zero answers = inr refl
+  answer_for_within (suc limit) [] = inl refl
+  answer_for_within (suc limit) (first ∷ rest) =
+      elim (is_for words seen first) as (λ b. ((if b then Some first else answer_for words seen (within_limit limit rest)) ≡ (if b then Some first else answer_for words seen rest)) ⊎ ((if b then Some first else answer_for words seen (within_limit limit rest)) ≡ None)) [
+        | true ↦ inl refl
+        | false ↦ answer_for_within limit rest
+      ]
+
+-- a use, be it of this answer or of another, changes nothing of what is found
+pub answer_for_used : (words : List (List ℕ)) (seen : List File) (used_words : List (List ℕ)) (used_seen : List File) (answers : List KeptAnswer) → answer_for words seen (used used_words used_seen answers) ≡ answer_for words seen answers
+answer_for_used words seen used_words used_seen answers =
+    elim (answer_for used_words used_seen answers) as (λ found. answer_for used_words used_seen answers ≡ found → answer_for words seen (in_front_if_any found answers) ≡ answer_for words seen answers) [
+      | None ↦ λ e. refl
+      | Some answer ↦ λ e.
+          elim (is_for words seen answer) as (λ b. is_for words seen answer ≡ b → answer_for words seen (in_front answer answers) ≡ answer_for words seen answers) [
+            | true ↦ λ h.
+                let here = (is_for_decides words seen answer).0 h in
+                let there = (is_for_decides used_words used_seen answer).0 (found_among used_words used_seen answer answers e).1 in
+                let same : answer_for words seen answers ≡ answer_for used_words used_seen answers = ap₂ (λ (w : List (List ℕ)) (s : List File). answer_for w s answers) (sym here.0 ∙ there.0) (sym here.1 ∙ there.1) in
+                ap (λ b. if b then Some answer else answer_for words seen (without_key answer.words answer.seen answers)) h ∙ sym (same ∙ e)
+            | false ↦ λ h. answer_for_others words seen answer answers h
+          ] refl
     ] refl
 
--- ---- what holds of all answers, after one is remembered
+-- an answer that comes to the front is found
+pub answer_for_in_front : (answer : KeptAnswer) (answers : List KeptAnswer) → answer_for answer.words answer.seen (in_front answer answers) ≡ Some answer
+answer_for_in_front answer answers = ap (λ b. if b then Some answer else answer_for answer.words answer.seen (without_key answer.words answer.seen answers)) (is_for_itself answer)
 
-pub all_with : (P : KeptAnswer → Type 0) (answer : KeptAnswer) → P answer → (answers : List KeptAnswer) → AllByRecursion P answers → AllByRecursion P (with_answer answer answers)
-all_with P answer here [] all = (here, tt)
-all_with P answer here (other ∷ others) all =
-    elim (have_one_key other answer) as (λ b. AllByRecursion P (if b then answer ∷ others else other ∷ with_answer answer others)) [ true ↦ (here, all.1) | false ↦ (all.0, all_with P answer here others all.1) ]
+-- and so is one that is remembered
+pub answer_for_remembered : (limit : ℕ) (answer : KeptAnswer) (answers : List KeptAnswer) → 1 ≤ limit → answer_for answer.words answer.seen (with_answer_within limit answer answers) ≡ Some answer
+answer_for_remembered zero answer answers some = absurd (omega arith)
+answer_for_remembered (suc limit) answer answers some = ap (λ b. if b then Some answer else answer_for answer.words answer.seen (within_limit limit (without_key answer.words answer.seen answers))) (is_for_itself answer)
 
-apart_from : (a b : KeptAnswer) → have_one_key a b ≡ true → (answers : List KeptAnswer) → AllByRecursion (λ (c : KeptAnswer). have_one_key a c ≡ false) answers → AllByRecursion (λ (c : KeptAnswer). have_one_key b c ≡ false) answers
-apart_from a b one [] all = tt
-apart_from a b one (c ∷ answers) all = (other_key a b c one all.0, apart_from a b one answers all.1)
+-- ---- what holds of all answers, after a use, a new answer or a new limit
+
+module _ (P : KeptAnswer → Type 0) where
+  pub all_in_front : (answer : KeptAnswer) (answers : List KeptAnswer) → P answer → AllByRecursion P answers → AllByRecursion P (in_front answer answers)
+  all_in_front answer answers here all = (here, all-filter P (λ (other : KeptAnswer). not (is_for answer.words answer.seen other)) answers all)
+
+  pub all_used : (words : List (List ℕ)) (seen : List File) (answers : List KeptAnswer) → AllByRecursion P answers → AllByRecursion P (used words seen answers)
+  all_used words seen answers all =
+      elim (answer_for words seen answers) as (λ found. answer_for words seen answers ≡ found → AllByRecursion P (in_front_if_any found answers)) [
+        | None ↦ λ e. all
+        | Some answer ↦ λ e. all_in_front answer answers (All-contains P answers answer (All-from_recursion P answers all) (found_among words seen answer answers e).0) all
+      ] refl
+
+  pub all_within : (limit : ℕ) (answers : List KeptAnswer) → AllByRecursion P answers → AllByRecursion P (within_limit limit answers)
+  all_within zero answers all = tt
+  all_within (suc limit) [] all = tt
+  all_within (suc limit) (answer ∷ answers) all = (all.0, all_within limit answers all.1)
+
+  pub all_with : (limit : ℕ) (answer : KeptAnswer) (answers : List KeptAnswer) → P answer → AllByRecursion P answers → AllByRecursion P (with_answer_within limit answer answers)
+  all_with limit answer answers here all = all_within limit (in_front answer answers) (all_in_front answer answers here all)
+
+others_apart : (answer : KeptAnswer) (answers : List KeptAnswer) → AllByRecursion (λ (other : KeptAnswer). have_one_key answer other ≡ false) (without_key answer.words answer.seen answers)
+others_apart answer [] = tt
+others_apart answer (other ∷ others) =
+    let left = without_key answer.words answer.seen others in
+    elim (have_one_key other answer) as (λ b. have_one_key other answer ≡ b → AllByRecursion (λ (x : KeptAnswer). have_one_key answer x ≡ false) (if not b then other ∷ left else left)) [
+      | true ↦ λ e. others_apart answer others
+      | false ↦ λ e. (other_key_back other answer e, others_apart answer others)
+    ] refl
 
 -- the keys stay their own
-pub own_keys_with : (answer : KeptAnswer) (answers : List KeptAnswer) → HaveOwnKeys answers → HaveOwnKeys (with_answer answer answers)
-own_keys_with answer [] own = (tt, tt)
-own_keys_with answer (other ∷ others) own =
-    elim (have_one_key other answer) as (λ b. have_one_key other answer ≡ b → HaveOwnKeys (if b then answer ∷ others else other ∷ with_answer answer others)) [
-      | true ↦ λ e. (apart_from other answer e others own.0, own.1)
-      | false ↦ λ e. (all_with (λ (x : KeptAnswer). have_one_key other x ≡ false) answer e others own.0, own_keys_with answer others own.1)
-    ] refl
+pub own_keys_in_front : (answer : KeptAnswer) (answers : List KeptAnswer) → HaveOwnKeys answers → HaveOwnKeys (in_front answer answers)
+own_keys_in_front answer answers own = (others_apart answer answers, ascending-filter (λ (a b : KeptAnswer). have_one_key a b ≡ false) (λ (other : KeptAnswer). not (is_for answer.words answer.seen other)) answers own)
+
+pub own_keys_used : (words : List (List ℕ)) (seen : List File) (answers : List KeptAnswer) → HaveOwnKeys answers → HaveOwnKeys (used words seen answers)
+own_keys_used words seen answers own = elim (answer_for words seen answers) as (λ found. HaveOwnKeys (in_front_if_any found answers)) [ None ↦ own | Some answer ↦ own_keys_in_front answer answers own ]
+
+pub own_keys_within : (limit : ℕ) (answers : List KeptAnswer) → HaveOwnKeys answers → HaveOwnKeys (within_limit limit answers)
+own_keys_within zero answers own = tt
+own_keys_within (suc limit) [] own = tt
+own_keys_within (suc limit) (answer ∷ answers) own = (all_within (λ (other : KeptAnswer). have_one_key answer other ≡ false) limit answers own.0, own_keys_within limit answers own.1)
+
+pub own_keys_with : (limit : ℕ) (answer : KeptAnswer) (answers : List KeptAnswer) → HaveOwnKeys answers → HaveOwnKeys (with_answer_within limit answer answers)
+own_keys_with limit answer answers own = own_keys_within limit (in_front answer answers) (own_keys_in_front answer answers own)
+
+-- no more are left than the limit says
+pub few_within : (limit : ℕ) (answers : List KeptAnswer) → length (within_limit limit answers) ≤ limit
+few_within zero answers = omega arith
+few_within (suc limit) [] = omega arith
+few_within (suc limit) (answer ∷ answers) = let rest = few_within limit answers in omega arith

@@ -1,6 +1,5 @@
--- What a store of version 2 holds: a repository, and the remembered answers as a list with a limit. Nothing but these
--- definitions stands of it yet.
-use Rattle.std.specs.Prelude.{◌≡◌, ◌⊎◌, ℕ, ◌+◌, ◌≤◌, ℤ, pos, List, [], ◌∷◌, length, map, take, codes, IsPermutation}
+-- What a store holds: a repository, and the remembered answers as a list with a limit, the most recently used first.
+use Rattle.std.specs.Prelude.{◌≡◌, ◌⊎◌, ℕ, ◌+◌, ◌≤◌, ℤ, pos, List, [], ◌∷◌, length, map, IsPermutation}
 use Rattle.std.specs.List.{AllByRecursion}
 use Rattle.std.specs.Ordering.{match_ordering}
 use Rattle.std.specs.declared.cmp.Ordering.{Ordering}
@@ -11,44 +10,39 @@ use Rattle.hook_base.specs.Rising.{path_cmp}
 use Rattle.store_tables.specs.declared.rows.AnswerRow.{AnswerRow}
 use Rattle.store_tables.specs.declared.rows.MetaRow.{MetaRow}
 use Rattle.store_tables.specs.declared.rows.UseRow.{UseRow}
-use Rattle.store_tables.specs.Tables.{Tables}
+use Rattle.store_tables.specs.Tables.{Tables, Holds}
 use Rattle.store_tables.specs.Uses.{HoldsRows}
 use Rattle.repo_store.specs.Answers.{KeptAnswer}
 use Rattle.repo_store.specs.Index.{Key, key_of}
 use Rattle.repo_store.specs.Kept.{Kept}
-use Rattle.repo_store.specs.Limits.{first_limit, greatest_limit}
+use Rattle.repo_store.specs.Limits.{IsLimit, first_limit}
 use Rattle.repo_store.specs.RowRules.{AreStoreRows}
-use Rattle.repo_store.specs.Rows.{tables_of}
+use Rattle.repo_store.specs.Rows.{first_tables_of, limit_row, tables_of, version_row}
+use Rattle.repo_store.specs.UsedAnswers.{within_limit}
 use Rattle.repo_store.specs.UsesOf.{AreUsesOf, greatest_tick}
 
-abbrev pub second_version_row : MetaRow
-second_version_row = record { name = codes "version"; value = pos 2 }
-
-abbrev pub limit_row : ℤ → MetaRow
-limit_row limit = record { name = codes "limit"; value = limit }
-
--- the tables of a store that keeps this, but for the uses
-abbrev pub tables_within : Kept → Tables
-tables_within kept = record (tables_of kept) { meta = second_version_row ∷ limit_row (pos kept.limit) ∷ [] }
-
--- The database is a store of version 2 that keeps this, with the answers in their order. The next use gets the tick `next`, unless
--- it is past the greatest.
-pub record HoldsNext (next : ℕ) (db : Database) (kept : Kept) : Type 0 where
+-- The database has these rows, and its uses tell these answers in their order. The next use gets the tick `next`.
+pub record HoldsListed (next : ℕ) (answers : List KeptAnswer) (db : Database) (t : Tables) : Type 0 where
   pub rows : List UseRow
-  pub holds : HoldsRows db (tables_within kept) rows
-  pub uses : AreUsesOf next rows kept.answers
-  pub ticks_fit : next ≤ greatest_tick + 1
+  pub holds : HoldsRows db t rows
+  pub uses : AreUsesOf next rows answers
 
--- The same with some next tick.
-pub record HoldsBounded (db : Database) (kept : Kept) : Type 0 where
+-- the database is a store that keeps this
+abbrev pub HoldsNext : ℕ → Database → Kept → Type 0
+HoldsNext next db kept = HoldsListed next kept.answers db (tables_of kept)
+
+-- The same with some next tick, which is past the greatest at most.
+pub record HoldsStore (db : Database) (kept : Kept) : Type 0 where
   pub next : ℕ
+  pub first : 1 ≤ next
+  pub last : next ≤ greatest_tick + 1
   pub holds : HoldsNext next db kept
 
 -- ---- the rules that its rows obey
 
 -- The rows of `meta`, in whatever order, say that the store is of version 2, and nothing else but, perhaps, its limit.
-abbrev pub AreSecondVersionRows : List MetaRow → Type 0
-AreSecondVersionRows rows = IsPermutation rows (second_version_row ∷ []) ⊎ ((limit : ℤ) × IsPermutation rows (second_version_row ∷ limit_row limit ∷ []))
+abbrev pub AreVersionRows : List MetaRow → Type 0
+AreVersionRows rows = IsPermutation rows (version_row ∷ []) ⊎ ((limit : ℤ) × IsPermutation rows (version_row ∷ limit_row limit ∷ []))
 
 pub record IsTick (number : ℤ) : Type 0 where
   pub tick : ℕ
@@ -62,14 +56,13 @@ key_of_answer row = (row.words, row.seen)
 abbrev pub key_of_use : UseRow → Key
 key_of_use row = (row.words, row.seen)
 
--- The rows are those of a store of version 2.
+-- The rows, and those of the uses, are those of a store.
 pub record AreBoundedRows (t : Tables) (rows : List UseRow) : Type 0 where
   pub store : AreStoreRows t
   -- there is a limit, within its bounds
   pub limit : ℕ
-  pub limited : IsPermutation t.meta (second_version_row ∷ limit_row (pos limit) ∷ [])
-  pub at_least : 1 ≤ limit
-  pub at_most : limit ≤ greatest_limit
+  pub limited : IsPermutation t.meta (version_row ∷ limit_row (pos limit) ∷ [])
+  pub within : IsLimit limit
   -- there are no more answers
   pub few : length t.answers ≤ limit
   -- each answer has a use, and each use an answer
@@ -87,4 +80,14 @@ pub record IsMigrated (answers migrated : List KeptAnswer) : Type 0 where
   pub all : List KeptAnswer
   pub moved : IsPermutation answers all
   pub fall : IsAscending (λ a b. key_cmp (key_of b) (key_of a) ≡ Less) all
-  pub first : migrated ≡ take first_limit all
+  pub first : migrated ≡ within_limit first_limit all
+
+-- The database is a store of version 1, which becomes one that keeps this once it is migrated.
+pub record IsTakenOver (db : Database) (kept : Kept) : Type 0 where
+  pub first : Kept
+  pub holds : Holds db (first_tables_of first)
+  pub obeys : AreStoreRows (first_tables_of first)
+  pub repo : kept.repo ≡ first.repo
+  pub contents : kept.contents ≡ first.contents
+  pub answers : IsMigrated first.answers kept.answers
+  pub limit : kept.limit ≡ first_limit

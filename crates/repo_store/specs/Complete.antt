@@ -1,5 +1,5 @@
 -- What is kept is one complete repository.
-use Rattle.std.specs.Prelude.{◌≡◌, ℕ, ◌<◌, true, List, [], length, slice_index_or, MatchOption, IsPermutation}
+use Rattle.std.specs.Prelude.{◌≡◌, ℕ, ◌<◌, ◌≤◌, true, List, [], length, slice_index_or, MatchOption, IsPermutation}
 use Rattle.std.specs.List.{AllByRecursion}
 use Rattle.sha2.specs.Sha256.{sha256}
 use Rattle.hook_base.specs.declared.file.File.{File}
@@ -7,7 +7,7 @@ use Rattle.hook_base.specs.declared.change.Change.{Change}
 use Rattle.repo_store.specs.Answers.{KeptAnswer, HaveOwnKeys}
 use Rattle.repo_store.specs.Contents.{has_content}
 use Rattle.repo_store.specs.Kept.{Kept}
-use Rattle.repo_store.specs.Limits.{first_limit}
+use Rattle.repo_store.specs.Limits.{IsLimit}
 use Rattle.repo_store.specs.Repository.{Commit}
 use Rattle.repo_store.specs.Sound.{IsSound}
 use Rattle.repo_store.specs.SoundAnswers.{IsSoundAnswer}
@@ -41,7 +41,7 @@ abbrev pub HaveDistinctDigests : List (List ℕ) → Type 0
 HaveDistinctDigests contents = (i j : ℕ) → i < length contents → j < length contents → sha256 (slice_index_or contents i []) ≡ sha256 (slice_index_or contents j []) → i ≡ j
 
 -- The repository and each answer are sound, the contents of each file and fix and of each answer are kept, under a digest of
--- their own, and no two answers have one key.
+-- their own, no two answers have one key, and there are no more of them than the limit says.
 pub record IsComplete (kept : Kept) : Type 0 where
   pub sound : IsSound kept.repo
   pub staged : HaveContents kept.contents kept.repo.staged
@@ -51,12 +51,12 @@ pub record IsComplete (kept : Kept) : Type 0 where
   pub answers : HaveRecords kept.contents kept.answers
   pub keys : HaveOwnKeys kept.answers
   pub apart : HaveDistinctDigests kept.contents
-  -- no other limit can be set yet
-  pub limited : kept.limit ≡ first_limit
+  pub limited : IsLimit kept.limit
+  pub few : length kept.answers ≤ kept.limit
 
--- the same repository and limit, and the same contents and answers in some order
+-- the same repository, the same answers and limit, and the same contents in some order
 pub record AreAlike (a b : Kept) : Type 0 where
   pub repo : a.repo ≡ b.repo
   pub contents : IsPermutation a.contents b.contents
-  pub answers : IsPermutation a.answers b.answers
+  pub answers : a.answers ≡ b.answers
   pub limit : a.limit ≡ b.limit

@@ -1,21 +1,34 @@
 -- Serves private functions only, those of the modules `from_rows` and `table_rows`: the rows that were read, as tables, and
 -- what the files that are added to commits make of them.
-use Rattle.std.specs.Prelude.{◌≡◌, ℕ, zero, suc, true, List, [], ◌∷◌, ◌++◌, IsPermutation}
+use Rattle.std.specs.Prelude.{◌≡◌, ◌≤◌, ℕ, zero, suc, ℤ, pos, negsuc, true, List, [], ◌∷◌, ◌++◌, length, map, Option, None, Some, IsPermutation}
+use Rattle.std.specs.declared.cmp.Ordering.TheVariants.{Less}
 use Rattle.std.specs.List.{AllByRecursion}
 use Rattle.hook_base.specs.declared.file.File.{File}
 use Rattle.hook_base.specs.Trees.{IsRising}
+use Rattle.store_tables.specs.declared.rows.AnswerRow.{AnswerRow}
 use Rattle.store_tables.specs.declared.rows.EntryRow.{EntryRow}
-use Rattle.store_tables.specs.Tables.{Tables, Stored, AreKeyed, blob_cells, staged_cells, fix_cells, commit_cells, entry_cells, answer_cells}
+use Rattle.store_tables.specs.declared.rows.MetaRow.{MetaRow}
+use Rattle.store_tables.specs.declared.rows.UseRow.{UseRow}
+use Rattle.store_tables.specs.Tables.{Tables, Stored, AreKeyed, meta_cells, blob_cells, staged_cells, fix_cells, commit_cells, entry_cells, answer_cells}
 use Rattle.sqlite_trees.specs.Tree.{Trees}
 use Rattle.sqlite_rules.specs.Edit.{have_rowids}
+use Rattle.repo_store.specs.declared.fault.StoreFault.{StoreFault}
+use Rattle.repo_store.specs.declared.fault.StoreFault.TheVariants.{NotAStore, Damaged, Sql, OutOfMemory, Collision, TooLarge, TooMany}
 use Rattle.repo_store.specs.declared.table_rows.StoreRows.{StoreRows}
+use Rattle.repo_store.specs.declared.table_rows.TableRows.{TableRows}
 use Rattle.repo_store.specs.Repository.{Commit}
-use Rattle.repo_store.specs.Rows.{commit_rows, entry_rows, version_row}
+use Rattle.repo_store.specs.Kept.{Kept}
+use Rattle.repo_store.specs.Rows.{commit_rows, entry_rows, limit_row, tables_of, version_row}
+use Rattle.repo_store.specs.Answers.{KeptAnswer}
+use Rattle.repo_store.specs.Bounded.{IsTick, key_cmp, key_of_answer, key_of_use}
+use Rattle.repo_store.specs.Index.{key_of}
+use Rattle.repo_store.specs.Limits.{IsLimit}
+use Rattle.repo_store.specs.RowRules.{AreStoreRows}
 
--- the tables of a store of version 1 with these rows
-abbrev pub rows_in : StoreRows → Tables
-rows_in rows = record {
-  meta = version_row ∷ [];
+-- the tables of a store with these rows, of which `meta` says this
+abbrev pub rows_in : List MetaRow → StoreRows → Tables
+rows_in meta rows = record {
+  meta = meta;
   blobs = rows.blobs.items;
   staged = rows.staged.items;
   fixes = rows.fixes.items;
@@ -35,6 +48,16 @@ pub record AreShown (rows : StoreRows) (trees : Trees) : Type 0 where
   pub entries : Stored entry_cells (1 ∷ 2 ∷ 3 ∷ 4 ∷ []) rows.entries.items (trees 9)
   pub answers : Stored answer_cells (1 ∷ 2 ∷ 3 ∷ 4 ∷ 5 ∷ []) rows.answers.items (trees 11)
   pub answers_keyed : AreKeyed (trees 11)
+
+-- all that it holds in them, with its `meta`
+pub record AreTablesShown (rows : TableRows) (trees : Trees) : Type 0 where
+  pub meta : Stored meta_cells (1 ∷ 2 ∷ []) rows.meta.items (trees 0)
+  pub meta_keyed : AreKeyed (trees 0)
+  pub store : AreShown rows.store trees
+
+-- the tables of what is kept, of which `meta` says this
+abbrev pub tables_with : List MetaRow → Kept → Tables
+tables_with meta kept = record (tables_of kept) { meta = meta }
 
 -- no commit has a file
 abbrev pub AreBare : List Commit → Type 0
@@ -61,3 +84,64 @@ pub record IsSame (t u : Tables) : Type 0 where
   pub commits : IsPermutation t.commits u.commits
   pub entries : IsPermutation t.entries u.entries
   pub answers : IsPermutation t.answers u.answers
+
+-- ---- the limit, and the uses
+
+-- The rows of `meta` tell a limit within its bounds.
+pub record HasLimit (rows : List MetaRow) : Type 0 where
+  pub limit : ℕ
+  pub limited : IsPermutation rows (version_row ∷ limit_row (pos limit) ∷ [])
+  pub within : IsLimit limit
+
+-- Each use has an answer, and each answer a use, with a tick within its bounds.
+pub record AreUsesFor (rows : List UseRow) (answers : List KeptAnswer) : Type 0 where
+  pub keys : IsPermutation (map key_of_use rows) (map key_of answers)
+  pub ticks : AllByRecursion (λ (row : UseRow). IsTick row.tick) rows
+
+-- the tick that a number is, and 0 for one below
+abbrev pub tick_in : ℤ → ℕ
+tick_in (pos n) = n
+tick_in (negsuc n) = 0
+
+abbrev pub tick_of : UseRow → ℕ
+tick_of row = tick_in row.tick
+
+-- no number is below 0
+abbrev pub HaveTicks : List UseRow → Type 0
+HaveTicks rows = AllByRecursion (λ (row : UseRow). row.tick ≡ pos (tick_of row)) rows
+
+-- There are no more answers than before, and where there are as many, they are the same in some order.
+pub record AreMoved (old new : List KeptAnswer) : Type 0 where
+  pub fewer : length new ≤ length old
+  pub moved : length new ≡ length old → IsPermutation new old
+
+-- ---- the order of the answers
+
+-- the key of the first row comes before that of the second
+abbrev pub IsKeyBelow : AnswerRow → AnswerRow → Type 0
+IsKeyBelow row later = key_cmp (key_of_answer row) (key_of_answer later) ≡ Less
+
+-- the key of the row comes after that of the last, if there is one
+abbrev pub FollowsKey : Option AnswerRow → AnswerRow → Type 0
+FollowsKey None row = Unit {0}
+FollowsKey (Some last) row = IsKeyBelow last row
+
+-- ---- which rows are refused
+
+-- The rows, but for `meta`, are those of a store with such a limit.
+pub record AreRowsWithin (limit : ℕ) (rows : StoreRows) (uses : List UseRow) : Type 0 where
+  pub store : AreStoreRows (rows_in [] rows)
+  pub few : length rows.answers.items ≤ limit
+  pub keys : IsPermutation (map key_of_use uses) (map key_of_answer rows.answers.items)
+  pub ticks : AllByRecursion (λ (row : UseRow). IsTick row.tick) uses
+
+-- A refusal of rows: as `NotAStore` only where they aren't of the version, and as `Damaged` only where they are and break a rule.
+-- Nothing is said of when memory or the database refuses.
+abbrev pub AreRefused : Type 0 → Type 0 → StoreFault → Type 0
+AreRefused versioned obeys NotAStore = ¬ versioned
+AreRefused versioned obeys Damaged = versioned × (¬ obeys)
+AreRefused versioned obeys (Sql error) = Unit {0}
+AreRefused versioned obeys OutOfMemory = Unit {0}
+AreRefused versioned obeys Collision = ⊥
+AreRefused versioned obeys TooLarge = ⊥
+AreRefused versioned obeys TooMany = ⊥

@@ -1,4 +1,5 @@
--- Serves private functions only, those of the modules `contents` and `answers`: a map from keys to places in a list.
+-- Serves private functions only, those of the module `contents` and of those that hold answers or their uses: the places of contents
+-- by their digests, and the keys of answers.
 use Rattle.std.specs.Prelude.{◌≡◌, ℕ, ◌<◌, Bool, ◌&&◌, List, [], length, slice_index_or, Some}
 use Rattle.std.specs.Str.{bytes_eq}
 use Rattle.std.specs.HashMap.{HashMap, get}
@@ -24,10 +25,3 @@ keys_eq a b = bytes_eq a.0 b.0 && bytes_eq a.1 b.1
 -- the digests of what is written down of the words and of the files that were seen
 abbrev pub key_of : KeptAnswer → Key
 key_of answer = (sha256 (written_words answer), sha256 (written_seen answer))
-
-abbrev pub blank : KeptAnswer
-blank = record { words = []; seen = []; output = []; changes = []; status = 0 }
-
--- each answer stands at the place of its key
-abbrev pub AreIndexed : {S : Type 0} → HashMap Key ℕ S → List KeptAnswer → Type 0
-AreIndexed = IsIndexedBy keys_eq key_of blank

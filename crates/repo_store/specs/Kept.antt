@@ -10,13 +10,14 @@ use Rattle.hook_base.specs.declared.file.FileEntry.{FileEntry}
 use Rattle.repo_store.specs.Answers.{KeptAnswer, answer_code}
 use Rattle.repo_store.specs.Contents.{with_content, with_changes, Collides}
 use Rattle.repo_store.specs.Limits.{IsSmall, first_limit}
+use Rattle.repo_store.specs.UsedAnswers.{used, within_limit}
 use Rattle.repo_store.specs.Repository.{Commit, Repository, empty, with_staged, without_staged, with_new_commit, accepted, with_fixes, staged_changes}
 
 pub record Kept : Type 0 where
   pub repo : Repository
   -- as they came, the oldest first; the tables don't tell this order
   pub contents : List (List ℕ)
-  -- as they were first put; the tables don't tell this order either
+  -- the most recently used first
   pub answers : List KeptAnswer
   -- how many answers are remembered at most
   pub limit : ℕ
@@ -55,6 +56,14 @@ accepting kept = record kept { repo = accepted kept.repo }
 abbrev pub forgetting : Kept → Kept
 forgetting kept = record kept { answers = [] }
 
+-- the answer to the words and the seen files is used, where there is one
+abbrev pub using : List (List ℕ) → List File → Kept → Kept
+using words seen kept = record kept { answers = used words seen kept.answers }
+
+-- so many answers are remembered at most; those that were used least lately go
+abbrev pub limiting : ℕ → Kept → Kept
+limiting limit kept = record kept { answers = within_limit limit kept.answers; limit = limit }
+
 -- why fixes can't be set: one of them is too large
 abbrev pub HasLarge : List Change → Type 0
 HasLarge fixes = Any (λ (change : Change). MatchOption change.now ⊥ (λ bytes. ¬ IsSmall bytes)) fixes
@@ -81,10 +90,12 @@ kept_code =
     code_by (Repository × (List (List ℕ) × (List KeptAnswer × ℕ))) (coded× repository_code (coded× (coded_list (coded_list coded_ℕ)) (coded× (coded_list answer_code) coded_ℕ))) (λ k. (k.repo, (k.contents, (k.answers, k.limit))))
     (λ p. record { repo = p.0; contents = p.1.0; answers = p.1.1.0; limit = p.1.1.1 }) (λ _. refl)
 
--- What is kept, and whether the lists in memory have room for one more staged file, one more commit and one more answer.
+-- What is kept, whether the lists in memory have room for one more staged file and one more commit, and the tick that the next use
+-- of an answer had when they were read.
 pub record Mirror : Type 0 where
   pub kept : Kept
   pub has_room : Bool
+  pub next : ℕ
 
 abbrev pub mirror_code : Coded Mirror
-mirror_code = code_by (Kept × Bool) (coded× kept_code coded_bool) (λ m. (m.kept, m.has_room)) (λ p. record { kept = p.0; has_room = p.1 }) (λ _. refl)
+mirror_code = code_by (Kept × (Bool × ℕ)) (coded× kept_code (coded× coded_bool coded_ℕ)) (λ m. (m.kept, (m.has_room, m.next))) (λ p. record { kept = p.0; has_room = p.1.0; next = p.1.1 }) (λ _. refl)

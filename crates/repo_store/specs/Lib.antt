@@ -31,6 +31,7 @@ pub mod SharedEdits
 pub mod Shown
 pub mod Sound
 pub mod SoundAnswers
+pub mod Standing
 pub mod Transactions
 pub mod Unfit
 pub mod UsedAnswers

@@ -23,17 +23,17 @@ abbrev pub most_status : ℕ
 most_status = 255
 
 -- the most answers that a store may be told to remember
-abbrev pub greatest_limit : ℕ
-greatest_limit = 100000
+abbrev pub most_answers : ℕ
+most_answers = 100000
+
+-- a store may be told to remember so many answers
+pub record IsLimit (limit : ℕ) : Type 0 where
+  pub at_least : 1 ≤ limit
+  pub at_most : limit ≤ most_answers
 
 -- how many answers a new store remembers
 abbrev pub first_limit : ℕ
 first_limit = 10000
-
--- a store may be told to remember so many answers
-pub record IsLimit (limit : ℕ) : Type 0 where
-  pub least : 1 ≤ limit
-  pub most : limit ≤ greatest_limit
 
 -- the bytes of the paths together
 abbrev pub path_bytes : List File → ℕ

@@ -1,10 +1,11 @@
--- Serves private functions only, those of the module `answer_list`: the answers in memory, the most recently used
--- first.
+-- Serves private functions only, those of the modules `answer_list`, `lists`, `from_rows`, `opening` and `take_over`: the answers in
+-- memory, the most recently used first.
 use Rattle.std.specs.Prelude.{◌≡◌, ℕ, ◌+◌, ◌-◌, ◌^◌, ◌≤◌, Bool, not, List, [], ◌∷◌, filter, length, map, slice_get, Option, None, Some, if◌then◌else◌, option_map, refl}
 use Rattle.std.specs.Coded.{Coded, code_by, coded×, coded_ℕ, coded_list}
 use Rattle.std.specs.Map.{values_of}
 use Rattle.std.specs.Option.{option_map_or}
-use Rattle.repo_store.specs.Answers.{KeptAnswer, answer_code}
+use Rattle.hook_base.specs.declared.file.File.{File}
+use Rattle.repo_store.specs.Answers.{KeptAnswer, answer_code, answer_for}
 use Rattle.repo_store.specs.Index.{Key, key_of, keys_eq}
 use Rattle.repo_store.specs.Limits.{IsLimit}
 use Rattle.repo_store.specs.UsesOf.{greatest_tick}
@@ -16,9 +17,7 @@ pub record ListedAnswers : Type 0 where
   pub next : ℕ
 
 abbrev pub listed_answers_code : Coded ListedAnswers
-listed_answers_code =
-    code_by (List KeptAnswer × (ℕ × ℕ)) (coded× (coded_list answer_code) (coded× coded_ℕ coded_ℕ)) (λ l. (l.answers, (l.limit, l.next)))
-    (λ p. record { answers = p.0; limit = p.1.0; next = p.1.1 }) (λ _. refl)
+listed_answers_code = code_by (List KeptAnswer × (ℕ × ℕ)) (coded× (coded_list answer_code) (coded× coded_ℕ coded_ℕ)) (λ l. (l.answers, (l.limit, l.next))) (λ p. record { answers = p.0; limit = p.1.0; next = p.1.1 }) (λ _. refl)
 
 -- a use may get this tick, or there is none left
 pub record IsNextTick (next : ℕ) : Type 0 where
@@ -48,6 +47,10 @@ first_key answers = option_map key_of (slice_get answers 0)
 
 abbrev pub last_key : List KeptAnswer → Option Key
 last_key answers = option_map key_of (slice_get answers (length answers - 1))
+
+-- there is an answer to the words and the seen files, and this is its key
+abbrev pub HaveAnswer : List (List ℕ) → List File → List KeptAnswer → Key → Type 0
+HaveAnswer words seen answers key = (answer : KeptAnswer) × ((answer_for words seen answers ≡ Some answer) × (key_of answer ≡ key))
 
 -- ---- in memory
 

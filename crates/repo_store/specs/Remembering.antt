@@ -1,31 +1,27 @@
 -- What a store makes of an answer that it is to remember.
-use Rattle.std.specs.Prelude.{◌≡◌, ◌⊎◌, ℕ, true, List, [], ◌∷◌, if◌then◌else◌}
+use Rattle.std.specs.Prelude.{◌≡◌, ◌⊎◌, ℕ, true, List, [], ◌∷◌}
 use Rattle.std.specs.List.{AllByRecursion, Any}
 use Rattle.sha2.specs.Sha256.{sha256}
 use Rattle.hook_base.specs.declared.file.File.{File}
 use Rattle.answer_records.specs.Records.{seen_of_files, seen_record, words_record}
-use Rattle.repo_store.specs.Answers.{KeptAnswer, have_one_key}
+use Rattle.repo_store.specs.Answers.{KeptAnswer}
 use Rattle.repo_store.specs.Contents.{Collides, has_digest, with_content}
 use Rattle.repo_store.specs.Kept.{Kept}
 use Rattle.repo_store.specs.Limits.{IsSmall}
+use Rattle.repo_store.specs.UsedAnswers.{with_answer_within}
 use Rattle.repo_store.specs.WrittenAnswers.{contents_for, contents_of_key}
 use Rattle.store_tables.specs.declared.rows.AnswerRow.{AnswerRow}
 use Rattle.store_tables.specs.Tables as tables
 use Rattle.store_tables.specs.Tables.{Tables, without_answer}
-
--- the answer in place of the one of its key, or behind all where none has it
-abbrev pub with_answer : KeptAnswer → List KeptAnswer → List KeptAnswer
-with_answer answer [] = answer ∷ []
-with_answer answer (other ∷ others) = if have_one_key other answer then answer ∷ others else other ∷ with_answer answer others
 
 -- the contents with all of these among them, kept one after another
 abbrev pub with_contents : List (List ℕ) → List (List ℕ) → List (List ℕ)
 with_contents [] contents = contents
 with_contents (bytes ∷ more) contents = with_contents more (with_content bytes contents)
 
--- an answer is remembered, and its contents are kept
+-- An answer is remembered, in front of the others, and its contents are kept. The last one goes where the limit is passed.
 abbrev pub remembering : KeptAnswer → Kept → Kept
-remembering answer kept = record kept { contents = with_contents (contents_for answer) kept.contents; answers = with_answer answer kept.answers }
+remembering answer kept = record kept { contents = with_contents (contents_for answer) kept.contents; answers = with_answer_within kept.limit answer kept.answers }
 
 -- each of these may be contents
 abbrev pub AreSmall : List (List ℕ) → Type 0

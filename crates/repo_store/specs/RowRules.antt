@@ -16,7 +16,7 @@ use Rattle.store_tables.specs.declared.rows.EntryRow.{EntryRow}
 use Rattle.store_tables.specs.declared.rows.AnswerRow.{AnswerRow}
 use Rattle.store_tables.specs.Tables.{Tables}
 use Rattle.repo_store.specs.Limits.{IsSmall, most_commits, most_files, most_status, most_tree_path_bytes}
-use Rattle.repo_store.specs.Rows.{version_row}
+use Rattle.repo_store.specs.Rows.{first_version_row}
 
 -- ---- single rows
 
@@ -153,7 +153,7 @@ pub record AreCommitRows (rows : List CommitRow) : Type 0 where
   -- the message of each is within its limit
   pub messages_small : AllByRecursion (λ (row : CommitRow). IsSmall row.message) rows
 
--- The rows are those of a store.
+-- The rows are those of a store of version 1, but for what it says of itself, and those of version 2 obey the same rules.
 pub record AreStoreRows (t : Tables) : Type 0 where
   -- each content stands under its own digest
   pub blobs : AllByRecursion IsBlobRow t.blobs
@@ -169,8 +169,5 @@ pub record AreStoreRows (t : Tables) : Type 0 where
   pub answers : AllByRecursion (IsAnswerRow t.blobs) t.answers
 
 -- The rows of `meta`, in whatever order, say that the store is of version 1, and nothing else of it.
-abbrev pub AreVersionRows : List MetaRow → Type 0
-AreVersionRows rows = IsPermutation rows (version_row ∷ [])
-
-abbrev pub IsVersioned : Tables → Type 0
-IsVersioned t = AreVersionRows t.meta
+abbrev pub AreFirstVersionRows : List MetaRow → Type 0
+AreFirstVersionRows rows = IsPermutation rows (first_version_row ∷ [])

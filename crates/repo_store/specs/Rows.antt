@@ -1,6 +1,6 @@
 -- How a repository and the answers that are remembered stand in the tables of a store: each content once, under the SHA-256 of
 -- its bytes.
-use Rattle.std.specs.Prelude.{ℕ, ◌+◌, pos, List, [], ◌∷◌, ◌++◌, map, codes, Option, None, Some}
+use Rattle.std.specs.Prelude.{ℕ, ◌+◌, ℤ, pos, List, [], ◌∷◌, ◌++◌, map, codes, Option, None, Some}
 use Rattle.sha2.specs.Sha256.{sha256}
 use Rattle.hook_base.specs.declared.file.File.{File}
 use Rattle.hook_base.specs.declared.file.Mode.{Mode}
@@ -23,8 +23,15 @@ abbrev pub mode_number : Mode → ℕ
 mode_number Plain = 0
 mode_number Executable = 1
 
+-- what `meta` says of a store of version 1
+abbrev pub first_version_row : MetaRow
+first_version_row = record { name = codes "version"; value = pos 1 }
+
 abbrev pub version_row : MetaRow
-version_row = record { name = codes "version"; value = pos 1 }
+version_row = record { name = codes "version"; value = pos 2 }
+
+abbrev pub limit_row : ℤ → MetaRow
+limit_row limit = record { name = codes "limit"; value = limit }
 
 abbrev pub blob_row : List ℕ → BlobRow
 blob_row bytes = record { digest = sha256 bytes; bytes = bytes }
@@ -63,10 +70,10 @@ answer_row answer = record {
   status = pos answer.status;
 }
 
--- the tables of a store that keeps this
+-- the tables of a store that keeps this, but for the uses, which tell the order of the answers
 abbrev pub tables_of : Kept → Tables
 tables_of kept = record {
-  meta = version_row ∷ [];
+  meta = version_row ∷ limit_row (pos kept.limit) ∷ [];
   blobs = map blob_row kept.contents;
   staged = map staged_row kept.repo.staged;
   fixes = map fix_row kept.repo.fixes;
@@ -74,6 +81,10 @@ tables_of kept = record {
   entries = entry_rows 1 kept.repo.history;
   answers = map answer_row kept.answers;
 }
+
+-- those of a store of version 1
+abbrev pub first_tables_of : Kept → Tables
+first_tables_of kept = record (tables_of kept) { meta = first_version_row ∷ [] }
 
 -- contents more, which the table lacks
 abbrev pub with_blobs : List (List ℕ) → Tables → Tables

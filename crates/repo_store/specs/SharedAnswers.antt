@@ -1,5 +1,5 @@
--- Serves private functions only, those of the modules `shared_answer`, `answers`, `answer_contents` and `from_rows`: an answer in
--- memory.
+-- Serves private functions only, those of the modules `shared_answer`, `answer_list`, `answer_contents` and `from_rows`: an
+-- answer in memory.
 use Rattle.std.specs.Prelude.{◌≡◌, ℕ, List, [], ◌∷◌, map}
 use Rattle.answer_records.specs.Records.{changed_of_changes, changes_record, seen_of_files, seen_record, words_record}
 use Rattle.repo_store.specs.Shared.{FileParts}

@@ -1,23 +1,27 @@
 -- What contracts see of a store.
-use Rattle.std.specs.Prelude.{◌≡◌, false, IsTrue, Result, OnOk, refl}
-use Rattle.std.specs.Coded.{Coded, code_by, coded×}
+use Rattle.std.specs.Prelude.{◌≡◌, ◌⊎◌, ℕ, false, IsTrue, Result, OnOk, refl}
+use Rattle.std.specs.Coded.{Coded, code_by, coded×, coded_ℕ}
 use Rattle.sqlite_trees.specs.declared.store.Store.{Ghosts}
 use Rattle.sqlite_trees.specs.Tree.{Trees}
 use Rattle.sqlite.specs.Held.{Held, held_code, state}
 use Rattle.sqlite.specs.State.{HasCleanDisk, Survives}
-use Rattle.store_tables.specs.Tables.{Holds, with_schema}
+use Rattle.store_tables.specs.Uses.{as_store}
+use Rattle.repo_store.specs.declared.fault.StoreFault.{StoreFault}
+use Rattle.repo_store.specs.Bounded.{HoldsStore, IsTakenOver}
+use Rattle.sqlite.specs.Effect.{Database}
 use Rattle.repo_store.specs.Complete.{IsComplete}
 use Rattle.repo_store.specs.Kept.{Kept, kept_code}
 use Rattle.repo_store.specs.Rows.{tables_of}
 use Rattle.repo_store.specs.RowRules.{AreStoreRows}
 
--- the connection, and what it keeps
+-- the connection, what it keeps, and the tick that the next use of an answer gets
 pub record Shown (S : Type 0) : Type 0 where
   pub conn : Held S
   pub kept : Kept
+  pub next : ℕ
 
 abbrev pub shown_code : {S : Type 0} → Coded S → Coded (Shown S)
-shown_code {S} store = code_by (Held S × Kept) (coded× (held_code store) kept_code) (λ s. (s.conn, s.kept)) (λ p. record { conn = p.0; kept = p.1 }) (λ _. refl)
+shown_code {S} store = code_by (Held S × (Kept × ℕ)) (coded× (held_code store) (coded× kept_code coded_ℕ)) (λ s. (s.conn, (s.kept, s.next))) (λ p. record { conn = p.0; kept = p.1.0; next = p.1.1 }) (λ _. refl)
 
 -- What is kept is one complete repository, and its rows obey the rules by which a store is opened. While the connection is
 -- open, it stands in its tables, and is committed.
@@ -25,13 +29,13 @@ pub record Stands {S : Type 0} (g : Ghosts S) (conn : Held S) (kept : Kept) : Ty
   pub outside : conn.in_transaction ≡ false
   pub complete : IsComplete kept
   pub obeys : AreStoreRows (tables_of kept)
-  pub now : IsTrue (state g conn).is_open → Holds (state g conn).now (tables_of kept)
-  pub committed : IsTrue (state g conn).is_open → Holds (state g conn).committed (tables_of kept)
+  pub now : IsTrue (state g conn).is_open → HoldsStore (state g conn).now kept
+  pub committed : IsTrue (state g conn).is_open → HoldsStore (state g conn).committed kept
 
 -- Opened again, the trees are a store that keeps this, one complete repository, in rows that obey the rules by which it is
 -- opened.
 pub record Leaves (kept : Kept) (trees : Trees) : Type 0 where
-  pub holds : Holds (with_schema trees) (tables_of kept)
+  pub holds : HoldsStore (as_store trees) kept
   pub complete : IsComplete kept
   pub obeys : AreStoreRows (tables_of kept)
 
@@ -49,3 +53,24 @@ pub record IsOneTransaction {S A E : Type 0} (g : Ghosts S) (old new : Shown S) 
   pub durable : OnOk result (LeavesOnly g new.conn after)
   pub shut : (state g old.conn).is_open ≡ false → Survives (state g old.conn) (state g new.conn) (λ _. ⊥)
   pub opened : HasCleanDisk (state g new.conn) → OnOk result (IsTrue (state g new.conn).is_open)
+
+-- Where no tick is left for a use, the uses are numbered anew. That is a transaction of its own, which changes nothing of what is
+-- kept.
+pub record IsNumberedAnew {S : Type 0} (g : Ghosts S) (old new : Shown S) : Type 0 where
+  pub stood : Stands g old.conn old.kept
+  pub same : new.kept ≡ old.kept
+  pub result : Result (Unit {0}) StoreFault
+  pub transaction : IsOneTransaction g old new result old.kept
+
+-- A call that uses an answer, or puts one, makes of the store what is kept after it in one transaction. The uses may be numbered
+-- anew before it.
+pub record IsOneUse {S A E : Type 0} (g : Ghosts S) (old new : Shown S) (result : Result A E) (after : Kept) : Type 0 where
+  pub between : Shown S
+  pub numbered : (between ≡ old) ⊎ IsNumberedAnew g old between
+  pub transaction : IsOneTransaction g between new result after
+
+-- Opened again, the trees are a store that was of version 1 in this database, and is migrated.
+pub record TakesOver (db : Database) (trees : Trees) : Type 0 where
+  pub kept : Kept
+  pub taken : IsTakenOver db kept
+  pub leaves : Leaves kept trees

@@ -1,12 +1,11 @@
--- Serves private functions only, those of the modules `create`, `stage`, `unstage`, `fixes`, `accept`, `commit` and
--- `blobs`: what a call makes of a connection is one transaction.
+-- Serves private functions only, those of the modules `create`, `stage`, `unstage`, `fixes`, `accept`, `commit`, `blobs`,
+-- `remember`, `forget`, `uses` and `migrate`: what a call makes of a connection is one transaction.
 use Rattle.std.specs.Prelude.{◌≡◌, false, Result, OnOk, OnErr, IsTrue}
 use Rattle.sqlite_trees.specs.declared.store.Store.{Ghosts}
-use Rattle.sqlite.specs.declared.error.Error.{Error}
 use Rattle.sqlite.specs.Effect.{Database}
 use Rattle.sqlite.specs.Held.{Held, state}
 use Rattle.sqlite.specs.State.{State, HasCleanDisk, Survives}
-use Rattle.store_tables.specs.Tables.{with_schema}
+use Rattle.store_tables.specs.Uses.{as_store}
 use Rattle.repo_store.specs.Calls.{Rests}
 
 -- the connection is open, and shows and has committed a database with P
@@ -17,8 +16,8 @@ pub record Commits (s : State) (P : Database → Type 0) : Type 0 where
 
 -- A whole call outside a transaction: from a database with Before, at `Ok` one with After is committed, and otherwise
 -- the last commit stands. A crash leaves what it could leave before, or the trees of a database with After.
-pub record IsCall {S A : Type 0} (g : Ghosts S) (old new : Held S) (result : Result A Error) (Before After : Database → Type 0) : Type 0 where
+pub record IsCall {S A E : Type 0} (g : Ghosts S) (old new : Held S) (result : Result A E) (Before After : Database → Type 0) : Type 0 where
   pub outside : new.in_transaction ≡ false
   pub done : HasCleanDisk (state g new) → (IsTrue (state g old).is_open → Before (state g old).now) → OnOk result (Commits (state g new) After)
   pub kept : OnErr result (Rests (state g old) (state g new))
-  pub survives : (IsTrue (state g old).is_open → Before (state g old).now) → Survives (state g old) (state g new) (λ trees. After (with_schema trees))
+  pub survives : (IsTrue (state g old).is_open → Before (state g old).now) → Survives (state g old) (state g new) (λ trees. After (as_store trees))

@@ -1,5 +1,5 @@
 -- The remembered answers as a list with a limit, the most recently used first: what a use, a new answer and a new limit make
--- of it. It serves version 2 of a store, of which nothing else stands yet.
+-- of it.
 use Rattle.std.specs.Prelude.{ℕ, not, List, ◌∷◌, filter, take, Option, None, Some}
 use Rattle.hook_base.specs.declared.file.File.{File}
 use Rattle.repo_store.specs.Answers.{KeptAnswer, answer_for, is_for}

@@ -1,9 +1,13 @@
--- How the order of the remembered answers stands in the table of uses: a row for each, whose ticks fall. It serves version 2 of
--- a store, of which nothing else stands yet.
-use Rattle.std.specs.Prelude.{◌≡◌, ℕ, zero, suc, ◌^◌, ◌<◌, ◌≤◌, pos, List, [], ◌∷◌, length, IsPermutation}
+-- How the order of the remembered answers stands in the table of uses: a row for each, whose ticks fall.
+use Rattle.std.specs.Prelude.{◌≡◌, ℕ, zero, suc, ◌^◌, ◌<◌, ◌≤◌, pos, false, List, [], ◌∷◌, ◌++◌, length, IsPermutation}
+use Rattle.std.specs.List.{AllByRecursion}
 use Rattle.sha2.specs.Sha256.{sha256}
 use Rattle.store_tables.specs.declared.rows.UseRow.{UseRow}
-use Rattle.repo_store.specs.Answers.{KeptAnswer}
+use Rattle.store_tables.specs.Tables.{Tables, without_answer}
+use Rattle.store_tables.specs.Uses.{without_use}
+use Rattle.repo_store.specs.Answers.{HaveOwnKeys, KeptAnswer, have_one_key}
+use Rattle.repo_store.specs.Index.{Key}
+use Rattle.repo_store.specs.Remembered.{TellsKey}
 use Rattle.repo_store.specs.WrittenAnswers.{written_seen, written_words}
 
 -- ticks are from 1 to this
@@ -35,3 +39,32 @@ pub record AreUsesOf (next : ℕ) (rows : List UseRow) (answers : List KeptAnswe
 abbrev pub ticks_from : ℕ → List ℕ
 ticks_from zero = []
 ticks_from (suc count) = suc count ∷ ticks_from count
+
+-- the uses of these keys, the most recently used first, once they are numbered anew
+abbrev pub key_rows : List Key → List UseRow
+key_rows [] = []
+key_rows (key ∷ keys) = record { words = key.0; seen = key.1; tick = pos (length (key ∷ keys)) } ∷ key_rows keys
+
+-- ---- keys of answers
+
+-- the digests of the key of each of these answers tell it among all
+abbrev pub TellTheirKeys : List KeptAnswer → List KeptAnswer → Type 0
+TellTheirKeys all answers = AllByRecursion (λ (answer : KeptAnswer). AllByRecursion (TellsKey answer) all) answers
+
+-- An answer, whose key none has, comes in place of the last one.
+pub record TakesPlace (answer last : KeptAnswer) (front : List KeptAnswer) : Type 0 where
+  pub own : HaveOwnKeys (front ++ last ∷ [])
+  pub tells : AllByRecursion (TellsKey answer) (front ++ last ∷ [])
+  pub last_tells : AllByRecursion (TellsKey last) (front ++ last ∷ [])
+  pub absent : AllByRecursion (λ (other : KeptAnswer). have_one_key other answer ≡ false) (front ++ last ∷ [])
+
+-- ---- the answers of some keys taken out, one after another
+
+abbrev pub without_all : List Key → Tables → Tables
+without_all [] t = t
+without_all (key ∷ keys) t = without_all keys (without_answer key.0 key.1 t)
+
+-- and their uses
+abbrev pub without_uses_of : List Key → List UseRow → List UseRow
+without_uses_of [] rows = rows
+without_uses_of (key ∷ keys) rows = without_uses_of keys (without_use key.0 key.1 rows)

@@ -1,10 +1,12 @@
 //! The tables when the fixes are accepted: one transaction, in which the rows of the fixed files alone are written.
 
-ghost use Rattle.std.specs.Prelude.{◌≡◌, false, map};
+ghost use Rattle.std.specs.Prelude.{◌≡◌, ℕ, List, false, map};
 ghost use Rattle.hook_base.specs.Trees.{IsRising};
 ghost use Rattle.store_tables.specs.Steps.{IsStep};
-ghost use Rattle.store_tables.specs.Tables.{Tables, Holds, without_fixes};
+ghost use Rattle.store_tables.specs.Tables.{Tables, without_fixes};
 ghost use Rattle.repo_store.specs.Accepted.{all_rewritten, rewritten};
+ghost use Rattle.repo_store.specs.Answers.{KeptAnswer};
+ghost use Rattle.repo_store.specs.Bounded.{HoldsListed};
 ghost use Rattle.repo_store.specs.Transactions.{IsCall};
 ghost use Rattle.repo_store.specs.Lists.{file_of, fix_of};
 ghost use Rattle.repo_store.specs.Rows.{with_staged_rows};
@@ -63,7 +65,7 @@ pub(crate) fn accept_rows<S: Alter>(
 ) -> Result<(), Error>
     requires outside { conn.old.in_transaction ≡ false }
     requires rising { IsRising (map file_of files.now) }
-    ensures { (t : Tables) → IsCall S.Store conn.old conn.new result (λ db. Holds db t) (λ db. Holds db (with_staged_rows (all_rewritten (map file_of files.now) (map fix_of fixes.now) t.staged) (without_fixes t))) }
+    ensures { (t : Tables) (next : ℕ) (answers : List KeptAnswer) → IsCall S.Store conn.old conn.new result (λ db. HoldsListed next answers db t) (λ db. HoldsListed next answers db (with_staged_rows (all_rewritten (map file_of files.now) (map fix_of fixes.now) t.staged) (without_fixes t))) }
 {
     let mut tx = conn.transaction();
     accept_in(&mut tx, fixes, files)?;

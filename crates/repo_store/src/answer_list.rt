@@ -1,13 +1,13 @@
-//! The answers that are remembered as a list with a limit, the most recently used first. Nothing calls it yet.
+//! The answers that are remembered as a list with a limit, the most recently used first.
 
-ghost use Rattle.std.specs.Prelude.{◌≡◌, ◌↔◌, ◌+◌, ◌-◌, ◌≤◌, ◌∷◌, [], Some, IsTrue, length, take, drop, map, reverse, IfErr, IfNone, IfOk, IfSome, OnErr, OnOk};
+ghost use Rattle.std.specs.Prelude.{◌≡◌, ◌≢◌, slice_get, ◌↔◌, ℕ, ◌+◌, ◌-◌, ◌<◌, ◌≤◌, ◌^◌, List, ◌∷◌, [], Some, IsTrue, length, take, drop, map, reverse, IfErr, IfNone, IfOk, IfSome, OnErr, OnOk};
 ghost use Rattle.std.specs.List.{AllByRecursion, Any, Contains};
 ghost use Rattle.repo_store.specs.Answers.{HaveOwnKeys, KeptAnswer};
 ghost use Rattle.repo_store.specs.Faults.{IsDamage};
 ghost use Rattle.repo_store.specs.Index as spec;
 ghost use Rattle.repo_store.specs.Limits.{IsLimit};
 ghost use Rattle.repo_store.specs.ListedAnswers as listed;
-ghost use Rattle.repo_store.specs.ListedAnswers.{IsNextTick, brought};
+ghost use Rattle.repo_store.specs.ListedAnswers.{IsNextTick, ListedAnswers, brought};
 ghost use Rattle.repo_store.specs.Remembered.{TellsKey};
 ghost use Rattle.repo_store.specs.UsedAnswers.{in_front};
 ghost use Rattle.repo_store.specs.UsesOf.{greatest_tick};
@@ -108,6 +108,14 @@ impl AnswerList {
             Some((key, _answer)) => Some(*key),
             None => None,
         }
+    }
+
+    /// The first answer. There must be one.
+    pub(crate) fn newest(&self) -> &SharedAnswer
+        requires { self.now.answers ≢ [] }
+        ensures { slice_get self.now.answers 0 ≡ Some result.now }
+    {
+        self.cache.peek_mru().unwrap().1
     }
 
     /// Puts an answer, whose key none has, in front of the others.

@@ -22,6 +22,14 @@ use hook_base::{Bytes, Changes, File, OutOfMemory, Text, Tree};
 use sha2::{Digest as _, Sha256};
 use std::alloc::Global;
 
+/// A copy of an answer that was looked for, with the digests of its key.
+#[derive(Drop)]
+pub(crate) struct FoundAnswer {
+    pub(crate) answer: StoredAnswer,
+    pub(crate) words: [u8; 32],
+    pub(crate) seen: [u8; 32],
+}
+
 // The digest of bytes, if they are kept.
 fn known_digest(contents: &Contents, bytes: &[u8]) -> Result<Option<[u8; 32]>, StoreFault>
     ensures digest { IfOk result (λ found. IfSome found (λ digest. digest ≡ sha256 bytes.now)) }

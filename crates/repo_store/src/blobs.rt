@@ -1,8 +1,10 @@
 //! Contents in the tables.
 
-ghost use Rattle.std.specs.Prelude.{◌≡◌, false};
+ghost use Rattle.std.specs.Prelude.{◌≡◌, ℕ, List, false};
 ghost use Rattle.store_tables.specs.Steps.{IsStep};
-ghost use Rattle.store_tables.specs.Tables.{Tables, Holds};
+ghost use Rattle.store_tables.specs.Tables.{Tables};
+ghost use Rattle.repo_store.specs.Answers.{KeptAnswer};
+ghost use Rattle.repo_store.specs.Bounded.{HoldsListed};
 ghost use Rattle.repo_store.specs.Transactions.{IsCall};
 ghost use Rattle.repo_store.specs.Rows.{with_blobs};
 
@@ -25,7 +27,7 @@ pub(crate) fn keep_in<S: Alter>(tx: &mut Transaction<'_, S>, news: &[Content]) -
 /// Keeps contents that the table lacks, in one transaction.
 pub(crate) fn keep_rows<S: Alter>(conn: &mut Connection<S>, news: &[Content]) -> Result<(), Error>
     requires { conn.old.in_transaction ≡ false }
-    ensures { (t : Tables) → IsCall S.Store conn.old conn.new result (λ db. Holds db t) (λ db. Holds db (with_blobs news.now t)) }
+    ensures { (t : Tables) (next : ℕ) (answers : List KeptAnswer) → IsCall S.Store conn.old conn.new result (λ db. HoldsListed next answers db t) (λ db. HoldsListed next answers db (with_blobs news.now t)) }
 {
     let mut tx = conn.transaction();
     keep_in(&mut tx, news)?;

@@ -1,8 +1,10 @@
 //! A commit in the tables: one transaction.
 
-ghost use Rattle.std.specs.Prelude.{◌≡◌, false, map, pos};
+ghost use Rattle.std.specs.Prelude.{◌≡◌, ℕ, List, false, map, pos};
 ghost use Rattle.store_tables.specs.Steps.{IsStep};
-ghost use Rattle.store_tables.specs.Tables.{Tables, Holds, with_commit, without_fixes};
+ghost use Rattle.store_tables.specs.Tables.{Tables, with_commit, without_fixes};
+ghost use Rattle.repo_store.specs.Answers.{KeptAnswer};
+ghost use Rattle.repo_store.specs.Bounded.{HoldsListed};
 ghost use Rattle.repo_store.specs.Transactions.{IsCall};
 ghost use Rattle.repo_store.specs.Lists.{file_of};
 ghost use Rattle.repo_store.specs.Rows.{entry_row, with_entries};
@@ -53,7 +55,7 @@ pub(crate) fn commit_rows<S: Alter>(
     commit: &SharedCommit,
 ) -> Result<(), Error>
     requires { conn.old.in_transaction ≡ false }
-    ensures { (t : Tables) → IsCall S.Store conn.old conn.new result (λ db. Holds db t) (λ db. Holds db (without_fixes (with_entries (map (entry_row n) (map file_of commit.now.files.items)) (with_commit (record { n = pos n; message = commit.now.message }) t)))) }
+    ensures { (t : Tables) (next : ℕ) (answers : List KeptAnswer) → IsCall S.Store conn.old conn.new result (λ db. HoldsListed next answers db t) (λ db. HoldsListed next answers db (without_fixes (with_entries (map (entry_row n) (map file_of commit.now.files.items)) (with_commit (record { n = pos n; message = commit.now.message }) t)))) }
 {
     let mut tx = conn.transaction();
     commit_in(&mut tx, n, commit)?;

@@ -3,26 +3,29 @@
 ghost use Rattle.std.specs.Prelude.{◌≡◌, [], false, IsTrue};
 ghost use Rattle.store_tables.specs.Schema.{no_schema};
 ghost use Rattle.store_tables.specs.Steps.{IsMade};
-ghost use Rattle.store_tables.specs.Tables.{IsBare, Holds};
+ghost use Rattle.store_tables.specs.Tables.{IsBare};
+ghost use Rattle.repo_store.specs.Bounded.{HoldsNext};
 ghost use Rattle.repo_store.specs.Transactions.{IsCall};
 ghost use Rattle.repo_store.specs.Kept.{nothing_kept};
-ghost use Rattle.repo_store.specs.Rows.{tables_of};
 ghost use Rattle.sqlite.specs.Held.{state};
 
+use crate::limits::FIRST_LIMIT;
 use sqlite::{Alter, Connection, Error, Transaction};
-use store_tables::{make_tables, put_meta};
+use store_tables::{make_tables, make_uses, put_meta};
 
 fn make_in<S: Alter>(tx: &mut Transaction<'_, S>) -> Result<(), Error>
     ensures same_reference { tx.new.conn.ghost_name ≡ tx.old.conn.ghost_name }
-    ensures made { IsMade S.Store tx.old.conn.now tx.new.conn.now result (IsBare no_schema) (λ db. Holds db (tables_of nothing_kept)) }
+    ensures made { IsMade S.Store tx.old.conn.now tx.new.conn.now result (IsBare no_schema) (λ db. HoldsNext 1 db nothing_kept) }
 {
     make_tables(tx)?;
-    put_meta(tx, "version", 1)
+    make_uses(tx)?;
+    put_meta(tx, "limit", FIRST_LIMIT)?;
+    put_meta(tx, "version", 2)
 }
 
 pub(crate) fn make<S: Alter>(conn: &mut Connection<S>) -> Result<(), Error>
     requires { conn.old.in_transaction ≡ false }
-    ensures { IsCall S.Store conn.old conn.new result (IsBare no_schema) (λ db. Holds db (tables_of nothing_kept)) }
+    ensures { IsCall S.Store conn.old conn.new result (IsBare no_schema) (λ db. HoldsNext 1 db nothing_kept) }
 {
     let mut tx = conn.transaction();
     make_in(&mut tx)?;

@@ -1,10 +1,12 @@
 //! Several changes of the staged files in the tables: one transaction.
 
-ghost use Rattle.std.specs.Prelude.{◌≡◌, false, map};
+ghost use Rattle.std.specs.Prelude.{◌≡◌, ℕ, List, false, map};
 ghost use Rattle.store_tables.specs.Steps.{IsStep};
-ghost use Rattle.store_tables.specs.Tables.{Tables, Holds, without_fixes};
+ghost use Rattle.store_tables.specs.Tables.{Tables, without_fixes};
 ghost use Rattle.repo_store.specs.Rows.{with_blobs, with_staged_rows};
 ghost use Rattle.repo_store.specs.SharedEdits.{all_rows, edit_of, edited_rows};
+ghost use Rattle.repo_store.specs.Answers.{KeptAnswer};
+ghost use Rattle.repo_store.specs.Bounded.{HoldsListed};
 ghost use Rattle.repo_store.specs.Transactions.{IsCall};
 
 use crate::blobs::keep_in;
@@ -54,7 +56,7 @@ pub(crate) fn edit_rows<S: Alter>(
     edits: &[SharedEdit],
 ) -> Result<(), Error>
     requires { conn.old.in_transaction ≡ false }
-    ensures { (t : Tables) → IsCall S.Store conn.old conn.new result (λ db. Holds db t) (λ db. Holds db (with_staged_rows (all_rows (map edit_of edits.now) t.staged) (without_fixes (with_blobs news.now t)))) }
+    ensures { (t : Tables) (next : ℕ) (answers : List KeptAnswer) → IsCall S.Store conn.old conn.new result (λ db. HoldsListed next answers db t) (λ db. HoldsListed next answers db (with_staged_rows (all_rows (map edit_of edits.now) t.staged) (without_fixes (with_blobs news.now t)))) }
 {
     let mut tx = conn.transaction();
     edit_in(&mut tx, news, edits)?;

@@ -10,8 +10,8 @@ use thiserror::Error;
 /// is open. Where a fault of the disk has shut it, and after a crash, the file holds what stood before or all of the change.
 #[derive(Clone, Copy, Debug, PartialEq, Eq, Error)]
 pub enum StoreFault {
-    /// The database that is opened has no store in it, or one of another version.
-    #[error("the database holds no store of this version")]
+    /// The database that is opened has no store in it, or one of a version that isn't known.
+    #[error("the database holds no store of a version that is known")]
     NotAStore,
     /// The tables of the database that is opened hold what no store holds.
     #[error("the store is damaged")]

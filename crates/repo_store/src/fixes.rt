@@ -1,8 +1,10 @@
 //! The fixes in the tables: one transaction.
 
-ghost use Rattle.std.specs.Prelude.{◌≡◌, [], false, map, IsTrue};
+ghost use Rattle.std.specs.Prelude.{◌≡◌, ℕ, List, [], false, map, IsTrue};
 ghost use Rattle.store_tables.specs.Steps.{IsStep};
-ghost use Rattle.store_tables.specs.Tables.{Tables, Holds, with_fix};
+ghost use Rattle.store_tables.specs.Tables.{Tables, with_fix};
+ghost use Rattle.repo_store.specs.Answers.{KeptAnswer};
+ghost use Rattle.repo_store.specs.Bounded.{HoldsListed};
 ghost use Rattle.repo_store.specs.Transactions.{IsCall};
 ghost use Rattle.repo_store.specs.Lists.{fix_of};
 ghost use Rattle.repo_store.specs.Rows.{fix_row, with_blobs, with_fix_rows};
@@ -58,7 +60,7 @@ pub(crate) fn set_rows<S: Alter>(
     were_none: bool,
 ) -> Result<(), Error>
     requires { conn.old.in_transaction ≡ false }
-    ensures { (t : Tables) → (IsTrue were_none → t.fixes ≡ []) → IsCall S.Store conn.old conn.new result (λ db. Holds db t) (λ db. Holds db (with_fix_rows (map fix_row (map fix_of fixes.now)) (with_blobs news.now t))) }
+    ensures { (t : Tables) (next : ℕ) (answers : List KeptAnswer) → (IsTrue were_none → t.fixes ≡ []) → IsCall S.Store conn.old conn.new result (λ db. HoldsListed next answers db t) (λ db. HoldsListed next answers db (with_fix_rows (map fix_row (map fix_of fixes.now)) (with_blobs news.now t))) }
 {
     if were_none && fixes.is_empty() {
         return keep_rows(conn, news);
@@ -73,7 +75,7 @@ fn replace_rows<S: Alter>(
     fixes: &[SharedFix],
 ) -> Result<(), Error>
     requires { conn.old.in_transaction ≡ false }
-    ensures { (t : Tables) → IsCall S.Store conn.old conn.new result (λ db. Holds db t) (λ db. Holds db (with_fix_rows (map fix_row (map fix_of fixes.now)) (with_blobs news.now t))) }
+    ensures { (t : Tables) (next : ℕ) (answers : List KeptAnswer) → IsCall S.Store conn.old conn.new result (λ db. HoldsListed next answers db t) (λ db. HoldsListed next answers db (with_fix_rows (map fix_row (map fix_of fixes.now)) (with_blobs news.now t))) }
 {
     let mut tx = conn.transaction();
     set_in(&mut tx, news, fixes)?;

@@ -4,34 +4,39 @@
 ghost use Rattle.std.specs.Prelude.{◌≡◌};
 ghost use Rattle.sqlite.specs.Effect.{Database};
 ghost use Rattle.sqlite_trees.specs.Tree.{Trees};
-ghost use Rattle.store_tables.specs.Tables.{Holds, with_schema};
+ghost use Rattle.store_tables.specs.Uses.{as_store};
+ghost use Rattle.repo_store.specs.Bounded.{HoldsStore};
 ghost use Rattle.repo_store.specs.Complete.{AreAlike, IsComplete};
 ghost use Rattle.repo_store.specs.declared.fault.StoreFault.{StoreFault};
 ghost use Rattle.repo_store.specs.declared.fault.StoreFault.TheVariants.{Damaged, NotAStore};
 ghost use Rattle.repo_store.specs.Faults.{IsRefusal};
 ghost use Rattle.repo_store.specs.Kept.{Kept, nothing_kept};
-ghost use Rattle.repo_store.specs.Limits.{most_commits, most_content_bytes, most_files, most_tree_path_bytes};
+ghost use Rattle.repo_store.specs.Limits.{first_limit, most_answers, most_commits, most_content_bytes, most_files, most_tree_path_bytes};
 ghost use Rattle.repo_store.specs.Rows.{tables_of};
 ghost use Rattle.repo_store.specs.Shown.{Leaves};
 ghost use Rattle.repo_store.specs.Unfit.{IsUnfit};
+ghost use Rattle.repo_store.specs.UsesOf.{greatest_tick};
 ghost use Rattle.repo_store.specs.RowRules.{AreStoreRows};
 
-use crate::limits::{MOST_COMMITS, MOST_CONTENT_BYTES, MOST_FILES, MOST_TREE_PATH_BYTES};
+use crate::limits::{
+    FIRST_LIMIT, GREATEST_TICK, MOST_ANSWERS, MOST_COMMITS, MOST_CONTENT_BYTES, MOST_FILES,
+    MOST_TREE_PATH_BYTES,
+};
 
 /// A database holds one complete repository at most: if two stand in its tables, they have the same commits, staged files and
-/// fixes, and the same contents and remembered answers in some order. So trees that a crash leaves as a store with one of them (`trees`) are no
-/// store with another.
+/// fixes, the same remembered answers in one order, with one limit, and the same contents in some order. So trees that a crash
+/// leaves as a store with one of them (`trees`) are no store with another.
 pub fn a_database_holds_one_repository()
-    ensures tables { (db : Database) (a b : Kept) → IsComplete a → IsComplete b → Holds db (tables_of a) → Holds db (tables_of b) → AreAlike a b }
+    ensures tables { (db : Database) (a b : Kept) → IsComplete a → IsComplete b → HoldsStore db a → HoldsStore db b → AreAlike a b }
     ensures trees { (trees : Trees) (a b : Kept) → Leaves a trees → Leaves b trees → AreAlike a b }
 {}
 
 /// What the calls and a crash leave is a store: trees that keep a repository are neither a damaged store nor no store. So
-/// `open` refuses a database that holds one (`tables`) only where memory or the database refuses.
+/// `open` refuses a database that holds a complete one (`tables`) only where memory or the database refuses.
 pub fn what_is_left_is_a_store()
-    ensures tables { (db : Database) (kept : Kept) (fault : StoreFault) → Holds db (tables_of kept) → AreStoreRows (tables_of kept) → IsUnfit db fault → IsRefusal ⊥ ⊥ ⊥ fault }
-    ensures undamaged { (trees : Trees) (kept : Kept) → Leaves kept trees → ¬ IsUnfit (with_schema trees) Damaged }
-    ensures versioned { (trees : Trees) (kept : Kept) → Leaves kept trees → ¬ IsUnfit (with_schema trees) NotAStore }
+    ensures tables { (db : Database) (kept : Kept) (fault : StoreFault) → HoldsStore db kept → IsComplete kept → AreStoreRows (tables_of kept) → IsUnfit db fault → IsRefusal ⊥ ⊥ ⊥ fault }
+    ensures undamaged { (trees : Trees) (kept : Kept) → Leaves kept trees → ¬ IsUnfit (as_store trees) Damaged }
+    ensures versioned { (trees : Trees) (kept : Kept) → Leaves kept trees → ¬ IsUnfit (as_store trees) NotAStore }
 {}
 
 /// Not every two stores are alike: none is like the empty one but itself.
@@ -45,4 +50,7 @@ pub fn the_limits_are_those_of_the_contracts()
     ensures files { MOST_FILES ≡ most_files }
     ensures paths { MOST_TREE_PATH_BYTES ≡ most_tree_path_bytes }
     ensures commits { MOST_COMMITS ≡ most_commits }
+    ensures answers { MOST_ANSWERS ≡ most_answers }
+    ensures first { FIRST_LIMIT ≡ first_limit }
+    ensures ticks { GREATEST_TICK ≡ greatest_tick }
 {}

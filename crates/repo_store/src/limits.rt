@@ -13,3 +13,12 @@ pub const MOST_TREE_PATH_BYTES: usize = 8_388_608;
 
 /// The most commits.
 pub const MOST_COMMITS: usize = 100_000;
+
+/// The most answers that a store may be told to remember.
+pub const MOST_ANSWERS: u32 = 100_000;
+
+/// How many answers a new store remembers.
+pub const FIRST_LIMIT: u32 = 10_000;
+
+/// The greatest tick of a use.
+pub(crate) const GREATEST_TICK: u64 = 4_611_686_018_427_387_904;

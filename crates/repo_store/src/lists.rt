@@ -1,7 +1,7 @@
 //! What a store shows, in memory: its commits, staged files, fixes, contents and answers.
 
-ghost use Rattle.std.specs.Prelude.{◌≡◌, ◌≢◌, ◌↔◌, ◌<◌, ◌≤◌, [], true, map, length, take, drop, is_some, option_map, slice_get, MatchOption, IfOk, IfErr, IfSome, IsTrue, OnOk, OnErr};
-ghost use Rattle.std.specs.List.{AllByRecursion};
+ghost use Rattle.std.specs.Prelude.{◌≡◌, ◌≢◌, ◌↔◌, ◌<◌, ◌≤◌, [], ◌∷◌, true, false, map, length, take, drop, reverse, is_some, option_map, slice_get, Some, MatchOption, IfNone, IfOk, IfErr, IfSome, IsPermutation, IsTrue, OnOk, OnErr};
+ghost use Rattle.std.specs.List.{AllByRecursion, Any};
 ghost use Rattle.std.specs.Option.{option_copied};
 ghost use Rattle.std.specs.Str.{IsUtf8};
 ghost use Rattle.hook_base.specs.declared.file.FileEntry.{FileEntry};
@@ -9,19 +9,25 @@ ghost use Rattle.hook_base.specs.Paths.{IsRepoPath};
 ghost use Rattle.hook_base.specs.Trees.{IsRising, IsRisingChanges, entry_of, put_file};
 ghost use Rattle.repo_store.specs.Accepted.{IsAccepted, accepted_files};
 ghost use Rattle.repo_store.specs.AnswerRefs.{copied_answer, stored_answer};
-ghost use Rattle.repo_store.specs.Answers.{HaveOwnKeys, answer_for};
+ghost use Rattle.repo_store.specs.Answers.{HaveOwnKeys, KeptAnswer, answer_for};
 ghost use Rattle.repo_store.specs.Clashes.{Clashes};
 ghost use Rattle.repo_store.specs.Complete.{IsComplete};
 ghost use Rattle.repo_store.specs.FileRefs.{copied_file};
-ghost use Rattle.repo_store.specs.Kept.{FixCollides, HasLarge, accepting, committing, forgetting, keeping, nothing_kept, unstaging};
+ghost use Rattle.repo_store.specs.Index.{key_of};
+ghost use Rattle.repo_store.specs.Kept.{FixCollides, HasLarge, accepting, committing, forgetting, keeping, limiting, nothing_kept, unstaging};
+ghost use Rattle.repo_store.specs.ListedAnswers.{HaveAnswer, IsNextTick, brought, first_key, last_key};
 ghost use Rattle.repo_store.specs.Lists.{commit_of, file_of, fix_of, repository_of};
 ghost use Rattle.repo_store.specs.Contents.{Collides, with_changes, with_new};
-ghost use Rattle.repo_store.specs.Faults.{IsRefusal};
+ghost use Rattle.repo_store.specs.Faults.{IsDamage, IsRefusal};
+ghost use Rattle.repo_store.specs.FromRows.{AreUsesFor};
+ghost use Rattle.repo_store.specs.UsesOf.{AreUsesOf};
 ghost use Rattle.repo_store.specs.KeptContents.{AreAllKept};
-ghost use Rattle.repo_store.specs.Limits.{Fits, IsSmall, first_limit, most_commits, most_files};
+ghost use Rattle.repo_store.specs.Limits.{Fits, IsLimit, IsSmall, most_commits, most_files};
+ghost use Rattle.repo_store.specs.declared.answer_search.FoundAnswer.{FoundAnswer};
 ghost use Rattle.repo_store.specs.Log.{log_from};
 ghost use Rattle.repo_store.specs.Remembered.{TellsKey};
-ghost use Rattle.repo_store.specs.Remembering.{AnyCollides, AreSmall, HasPlacedKey, SomeCollides, with_answer, with_contents};
+ghost use Rattle.repo_store.specs.Remembering.{AnyCollides, AreSmall, HasPlacedKey, SomeCollides, with_contents};
+ghost use Rattle.repo_store.specs.UsedAnswers.{in_front};
 ghost use Rattle.repo_store.specs.Repository.{Commit, commit_at, fixed_bytes, last_tree, staged_changes, tree_at, with_staged};
 ghost use Rattle.repo_store.specs.Sound.{IsSound};
 ghost use Rattle.repo_store.specs.SoundAnswers.{IsSoundAnswer, KeepToSeen};
@@ -29,14 +35,15 @@ ghost use Rattle.repo_store.specs.WrittenAnswers.{contents_for, contents_of_key}
 
 use crate::accepted::Accepted;
 use crate::answer_contents::keep_answer;
-use crate::answer_search::{known_seen, known_words, stored};
-use crate::answers::Answers;
+use crate::answer_list::AnswerList;
+use crate::answer_search::{FoundAnswer, known_seen, known_words, stored};
 use crate::clashes::clashes;
 use crate::contents::Contents;
 use crate::differences::{are_same_rows, differ_at};
 use crate::files::{commit_with, count_path_bytes, has_path, may_put, put_file, take_out};
+use crate::from_rows::follow_uses;
 use crate::known::digest_of;
-use crate::limits::{MOST_COMMITS, MOST_CONTENT_BYTES};
+use crate::limits::{FIRST_LIMIT, MOST_COMMITS, MOST_CONTENT_BYTES};
 use crate::look_ups::{bytes_at, file_at, fixed_at, shown_at};
 use crate::shared::{ListedFile, SharedCommit, SharedFix};
 use crate::shared_answer::SharedAnswer;
@@ -45,6 +52,7 @@ use crate::{AnswerRef, FileRef, LogEntry, StoreFault, StoredAnswer};
 use hook_base::{Change, Content, Mode, OutOfMemory, RepoPath, Text, Tree};
 use std::alloc::Global;
 use std::marker::Model;
+use store_tables::UseRow;
 
 mod staging;
 
@@ -59,13 +67,12 @@ pub(crate) struct Lists {
     // The bytes of the staged paths together.
     staged_bytes: usize,
     fixes: Vec<SharedFix>,
-    answers: Answers,
+    answers: AnswerList,
 }
 
 impl Model for Lists {
     ghost use Rattle.std.specs.Prelude.{◌&&◌, nat_lt, vec_len, vec_capacity};
     ghost use Rattle.repo_store.specs.Kept.{Mirror, mirror_code};
-    ghost use Rattle.repo_store.specs.Limits.{first_limit};
 
     ghost Value = { Mirror };
 
@@ -78,26 +85,29 @@ impl Model for Lists {
         repo = repository_of lists.history.items lists.staged.items lists.fixes.items;
         contents = lists.contents;
         answers = lists.answers.answers;
-        limit = first_limit;
+        limit = lists.answers.limit;
       };
-      has_room = nat_lt (vec_len lists.history) (vec_capacity lists.history) && nat_lt (vec_len lists.staged) (vec_capacity lists.staged) && lists.answers.has_room;
+      has_room = nat_lt (vec_len lists.history) (vec_capacity lists.history) && nat_lt (vec_len lists.staged) (vec_capacity lists.staged);
+      next = lists.answers.next;
     } };
 
     ghost invariant = { λ lists. AreKept lists.history.items lists.staged.items lists.fixes.items lists.staged_bytes };
 }
 
 impl Lists {
-    pub(crate) fn new(alloc: Global) -> Lists
-        ensures { result.kept ≡ nothing_kept }
+    /// What an empty store shows.
+    pub(crate) fn new(alloc: Global) -> Result<Lists, OutOfMemory>
+        ensures { IfOk result (λ lists. lists.kept ≡ nothing_kept) }
     {
-        Lists {
+        let answers = AnswerList::new(alloc, FIRST_LIMIT)?;
+        Ok(Lists {
             contents: Contents::new(alloc),
             history: Vec::new(alloc),
             staged: Vec::new(alloc),
             staged_bytes: 0,
             fixes: Vec::new(alloc),
-            answers: Answers::new(alloc),
-        }
+            answers,
+        })
     }
 
     /// A repository of these lists.
@@ -106,10 +116,11 @@ impl Lists {
         history: Vec<SharedCommit>,
         staged: Vec<ListedFile>,
         fixes: Vec<SharedFix>,
-        answers: Answers,
+        answers: AnswerList,
     ) -> Lists
         requires { IsSound (repository_of history.items staged.items fixes.items) }
-        ensures { result.kept ≡ record { repo = repository_of history.items staged.items fixes.items; contents = contents; answers = answers.answers; limit = first_limit } }
+        ensures kept { result.kept ≡ record { repo = repository_of history.items staged.items fixes.items; contents = contents; answers = answers.answers; limit = answers.limit } }
+        ensures next { result.next ≡ answers.next }
     {
         let staged_bytes = count_path_bytes(staged.as_slice());
         Lists {
@@ -122,14 +133,26 @@ impl Lists {
         }
     }
 
-    /// Makes room for one more staged file, one more commit and one more answer.
+    /// Puts the answers in the order of their uses, as `follow_uses` of `from_rows` does.
+    pub(crate) fn follow_uses(&mut self, uses: &[UseRow]) -> Result<(), StoreFault>
+        ensures others { self.new.kept ≡ record self.old.kept { answers = self.new.kept.answers } }
+        ensures uses { OnOk result (AreUsesOf self.new.next uses.now self.new.kept.answers) }
+        ensures next { OnOk result (IsNextTick self.new.next) }
+        ensures moved { OnOk result (IsPermutation self.new.kept.answers self.old.kept.answers) }
+        ensures keys { OnOk result (HaveOwnKeys self.new.kept.answers) }
+        ensures broken { IfErr result (IsDamage (¬ AreUsesFor uses.now self.old.kept.answers)) }
+    {
+        let alloc = *self.staged.allocator();
+        follow_uses(alloc, &mut self.answers, uses)
+    }
+
+    /// Makes room for one more staged file and one more commit.
     pub(crate) fn reserve(&mut self) -> Result<(), OutOfMemory>
         ensures same { self.new.kept ≡ self.old.kept }
         ensures room { OnOk result (self.new.has_room ≡ true) }
     {
         self.history.reserve(1)?;
         self.staged.reserve(1)?;
-        self.answers.reserve()?;
         Ok(())
     }
 
@@ -532,7 +555,7 @@ impl Lists {
         self.answers.len() as u64
     }
 
-    /// An answer to be remembered, with room for it, whose contents are kept. A refusal leaves all as it was.
+    /// An answer to be remembered, whose contents are kept. A refusal leaves all as it was.
     pub(crate) fn prepare_answer(
         &mut self,
         words: &[Text],
@@ -543,24 +566,23 @@ impl Lists {
         ensures answer { IfOk result (λ made. made ≡ copied_answer words.now seen.now answer.entry) }
         ensures sound { OnOk result (IsSoundAnswer (copied_answer words.now seen.now answer.entry)) }
         ensures kept { OnOk result (self.new.kept ≡ record self.old.kept { contents = with_contents (contents_for (copied_answer words.now seen.now answer.entry)) self.old.kept.contents }) }
-        ensures room { OnOk result (self.new.has_room ≡ true) }
         ensures same { OnErr result (self.new.kept ≡ self.old.kept) }
         ensures all { OnOk result (AreAllKept (contents_for (copied_answer words.now seen.now answer.entry)) self.old.kept.contents self.new.kept.contents) }
         ensures why { IfErr result (IsRefusal (¬ AreSmall (contents_for (copied_answer words.now seen.now answer.entry))) ⊥ (SomeCollides (contents_for (copied_answer words.now seen.now answer.entry)) self.old.kept.contents)) }
     {
-        self.reserve()?;
         let alloc = *self.staged.allocator();
         keep_answer(alloc, &mut self.contents, words, seen, answer)
     }
 
-    /// What is remembered for the words and the seen files, as a copy, or none where nothing is.
+    /// What is remembered for the words and the seen files, as a copy with its key, or none where nothing is.
     pub(crate) fn find_answer(
         &self,
         words: &[Text],
         seen: &Tree,
-    ) -> Result<Option<StoredAnswer>, StoreFault>
+    ) -> Result<Option<FoundAnswer>, StoreFault>
         requires { IsComplete self.now.kept }
-        ensures found { IfOk result (λ found. found ≡ option_map stored_answer (answer_for words.now seen.now self.now.kept.answers)) }
+        ensures found { IfOk result (λ found. option_map (λ (found : FoundAnswer). found.answer) found ≡ option_map stored_answer (answer_for words.now seen.now self.now.kept.answers)) }
+        ensures key { IfOk result (λ found. IfSome found (λ found. HaveAnswer words.now seen.now self.now.kept.answers (found.words, found.seen))) }
         ensures apart { OnOk result (HasPlacedKey self.now.kept.contents words.now seen.now → ¬ AnyCollides (contents_of_key words.now seen.now) self.now.kept.contents) }
         ensures why { IfErr result (IsRefusal ⊥ ⊥ (AnyCollides (contents_of_key words.now seen.now) self.now.kept.contents)) }
     {
@@ -572,18 +594,124 @@ impl Lists {
             return Ok(None);
         };
         match self.answers.find(words, seen) {
-            Some(answer) => Ok(Some(stored(alloc, answer)?)),
+            Some(answer) => {
+                let answer = stored(alloc, answer)?;
+                Ok(Some(FoundAnswer {
+                    answer,
+                    words,
+                    seen,
+                }))
+            }
             None => Ok(None),
         }
     }
 
-    /// Remembers an answer, for which there is room, in place of the one of its key.
-    pub(crate) fn remember(&mut self, answer: SharedAnswer)
-        requires room { self.old.has_room ≡ true }
-        requires told { AllByRecursion (TellsKey answer) self.old.kept.answers }
-        ensures { self.new.kept ≡ record self.old.kept { answers = with_answer answer self.old.kept.answers } }
+    /// How many answers are remembered at most.
+    pub(crate) fn answer_limit(&self) -> u32
+        ensures is { result ≡ self.now.kept.limit }
+        ensures within { IsLimit result }
     {
-        self.answers.put(answer);
+        self.answers.limit()
+    }
+
+    /// The tick that the next use of an answer had when they were read.
+    pub(crate) fn next(&self) -> u64
+        ensures { result ≡ self.now.next }
+    {
+        self.answers.next()
+    }
+
+    /// Notes the tick that the next use of an answer gets.
+    pub(crate) fn set_next(&mut self, next: u64)
+        requires { IsNextTick next }
+        ensures kept { self.new.kept ≡ self.old.kept }
+        ensures next { self.new.next ≡ next }
+    {
+        self.answers.set_next(next);
+    }
+
+    /// Whether the key of the answer that was used last has these digests.
+    pub(crate) fn is_first_answer(&self, words: [u8; 32], seen: [u8; 32]) -> bool
+        ensures { IsTrue result ↔ (first_key self.now.kept.answers ≡ Some (words, seen)) }
+    {
+        self.answers.is_first(words, seen)
+    }
+
+    /// Whether an answer of this one's key is remembered.
+    pub(crate) fn has_key_of(&self, answer: &SharedAnswer) -> bool
+        ensures there { IsTrue result → Any (λ (other : KeptAnswer). key_of other ≡ key_of answer.now) self.now.kept.answers }
+        ensures absent { result ≡ false → AllByRecursion (λ (other : KeptAnswer). ¬ (key_of other ≡ key_of answer.now)) self.now.kept.answers }
+    {
+        let words = answer.words_record().digest();
+        let seen = answer.seen_record().digest();
+        self.answers.find(words, seen).is_some()
+    }
+
+    /// The answer that was used last. There must be one.
+    pub(crate) fn newest_answer(&self) -> &SharedAnswer
+        requires { self.now.kept.answers ≢ [] }
+        ensures { slice_get self.now.kept.answers 0 ≡ Some result.now }
+    {
+        self.answers.newest()
+    }
+
+    /// The key of the last answer, where there is one more than there may be.
+    pub(crate) fn surplus(&self) -> Option<([u8; 32], [u8; 32])>
+        ensures over { IfSome result (λ key. (self.now.kept.limit < length self.now.kept.answers) × (last_key self.now.kept.answers ≡ Some key)) }
+        ensures within { IfNone result (length self.now.kept.answers ≤ self.now.kept.limit) }
+    {
+        if self.answers.len() <= self.answers.limit() as usize {
+            return None;
+        }
+        self.answers.last_key()
+    }
+
+    /// The keys of all answers, that of the least recently used first.
+    pub(crate) fn answer_keys(&self) -> Result<Vec<([u8; 32], [u8; 32])>, OutOfMemory>
+        ensures { IfOk result (λ keys. keys.items ≡ map key_of (reverse self.now.kept.answers)) }
+    {
+        let alloc = *self.staged.allocator();
+        self.answers.keys(alloc)
+    }
+
+    /// Puts an answer, whose key none has, in front of the others. There may be one too many then.
+    pub(crate) fn add_answer(&mut self, answer: SharedAnswer) -> Result<(), OutOfMemory>
+        requires { AllByRecursion (λ (other : KeptAnswer). ¬ (key_of other ≡ key_of answer)) self.old.kept.answers }
+        ensures added { OnOk result (self.new.kept ≡ record self.old.kept { answers = answer ∷ self.old.kept.answers }) }
+        ensures same { OnErr result (self.new.kept ≡ self.old.kept) }
+    {
+        self.answers.add(answer)
+    }
+
+    /// Takes the first answer out again.
+    pub(crate) fn take_answer_back(&mut self)
+        ensures { self.new.kept ≡ record self.old.kept { answers = drop 1 self.old.kept.answers } }
+    {
+        self.answers.take_back();
+    }
+
+    /// Puts an answer in place of the one of its key, in front of the others.
+    pub(crate) fn replace_answer(&mut self, answer: SharedAnswer)
+        requires there { Any (λ (other : KeptAnswer). key_of other ≡ key_of answer) self.old.kept.answers }
+        requires told { AllByRecursion (TellsKey answer) self.old.kept.answers }
+        ensures { self.new.kept ≡ record self.old.kept { answers = in_front answer self.old.kept.answers } }
+    {
+        self.answers.replace(answer);
+    }
+
+    /// Brings the answer whose key has these digests to the front.
+    pub(crate) fn bring_answer(&mut self, words: [u8; 32], seen: [u8; 32])
+        ensures { self.new.kept ≡ record self.old.kept { answers = brought (words, seen) self.old.kept.answers } }
+    {
+        self.answers.bring(words, seen);
+    }
+
+    /// So many answers are remembered at most, and those that were used least lately go.
+    pub(crate) fn limit_answers(&mut self, limit: u32)
+        requires { IsLimit limit }
+        ensures { self.new.kept ≡ limiting limit self.old.kept }
+    {
+        self.answers.keep(limit);
     }
 
     /// Forgets all answers.

@@ -1,68 +1,70 @@
 //! A store out of a database: whether its tables are there, of which version they are, and all that they hold.
 
-ghost use Rattle.std.specs.Prelude.{◌≡◌, ◌↔◌, pos, ◌∷◌, [], false, IsTrue, IfOk};
+ghost use Rattle.std.specs.Prelude.{◌≡◌, ◌↔◌, ℕ, false, IsTrue, IfOk};
 ghost use Rattle.sqlite.specs.Effect.{IsDatabase};
 ghost use Rattle.sqlite.specs.Held.{state};
-ghost use Rattle.store_tables.specs.Schema.{store_schema};
+ghost use Rattle.store_tables.specs.Schema.{schema_with_uses, store_schema};
+ghost use Rattle.repo_store.specs.Answers.{HaveOwnKeys};
 ghost use Rattle.repo_store.specs.Complete.{IsComplete};
-ghost use Rattle.repo_store.specs.Opening.{AreListed, AreListedAlone};
-ghost use Rattle.repo_store.specs.Rows.{tables_of, version_row};
+ghost use Rattle.repo_store.specs.Kept.{limiting};
+ghost use Rattle.repo_store.specs.Limits.{IsLimit, first_limit};
+ghost use Rattle.repo_store.specs.ListedAnswers.{IsNextTick};
+ghost use Rattle.repo_store.specs.Opening.{AreListed, AreListedAlone, IsFoundFirst, IsFoundIn};
+ghost use Rattle.repo_store.specs.Rows.{first_tables_of, tables_of};
 ghost use Rattle.repo_store.specs.RowRules.{AreStoreRows};
+ghost use Rattle.repo_store.specs.Standing.{TellKeys};
 
 use crate::StoreFault;
 use crate::fault::fault_of;
-use crate::from_rows::lists_of;
+use crate::from_rows::{first_lists_of, second_lists_of};
 use crate::lists::Lists;
-use crate::table_rows::read_rows;
+use crate::table_rows::read_tables;
 use sqlite::{Alter, Connection, Transaction};
 use std::alloc::Global;
-use store_tables::{MetaRow, has_store_tables, read_meta};
+use store_tables::{has_store_tables, has_uses_tables, read_uses_by_tick};
 
-fn is_first(version: i64) -> bool
-    ensures { IsTrue result ↔ (version ≡ pos 1) }
-{
-    version == 1
-}
-
-// Whether this says that the store is of version 1.
-fn is_version_row(row: &MetaRow) -> bool
-    ensures { IsTrue result ↔ (row.now ≡ version_row) }
-{
-    is_first(row.value) && row.name.as_slice() == b"version".as_slice()
-}
-
-// Whether a store of version 1 keeps these numbers about itself.
-fn is_versioned(rows: &[MetaRow]) -> bool
-    ensures { IsTrue result ↔ (rows.now ≡ version_row ∷ []) }
-{
-    match rows {
-        [row] => is_version_row(row),
-        _ => false,
-    }
-}
-
-fn read_store_in<S: Alter>(alloc: Global, tx: &mut Transaction<'_, S>) -> Result<Lists, StoreFault>
+/// Reads a store of version 1 inside a transaction, and changes nothing. All answers are in the lists, be they more than the limit
+/// or not.
+pub(crate) fn read_first_in<S: Alter>(
+    alloc: Global,
+    tx: &mut Transaction<'_, S>,
+) -> Result<Lists, StoreFault>
     ensures same_reference { tx.new.conn.ghost_name ≡ tx.old.conn.ghost_name }
-    ensures listed { AreListed S.Store tx.old.conn.now tx.new.conn.now result }
-    ensures complete { IfOk result (λ lists. IsComplete lists.kept) }
-    ensures obeys { IfOk result (λ lists. AreStoreRows (tables_of lists.kept)) }
+    ensures listed { AreListed store_schema IsFoundFirst S.Store tx.old.conn.now tx.new.conn.now result }
+    ensures limit { IfOk result (λ lists. lists.kept.limit ≡ first_limit) }
+    ensures next { IfOk result (λ lists. lists.next ≡ 1) }
+    ensures complete { IfOk result (λ lists. (limit : ℕ) → IsLimit limit → IsComplete (limiting limit lists.kept)) }
+    ensures answers { IfOk result (λ lists. HaveOwnKeys lists.kept.answers × TellKeys lists.kept.answers) }
+    ensures obeys { IfOk result (λ lists. AreStoreRows (first_tables_of lists.kept)) }
 {
-    match read_meta(alloc, tx) {
-        Ok(meta) => {
-            if !is_versioned(meta.as_slice()) {
-                return Err(StoreFault::NotAStore);
-            }
-        }
-        Err(error) => return Err(fault_of(error)),
-    }
-    match read_rows(alloc, tx) {
-        Ok(rows) => lists_of(alloc, rows),
+    match read_tables(alloc, tx) {
+        Ok(tables) => first_lists_of(alloc, tables),
         Err(error) => Err(fault_of(error)),
     }
 }
 
-/// Whether the database, outside a transaction, has the tables of a store, and no others.
-pub(crate) fn has_tables<S: Alter>(conn: &Connection<S>) -> bool
+/// Reads a store of version 2 inside a transaction, and changes nothing.
+pub(crate) fn read_second_in<S: Alter>(
+    alloc: Global,
+    tx: &mut Transaction<'_, S>,
+) -> Result<Lists, StoreFault>
+    ensures same_reference { tx.new.conn.ghost_name ≡ tx.old.conn.ghost_name }
+    ensures listed { AreListed schema_with_uses IsFoundIn S.Store tx.old.conn.now tx.new.conn.now result }
+    ensures next { IfOk result (λ lists. IsNextTick lists.next) }
+    ensures complete { IfOk result (λ lists. IsComplete lists.kept) }
+    ensures obeys { IfOk result (λ lists. AreStoreRows (tables_of lists.kept)) }
+{
+    match read_tables(alloc, tx) {
+        Ok(tables) => match read_uses_by_tick(alloc, tx) {
+            Ok(uses) => second_lists_of(alloc, tables, uses),
+            Err(error) => Err(fault_of(error)),
+        },
+        Err(error) => Err(fault_of(error)),
+    }
+}
+
+/// Whether the database, outside a transaction, has the tables of version 1, and no others.
+pub(crate) fn has_first_tables<S: Alter>(conn: &Connection<S>) -> bool
     requires { conn.now.in_transaction ≡ false }
     ensures ours { IsTrue result ↔ ((state S.Store conn.now).now.schema ≡ store_schema) }
     ensures live { IsTrue (state S.Store conn.now).is_open → IsDatabase (state S.Store conn.now).now }
@@ -72,16 +74,44 @@ pub(crate) fn has_tables<S: Alter>(conn: &Connection<S>) -> bool
     has_store_tables(conn)
 }
 
+/// Whether the database, outside a transaction, has the tables of a store, and no others.
+pub(crate) fn has_tables<S: Alter>(conn: &Connection<S>) -> bool
+    requires { conn.now.in_transaction ≡ false }
+    ensures ours { IsTrue result ↔ ((state S.Store conn.now).now.schema ≡ schema_with_uses) }
+    ensures live { IsTrue (state S.Store conn.now).is_open → IsDatabase (state S.Store conn.now).now }
+    ensures settled { IsTrue (state S.Store conn.now).is_open → (state S.Store conn.now).now ≡ (state S.Store conn.now).committed }
+{
+    let _settled = conn.is_autocommit();
+    has_uses_tables(conn)
+}
+
 /// Reads all tables of a store in one transaction, which changes nothing.
 pub(crate) fn read_store<S: Alter>(
     alloc: Global,
     conn: &mut Connection<S>,
 ) -> Result<Lists, StoreFault>
     requires { conn.old.in_transaction ≡ false }
-    ensures read { AreListedAlone S.Store conn.old conn.new result }
+    ensures read { AreListedAlone schema_with_uses IsFoundIn S.Store conn.old conn.new result }
+    ensures next { IfOk result (λ lists. IsNextTick lists.next) }
     ensures complete { IfOk result (λ lists. IsComplete lists.kept) }
     ensures obeys { IfOk result (λ lists. AreStoreRows (tables_of lists.kept)) }
 {
     let mut tx = conn.transaction();
-    read_store_in(alloc, &mut tx)
+    read_second_in(alloc, &mut tx)
+}
+
+/// Reads all tables of a store of version 1 in one transaction, which changes nothing. All answers are in the lists, be they more
+/// than the limit or not.
+pub(crate) fn read_first<S: Alter>(
+    alloc: Global,
+    conn: &mut Connection<S>,
+) -> Result<Lists, StoreFault>
+    requires { conn.old.in_transaction ≡ false }
+    ensures read { AreListedAlone store_schema IsFoundFirst S.Store conn.old conn.new result }
+    ensures complete { IfOk result (λ lists. (limit : ℕ) → IsLimit limit → IsComplete (limiting limit lists.kept)) }
+    ensures answers { IfOk result (λ lists. HaveOwnKeys lists.kept.answers × TellKeys lists.kept.answers) }
+    ensures obeys { IfOk result (λ lists. AreStoreRows (first_tables_of lists.kept)) }
+{
+    let mut tx = conn.transaction();
+    read_first_in(alloc, &mut tx)
 }

@@ -1,8 +1,10 @@
 //! A staged file in the tables: one transaction.
 
-ghost use Rattle.std.specs.Prelude.{◌≡◌, false};
+ghost use Rattle.std.specs.Prelude.{◌≡◌, ℕ, List, false};
 ghost use Rattle.store_tables.specs.Steps.{IsStep};
-ghost use Rattle.store_tables.specs.Tables.{Tables, Holds, with_staged, without_staged, without_fixes};
+ghost use Rattle.store_tables.specs.Tables.{Tables, with_staged, without_staged, without_fixes};
+ghost use Rattle.repo_store.specs.Answers.{KeptAnswer};
+ghost use Rattle.repo_store.specs.Bounded.{HoldsListed};
 ghost use Rattle.repo_store.specs.Transactions.{IsCall};
 ghost use Rattle.repo_store.specs.Lists.{file_of};
 ghost use Rattle.repo_store.specs.Rows.{with_blobs, staged_row};
@@ -40,7 +42,7 @@ pub(crate) fn stage_rows<S: Alter>(
     file: &ListedFile,
 ) -> Result<(), Error>
     requires { conn.old.in_transaction ≡ false }
-    ensures { (t : Tables) → IsCall S.Store conn.old conn.new result (λ db. Holds db t) (λ db. Holds db (with_staged (staged_row (file_of file.now)) (without_staged file.now.path (without_fixes (with_blobs news.now t))))) }
+    ensures { (t : Tables) (next : ℕ) (answers : List KeptAnswer) → IsCall S.Store conn.old conn.new result (λ db. HoldsListed next answers db t) (λ db. HoldsListed next answers db (with_staged (staged_row (file_of file.now)) (without_staged file.now.path (without_fixes (with_blobs news.now t))))) }
 {
     let mut tx = conn.transaction();
     stage_in(&mut tx, news, file)?;

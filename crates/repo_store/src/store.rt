@@ -1,34 +1,37 @@
 //! The calls on a store. Each prepares in memory what can be refused there, then changes the tables, then the memory.
 
+ghost use Rattle.std.specs.List.{Any};
 ghost use Rattle.std.specs.Prelude.{◌≡◌, ◌≢◌, ◌↔◌, ◌⊎◌, ◌+◌, ◌<◌, ◌≤◌, [], false, length, is_some, option_map, slice_get, IfOk, IfErr, IfSome, OnOk, MatchResult, IsTrue};
 ghost use Rattle.std.specs.Option.{option_copied};
 ghost use Rattle.sha2.specs.Sha256.{sha256};
 ghost use Rattle.hook_base.specs.declared.file.FileEntry.{FileEntry};
 ghost use Rattle.hook_base.specs.Paths.{message_path};
 ghost use Rattle.hook_base.specs.Trees.{IsRising, IsRisingChanges, entry_of, put_file};
-ghost use Rattle.store_tables.specs.Schema.{no_schema};
+ghost use Rattle.store_tables.specs.Schema.{no_schema, schema_with_uses};
 ghost use Rattle.sqlite.specs.Held.{state};
 ghost use Rattle.sqlite.specs.State.{HasCleanDisk, Survives};
-ghost use Rattle.store_tables.specs.Tables.{Holds};
 ghost use Rattle.repo_store.specs.Calls.{Rests};
 ghost use Rattle.repo_store.specs.AllOrNothing.{IsAllOrNothing};
 ghost use Rattle.repo_store.specs.AnswerRefs.{copied_answer, stored_answer};
-ghost use Rattle.repo_store.specs.Answers.{HaveOwnKeys, answer_for};
+ghost use Rattle.repo_store.specs.Answers.{HaveOwnKeys, KeptAnswer, answer_for};
+ghost use Rattle.repo_store.specs.Bounded.{HoldsStore, IsTakenOver};
 ghost use Rattle.repo_store.specs.Clashes.{Clashes};
 ghost use Rattle.repo_store.specs.Complete.{AreAlike};
 ghost use Rattle.repo_store.specs.Contents.{Collides};
 ghost use Rattle.repo_store.specs.Edits.{AreEditable, IsStagingRefusal, all_edited};
 ghost use Rattle.repo_store.specs.Faults.{IsRefusal};
 ghost use Rattle.repo_store.specs.FileRefs.{copied_file};
-ghost use Rattle.repo_store.specs.Kept.{FixCollides, HasLarge, Kept, accepting, committing, forgetting, keeping, nothing_kept, setting, staging, unstaging};
-ghost use Rattle.repo_store.specs.Limits.{Fits, IsSmall, most_commits};
+ghost use Rattle.repo_store.specs.Kept.{FixCollides, HasLarge, Kept, accepting, committing, forgetting, keeping, limiting, nothing_kept, setting, staging, unstaging, using};
+ghost use Rattle.repo_store.specs.Index.{key_of};
+ghost use Rattle.repo_store.specs.Standing.{bringing};
+ghost use Rattle.repo_store.specs.Limits.{Fits, IsLimit, IsSmall, most_commits};
 ghost use Rattle.repo_store.specs.Log.{log_from};
 ghost use Rattle.repo_store.specs.Remembering.{AnyCollides, AreSmall, HasPlacedKey, SomeCollides, remembering};
 ghost use Rattle.repo_store.specs.Repository.{Commit, commit_at, fixed_bytes, last_tree, staged_changes, tree_at};
-ghost use Rattle.repo_store.specs.Rows.{tables_of};
-ghost use Rattle.repo_store.specs.Shown.{IsOneTransaction, Leaves, LeavesOnly, Stands};
+ghost use Rattle.repo_store.specs.Shown.{IsNumberedAnew, IsOneTransaction, IsOneUse, Leaves, LeavesOnly, Stands, TakesOver};
 ghost use Rattle.repo_store.specs.SoundAnswers.{KeepToSeen};
 ghost use Rattle.repo_store.specs.Unfit.{IsUnfit};
+ghost use Rattle.repo_store.specs.UsesOf.{greatest_tick};
 ghost use Rattle.repo_store.specs.WrittenAnswers.{contents_for, contents_of_key};
 
 use crate::accept::accept_rows;
@@ -39,11 +42,13 @@ use crate::edits::edit_rows;
 use crate::fault::fault_of;
 use crate::fixes::set_rows;
 use crate::forget::forget_rows;
+use crate::limits::GREATEST_TICK;
 use crate::lists::{Edited, Lists};
-use crate::opening::{has_tables, read_store};
-use crate::remember::remember_rows;
+use crate::put::put_prepared;
 use crate::stage::stage_rows;
+use crate::take_over::find_store;
 use crate::unstage::unstage_rows;
+use crate::uses::{limit_rows, renumber_rows, use_rows};
 use crate::{
     AnswerRef, Digest, FileRef, LogEntry, StagingEdit, StagingFault, StagingRefusal, StoreFault,
     StoredAnswer,
@@ -53,32 +58,40 @@ use sqlite::{Alter, Connection, Error, ErrorCode};
 use std::alloc::Global;
 use std::marker::Model;
 
-/// A repository in a database: its commits, the staged files and the fixes, and the answers of children that are remembered.
+/// A repository in a database: its commits, the staged files and the fixes, and the answers of children that are remembered, the
+/// most recently used first and no more than a limit.
 /// Each call that changes it is one transaction:
 /// it is done as a whole or not at all, whatever stops it. `StoreFault` says what a refused one leaves in the tables. The calls
-/// that read are answered from memory.
+/// that read are answered from memory; a look-up of an answer notes that it was used.
 pub struct Store<S: Alter> {
     conn: Connection<S>,
     lists: Lists,
+    // The tick that the next use of an answer gets.
+    next: u64,
 }
 
 // It is written out, so that a caller doesn't prove again how each part is dropped.
 impl<S: Alter + Drop> Drop for Store<S> {
     fn drop(self) {
-        let Store { conn: _, lists: _ } = self;
+        let Store {
+            conn: _,
+            lists: _,
+            next: _,
+        } = self;
     }
 }
 
 impl<S: Alter> Model for Store<S> {
-    ghost use Rattle.repo_store.specs.Shown.{Shown, shown_code, Stands};
+    ghost use Rattle.repo_store.specs.Shown.{Shown, shown_code};
+    ghost use Rattle.repo_store.specs.Standing.{StandsAt};
 
     ghost Value = { Shown S };
 
     ghost coded = { shown_code S.code };
 
-    ghost view = { λ store. record { conn = store.conn; kept = store.lists.kept } };
+    ghost view = { λ store. record { conn = store.conn; kept = store.lists.kept; next = store.next } };
 
-    ghost invariant = { λ store. Stands S.Store store.conn store.lists.kept };
+    ghost invariant = { λ store. StandsAt S.Store store.conn store.lists.kept store.next };
 }
 
 impl<S: Alter> Store<S> {
@@ -106,41 +119,47 @@ impl<S: Alter> Store<S> {
             let taken = Error::SqliteFailure(ErrorCode::NameTaken);
             return Err((StoreFault::Sql(taken), conn));
         }
+        let Ok(lists) = Lists::new(alloc) else {
+            return Err((StoreFault::OutOfMemory, conn));
+        };
         match make(&mut conn) {
             Ok(()) => Ok(Store {
                 conn,
-                lists: Lists::new(alloc),
+                lists,
+                next: 1,
             }),
             Err(error) => Err((fault_of(error), conn)),
         }
     }
 
-    /// Opens the store that a database holds, and changes nothing. After a crash it is the repository that the crash
-    /// left, and never `NotAStore` or `Damaged`. Refused are a database that hasn't exactly the tables of a store, or
-    /// whose `meta` holds anything but the one row of version 1 (`NotAStore`), and tables whose rows break a rule of a
-    /// store (`Damaged`). `Sql` is also a store with a row that has the greatest rowid, as SQL's `NoRowid`, since none
-    /// could be put in after it; only another program writes one. A refusal gives the connection back, with the tables
-    /// as before where it is still open. The connection must be outside a transaction.
+    /// Opens the store that a database holds. One of version 2 is read, and nothing is changed; one of version 1 becomes one of
+    /// version 2, in one transaction: its limit is 10,000, its answers count as used in the order of their keys, the greatest
+    /// last, and where there are more than the limit the first go. After a crash it is the repository that the crash left, and never
+    /// `NotAStore` or `Damaged`. Refused are a database that hasn't exactly the tables of a store of a version that is known, or
+    /// whose `meta` doesn't say that it is of that version (`NotAStore`), and tables whose rows break a rule of a store (`Damaged`).
+    /// `Sql` is also a store with a row that has the greatest rowid, as SQL's `NoRowid`, since none could be put in after it; only
+    /// another program writes one. A refusal gives the connection back, with the tables as before where it is still open. The
+    /// connection must be outside a transaction.
     pub fn open(alloc: Global, conn: Connection<S>) -> Result<Store<S>, (StoreFault, Connection<S>)>
         requires { conn.in_transaction ≡ false }
         ensures stands { IfOk result (λ store. Stands S.Store store.conn store.kept) }
-        ensures holds { IfOk result (λ store. IsTrue (state S.Store store.conn).is_open → Holds (state S.Store conn).committed (tables_of store.kept)) }
+        ensures holds { IfOk result (λ store. IsTrue (state S.Store store.conn).is_open → HoldsStore (state S.Store conn).committed store.kept ⊎ IsTakenOver (state S.Store conn).committed store.kept) }
         ensures again { IfOk result (λ store. IsTrue (state S.Store store.conn).is_open → (kept : Kept) → Leaves kept (state S.Store conn).committed.trees → AreAlike store.kept kept) }
-        ensures same { IfOk result (λ store. Rests (state S.Store conn) (state S.Store store.conn)) }
+        ensures same { IfOk result (λ store. (state S.Store conn).now.schema ≡ schema_with_uses → Rests (state S.Store conn) (state S.Store store.conn)) }
         ensures refused { IfErr result (λ e. Rests (state S.Store conn) (state S.Store e.1)) }
         ensures outside { IfErr result (λ e. e.1.in_transaction ≡ false) }
         ensures why { IfErr result (λ e. HasCleanDisk (state S.Store e.1) → IsUnfit (state S.Store conn).now e.0) }
         ensures left { IfErr result (λ e. HasCleanDisk (state S.Store e.1) → IsTrue (state S.Store conn).is_open → (kept : Kept) → Leaves kept (state S.Store conn).committed.trees → IsRefusal ⊥ ⊥ ⊥ e.0) }
-        ensures crash_opened { IfOk result (λ store. Survives (state S.Store conn) (state S.Store store.conn) (λ _. ⊥)) }
-        ensures crash_refused { IfErr result (λ e. Survives (state S.Store conn) (state S.Store e.1) (λ _. ⊥)) }
+        ensures crash_opened { IfOk result (λ store. Survives (state S.Store conn) (state S.Store store.conn) (TakesOver (state S.Store conn).now)) }
+        ensures crash_refused { IfErr result (λ e. Survives (state S.Store conn) (state S.Store e.1) (TakesOver (state S.Store conn).now)) }
         ensures durable { IfOk result (λ store. LeavesOnly S.Store store.conn store.kept) }
     {
         let mut conn = conn;
-        if !has_tables(&conn) {
-            return Err((StoreFault::NotAStore, conn));
-        }
-        match read_store(alloc, &mut conn) {
-            Ok(lists) => Ok(Store { conn, lists }),
+        match find_store(alloc, &mut conn) {
+            Ok(lists) => {
+                let next = lists.next();
+                Ok(Store { conn, lists, next })
+            }
             Err(fault) => Err((fault, conn)),
         }
     }
@@ -290,11 +309,11 @@ impl<S: Alter> Store<S> {
         })
     }
 
-    /// Remembers an answer to the words of a command and the files that its child saw, in place of the one to the same, and
-    /// keeps its contents: those of the seen files, the new ones of the changes, and then, as they are written down, its words
-    /// and its seen files, what it wrote, and its changes as they are written down. Each change must be of a seen file. Refused
-    /// are contents or records of more than 16 MiB (`TooLarge`), and those whose digest is that of others (`Collision`); a
-    /// refusal leaves what the store shows as it was.
+    /// Remembers an answer to the words of a command and the files that its child saw, in front of the others and in place of
+    /// the one to the same, and keeps its contents: those of the seen files, the new ones of the changes, and then, as they are
+    /// written down, its words and its seen files, what it wrote, and its changes as they are written down. Where there are more
+    /// than the limit then, the last one goes. Each change must be of a seen file. Refused are contents or records of more than
+    /// 16 MiB (`TooLarge`), and those whose digest is that of others (`Collision`); a refusal leaves what the store shows as it was.
     pub fn answer_put(
         &mut self,
         words: &[Text],
@@ -303,6 +322,25 @@ impl<S: Alter> Store<S> {
     ) -> Result<(), StoreFault>
         requires { KeepToSeen answer.changes.now seen.now }
         ensures change { IsAllOrNothing self.old.kept self.new.kept result (remembering (copied_answer words.now seen.now answer.entry) self.old.kept) }
+        ensures transaction { IsOneUse S.Store self.old self.new result (remembering (copied_answer words.now seen.now answer.entry) self.old.kept) }
+        ensures within { OnOk result (AreSmall (contents_for (copied_answer words.now seen.now answer.entry))) }
+        ensures apart { OnOk result (¬ SomeCollides (contents_for (copied_answer words.now seen.now answer.entry)) self.old.kept.contents) }
+        ensures why { IfErr result (IsRefusal (¬ AreSmall (contents_for (copied_answer words.now seen.now answer.entry))) ⊥ (SomeCollides (contents_for (copied_answer words.now seen.now answer.entry)) self.old.kept.contents)) }
+    {
+        self.leave_a_tick()?;
+        self.put_answer(words, seen, answer)
+    }
+
+    // The same, where a tick is left.
+    fn put_answer(
+        &mut self,
+        words: &[Text],
+        seen: &Tree,
+        answer: AnswerRef<'_>,
+    ) -> Result<(), StoreFault>
+        requires keeps_to_seen { KeepToSeen answer.changes.now seen.now }
+        requires left { self.old.next ≤ greatest_tick }
+        ensures change { IsAllOrNothing self.old.kept self.new.kept result (remembering (copied_answer words.now seen.now answer.entry) self.old.kept) }
         ensures transaction { IsOneTransaction S.Store self.old self.new result (remembering (copied_answer words.now seen.now answer.entry) self.old.kept) }
         ensures within { OnOk result (AreSmall (contents_for (copied_answer words.now seen.now answer.entry))) }
         ensures apart { OnOk result (¬ SomeCollides (contents_for (copied_answer words.now seen.now answer.entry)) self.old.kept.contents) }
@@ -310,33 +348,111 @@ impl<S: Alter> Store<S> {
     {
         let before = self.lists.count();
         let answer = self.lists.prepare_answer(words, seen, answer)?;
-        if let Err(error) = remember_rows(&mut self.conn, self.lists.since(before), &answer) {
+        if let Err(fault) = put_prepared(
+            &mut self.conn,
+            &mut self.lists,
+            before,
+            answer,
+            self.next,
+        ) {
             self.lists.forget_since(before);
+            return Err(fault);
+        }
+        self.next += 1;
+        Ok(())
+    }
+
+    // Numbers the uses anew where no tick is left for one more.
+    fn leave_a_tick(&mut self) -> Result<(), StoreFault>
+        ensures same { self.new.kept ≡ self.old.kept }
+        ensures left { OnOk result (self.new.next ≤ greatest_tick) }
+        ensures numbered { (self.new ≡ self.old) ⊎ IsNumberedAnew S.Store self.old self.new }
+        ensures stands { Stands S.Store self.new.conn self.new.kept }
+        ensures why { IfErr result (IsRefusal ⊥ ⊥ ⊥) }
+    {
+        if self.next <= GREATEST_TICK {
+            return Ok(());
+        }
+        let keys = self.lists.answer_keys()?;
+        if let Err(error) = renumber_rows(&mut self.conn, keys.as_slice()) {
             return Err(fault_of(error));
         }
-        self.lists.remember(answer);
+        self.next = keys.len() as u64 + 1;
         Ok(())
     }
 
     /// What is remembered for the words of a command and the files that its child saw, with their modes and bytes, as a copy,
-    /// or `None` where nothing is. Bytes are compared, not digests alone; the contents bring theirs, so that none is hashed
+    /// or `None` where nothing is. It comes to the front of what is remembered: that is a transaction, unless it is there
+    /// already. Bytes are compared, not digests alone; the contents bring theirs, so that none is hashed
     /// anew. Where other bytes stand under a digest of the key (that of a seen file's contents, or of what is written
     /// down of the words or of the seen files), it is refused as `Collision`; under such a digest nothing may stand instead, and then
-    /// nothing is remembered, whatever stands under the others. Else it is refused for want of memory alone.
+    /// nothing is remembered, whatever stands under the others. Else memory or the database refuses; a refusal leaves what the
+    /// store shows as it was.
     pub fn answer_find(
-        &self,
+        &mut self,
         words: &[Text],
         seen: &Tree,
     ) -> Result<Option<StoredAnswer>, StoreFault>
-        ensures found { IfOk result (λ found. found ≡ option_map stored_answer (answer_for words.now seen.now self.now.kept.answers)) }
-        ensures apart { OnOk result (HasPlacedKey self.now.kept.contents words.now seen.now → ¬ AnyCollides (contents_of_key words.now seen.now) self.now.kept.contents) }
-        ensures why { IfErr result (IsRefusal ⊥ ⊥ (AnyCollides (contents_of_key words.now seen.now) self.now.kept.contents)) }
-        ensures keys { HaveOwnKeys self.now.kept.answers }
+        ensures found { IfOk result (λ found. found ≡ option_map stored_answer (answer_for words.now seen.now self.old.kept.answers)) }
+        ensures change { IsAllOrNothing self.old.kept self.new.kept result (using words.now seen.now self.old.kept) }
+        ensures transaction { (self.new ≡ self.old) ⊎ IsOneUse S.Store self.old self.new result (using words.now seen.now self.old.kept) }
+        ensures apart { OnOk result (HasPlacedKey self.old.kept.contents words.now seen.now → ¬ AnyCollides (contents_of_key words.now seen.now) self.old.kept.contents) }
+        ensures why { IfErr result (IsRefusal ⊥ ⊥ (AnyCollides (contents_of_key words.now seen.now) self.old.kept.contents)) }
+        ensures keys { HaveOwnKeys self.old.kept.answers }
     {
-        self.lists.find_answer(words, seen)
+        let Some(found) = self.lists.find_answer(words, seen)? else {
+            return Ok(None);
+        };
+        if !self.lists.is_first_answer(found.words, found.seen) {
+            self.leave_a_tick()?;
+            self.use_answer(found.words, found.seen)?;
+        }
+        Ok(Some(found.answer))
     }
 
-    /// Forgets all remembered answers, and answers how many there were. Their contents stay. A refusal leaves what the store
+    // Brings the answer of a key, which there must be, to the front. A tick must be left.
+    fn use_answer(&mut self, words: [u8; 32], seen: [u8; 32]) -> Result<(), StoreFault>
+        requires there { Any (λ (answer : KeptAnswer). key_of answer ≡ (words, seen)) self.old.kept.answers }
+        requires left { self.old.next ≤ greatest_tick }
+        ensures change { IsAllOrNothing self.old.kept self.new.kept result (bringing (words, seen) self.old.kept) }
+        ensures transaction { IsOneTransaction S.Store self.old self.new result (bringing (words, seen) self.old.kept) }
+        ensures why { IfErr result (IsRefusal ⊥ ⊥ ⊥) }
+    {
+        if let Err(error) = use_rows(&mut self.conn, &words, &seen, self.next) {
+            return Err(fault_of(error));
+        }
+        self.lists.bring_answer(words, seen);
+        self.next += 1;
+        Ok(())
+    }
+
+    /// How many answers are remembered at most: from 1 to 100,000. It takes no memory.
+    pub fn answer_limit(&self) -> u32
+        ensures limit { result ≡ self.now.kept.limit }
+        ensures within { IsLimit self.now.kept.limit }
+        ensures few { length self.now.kept.answers ≤ self.now.kept.limit }
+    {
+        self.lists.answer_limit()
+    }
+
+    /// Sets how many answers are remembered at most, which must be from 1 to 100,000. Where more are remembered, those that were
+    /// used least lately go; their contents stay. A refusal leaves what the store shows as it was.
+    pub fn set_answer_limit(&mut self, limit: u32) -> Result<(), StoreFault>
+        requires { IsLimit limit }
+        ensures change { IsAllOrNothing self.old.kept self.new.kept result (limiting limit self.old.kept) }
+        ensures transaction { IsOneTransaction S.Store self.old self.new result (limiting limit self.old.kept) }
+        ensures why { IfErr result (IsRefusal ⊥ ⊥ ⊥) }
+    {
+        let keys = self.lists.answer_keys()?;
+        let surplus = keys.len().saturating_sub(limit as usize);
+        if let Err(error) = limit_rows(&mut self.conn, &keys.as_slice()[..surplus], limit) {
+            return Err(fault_of(error));
+        }
+        self.lists.limit_answers(limit);
+        Ok(())
+    }
+
+    /// Forgets all remembered answers, and answers how many there were. Their contents stay, and the limit. A refusal leaves what the store
     /// shows as it was.
     pub fn answers_forget(&mut self) -> Result<u64, StoreFault>
         ensures change { IsAllOrNothing self.old.kept self.new.kept result (forgetting self.old.kept) }
@@ -355,6 +471,7 @@ impl<S: Alter> Store<S> {
     /// How many answers are remembered. It takes no memory.
     pub fn answers_len(&self) -> u64
         ensures number { result ≡ length self.now.kept.answers }
+        ensures few { length self.now.kept.answers ≤ self.now.kept.limit }
         ensures keys { HaveOwnKeys self.now.kept.answers }
     {
         self.lists.count_answers()
@@ -520,7 +637,11 @@ impl<S: Alter> Store<S> {
         ensures stands { Stands S.Store result self.kept }
         ensures outside { result.in_transaction ≡ false }
     {
-        let Store { conn, lists: _ } = self;
+        let Store {
+            conn,
+            lists: _,
+            next: _,
+        } = self;
         conn
     }
 }

@@ -1,14 +1,14 @@
-//! All rows of a store, as they are read.
+//! All rows of the seven tables that each version of a store has, as they are read.
 
 ghost use Rattle.std.specs.Prelude.{◌≡◌};
-ghost use Rattle.repo_store.specs.FromRows.{AreShown};
+ghost use Rattle.repo_store.specs.FromRows.{AreShown, AreTablesShown};
 ghost use Rattle.repo_store.specs.Opening.{AreRead};
 
 use sqlite::{Alter, Error, Transaction};
 use std::alloc::Global;
 use store_tables::{
-    AnswerRow, BlobRow, CommitRow, EntryRow, FixRow, StagedRow, read_answers, read_blobs,
-    read_commits, read_entries, read_fixes, read_staged,
+    AnswerRow, BlobRow, CommitRow, EntryRow, FixRow, MetaRow, StagedRow, read_answers, read_blobs,
+    read_commits, read_entries, read_fixes, read_meta, read_staged,
 };
 
 /// The rows of all tables but `meta`.
@@ -22,11 +22,15 @@ pub(crate) struct StoreRows {
     pub(crate) answers: Vec<AnswerRow>,
 }
 
-/// Reads all tables but `meta`.
-pub(crate) fn read_rows<S: Alter>(
-    alloc: Global,
-    tx: &mut Transaction<'_, S>,
-) -> Result<StoreRows, Error>
+/// The rows of all seven.
+#[derive(Drop)]
+pub(crate) struct TableRows {
+    pub(crate) meta: Vec<MetaRow>,
+    pub(crate) store: StoreRows,
+}
+
+// Reads all tables but `meta`.
+fn read_rows<S: Alter>(alloc: Global, tx: &mut Transaction<'_, S>) -> Result<StoreRows, Error>
     ensures same_reference { tx.new.conn.ghost_name ≡ tx.old.conn.ghost_name }
     ensures read { AreRead S.Store tx.old.conn.now tx.new.conn.now result AreShown }
 {
@@ -44,4 +48,17 @@ pub(crate) fn read_rows<S: Alter>(
         entries,
         answers,
     })
+}
+
+/// Reads all seven tables.
+pub(crate) fn read_tables<S: Alter>(
+    alloc: Global,
+    tx: &mut Transaction<'_, S>,
+) -> Result<TableRows, Error>
+    ensures same_reference { tx.new.conn.ghost_name ≡ tx.old.conn.ghost_name }
+    ensures read { AreRead S.Store tx.old.conn.now tx.new.conn.now result AreTablesShown }
+{
+    let meta = read_meta(alloc, tx)?;
+    let store = read_rows(alloc, tx)?;
+    Ok(TableRows { meta, store })
 }

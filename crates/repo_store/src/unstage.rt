@@ -1,8 +1,10 @@
 //! A path taken out of the staged files in the tables: one transaction.
 
-ghost use Rattle.std.specs.Prelude.{◌≡◌, false};
+ghost use Rattle.std.specs.Prelude.{◌≡◌, ℕ, List, false};
 ghost use Rattle.store_tables.specs.Steps.{IsStep};
-ghost use Rattle.store_tables.specs.Tables.{Tables, Holds, without_staged, without_fixes};
+ghost use Rattle.store_tables.specs.Tables.{Tables, without_staged, without_fixes};
+ghost use Rattle.repo_store.specs.Answers.{KeptAnswer};
+ghost use Rattle.repo_store.specs.Bounded.{HoldsListed};
 ghost use Rattle.repo_store.specs.Transactions.{IsCall};
 
 use hook_base::RepoPath;
@@ -20,7 +22,7 @@ fn unstage_in<S: Alter>(tx: &mut Transaction<'_, S>, path: &RepoPath) -> Result<
 /// Takes a path out of the staged files, and forgets the fixes, in one transaction.
 pub(crate) fn unstage_rows<S: Alter>(conn: &mut Connection<S>, path: &RepoPath) -> Result<(), Error>
     requires { conn.old.in_transaction ≡ false }
-    ensures { (t : Tables) → IsCall S.Store conn.old conn.new result (λ db. Holds db t) (λ db. Holds db (without_fixes (without_staged path.now t))) }
+    ensures { (t : Tables) (next : ℕ) (answers : List KeptAnswer) → IsCall S.Store conn.old conn.new result (λ db. HoldsListed next answers db t) (λ db. HoldsListed next answers db (without_fixes (without_staged path.now t))) }
 {
     let mut tx = conn.transaction();
     unstage_in(&mut tx, path)?;

@@ -84,8 +84,9 @@ pub fn open_database(rt: &HostRuntime, before: &Before) -> Result<Database, Repo
     }
 }
 
-/// Opens the store in the database, whatever that is kept in. The error is `RepositoryFault::NoStore`, and the folder is then
-/// as before.
+/// Opens the store in the database, whatever that is kept in. One of an earlier version is taken over, which is a change. The error
+/// is `RepositoryFault::NoStore`, and the folder is then as before; where taking a store over is refused, its log may have been
+/// written to, and is left as it is, as behind a refused change: the next command reads it.
 pub fn open_store<S: Alter + Drop>(
     rt: &HostRuntime,
     before: &Before,
@@ -97,7 +98,9 @@ pub fn open_store<S: Alter + Drop>(
     match Store::open(rt.alloc(), conn) {
         Ok(store) => Ok(store),
         Err((fault, conn)) => {
-            before.put_back(rt);
+            if !bare_log::may_hold_change(rt, LOG) {
+                before.put_back(rt);
+            }
             mem::forget(conn);
             Err(RepositoryFault::NoStore(fault))
         }

@@ -1,2 +1,3 @@
 pub mod PlaceLemmas
 pub mod StoreBookLemmas
+pub mod StoreRowLemmas

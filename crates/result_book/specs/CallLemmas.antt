@@ -1,12 +1,14 @@
 -- Lemmas on what the calls of a book make of what it remembers.
-use Rattle.std.specs.Prelude.{◌≡◌, ◌⊎◌, ◌≤◌, ◌+◌, ℕ, suc, List, [], ◌∷◌, length, Option, None, Some, refl}
+use Rattle.std.specs.Prelude.{◌≡◌, ◌⊎◌, ◌≤◌, ◌<◌, ◌+◌, ℕ, zero, suc, not, List, [], ◌∷◌, ◌++◌, length, take, Option, None, Some, refl}
 use Rattle.std.proofs.Common.{ap, sym, ◌∙◌, inl, inr, subst, arith}
+use Rattle.std.proofs.lemmas.List.Elements.{filter-append}
 use Rattle.child_port.specs.declared.answer.Answer.{Answer}
 use Rattle.hook_base.specs.declared.file.File.{File}
 use Rattle.result_book.specs.declared.book_row.BookRow.{BookRow}
-use Rattle.result_book.specs.Contents.{Contents, HasKey, HaveRow, LackRow, HaveDistinctKeys, Holds, Lacks, Finds, count_of}
-use Rattle.result_book.specs.Calls.{AfterFind, AfterPut, AfterForget, IsSameKey}
-use Rattle.result_book.specs.KeyLemmas.{same_have, same_lack}
+use Rattle.result_book.specs.Contents.{Contents, HasKey, HaveRow, HaveDistinctKeys, Holds, Lacks, Finds, count_of, is_row_for, other_rows}
+use Rattle.result_book.specs.Calls.{AfterFind, AfterPut, AfterForget, IsSameKey, new_row}
+use Rattle.result_book.specs.KeyLemmas.{same_lack}
+use Rattle.result_book.specs.OrderLemmas.{all_first, all_others, brings, brings_none, brought_count, fewer_others, first_count, full_count, have_first, have_others, one_fewer}
 
 -- ---- what is found after each call
 
@@ -18,17 +20,104 @@ pub found_after_put : (words : List (List ℕ)) (seen : List File) (answer : Ans
 found_after_put words seen answer before after None step lacks = absurd (lacks answer step.put)
 found_after_put words seen answer before after (Some other) step holds = ap Some (step.replaced other holds)
 
-pub others_after_put : (words : List (List ℕ)) (seen : List File) (answer : Answer) (before after : Contents) (others : List (List ℕ)) (theirs : List File) (found : Option Answer) → AfterPut words seen answer before after → ¬ IsSameKey others theirs words seen → Finds others theirs before found → Finds others theirs after found
-others_after_put words seen answer before after others theirs None step differs lacks = λ other holds.
-    elim (step.only others theirs other holds) [
-      | inl new ↦ differs new.0
-      | inr old ↦ lacks other old
+-- what another key answers afterwards, it answered before
+pub others_before_put : (words : List (List ℕ)) (seen : List File) (answer : Answer) (before after : Contents) (others : List (List ℕ)) (theirs : List File) (other : Answer)
+    → AfterPut words seen answer before after → ¬ IsSameKey others theirs words seen → Holds others theirs other after → Holds others theirs other before
+others_before_put words seen answer before after others theirs other step differs held =
+    elim (step.only others theirs other held) [
+      | inl new ↦ absurd (differs new.0)
+      | inr old ↦ old
     ]
-others_after_put words seen answer before after others theirs (Some other) step differs holds =
-    elim (step.kept others theirs other holds) [
+
+-- where what another key answers is kept, the same is found
+others_from : (words : List (List ℕ)) (seen : List File) (answer : Answer) (before after : Contents) (others : List (List ℕ)) (theirs : List File) (found : Option Answer)
+    → AfterPut words seen answer before after → ¬ IsSameKey others theirs words seen → ((other : Answer) → Holds others theirs other before → Holds others theirs other after)
+    → Finds others theirs before found → Finds others theirs after found
+others_from words seen answer before after others theirs None step differs kept lacks = λ other held. lacks other (others_before_put words seen answer before after others theirs other step differs held)
+others_from words seen answer before after others theirs (Some other) step differs kept holds = kept other holds
+
+-- of the rows in front of the last one none is dropped
+stays_among : (words : List (List ℕ)) (seen : List File) (answer : Answer) (limit : ℕ) (rows more : List BookRow) → length (other_rows words seen rows) < limit
+    → (others : List (List ℕ)) (theirs : List File) (other : Answer) → ¬ IsSameKey others theirs words seen → HaveRow others theirs other rows
+    → HaveRow others theirs other (take limit (new_row words seen answer ∷ other_rows words seen (rows ++ more)))
+stays_among words seen answer zero rows more few others theirs other differs held = absurd (omega arith)
+stays_among words seen answer (suc limit) rows more few others theirs other differs held =
+    elim (have_others words seen others theirs other rows held) [
       | inl same ↦ absurd (differs same)
-      | inr kept ↦ kept
+      | inr later ↦ inr (subst (λ (all : List BookRow). HaveRow others theirs other (take limit all)) (sym (filter-append (λ (row : BookRow). not (is_row_for words seen row)) rows more))
+          (have_first others theirs other limit (other_rows words seen rows) (other_rows words seen more) (omega arith) later))
     ]
+
+module _ (words : List (List ℕ)) (seen : List File) (answer : Answer) (before after : Contents) (step : AfterPut words seen answer before after) where
+  -- where a row more has room, those of other keys stay
+  stays_in_room : length (other_rows words seen before.rows) < before.limit → (others : List (List ℕ)) (theirs : List File) (other : Answer) → ¬ IsSameKey others theirs words seen
+      → Holds others theirs other before → Holds others theirs other after
+  stays_in_room room others theirs other differs held =
+      subst (Holds others theirs other) (sym step.is)
+      (subst (λ (all : List BookRow). HaveRow others theirs other (take before.limit (new_row words seen answer ∷ other_rows words seen all))) (append_none before.rows)
+      (stays_among words seen answer before.limit before.rows [] room others theirs other differs held))
+    where
+      append_none : (rows : List BookRow) → rows ++ [] ≡ rows
+      append_none [] = refl
+      append_none (row ∷ rows) = ap (λ (rest : List BookRow). row ∷ rest) (append_none rows)
+
+  pub others_in_room : count_of before < before.limit → (others : List (List ℕ)) (theirs : List File) (found : Option Answer) → ¬ IsSameKey others theirs words seen
+      → Finds others theirs before found → Finds others theirs after found
+  others_in_room room others theirs found differs finds =
+      let fewer = fewer_others words seen before.rows in
+      others_from words seen answer before after others theirs found step differs (λ other held. stays_in_room (omega arith) others theirs other differs held) finds
+
+  pub others_in_place : (old : Answer) → HaveDistinctKeys before.rows → count_of before ≤ before.limit → Holds words seen old before → (others : List (List ℕ)) (theirs : List File) (found : Option Answer)
+      → ¬ IsSameKey others theirs words seen → Finds others theirs before found → Finds others theirs after found
+  others_in_place old distinct within have others theirs found differs finds =
+      let fewer = one_fewer words seen old before.rows distinct have in
+      others_from words seen answer before after others theirs found step differs (λ other held. stays_in_room (omega arith) others theirs other differs held) finds
+
+  -- all but the last row stay
+  pub others_but_last : (rows : List BookRow) (last : BookRow) → before.rows ≡ rows ++ last ∷ [] → count_of before ≤ before.limit → (others : List (List ℕ)) (theirs : List File) (found : Option Answer)
+      → ¬ IsSameKey others theirs words seen → ¬ HasKey others theirs last → Finds others theirs before found → Finds others theirs after found
+  others_but_last rows last all within others theirs found differs apart finds =
+      let fewer = fewer_others words seen rows in
+      let longer = one_longer rows in
+      let as_many = ap length all in
+      others_from words seen answer before after others theirs found step differs (λ other held.
+      elim (all_but rows other (subst (HaveRow others theirs other) all held)) [
+        | inl later ↦ subst (Holds others theirs other) (sym step.is)
+            (subst (λ (those : List BookRow). HaveRow others theirs other (take before.limit (new_row words seen answer ∷ other_rows words seen those))) (sym all)
+            (stays_among words seen answer before.limit rows (last ∷ []) (omega arith) others theirs other differs later))
+        | inr key ↦ absurd (apart key)
+      ]) finds
+    where
+      one_longer : (some : List BookRow) → length (some ++ last ∷ []) ≡ suc (length some)
+      one_longer [] = refl
+      one_longer (row ∷ some) = ap suc (one_longer some)
+
+      all_but : (some : List BookRow) (other : Answer) → HaveRow others theirs other (some ++ last ∷ []) → HaveRow others theirs other some ⊎ HasKey others theirs last
+      all_but [] other (inl here) = inr here.0
+      all_but [] other (inr none) = absurd none
+      all_but (row ∷ some) other (inl here) = inl (inl here)
+      all_but (row ∷ some) other (inr later) = elim (all_but some other later) [ inl held ↦ inl (inr held) | inr key ↦ inr key ]
+
+-- ---- what is in front, and the limit
+
+pub front_after_find : (words : List (List ℕ)) (seen : List File) (answer : Answer) (before after : Contents) → HaveDistinctKeys before.rows → AfterFind words seen before after → Holds words seen answer before
+    → after.rows ≡ new_row words seen answer ∷ other_rows words seen before.rows
+front_after_find words seen answer before after distinct step held = ap (λ (all : Contents). all.rows) step.is ∙ brings words seen answer before.rows distinct held
+
+pub same_after_find : (words : List (List ℕ)) (seen : List File) (before after : Contents) → AfterFind words seen before after → Lacks words seen before → after ≡ before
+same_after_find words seen before after step lacks = step.is ∙ ap (λ (rows : List BookRow). record { rows = rows; limit = before.limit }) (brings_none words seen before.rows lacks)
+
+pub limit_after_find : (words : List (List ℕ)) (seen : List File) (before after : Contents) → AfterFind words seen before after → after.limit ≡ before.limit
+limit_after_find words seen before after step = ap (λ (all : Contents). all.limit) step.is
+
+pub limit_after_put : (words : List (List ℕ)) (seen : List File) (answer : Answer) (before after : Contents) → AfterPut words seen answer before after → after.limit ≡ before.limit
+limit_after_put words seen answer before after step = ap (λ (all : Contents). all.limit) step.is
+
+pub within_after_put : (words : List (List ℕ)) (seen : List File) (answer : Answer) (before after : Contents) → AfterPut words seen answer before after → count_of after ≤ before.limit
+within_after_put words seen answer before after step =
+    subst (λ (all : Contents). count_of all ≤ before.limit) (sym step.is) (first_count before.limit (new_row words seen answer ∷ other_rows words seen before.rows))
+
+-- ---- forgetting
 
 pub have_none : (words : List (List ℕ)) (seen : List File) (answer : Answer) (rows : List BookRow) → rows ≡ [] → HaveRow words seen answer rows → ⊥
 have_none words seen answer rows none have = subst (λ (all : List BookRow). HaveRow words seen answer all) none have
@@ -106,61 +195,31 @@ same_count a b first second there back =
     let most = at_most_as_long b.rows a.rows second back in
     omega arith
 
--- ---- how many answers are held after a put
+-- ---- how many answers are held
 
-module _ (words : List (List ℕ)) (seen : List File) (answer : Answer) (before after : Contents) (distinct : HaveDistinctKeys before.rows) (step : AfterPut words seen answer before after) where
-  abbrev new_row : BookRow
-  new_row = record { words = words; seen = seen; answer = answer }
+pub count_after_find : (words : List (List ℕ)) (seen : List File) (before after : Contents) → HaveDistinctKeys before.rows → AfterFind words seen before after → count_of after ≡ count_of before
+count_after_find words seen before after distinct step = ap count_of step.is ∙ brought_count words seen before.rows distinct
 
-  stays : (others : List (List ℕ)) (theirs : List File) (other : Answer) → ¬ IsSameKey others theirs words seen → Holds others theirs other before → Holds others theirs other after
-  stays others theirs other differs held = others_after_put words seen answer before after others theirs (Some other) step differs held
+module _ (words : List (List ℕ)) (seen : List File) (answer : Answer) (before after : Contents) (step : AfterPut words seen answer before after) where
+  abbrev all_rows : List BookRow
+  all_rows = new_row words seen answer ∷ other_rows words seen before.rows
 
-  -- what is held afterwards is the new row or held before
-  new_or_old : (others : List (List ℕ)) (theirs : List File) (other : Answer) → Holds others theirs other after → HaveRow others theirs other (new_row ∷ before.rows)
-  new_or_old others theirs other held =
-      elim (step.only others theirs other held) [
-        | inl new ↦ inl ((sym new.0.0, sym new.0.1), sym new.1)
-        | inr old ↦ inr old
-      ]
+  count_all : length all_rows ≤ before.limit → count_of after ≡ length all_rows
+  count_all few = ap count_of step.is ∙ ap length (all_first before.limit all_rows few)
 
-  -- a key that is held is not one that is lacked
-  apart_from : (others : List (List ℕ)) (theirs : List File) (other : Answer) (rows : List BookRow) → LackRow words seen rows → HaveRow others theirs other rows → ¬ IsSameKey others theirs words seen
-  apart_from others theirs other rows lack held same = lack other (same_have others words theirs seen other rows same.0 same.1 held)
-
-  new_after : (others : List (List ℕ)) (theirs : List File) (other : Answer) → HasKey others theirs new_row × (answer ≡ other) → Holds others theirs other after
-  new_after others theirs other new =
-      subst (λ (it : Answer). Holds others theirs it after) new.1 (same_have words others seen theirs answer after.rows new.0.0 new.0.1 step.put)
-
-  pub count_more : Lacks words seen before → count_of after ≡ count_of before + 1
-  count_more lacks =
-      let least = at_most_as_long after.rows (new_row ∷ before.rows) step.distinct new_or_old in
-      let most = at_most_as_long (new_row ∷ before.rows) after.rows (lacks, distinct) (λ others theirs other held.
-      elim held [
-        | inl new ↦ new_after others theirs other new
-        | inr old ↦ stays others theirs other (apart_from others theirs other before.rows lacks old) old
-      ]) in
+  pub count_more : count_of before < before.limit → Lacks words seen before → count_of after ≡ count_of before + 1
+  count_more room lacks =
+      let as_many = ap length (all_others words seen before.rows lacks) in
+      let all = count_all (omega arith) in
       omega arith
 
-  -- what is held afterwards is the new row or one of the others
-  new_or_other : (old : Answer) (have : Holds words seen old before) (others : List (List ℕ)) (theirs : List File) (other : Answer) → Holds others theirs other after → HaveRow others theirs other (new_row ∷ but words seen old before.rows have)
-  new_or_other old have others theirs other held =
-      elim (new_or_old others theirs other held) [
-        | inl new ↦ inl new
-        | inr earlier ↦ elim (same_or_but words seen old before.rows have others theirs other earlier) [
-          | inl same ↦ inl ((sym same.0, sym same.1), sym (step.replaced other (same_have others words theirs seen other after.rows same.0 same.1 held)))
-          | inr later ↦ inr later
-        ]
-      ]
+  pub count_full : count_of before ≡ before.limit → Lacks words seen before → count_of after ≡ before.limit
+  count_full full lacks =
+      let as_many = ap length (all_others words seen before.rows lacks) in
+      ap count_of step.is ∙ full_count before.limit all_rows (omega arith)
 
-  pub count_same : (old : Answer) → Holds words seen old before → count_of after ≡ count_of before
-  count_same old have =
-      let rest = but words seen old before.rows have in
-      let lack = lack_but words seen old before.rows have distinct in
-      let least = at_most_as_long after.rows (new_row ∷ rest) step.distinct (new_or_other old have) in
-      let most = at_most_as_long (new_row ∷ rest) after.rows (lack, distinct_but words seen old before.rows have distinct) (λ others theirs other held.
-      elim held [
-        | inl new ↦ new_after others theirs other new
-        | inr earlier ↦ stays others theirs other (apart_from others theirs other rest lack earlier) (have_but words seen old before.rows have others theirs other earlier)
-      ]) in
-      let longer = length_but words seen old before.rows have in
+  pub count_same : (old : Answer) → HaveDistinctKeys before.rows → count_of before ≤ before.limit → Holds words seen old before → count_of after ≡ count_of before
+  count_same old distinct within have =
+      let fewer = one_fewer words seen old before.rows distinct have in
+      let all = count_all (omega arith) in
       omega arith

@@ -1,28 +1,53 @@
--- What each call of a book makes of what it remembers. No two rows have one key afterwards.
-use Rattle.std.specs.Prelude.{◌≡◌, ◌⊎◌, ℕ, List, []}
+-- What each call of a book makes of what it remembers, exactly. A look-up brings its row to the front, and a put places one
+-- there and may drop the last; the limit stays. What else the records say of that follows, for books whose keys are distinct.
+use Rattle.std.specs.Prelude.{◌≡◌, ◌⊎◌, ℕ, List, [], ◌∷◌, take}
+use Rattle.std.specs.List.{cons_option}
 use Rattle.child_port.specs.declared.answer.Answer.{Answer}
 use Rattle.hook_base.specs.declared.file.File.{File}
-use Rattle.result_book.specs.Contents.{Contents, HaveDistinctKeys, Holds}
+use Rattle.result_book.specs.declared.book_row.BookRow.{BookRow}
+use Rattle.result_book.specs.Contents.{Contents, HaveDistinctKeys, Holds, other_rows, row_for, with_rows}
 
--- After a look-up for the words and the seen files the same is remembered as before.
+-- ---- a look-up
+
+-- the row of the words and the seen files in front, and behind it the others in their order; all as they were where it is lacked
+abbrev pub brought_rows : List (List ℕ) → List File → List BookRow → List BookRow
+brought_rows words seen rows = cons_option (row_for words seen rows) (other_rows words seen rows)
+
+abbrev pub brought : List (List ℕ) → List File → Contents → Contents
+brought words seen contents = with_rows contents.limit (brought_rows words seen contents.rows)
+
+-- After a look-up for the words and the seen files their row is in front. The same is remembered as before.
 pub record AfterFind (words : List (List ℕ)) (seen : List File) (before after : Contents) : Type 0 where
+  pub is : after ≡ brought words seen before
   pub kept : (others : List (List ℕ)) (theirs : List File) (answer : Answer) → Holds others theirs answer before → Holds others theirs answer after
   pub only : (others : List (List ℕ)) (theirs : List File) (answer : Answer) → Holds others theirs answer after → Holds others theirs answer before
   pub distinct : HaveDistinctKeys after.rows
+
+-- ---- a put
 
 -- two words and seen files are the same
 abbrev pub IsSameKey : List (List ℕ) → List File → List (List ℕ) → List File → Type 0
 IsSameKey words seen others theirs = (words ≡ others) × (seen ≡ theirs)
 
--- After an answer is put for the words and the seen files, that alone is remembered for them. What was remembered for
--- others still is, and nothing else is new.
+abbrev pub new_row : List (List ℕ) → List File → Answer → BookRow
+new_row words seen answer = record { words = words; seen = seen; answer = answer }
+
+-- the new row in front, and behind it those of other words or seen files in their order; of these the first, as many as the limit
+abbrev pub with_row : List (List ℕ) → List File → Answer → Contents → Contents
+with_row words seen answer contents = with_rows contents.limit (take contents.limit (new_row words seen answer ∷ other_rows words seen contents.rows))
+
+-- After an answer is put for the words and the seen files, it is in front, and that alone is remembered for them. What is
+-- remembered for others was so before; of this only the last row may be gone.
 pub record AfterPut (words : List (List ℕ)) (seen : List File) (answer : Answer) (before after : Contents) : Type 0 where
+  pub is : after ≡ with_row words seen answer before
   pub put : Holds words seen answer after
   pub replaced : (other : Answer) → Holds words seen other after → other ≡ answer
-  pub kept : (others : List (List ℕ)) (theirs : List File) (other : Answer) → Holds others theirs other before → IsSameKey others theirs words seen ⊎ Holds others theirs other after
   pub only : (others : List (List ℕ)) (theirs : List File) (other : Answer) → Holds others theirs other after → (IsSameKey others theirs words seen × (other ≡ answer)) ⊎ Holds others theirs other before
   pub distinct : HaveDistinctKeys after.rows
 
--- After a book has forgotten, nothing is remembered.
+-- ---- forgetting
+
+-- After a book has forgotten, nothing is remembered. The limit stays.
 pub record AfterForget (before after : Contents) : Type 0 where
   pub none : after.rows ≡ []
+  pub limit : after.limit ≡ before.limit

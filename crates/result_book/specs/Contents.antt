@@ -1,20 +1,28 @@
--- What a book remembers: rows, one for each words and seen files, that are read through what is held for these alone. So
--- it is a finite map, and the order of the rows means nothing.
-use Rattle.std.specs.Prelude.{◌≡◌, ◌⊎◌, ℕ, List, [], ◌∷◌, length, Option, None, Some}
+-- What a book remembers: rows, one for each words and seen files, the most recently used first, and how many there are at
+-- most. What is held for words and seen files is found whatever the order; the order says which row is dropped first.
+use Rattle.std.specs.Prelude.{◌≡◌, ◌⊎◌, ◌≤◌, ℕ, Bool, ◌&&◌, not, List, [], ◌∷◌, length, filter, Option, None, Some}
+use Rattle.std.specs.Cmp.Lexicographic.{pointwise}
+use Rattle.std.specs.List.{find}
+use Rattle.std.specs.Str.{bytes_eq}
 use Rattle.child_port.specs.declared.answer.Answer.{Answer}
 use Rattle.hook_base.specs.declared.file.File.{File}
+use Rattle.repo_store.specs.Answers.{is_same_file}
+use Rattle.repo_store.specs.Limits.{IsLimit}
 use Rattle.result_book.specs.declared.book_row.BookRow.{BookRow}
 
 pub record Contents : Type 0 where
+  -- the most recently used first
   pub rows : List BookRow
+  -- how many rows are remembered at most
+  pub limit : ℕ
 
--- what a book of these rows remembers
-abbrev pub with_rows : List BookRow → Contents
-with_rows rows = record { rows = rows }
+-- what a book of this limit and these rows remembers
+abbrev pub with_rows : ℕ → List BookRow → Contents
+with_rows limit rows = record { rows = rows; limit = limit }
 
--- what a book remembers that nothing was put in
-abbrev pub nothing : Contents
-nothing = with_rows []
+-- what a book of this limit remembers that nothing was put in
+abbrev pub nothing : ℕ → Contents
+nothing limit = with_rows limit []
 
 -- the key of a row: its words, and its seen files with their modes and bytes
 abbrev pub HasKey : List (List ℕ) → List File → BookRow → Type 0
@@ -34,6 +42,14 @@ abbrev pub HaveDistinctKeys : List BookRow → Type 0
 HaveDistinctKeys [] = Unit {0}
 HaveDistinctKeys (row ∷ rows) = LackRow row.words row.seen rows × HaveDistinctKeys rows
 
+-- no two rows have one key, and there are no more than the limit, which is from 1 to 100,000
+pub record IsBook (contents : Contents) : Type 0 where
+  pub distinct : HaveDistinctKeys contents.rows
+  pub within : length contents.rows ≤ contents.limit
+  pub limited : IsLimit contents.limit
+
+-- ---- what is held
+
 -- the answer is remembered for the words and the seen files
 abbrev pub Holds : List (List ℕ) → List File → Answer → Contents → Type 0
 Holds words seen answer contents = HaveRow words seen answer contents.rows
@@ -50,3 +66,17 @@ Finds words seen contents (Some answer) = Holds words seen answer contents
 -- how many answers are remembered
 abbrev pub count_of : Contents → ℕ
 count_of contents = length contents.rows
+
+-- ---- the row of a key, and the others
+
+-- the row is that of these words and these seen files, with their modes and bytes
+abbrev pub is_row_for : List (List ℕ) → List File → BookRow → Bool
+is_row_for words seen row = pointwise bytes_eq row.words words && pointwise is_same_file row.seen seen
+
+-- the row of the words and the seen files, if there is one
+abbrev pub row_for : List (List ℕ) → List File → List BookRow → Option BookRow
+row_for words seen rows = find (is_row_for words seen) rows
+
+-- the rows of other words or seen files, in their order
+abbrev pub other_rows : List (List ℕ) → List File → List BookRow → List BookRow
+other_rows words seen rows = filter (λ row. not (is_row_for words seen row)) rows

@@ -1,15 +1,31 @@
 -- Lemmas on rows with distinct keys.
-use Rattle.std.specs.Prelude.{◌≡◌, ℕ, List, [], ◌∷◌, Option, None, Some, refl}
+use Rattle.std.specs.Prelude.{◌≡◌, ◌↔◌, ℕ, true, false, List, [], ◌∷◌, Option, None, Some, refl}
 use Rattle.std.proofs.Common.{ap, sym, ◌∙◌, inl, inr, subst}
+use Rattle.std.proofs.lemmas.Bool.{false_from_ne_true}
 use Rattle.child_port.specs.declared.answer.Answer.{Answer}
 use Rattle.hook_base.specs.declared.file.File.{File}
+use Rattle.repo_store.specs.Answers.{KeptAnswer}
+use Rattle.repo_store.specs.AnswerLemmas.{is_for_decides}
 use Rattle.result_book.specs.declared.book_row.BookRow.{BookRow}
-use Rattle.result_book.specs.Contents.{Contents, HaveRow, LackRow, HaveDistinctKeys, Finds}
+use Rattle.result_book.specs.Contents.{Contents, HasKey, HaveRow, LackRow, HaveDistinctKeys, Finds, is_row_for}
 
 -- that keys are distinct is a fact: there is one proof of it
 pub HaveDistinctKeys-prop : (rows : List BookRow) → IsProp (HaveDistinctKeys rows)
 HaveDistinctKeys-prop [] = Prim.hlevel tt
 HaveDistinctKeys-prop (row ∷ rows) = Prim.hlevel (HaveDistinctKeys-prop rows)
+
+-- the row as a remembered answer, whose key alone counts
+abbrev as_kept : BookRow → KeptAnswer
+as_kept row = record { words = row.words; seen = row.seen; output = []; changes = []; status = 0 }
+
+pub row_decides : (words : List (List ℕ)) (seen : List File) (row : BookRow) → (is_row_for words seen row ≡ true) ↔ HasKey words seen row
+row_decides words seen row = is_for_decides words seen (as_kept row)
+
+pub no_row_key : (words : List (List ℕ)) (seen : List File) (row : BookRow) → is_row_for words seen row ≡ false → ¬ HasKey words seen row
+no_row_key words seen row isnt key = let is = (row_decides words seen row).1 key in let never : true ≡ false = sym is ∙ isnt in absurd (cc)
+
+pub other_row : (words : List (List ℕ)) (seen : List File) (row : BookRow) → ¬ HasKey words seen row → is_row_for words seen row ≡ false
+other_row words seen row differs = false_from_ne_true (is_row_for words seen row) (λ is. differs ((row_decides words seen row).0 is))
 
 pub same_have : (words others : List (List ℕ)) (seen theirs : List File) (answer : Answer) (rows : List BookRow) → words ≡ others → seen ≡ theirs → HaveRow words seen answer rows → HaveRow others theirs answer rows
 same_have words others seen theirs answer rows p q have =

@@ -3,6 +3,7 @@ pub mod Calls
 pub mod Contents
 pub mod Faults
 pub mod KeyLemmas
+pub mod OrderLemmas
 pub mod Places
 pub mod RestLemmas
 pub mod StoreBooks

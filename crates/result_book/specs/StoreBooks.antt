@@ -36,9 +36,9 @@ given_answer answer = record { status = answer.status; output = answer.output; c
 abbrev pub row_of : KeptAnswer → BookRow
 row_of answer = record { words = answer.words; seen = answer.seen; answer = given_answer answer }
 
--- the remembered answers of a store, as those of a book
+-- the remembered answers of a store in their order, as those of a book of its limit
 abbrev pub remembered_by : Kept → Contents
-remembered_by kept = with_rows (map row_of kept.answers)
+remembered_by kept = with_rows kept.limit (map row_of kept.answers)
 
 -- ---- what a crash leaves
 

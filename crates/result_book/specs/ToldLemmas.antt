@@ -1,12 +1,13 @@
 -- Lemmas on what calls add to what is remembered.
-use Rattle.std.specs.Prelude.{◌≡◌, ℕ, List}
+use Rattle.std.specs.Prelude.{◌≡◌, ℕ, List, take}
 use Rattle.std.proofs.Common.{inl, inr, sym, subst}
 use Rattle.child_port.specs.declared.answer.Answer.{Answer}
 use Rattle.child_port.specs.declared.answer.Outcome.{Outcome}
 use Rattle.hook_base.specs.declared.file.File.{File}
 use Rattle.result_book.specs.Calls.{AfterFind, AfterForget, AfterPut}
 use Rattle.result_book.specs.CallLemmas.{have_none}
-use Rattle.result_book.specs.Contents.{Contents}
+use Rattle.result_book.specs.Contents.{Contents, with_rows}
+use Rattle.result_book.specs.OrderLemmas.{first_have}
 use Rattle.result_book.specs.Told.{AddsTold, IsTold, IsToldAnswer}
 
 pub adds-none : (tells : List (List ℕ) → List File → Outcome → Type 0) (contents : Contents) → AddsTold tells contents contents
@@ -35,6 +36,9 @@ adds-put tells words seen answer before after step told = λ others theirs other
 pub told-adds : (tells : List (List ℕ) → List File → Outcome → Type 0) (before after : Contents) → IsTold tells before → AddsTold tells before after → IsTold tells after
 told-adds tells before after told adds = λ words seen answer holds.
     elim (adds words seen answer holds) [ inl old ↦ told words seen answer old | inr new ↦ new ]
+
+pub told-limited : (tells : List (List ℕ) → List File → Outcome → Type 0) (limit : ℕ) (before after : Contents) → IsTold tells before → after ≡ with_rows limit (take limit before.rows) → IsTold tells after
+told-limited tells limit before after told is = subst (IsTold tells) (sym is) (λ words seen answer holds. told words seen answer (first_have words seen answer limit before.rows holds))
 
 pub told-forgotten : (tells : List (List ℕ) → List File → Outcome → Type 0) (before after : Contents) → AfterForget before after → IsTold tells after
 told-forgotten tells before after step = λ words seen answer holds. absurd (have_none words seen answer after.rows step.none holds)

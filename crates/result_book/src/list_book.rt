@@ -9,34 +9,40 @@ use hook_base::{Text, Tree};
 use std::alloc::Global;
 use std::marker::Model;
 
-/// A book that keeps each answer, in memory, and loses all of them when it is dropped. A look-up changes nothing. Its calls
-/// are refused only where memory is, and a crash leaves nothing of it. Contracts see what it remembers.
+/// A book that keeps its answers in memory, as many as its limit, and loses all of them when it is dropped. Its calls are refused
+/// only where memory is, and a crash leaves nothing of it. Contracts see what it remembers.
 #[derive(Debug, Drop)]
 pub struct ListBook {
+    // The most recently used last.
     rows: Vec<BookRow>,
-    // The index behind the row that was found last, which is looked at first.
+    limit: u32,
+    // The index at which the row that was found last stood, which is looked at first.
     next: usize,
 }
 
 impl Model for ListBook {
-    ghost use Rattle.result_book.specs.Contents.{Contents, HaveDistinctKeys, with_rows};
+    ghost use Rattle.result_book.specs.Contents.{Contents, IsBook};
+    ghost use Rattle.result_book.specs.Places.{shown_rows};
 
     ghost Value = { Contents };
 
-    ghost view = { λ book. with_rows book.rows.items };
+    ghost view = { λ book. shown_rows book.limit book.rows.items };
 
-    ghost invariant = { λ book. HaveDistinctKeys book.rows.items };
+    ghost invariant = { λ book. IsBook (shown_rows book.limit book.rows.items) };
 }
 
 impl ListBook {
+    ghost use Rattle.repo_store.specs.Limits.{IsLimit};
     ghost use Rattle.result_book.specs.Contents.{nothing};
 
-    /// A book that remembers nothing.
-    pub fn new(alloc: Global) -> ListBook
-        ensures { result ≡ nothing }
+    /// A book that remembers nothing, and so many answers at most, from 1 to 100,000.
+    pub fn new(alloc: Global, limit: u32) -> ListBook
+        requires { IsLimit limit }
+        ensures { result ≡ nothing limit }
     {
         ListBook {
             rows: Vec::new(alloc),
+            limit,
             next: 0,
         }
     }
@@ -59,12 +65,12 @@ impl Book for ListBook {
     ghost rests_on = { λ first second third before after. tt };
 
     fn find(&mut self, words: &[Text], seen: &Tree) -> Result<Option<Answer>, BookFault> {
-        let rows = self.rows.as_slice();
-        Ok(found_in(rows, &mut self.next, words, seen)?)
+        Ok(found_in(&mut self.rows, &mut self.next, words, seen)?)
     }
 
     fn put(&mut self, words: &[Text], seen: &Tree, answer: &Answer) -> Result<(), BookFault> {
-        Ok(put_row(&mut self.rows, words, seen, answer)?)
+        let limit = self.limit as usize;
+        Ok(put_row(&mut self.rows, limit, words, seen, answer)?)
     }
 
     fn forget(&mut self) -> Result<u64, BookFault> {

@@ -1,9 +1,12 @@
-//! Rows with distinct keys: a look-up by words and seen files, and a row put in its place.
+//! Rows with distinct keys, the most recently used last: a look-up by words and seen files, which moves its row to the end, and a
+//! row put there.
 
-ghost use Rattle.std.specs.Prelude.{◌≡◌, IfOk, OnOk, OnErr};
-ghost use Rattle.result_book.specs.Calls.{AfterPut};
-ghost use Rattle.result_book.specs.Contents.{Finds, HaveDistinctKeys, with_rows};
-ghost use Rattle.result_book.specs.Places.{IsPlace};
+ghost use Rattle.std.specs.Prelude.{◌≡◌, ◌<◌, ◌∷◌, ◌++◌, [], ℕ, length, reverse, slice_index_or, IfOk, OnOk, OnErr};
+ghost use Rattle.std.specs.Vec.{vec_capacity, vec_len};
+ghost use Rattle.std.specs.List.{remove};
+ghost use Rattle.result_book.specs.Calls.{AfterPut, brought};
+ghost use Rattle.result_book.specs.Contents.{Finds, HaveDistinctKeys, IsBook};
+ghost use Rattle.result_book.specs.Places.{IsGoing, IsPlace, shown_rows};
 
 use crate::BookRow;
 use child_port::Answer;
@@ -32,22 +35,45 @@ fn place_near(rows: &[BookRow], near: usize, words: &[Text], seen: &Tree) -> Opt
     place_of(rows, words, seen)
 }
 
-/// What is remembered in the rows for the words and the seen files, as a copy. Where that is found, `next` is the index behind
-/// it, at which it is looked for first the next time: a run asks in the order in which it was put by an earlier one.
-#[tactic(auto, using(crate::proofs::PlaceLemmas::at_within))]
+// Takes the row at the index out.
+fn take_out(rows: &mut Vec<BookRow>, index: usize) -> BookRow
+    requires { index < length rows.old.items }
+    ensures value { result ≡ slice_index_or rows.old.items index result }
+    ensures items { rows.new.items ≡ remove rows.old.items index }
+    ensures room { vec_len rows.new < vec_capacity rows.new }
+{
+    rows.remove(index)
+}
+
+// A row more at the end, for which there is room.
+fn put_last(rows: &mut Vec<BookRow>, row: BookRow)
+    requires { vec_len rows.old < vec_capacity rows.old }
+    ensures { rows.new.items ≡ rows.old.items ++ row ∷ [] }
+{
+    let _ = rows.push(row);
+}
+
+/// What is remembered in the rows for the words and the seen files, as a copy; its row is the last one then. Where it is found,
+/// `next` is the index at which it stood: a run asks in the order in which an earlier one did, and once a row has moved to the
+/// end, the one behind it stands in its place. A refusal leaves the rows as they were.
 pub(crate) fn found_in(
-    rows: &[BookRow],
+    rows: &mut Vec<BookRow>,
     next: &mut usize,
     words: &[Text],
     seen: &Tree,
 ) -> Result<Option<Answer>, OutOfMemory>
-    ensures { IfOk result (λ found. Finds words.now seen.now (with_rows rows.now) found) }
+    requires { HaveDistinctKeys (reverse rows.old.items) }
+    ensures found { (limit : ℕ) → IfOk result (λ found. Finds words.now seen.now (shown_rows limit rows.old.items) found) }
+    ensures brought { (limit : ℕ) → OnOk result (shown_rows limit rows.new.items ≡ brought words.now seen.now (shown_rows limit rows.old.items)) }
+    ensures kept { OnErr result (rows.new.items ≡ rows.old.items) }
 {
-    let Some(index) = place_near(rows, *next, words, seen) else {
+    let Some(index) = place_near(rows.as_slice(), *next, words, seen) else {
         return Ok(None);
     };
-    *next = index + 1;
     let answer = rows[index].answer.clone()?;
+    let row = take_out(rows, index);
+    put_last(rows, row);
+    *next = index;
     Ok(Some(answer))
 }
 
@@ -67,21 +93,38 @@ fn copy_row(
     })
 }
 
-/// Puts an answer in place of the one for the words and the seen files, or adds it. A refusal leaves the rows as they were.
+// The index of the row that goes where one is put for the words and the seen files: that of their own row, or else that of the
+// first one where there are as many as the limit. `None` where no row goes.
+fn going(rows: &[BookRow], limit: usize, words: &[Text], seen: &Tree) -> Option<usize>
+    ensures { IsGoing words.now seen.now limit rows.now result }
+{
+    match place_of(rows, words, seen) {
+        Some(index) => Some(index),
+        None if rows.len() < limit => None,
+        None => Some(0),
+    }
+}
+
+/// Puts an answer for the words and the seen files at the end. The row that was theirs goes, or the first one where there were as
+/// many as the limit. A refusal leaves the rows as they were.
 pub(crate) fn put_row(
     rows: &mut Vec<BookRow>,
+    limit: usize,
     words: &[Text],
     seen: &Tree,
     answer: &Answer,
 ) -> Result<(), OutOfMemory>
-    requires { HaveDistinctKeys rows.old.items }
-    ensures put { OnOk result (AfterPut words.now seen.now answer.now (with_rows rows.old.items) (with_rows rows.new.items)) }
+    requires { IsBook (shown_rows limit rows.old.items) }
+    ensures put { OnOk result (AfterPut words.now seen.now answer.now (shown_rows limit rows.old.items) (shown_rows limit rows.new.items)) }
     ensures kept { OnErr result (rows.new.items ≡ rows.old.items) }
-    ensures distinct { HaveDistinctKeys rows.new.items }
+    ensures book { IsBook (shown_rows limit rows.new.items) }
 {
-    match place_of(rows.as_slice(), words, seen) {
-        Some(index) => rows[index].answer = answer.clone()?,
-        None => rows.push(copy_row(*rows.allocator(), words, seen, answer)?)?,
-    }
+    let row = copy_row(*rows.allocator(), words, seen, answer)?;
+    let Some(index) = going(rows.as_slice(), limit, words, seen) else {
+        rows.push(row)?;
+        return Ok(());
+    };
+    take_out(rows, index);
+    put_last(rows, row);
     Ok(())
 }

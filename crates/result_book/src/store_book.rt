@@ -9,9 +9,10 @@ use hook_base::{Text, Tree};
 use repo_store::{AnswerRef, Store, StoredAnswer};
 use sqlite::Alter;
 
-/// A book that is kept in the store of a repository, and outlives the process: it is the store itself. Each answer is put in a
-/// transaction of its own, and stays when a later one is refused. Its calls are refused where memory is (`OutOfMemory`), and where
-/// the store is (`Store`): by the database, by contents of more than 16 MiB, and by contents whose digest is that of others.
+/// A book that is kept in the store of a repository, and outlives the process: it is the store itself, with the store's limit. Each
+/// answer is put in a transaction of its own, and stays when a later one is refused; so is each that is found, unless it is in front
+/// already. Its calls are refused where memory is (`OutOfMemory`), and where the store is (`Store`): by the database, a look-up too,
+/// by contents of more than 16 MiB, and by contents whose digest is that of others.
 pub type StoreBook<S> = Store<S>;
 
 impl<S: Alter> Book for Store<S> {

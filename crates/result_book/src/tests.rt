@@ -1,8 +1,11 @@
-//! Tests of what no clause says: that the calls which take memory succeed, and what a key is, by example.
+//! Tests of what no clause says: that the calls which take memory succeed, and what a key is and which row goes, by example.
+
+ghost use Rattle.repo_store.specs.Limits.{IsLimit};
 
 use crate::{Book, ListBook};
 use child_port::{Answer, is_stray};
 use hook_base::{Bytes, Change, Changes, Content, FileEntry, Items, Mode, RepoPath, Text, Tree};
+use repo_store::FIRST_LIMIT;
 use std::alloc::Global;
 use std::process::Abort;
 use std::test::Fail;
@@ -81,7 +84,7 @@ fn check_found(
 #[test]
 fn remembers_an_answer_until_it_forgets(rt: HostRuntime) -> Result<(), Fail> {
     let alloc = rt.alloc();
-    let mut book = ListBook::new(alloc);
+    let mut book = ListBook::new(alloc, FIRST_LIMIT);
     let key = ("c", "a.txt=1");
     check_found(&rt, alloc, &mut book, key, None)?;
     assert_eq!(rt; book.len(), 0);
@@ -100,7 +103,7 @@ fn remembers_an_answer_until_it_forgets(rt: HostRuntime) -> Result<(), Fail> {
 #[test]
 fn tells_keys_apart(rt: HostRuntime) -> Result<(), Fail> {
     let alloc = rt.alloc();
-    let mut book = ListBook::new(alloc);
+    let mut book = ListBook::new(alloc, FIRST_LIMIT);
     let keys = [
         ("c", "a.txt=1"),
         ("c", "a.txt=12"),
@@ -127,4 +130,60 @@ fn tells_keys_apart(rt: HostRuntime) -> Result<(), Fail> {
     }
     assert_eq!(rt; book.forget()?, 10);
     Ok(())
+}
+
+// Plays a line over a book of a limit: each word is put, or looked up where it has `?` behind it. Then those are found that are
+// `kept`, and none of those that are `gone`; how many there are is told by the book too.
+fn check_play(
+    rt: &impl Abort,
+    alloc: Global,
+    limit: u32,
+    line: &str,
+    kept: &str,
+    gone: &str,
+) -> Result<(), Fail>
+    requires { IsLimit limit }
+{
+    let mut book = ListBook::new(alloc, limit);
+    for word in line.split_whitespace() {
+        match word.strip_suffix("?") {
+            Some(word) => check_found(rt, alloc, &mut book, (word, "a.txt=1"), Some(word))?,
+            None => put(rt, alloc, &mut book, (word, "a.txt=1"), word)?,
+        }
+    }
+    for word in kept.split_whitespace() {
+        check_found(rt, alloc, &mut book, (word, "a.txt=1"), Some(word))?;
+    }
+    for word in gone.split_whitespace() {
+        check_found(rt, alloc, &mut book, (word, "a.txt=1"), None)?;
+    }
+    assert_eq!(rt;
+        book.len(),
+        kept.split_whitespace().count() as u64,
+        "{} of {}",
+        line,
+        limit
+    );
+    assert_eq!(rt; book.forget()?, kept.split_whitespace().count() as u64);
+    put(rt, alloc, &mut book, ("z", "a.txt=1"), "z")?;
+    check_found(rt, alloc, &mut book, ("z", "a.txt=1"), Some("z"))
+}
+
+#[test]
+fn drops_the_least_recently_used(rt: HostRuntime) -> Result<(), Fail> {
+    let alloc = rt.alloc();
+    check_play(&rt, alloc, 1, "a", "a", "b")?;
+    check_play(&rt, alloc, 1, "a b", "b", "a")?;
+    check_play(&rt, alloc, 1, "a b b? b a", "a", "b")?;
+    check_play(&rt, alloc, 2, "a b", "a b", "c")?;
+    check_play(&rt, alloc, 2, "a b c", "b c", "a")?;
+    check_play(&rt, alloc, 2, "a b a? c", "a c", "b")?;
+    check_play(&rt, alloc, 2, "a b a c", "a c", "b")?;
+    check_play(&rt, alloc, 2, "a b b? c", "b c", "a")?;
+    check_play(&rt, alloc, 3, "a b c d", "b c d", "a")?;
+    check_play(&rt, alloc, 3, "a b c a? d", "c d a", "b")?;
+    check_play(&rt, alloc, 3, "a b c b? d", "b c d", "a")?;
+    check_play(&rt, alloc, 3, "a b c a? b? d e", "b d e", "a c")?;
+    check_play(&rt, alloc, 3, "a b c a? b? c? d", "b c d", "a")?;
+    check_play(&rt, alloc, 3, "a b b a? b c", "a b c", "d")
 }

@@ -6,9 +6,9 @@ use hook_base::Bytes;
 /// A number that the store keeps about itself, as the version of its tables.
 #[derive(Debug, Drop)]
 pub struct MetaRow {
-    /// In UTF-8: `version`, so far.
+    /// In UTF-8: `version` or `limit`.
     pub name: Bytes,
-    /// The version: 1.
+    /// The version, or how many answers are remembered at most.
     pub value: i64,
 }
 

@@ -1,10 +1,15 @@
-//! Plays what a store remembers of children, as a book. A line says an answer as a row of children does, in `children`.
+//! Plays what a store remembers of children, as a book, and how many answers it remembers at most. A line says an answer as a row
+//! of children does, in `children`.
+
+ghost use Rattle.std.specs.Prelude.{IfOk};
+ghost use Rattle.repo_store.specs.Limits.{IsLimit};
 
 use crate::answer::Answer;
+use crate::bulk::number;
 use crate::children::{key_of, read_row};
 use crate::stop::Stop;
 use child_port::is_stray;
-use repo_store::{Store, StoreFault};
+use repo_store::{MOST_ANSWERS, Store, StoreFault};
 use result_book::{Book, BookFault};
 use sqlite::Alter;
 
@@ -25,7 +30,7 @@ pub(crate) fn remember<S: Alter>(
     Ok(())
 }
 
-/// What is remembered for words and seen files: the exit code, what was written, and the changes; or `none`.
+/// What is remembered for words and seen files: the exit code, what was written, and the changes; or `none`. It is in front then.
 pub(crate) fn recall<S: Alter>(
     store: &mut Store<S>,
     rest: &str,
@@ -37,6 +42,28 @@ pub(crate) fn recall<S: Alter>(
         Err(fault) => refused(fault, answer),
     }
     Ok(())
+}
+
+/// Sets how many answers are remembered at most.
+pub(crate) fn set_limit<S: Alter>(
+    store: &mut Store<S>,
+    rest: &str,
+    answer: &mut Answer,
+) -> Result<(), Stop> {
+    let limit = read_limit(rest)?;
+    answer.done(store.set_answer_limit(limit));
+    Ok(())
+}
+
+/// A limit of remembered answers, from 1 to 100,000.
+pub(crate) fn read_limit(word: &str) -> Result<u32, Stop>
+    ensures { IfOk result IsLimit }
+{
+    let limit = number(word)?;
+    if limit == 0 || limit > MOST_ANSWERS {
+        return Err(Stop::BadLine);
+    }
+    Ok(limit)
 }
 
 fn add_found(found: Option<child_port::Answer>, answer: &mut Answer) {

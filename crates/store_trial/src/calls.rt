@@ -1,7 +1,7 @@
 //! Plays a call on a store that is open. Contents and messages are texts as `read_text` reads them.
 
 use crate::answer::Answer;
-use crate::answers::{recall, remember};
+use crate::answers::{recall, remember, set_limit};
 use crate::bulk::{contents_of, number, stage_many, staged_path};
 use crate::edits::stage_all;
 use crate::look_ups::{add_files, add_message, count, look, walk};
@@ -14,7 +14,7 @@ use sqlite::Alter;
 /// The calls that are a line by themselves.
 pub(crate) const CALLS: &[&str] = &[
     "set", "accept", "staged", "head", "fixes", "log", "trees", "weigh", "count", "walk",
-    "answers", "forget",
+    "answers", "forget", "limit",
 ];
 
 /// The calls whose word something follows.
@@ -34,6 +34,7 @@ pub(crate) const CALLS_OF: &[&str] = &[
     "message",
     "remember",
     "recall",
+    "set-limit",
 ];
 
 /// Plays a call that changes the store, or one that only reads.
@@ -85,6 +86,7 @@ fn play_answers<S: Alter>(
     match word {
         "remember" => remember(store, rest, answer),
         "recall" => recall(store, rest, answer),
+        "set-limit" => set_limit(store, rest, answer),
         _ => {
             answer.begin("ok");
             show(store, word, rest, answer)
@@ -133,6 +135,7 @@ fn show_counts<S: Alter>(
         "count" => count(store, answer),
         "walk" => walk(store, answer),
         "answers" => answer.show(store.answers_len()),
+        "limit" => answer.show(store.answer_limit()),
         _ => return show_commit(store, word, number(rest)?, answer),
     }
     Ok(())

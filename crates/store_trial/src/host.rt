@@ -1,6 +1,7 @@
 //! Plays the commands of a host over the store.
 
 use crate::answer::Answer;
+use crate::answers::read_limit;
 use crate::children::children_of;
 use crate::edits::{edit_all, read_asked_mode};
 use crate::stop::Stop;
@@ -15,13 +16,14 @@ use std::alloc::Global;
 use std::fmt::Display;
 
 /// The commands that are a line by themselves.
-pub(crate) const COMMANDS: &[&str] = &["accept-fixes", "forget-answers"];
+pub(crate) const COMMANDS: &[&str] = &["accept-fixes", "forget-answers", "answer-limit"];
 
 /// The commands whose word something follows.
 pub(crate) const COMMANDS_OF: &[&str] = &[
     "add",
     "remove",
     "edit-all",
+    "limit-answers",
     "run-hooks",
     "commit-verified",
     "commit-unverified",
@@ -47,14 +49,33 @@ pub(crate) fn play_command<S: Alter>(
             numbered(host.accept(), answer);
             Ok(())
         }
-        "forget-answers" => {
-            numbered(host.forget(), answer);
-            Ok(())
-        }
         "run-hooks" => run(host, rows, rest, answer),
         "commit-verified" => commit(host, rows, rest, false, answer),
-        _ => commit(host, rows, rest, true, answer),
+        "commit-unverified" => commit(host, rows, rest, true, answer),
+        _ => play_answers(host, word, rest, answer),
     }
+}
+
+// The commands that look at the remembered answers, or change them alone.
+fn play_answers<S: Alter>(
+    host: &mut Host<S>,
+    word: &str,
+    rest: &str,
+    answer: &mut Answer,
+) -> Result<(), Stop> {
+    match word {
+        "forget-answers" => numbered(host.forget(), answer),
+        "answer-limit" => {
+            answer.begin("ok");
+            answer.show(host.limit())
+        }
+        "limit-answers" => {
+            let limit = read_limit(rest)?;
+            numbered(host.set_limit(limit), answer)
+        }
+        _ => return Err(Stop::BadLine),
+    }
+    Ok(())
 }
 
 // Adds a file of a mode, or of none where its word is `-`.

@@ -9,7 +9,7 @@ use crate::stop::Stop;
 use lazy_disk::LazyDisk;
 use repo_store::StoreFault;
 use sqlite::{Connection, Error, FileStore, Files, Options};
-use sqlite_disk::{Crash, Fuse, Memory};
+use sqlite_disk::{Crash, Disk, Fuse, Memory};
 use std::alloc::Global;
 use std::io::{BufRead, BufReader};
 
@@ -19,7 +19,7 @@ const CHECKPOINT_FRAMES: usize = 8;
 type StoppingFile = LazyDisk<Fuse<Memory>>;
 
 /// The files, while no database is open in them.
-type Kept = Option<Files<StoppingFile>>;
+type Kept<D> = Option<Files<D>>;
 
 /// Plays the lines of standard input over files of which the log or the database takes so many operations.
 pub(crate) fn play_stopping(rt: &HostRuntime, which: &str, at: &str) -> Result<(), Stop> {
@@ -45,10 +45,10 @@ fn files_with(alloc: Global, log: u64, db: u64) -> Files<StoppingFile> {
     }
 }
 
-fn play_lines(
+fn play_lines<D: Disk + Crash + Drop>(
     rt: &HostRuntime,
-    files: &mut Kept,
-    play: &mut Play<FileStore<StoppingFile>>,
+    files: &mut Kept<D>,
+    play: &mut Play<FileStore<D>>,
     answer: &mut Answer,
 ) -> Result<(), Stop> {
     for line in BufReader::new(rt.alloc(), rt.reader())?.lines(rt.alloc()) {
@@ -58,9 +58,9 @@ fn play_lines(
     Ok(())
 }
 
-fn play_line(
-    files: &mut Kept,
-    play: &mut Play<FileStore<StoppingFile>>,
+fn play_line<D: Disk + Crash + Drop>(
+    files: &mut Kept<D>,
+    play: &mut Play<FileStore<D>>,
     line: &str,
     answer: &mut Answer,
 ) -> Result<(), Stop> {
@@ -77,10 +77,10 @@ fn play_line(
 }
 
 /// Opens the database of the files. Where it is refused, the files are there for the next line.
-fn connect(
+fn connect<D: Disk + Drop>(
     alloc: Global,
-    kept: &mut Kept,
-) -> Result<Result<Connection<FileStore<StoppingFile>>, Error>, Stop> {
+    kept: &mut Kept<D>,
+) -> Result<Result<Connection<FileStore<D>>, Error>, Stop> {
     let files = kept.take().ok_or(Stop::BadLine)?;
     if !files.may_be_used() {
         return Err(Stop::BadLine);
@@ -94,9 +94,9 @@ fn connect(
     }
 }
 
-fn end(
-    files: &mut Kept,
-    ask: Ask<FileStore<StoppingFile>>,
+fn end<D: Disk + Crash + Drop>(
+    files: &mut Kept<D>,
+    ask: Ask<FileStore<D>>,
     answer: &mut Answer,
 ) -> Result<(), Stop> {
     match ask {
@@ -122,7 +122,7 @@ fn end(
 }
 
 /// What wasn't synchronized may be lost, and the files can be used again.
-fn crash(files: &mut Kept) -> Result<(), Stop> {
+fn crash<D: Disk + Crash>(files: &mut Kept<D>) -> Result<(), Stop> {
     match files {
         None => Err(Stop::BadLine),
         Some(files) => {

@@ -6,9 +6,10 @@ use crate::answer::Answer;
 use crate::stop::Stop;
 use sqlite::{Alter, Connection, Error, Transaction};
 use store_tables::{
-    FixRow, clear_answers, clear_fixes, make_tables, put_answer, put_blob, put_commit, put_entry,
-    put_fix, put_meta, put_staged, read_answers, read_blobs, read_commits, read_entries,
-    read_fixes, read_meta, read_staged, replace_meta, take_answer, take_staged,
+    FixRow, clear_answers, clear_fixes, clear_uses, make_tables, make_uses, put_answer, put_blob,
+    put_commit, put_entry, put_fix, put_meta, put_staged, put_use, read_answers, read_blobs,
+    read_commits, read_entries, read_fixes, read_meta, read_staged, read_uses_by_tick,
+    replace_meta, take_answer, take_staged, take_use,
 };
 
 /// Plays the statements in a database that has no tables.
@@ -20,7 +21,7 @@ pub(crate) fn play_tables<S: Alter>(
         return Ok(Err(Error::InvalidQuery));
     }
     let mut tx = conn.transaction();
-    if let Err(error) = make_tables(&mut tx) {
+    if let Err(error) = make_all(&mut tx) {
         return Ok(Err(error));
     }
     fill(&mut tx)?;
@@ -33,6 +34,12 @@ pub(crate) fn play_tables<S: Alter>(
     answer.add(b"emptied");
     add_rows(&mut tx, answer)?;
     Ok(Ok(()))
+}
+
+// The tables of version 1, and the one that version 2 has beside them.
+fn make_all<S: Alter>(tx: &mut Transaction<'_, S>) -> Result<(), Error> {
+    make_tables(tx)?;
+    make_uses(tx)
 }
 
 fn fill<S: Alter>(tx: &mut Transaction<'_, S>) -> Result<(), Error> {
@@ -55,20 +62,36 @@ fn fill_more<S: Alter>(tx: &mut Transaction<'_, S>) -> Result<(), Error> {
     put_fix(tx, "b.txt", None)?;
     put_fix(tx, "a.txt", Some(b"two"))?;
     put_answer(tx, b"two", b"one", b"four", b"three", 0)?;
-    put_answer(tx, b"one", b"two", b"three", b"four", 3)
+    put_answer(tx, b"one", b"two", b"three", b"four", 3)?;
+    use_answers(tx)
+}
+
+fn use_answers<S: Alter>(tx: &mut Transaction<'_, S>) -> Result<(), Error> {
+    put_use(tx, b"one", b"two", 2)?;
+    put_use(tx, b"two", b"one", 1)
 }
 
 fn change_some<S: Alter>(tx: &mut Transaction<'_, S>) -> Result<(), Error> {
     replace_meta(tx, "limit", 9)?;
     replace_meta(tx, "new", 5)?;
     take_answer(tx, b"two", b"two")?;
-    take_answer(tx, b"one", b"two")
+    take_answer(tx, b"one", b"two")?;
+    change_uses(tx)
+}
+
+// The use of the answer that was taken out goes, and the other answer is used once more.
+fn change_uses<S: Alter>(tx: &mut Transaction<'_, S>) -> Result<(), Error> {
+    take_use(tx, b"two", b"two")?;
+    take_use(tx, b"one", b"two")?;
+    take_use(tx, b"two", b"one")?;
+    put_use(tx, b"two", b"one", 3)
 }
 
 fn empty_some<S: Alter>(tx: &mut Transaction<'_, S>) -> Result<(), Error> {
     take_staged(tx, "b.txt")?;
     clear_fixes(tx)?;
-    clear_answers(tx)
+    clear_answers(tx)?;
+    clear_uses(tx)
 }
 
 fn add_rows<S: Alter>(tx: &mut Transaction<'_, S>, answer: &mut Answer) -> Result<(), Stop> {
@@ -76,9 +99,14 @@ fn add_rows<S: Alter>(tx: &mut Transaction<'_, S>, answer: &mut Answer) -> Resul
     add_blobs(tx, answer)?;
     add_staged(tx, answer)?;
     add_fixes(tx, answer)?;
+    add_further(tx, answer)
+}
+
+fn add_further<S: Alter>(tx: &mut Transaction<'_, S>, answer: &mut Answer) -> Result<(), Stop> {
     add_commits(tx, answer)?;
     add_entries(tx, answer)?;
-    add_answers(tx, answer)
+    add_answers(tx, answer)?;
+    add_uses(tx, answer)
 }
 
 fn add_meta<S: Alter>(tx: &mut Transaction<'_, S>, answer: &mut Answer) -> Result<(), Stop> {
@@ -141,6 +169,15 @@ fn add_answers<S: Alter>(tx: &mut Transaction<'_, S>, answer: &mut Answer) -> Re
         answer.add_all(&[b"answers", row.words.as_slice(), row.seen.as_slice()]);
         answer.add_all(&[row.output.as_slice(), row.changes.as_slice()]);
         answer.show(row.status);
+    }
+    Ok(())
+}
+
+// The uses, the earliest first.
+fn add_uses<S: Alter>(tx: &mut Transaction<'_, S>, answer: &mut Answer) -> Result<(), Stop> {
+    for row in &read_uses_by_tick(answer.alloc(), tx)? {
+        answer.add_all(&[b"uses", row.words.as_slice(), row.seen.as_slice()]);
+        answer.show(row.tick);
     }
     Ok(())
 }

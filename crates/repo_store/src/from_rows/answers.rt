@@ -1,12 +1,17 @@
 //! The answers that the rows of `answers` hold.
 
-ghost use Rattle.std.specs.Prelude.{◌≡◌, ◌≤◌, ◌↔◌, pos, map, IfOk, IfErr, OnOk, IsTrue};
+ghost use Rattle.std.specs.Prelude.{◌≡◌, ◌≤◌, ◌↔◌, pos, map, reverse, IfOk, IfErr, OnOk, IsTrue};
 ghost use Rattle.std.specs.List.{AllByRecursion};
+ghost use Rattle.std.specs.Option.{option_copied};
+ghost use Rattle.std.specs.declared.cmp.Ordering.TheVariants.{Less};
 ghost use Rattle.hook_base.specs.Trees.{IsRising};
+ghost use Rattle.sqlite_trees.specs.Tree.{IsAscending};
 ghost use Rattle.repo_store.specs.Answers.{HaveOwnKeys};
+ghost use Rattle.repo_store.specs.Bounded.{key_cmp, key_of_answer};
 ghost use Rattle.repo_store.specs.Complete.{HasRecords, HaveRecords};
 ghost use Rattle.repo_store.specs.Faults.{IsDamage};
-ghost use Rattle.repo_store.specs.Limits.{most_status};
+ghost use Rattle.repo_store.specs.FromRows.{FollowsKey, IsKeyBelow};
+ghost use Rattle.repo_store.specs.Limits.{IsLimit, most_status};
 ghost use Rattle.repo_store.specs.Lists.{file_of, fix_of};
 ghost use Rattle.repo_store.specs.RowRules.{IsAnswerRow, IsStatus};
 ghost use Rattle.repo_store.specs.Rows.{answer_row, blob_row};
@@ -17,12 +22,13 @@ use super::columns::content_at;
 use super::seen_files::seen_files_at;
 use super::words::words_at;
 use crate::StoreFault;
-use crate::answers::Answers;
+use crate::answer_list::AnswerList;
 use crate::contents::Contents;
 use crate::files::has_path;
 use crate::shared::{ListedFile, SharedFix};
 use crate::shared_answer::{AnswerRecords, SharedAnswer};
 use std::alloc::Global;
+use std::cmp::Ordering;
 use store_tables::AnswerRow;
 
 // The exit code that a row names.
@@ -77,23 +83,65 @@ fn answer_of(
     Ok(SharedAnswer::of(words.part, seen.part, output, changes.part, status, records))
 }
 
-/// The answers of these rows.
+/// The answers of these rows, the last one first.
 pub(crate) fn answers_of(
     alloc: Global,
+    limit: u32,
     contents: &Contents,
     rows: Vec<AnswerRow>,
-) -> Result<Answers, StoreFault>
-    ensures rows { IfOk result (λ answers. map answer_row answers.answers ≡ rows.items) }
-    ensures sound { IfOk result (λ answers. AllByRecursion IsSoundAnswer answers.answers) }
-    ensures records { IfOk result (λ answers. HaveRecords contents.now answers.answers) }
-    ensures keys { IfOk result (λ answers. HaveOwnKeys answers.answers) }
+) -> Result<AnswerList, StoreFault>
+    requires { IsLimit limit }
+    ensures rows { IfOk result (λ list. map answer_row list.answers ≡ reverse rows.items) }
+    ensures limit { IfOk result (λ list. list.limit ≡ limit) }
+    ensures next { IfOk result (λ list. list.next ≡ 1) }
+    ensures sound { IfOk result (λ list. AllByRecursion IsSoundAnswer list.answers) }
+    ensures records { IfOk result (λ list. HaveRecords contents.now list.answers) }
+    ensures keys { IfOk result (λ list. HaveOwnKeys list.answers) }
     ensures obeys { OnOk result (AllByRecursion (IsAnswerRow (map blob_row contents.now)) rows.items) }
     ensures broken { IfErr result (IsDamage (¬ AllByRecursion (IsAnswerRow (map blob_row contents.now)) rows.items)) }
 {
-    let mut answers = Answers::new(alloc);
+    let mut answers = AnswerList::new(alloc, limit)?;
     'rows: for row in rows {
         let answer = answer_of(alloc, contents, &row)?;
         answers.admit(answer)?;
     }
     Ok(answers)
+}
+
+// Whether the key of a row comes after another.
+fn is_above(last: &AnswerRow, row: &AnswerRow) -> bool
+    ensures { IsTrue result ↔ (key_cmp (key_of_answer last.now) (key_of_answer row.now) ≡ Less) }
+{
+    match last.words.as_slice().cmp(row.words.as_slice()) {
+        Ordering::Less => true,
+        Ordering::Equal => matches!(
+            last.seen.as_slice().cmp(row.seen.as_slice()),
+            Ordering::Less
+        ),
+        Ordering::Greater => false,
+    }
+}
+
+// Whether the key of a row comes after that of the last, if there is one.
+fn follows(last: Option<&AnswerRow>, row: &AnswerRow) -> bool
+    ensures { IsTrue result ↔ FollowsKey (option_copied last.entry) row.now }
+{
+    match last {
+        Some(last) => is_above(last, row),
+        None => true,
+    }
+}
+
+/// Whether the key of each row comes before that of the next.
+pub(crate) fn answers_rise(rows: &[AnswerRow]) -> bool
+    ensures { IsTrue result → IsAscending IsKeyBelow rows.now }
+{
+    let mut last: Option<&AnswerRow> = None;
+    'rows: for row in rows {
+        if !follows(last, row) {
+            return false;
+        }
+        last = Some(row);
+    }
+    true
 }

@@ -3,7 +3,7 @@ use Rattle.repo_store.proofs.CallLemmas.{step_as_made, whole_call}
 use Rattle.repo_store.proofs.accept.accept_rows.Goals as goal
 
 pub returns-in_err-accept_in : goal.returns-in_err-accept_in
-returns-in_err-accept_in g c t = whole_call g.S.Store c.args.conn.now _ c.from_residual.result _ _ (g.met.S.Store.shut_if_dirty _) (search rules)
+returns-in_err-accept_in g c t next answers = whole_call g.S.Store c.args.conn.now _ c.from_residual.result _ _ (g.met.S.Store.shut_if_dirty _) (search rules)
 
 pub returns : goal.returns
-returns g c t = whole_call g.S.Store c.args.conn.now _ c.commit.result _ _ (g.met.S.Store.shut_if_dirty _) (search (rules, step_as_made g.S.Store _ _ _ t _ c.in_ok-accept_in.ensures.step))
+returns g c t next answers = whole_call g.S.Store c.args.conn.now _ c.commit.result _ _ (g.met.S.Store.shut_if_dirty _) (search (rules, step_as_made g.S.Store _ _ _ t next answers _ c.in_ok-accept_in.ensures.step))

@@ -1,5 +1,5 @@
 -- Each clause is a lemma.
-use Rattle.repo_store.proofs.OneLemmas.{held_alike, left_alike}
+use Rattle.repo_store.proofs.AlikeLemmas.{held_alike, left_alike}
 use Rattle.repo_store.proofs.laws.a_database_holds_one_repository.Goals as goal
 
 pub returns-clause-tables : goal.returns-clause-tables

@@ -1,27 +1,39 @@
-use Rattle.std.proofs.Common.{◌≡◌, List, ℕ, Ok, pos, refl, subst, ap, ◌∙◌}
+use Rattle.std.proofs.Common.{ℕ, List, Ok, Err, pos, refl, ap, ◌∙◌, subst₂}
+use Rattle.std.proofs.lemmas.Result.{err_from_is_err_and}
 use Rattle.sha2.specs.Sha256.{sha256}
-use Rattle.store_tables.specs.declared.rows.AnswerRow.{AnswerRow}
-use Rattle.store_tables.specs.Steps.{IsStep}
-use Rattle.store_tables.specs.Tables.{with_answer, without_answer}
+use Rattle.store_tables.specs.Steps.{IsMade}
+use Rattle.store_tables.specs.Tables.{Tables}
+use Rattle.store_tables.specs.Uses.{HoldsRows, with_use, without_use}
+use Rattle.store_tables.proofs.MakeLemmas.{made_then, stopped}
+use Rattle.store_tables.proofs.UsesStepLemmas.{step_as_made}
+use Rattle.repo_store.specs.Index.{key_of}
+use Rattle.repo_store.specs.Remembering.{with_answer_row}
 use Rattle.repo_store.specs.Rows.{answer_row, with_blobs}
-use Rattle.repo_store.proofs.CallLemmas.{step_then}
+use Rattle.repo_store.specs.UsesOf.{use_row}
 use Rattle.repo_store.proofs.remember.remember_in.Goals as goal
 
-pub returns-clause-step : goal.returns-clause-step
-returns-clause-step g c =
+pub put_in_place-requires : goal.put_in_place-requires
+put_in_place-requires g c = rw (c.digest-words.ensures, c.words_record.ensures, c.digest-seen.ensures, c.seen_record.ensures) refl
+
+pub returns-clause-made : goal.returns-clause-made
+returns-clause-made g c t rows =
     let old = c.args.tx.now.conn.now in
-    let kept = c.keep_in.new.tx.conn.now in
-    let out = c.take_answer.new.tx.conn.now in
-    let new = c.put_answer.new.tx.conn.now in
-    let row = answer_row c.args.answer.now in
+    let mid = c.put_in_place.new.tx.conn.now in
+    let new = c.use_in.new.tx.conn.now in
+    let answer = c.args.answer.now in
+    let makes = λ (u : Tables). with_answer_row (answer_row answer) (with_blobs c.args.news.now u) in
     let words = c.digest-words.ensures ∙ ap sha256 c.words_record.ensures in
     let seen = c.digest-seen.ensures ∙ ap sha256 c.seen_record.ensures in
-    let output = c.digest-output.ensures ∙ ap sha256 c.output.ensures in
-    let changes = c.digest-changes.ensures ∙ ap sha256 c.changes_record.ensures in
-    let took = subst (λ (l : List ℕ). IsStep {A = Unit {0}} g.S.Store kept out (Ok tt) (without_answer l row.seen)) words
-    (subst (λ (l : List ℕ). IsStep {A = Unit {0}} g.S.Store kept out (Ok tt) (without_answer c.digest-words.result l)) seen c.in_ok-take_answer.ensures.step) in
-    let both = step_then g.S.Store old kept out (Ok tt) (λ t. with_blobs c.args.news.now t) (without_answer row.words row.seen) c.in_ok-keep_in.ensures.step took in
-    let shown : AnswerRow = record { words = c.digest-words.result; seen = c.digest-seen.result; output = c.digest-output.result; changes = c.digest-changes.result; status = pos c.from-status.result } in
-    let row_is : shown ≡ row = let status : c.from-status.result ≡ c.args.answer.now.status = cc in rw (words, seen, output, changes, status) refl in
-    let put = subst (λ (r : AnswerRow). IsStep g.S.Store out new c.put_answer.result (with_answer r)) row_is c.put_answer.ensures.step in
-    step_then g.S.Store old out new c.put_answer.result (λ t. without_answer row.words row.seen (with_blobs c.args.news.now t)) (with_answer row) both put
+    let brought = λ (w s : List ℕ). with_use (record { words = w; seen = s; tick = pos c.args.tick }) (without_use w s rows) in
+    let used = subst₂ (λ (w s : List ℕ). IsMade g.S.Store mid new c.use_in.result (λ db. HoldsRows db (makes t) rows) (λ db. HoldsRows db (makes t) (brought w s))) words seen (c.use_in.ensures.made (makes t) rows) in
+    made_then g.S.Store old mid new c.use_in.result (λ db. HoldsRows db t rows) (λ db. HoldsRows db (makes t) rows) (λ db. HoldsRows db (makes t) (brought (key_of answer).0 (key_of answer).1))
+    (step_as_made g.S.Store old mid (Ok tt) t rows makes c.in_ok-put_in_place.ensures.step) used
+
+pub returns-in_err-put_in_place-clause-made : goal.returns-in_err-put_in_place-clause-made
+returns-in_err-put_in_place-clause-made g c t rows =
+    let p = err_from_is_err_and c.from_residual.result c.from_residual.ensures.1 in
+    let answer = c.args.answer.now in
+    let makes = λ (u : Tables). with_answer_row (answer_row answer) (with_blobs c.args.news.now u) in
+    stopped g.S.Store c.args.tx.now.conn.now c.put_in_place.new.tx.conn.now c.in_err-put_in_place.field-0.0 p.0 c.from_residual.result (λ db. HoldsRows db t rows) (λ db. HoldsRows db (makes t) rows)
+    (λ db. HoldsRows db (makes t) (with_use (use_row answer c.args.tick) (without_use (key_of answer).0 (key_of answer).1 rows))) p.1
+    (step_as_made g.S.Store c.args.tx.now.conn.now c.put_in_place.new.tx.conn.now (Err c.in_err-put_in_place.field-0.0) t rows makes c.in_err-put_in_place.ensures.step)

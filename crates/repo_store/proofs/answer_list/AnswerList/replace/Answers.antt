@@ -7,8 +7,7 @@ use Rattle.repo_store.specs.Index.{Key, key_of, keys_eq}
 use Rattle.repo_store.specs.ListedAnswers.{ListedAnswers}
 use Rattle.repo_store.specs.Remembered.{TellsKey}
 use Rattle.repo_store.specs.UsedAnswers.{in_front}
-use Rattle.repo_store.proofs.AnswerListLemmas.{is_there, listed_now, replaced_is, shown_now, values_now}
-use Rattle.repo_store.proofs.PutLemmas.{ok_done}
+use Rattle.repo_store.proofs.AnswerListLemmas.{is_there, listed_now, ok_done, replaced_is, shown_now, values_now}
 use Rattle.repo_store.proofs.answer_list.AnswerList.replace.Goals as goal
 
 pub invariant_of-self : goal.invariant_of-self

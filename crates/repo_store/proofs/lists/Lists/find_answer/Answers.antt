@@ -43,8 +43,8 @@ returns-in_default-2-clause-found c =
     let here = subst (λ (m : Mirror). ¬ ArePlacedFiles m.kept.contents c.args.seen.now) c.self.view_is absent in
     sym (ap (option_map stored_answer) (none_by_seen kept c.requires c.args.words.now c.args.seen.now here))
 
-pub returns-in_ok-stored-in-Some-find-clause-found : goal.returns-in_ok-stored-in-Some-find-clause-found
-returns-in_ok-stored-in-Some-find-clause-found c =
+pub returns-in_ok-answer-in-Some-find-clause-found : goal.returns-in_ok-answer-in-Some-find-clause-found
+returns-in_ok-answer-in-Some-find-clause-found c =
     let kept = c.args.self.now.kept in
     let words_digest = rw c.in-Some.is at (c.in_ok-words.ensures).digest in
     let words_known = subst (λ (m : Mirror). IsKnownRecord m.kept.contents (words_record c.args.words.now)) c.self.view_is (rw c.in-Some.is at (c.in_ok-words.ensures).known) in
@@ -53,7 +53,7 @@ returns-in_ok-stored-in-Some-find-clause-found c =
     let answer = c.in-Some-find.answer.now in
     let there = subst (λ (m : Mirror). Contains m.kept.answers answer) c.self.view_is (c.in-Some-find.ensures).found in
     let same = (c.in-Some-find.ensures).key ∙ ap₂ (λ (w s : List ℕ). let made : Key = (w, s) in made) words_digest seen_digest in
-    ap Some c.in_ok-stored-in-Some-find.ensures ∙ sym (ap (option_map stored_answer) (found_by_key kept c.requires c.args.words.now c.args.seen.now answer there same words_known seen_known))
+    ap Some c.in_ok-answer-in-Some-find.ensures ∙ sym (ap (option_map stored_answer) (found_by_key kept c.requires c.args.words.now c.args.seen.now answer there same words_known seen_known))
 
 pub returns-in-None-clause-found : goal.returns-in-None-clause-found
 returns-in-None-clause-found c =
@@ -79,8 +79,8 @@ returns-in_default-2-clause-apart c placed =
     let here = subst (λ (m : Mirror). ¬ ArePlacedFiles m.kept.contents c.args.seen.now) c.self.view_is absent in
     absurd (here (seen_placed kept.contents c.args.words.now c.args.seen.now placed))
 
-pub returns-in_ok-stored-in-Some-find-clause-apart : goal.returns-in_ok-stored-in-Some-find-clause-apart
-returns-in_ok-stored-in-Some-find-clause-apart c placed =
+pub returns-in_ok-answer-in-Some-find-clause-apart : goal.returns-in_ok-answer-in-Some-find-clause-apart
+returns-in_ok-answer-in-Some-find-clause-apart c placed =
     let words_known = subst (λ (m : Mirror). IsKnownRecord m.kept.contents (words_record c.args.words.now)) c.self.view_is (rw c.in-Some.is at (c.in_ok-words.ensures).known) in
     let seen_known = subst (λ (m : Mirror). AreKnownFiles m.kept.contents c.args.seen.now) c.self.view_is (rw c.in-Some-2.is at (c.in_ok-seen.ensures).known) in
     known_apart c.args.self.now.kept.contents c.args.words.now c.args.seen.now c.requires.apart words_known seen_known
@@ -90,3 +90,15 @@ returns-in-None-clause-apart c placed =
     let words_known = subst (λ (m : Mirror). IsKnownRecord m.kept.contents (words_record c.args.words.now)) c.self.view_is (rw c.in-Some.is at (c.in_ok-words.ensures).known) in
     let seen_known = subst (λ (m : Mirror). AreKnownFiles m.kept.contents c.args.seen.now) c.self.view_is (rw c.in-Some-2.is at (c.in_ok-seen.ensures).known) in
     known_apart c.args.self.now.kept.contents c.args.words.now c.args.seen.now c.requires.apart words_known seen_known
+
+pub returns-in_ok-answer-in-Some-find-clause-key : goal.returns-in_ok-answer-in-Some-find-clause-key
+returns-in_ok-answer-in-Some-find-clause-key c =
+    let kept = c.args.self.now.kept in
+    let words_digest = rw c.in-Some.is at (c.in_ok-words.ensures).digest in
+    let words_known = subst (λ (m : Mirror). IsKnownRecord m.kept.contents (words_record c.args.words.now)) c.self.view_is (rw c.in-Some.is at (c.in_ok-words.ensures).known) in
+    let seen_digest = rw c.in-Some-2.is at (c.in_ok-seen.ensures).digest in
+    let seen_known = subst (λ (m : Mirror). AreKnownFiles m.kept.contents c.args.seen.now) c.self.view_is (rw c.in-Some-2.is at (c.in_ok-seen.ensures).known) in
+    let answer = c.in-Some-find.answer.now in
+    let there = subst (λ (m : Mirror). Contains m.kept.answers answer) c.self.view_is (c.in-Some-find.ensures).found in
+    let same = (c.in-Some-find.ensures).key ∙ ap₂ (λ (w s : List ℕ). let made : Key = (w, s) in made) words_digest seen_digest in
+    (answer, (found_by_key kept c.requires c.args.words.now c.args.seen.now answer there same words_known seen_known, (c.in-Some-find.ensures).key))

@@ -14,7 +14,7 @@ use Rattle.repo_store.proofs.lists.Lists.stage.Goals as goal
 pub put_file-added-requires : goal.put_file-added-requires
 put_file-added-requires c =
     let room = ap (λ (m : Mirror). m.has_room) c.self.view_is ∙ c.requires.room in
-    record { rising = c.self.invariant.sound.staged_rise; room = ltb-true _ _ (and_parts _ _ (and_parts _ _ room).0).1 }
+    record { rising = c.self.invariant.sound.staged_rise; room = ltb-true _ _ (and_parts _ _ room).1 }
 
 pub invariant_of-self : goal.invariant_of-self
 invariant_of-self c =

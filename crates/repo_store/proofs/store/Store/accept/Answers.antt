@@ -22,8 +22,8 @@ invariant_of-self g c =
     let same = accepting_handed (map file_of c.as_slice.result.now) (map fix_of c.shared_fixes-fixes.result.now) kept c.self.invariant.complete.sound files c.shared_fixes-fixes.ensures in
     let complete = complete_accepted kept c.self.invariant.complete in
     let obeys = obeys_accepted kept c.self.invariant.obeys complete in
-    refused_stands g.S.Store c.self.inside.conn new kept (accepting kept) _ c.self.invariant same (g.met.S.Store.shut_if_dirty new.store) complete obeys
-    kept refl c.in-Err.error (c.in-Err.ensures (tables_of kept))
+    refused_stands g.S.Store c.self.inside.conn new c.self.inside.next c.self.inside.next kept (accepting kept) _ c.self.invariant same (g.met.S.Store.shut_if_dirty new.store) complete obeys (c.self.invariant.first, c.self.invariant.last) c.self.inside.next refl
+    kept refl c.in-Err.error (c.in-Err.ensures (tables_of kept) c.self.inside.next kept.answers)
 
 pub returns-in-Err-clause-change : goal.returns-in-Err-clause-change
 returns-in-Err-clause-change g c =
@@ -39,9 +39,9 @@ returns-in-Err-clause-transaction g c =
     let same = accepting_handed (map file_of c.as_slice.result.now) (map fix_of c.shared_fixes-fixes.result.now) kept c.self.invariant.complete.sound files c.shared_fixes-fixes.ensures in
     let complete = complete_accepted kept c.self.invariant.complete in
     let obeys = obeys_accepted kept c.self.invariant.obeys complete in
-    subst (λ (s : Shown g.row.S.Denot). IsOneTransaction g.S.Store s (record { conn = new; kept = kept }) (Err c.fault_of.result) (accepting s.kept)) c.self.view_is
-    (refused_transaction g.S.Store c.self.inside.conn new kept (accepting kept) _ c.self.invariant same (g.met.S.Store.shut_if_dirty new.store) complete obeys
-    kept refl c.in-Err.error (c.in-Err.ensures (tables_of kept)) c.fault_of.result _ _ (c.in-Err.ensures (unnamed_in kept)) (λ (h : 1 ≡ 0). let never : ⊥ = omega arith in never))
+    subst (λ (s : Shown g.row.S.Denot). IsOneTransaction g.S.Store s (record { conn = new; kept = kept; next = c.self.inside.next }) (Err c.fault_of.result) (accepting s.kept)) c.self.view_is
+    (refused_transaction g.S.Store c.self.inside.conn new c.self.inside.next c.self.inside.next kept (accepting kept) _ c.self.invariant same (g.met.S.Store.shut_if_dirty new.store) complete obeys (c.self.invariant.first, c.self.invariant.last) c.self.inside.next refl
+    kept refl c.in-Err.error (c.in-Err.ensures (tables_of kept) c.self.inside.next kept.answers) c.fault_of.result _ _ _ _ (c.in-Err.ensures (unnamed_in kept) c.self.inside.next kept.answers) (λ (h : 2 ≡ 0). let never : ⊥ = omega arith in never))
 
 pub invariant_of-self-2 : goal.invariant_of-self-2
 invariant_of-self-2 g c =
@@ -52,8 +52,8 @@ invariant_of-self-2 g c =
     let same = accepting_handed (map file_of c.as_slice.result.now) (map fix_of c.shared_fixes-fixes.result.now) kept c.self.invariant.complete.sound files c.shared_fixes-fixes.ensures in
     let complete = complete_accepted kept c.self.invariant.complete in
     let obeys = obeys_accepted kept c.self.invariant.obeys complete in
-    done_stands g.S.Store c.self.inside.conn new kept (accepting kept) _ c.self.invariant same (g.met.S.Store.shut_if_dirty new.store) complete obeys
-    c.accept.new.self.kept c.accept.ensures c.in_default.field-0 (c.in_default.ensures (tables_of kept))
+    done_stands g.S.Store c.self.inside.conn new c.self.inside.next c.self.inside.next kept (accepting kept) _ c.self.invariant same (g.met.S.Store.shut_if_dirty new.store) complete obeys (c.self.invariant.first, c.self.invariant.last) c.self.inside.next refl
+    c.accept.new.self.kept c.accept.ensures c.in_default.field-0 (c.in_default.ensures (tables_of kept) c.self.inside.next kept.answers)
 
 pub returns-clause-change : goal.returns-clause-change
 returns-clause-change g c =
@@ -68,6 +68,6 @@ returns-clause-transaction g c =
     let same = accepting_handed (map file_of c.as_slice.result.now) (map fix_of c.shared_fixes-fixes.result.now) kept c.self.invariant.complete.sound files c.shared_fixes-fixes.ensures in
     let complete = complete_accepted kept c.self.invariant.complete in
     let obeys = obeys_accepted kept c.self.invariant.obeys complete in
-    subst (λ (s : Shown g.row.S.Denot). IsOneTransaction g.S.Store s (record { conn = new; kept = c.accept.new.self.kept }) (Ok c.count_fixes-number.result) (accepting s.kept)) c.self.view_is
-    (done_transaction g.S.Store c.self.inside.conn new kept (accepting kept) _ c.self.invariant same (g.met.S.Store.shut_if_dirty new.store) complete obeys
-    (g.met.S.Store.settled new.store) c.accept.new.self.kept c.accept.ensures c.in_default.field-0 (c.in_default.ensures (tables_of kept)) c.count_fixes-number.result _ _ (c.in_default.ensures (unnamed_in kept)) (λ (h : 1 ≡ 0). let never : ⊥ = omega arith in never))
+    subst (λ (s : Shown g.row.S.Denot). IsOneTransaction g.S.Store s (record { conn = new; kept = c.accept.new.self.kept; next = c.self.inside.next }) (Ok c.count_fixes-number.result) (accepting s.kept)) c.self.view_is
+    (done_transaction g.S.Store c.self.inside.conn new c.self.inside.next c.self.inside.next kept (accepting kept) _ c.self.invariant same (g.met.S.Store.shut_if_dirty new.store) complete obeys (c.self.invariant.first, c.self.invariant.last)
+    (g.met.S.Store.settled new.store) c.self.inside.next refl c.accept.new.self.kept c.accept.ensures c.in_default.field-0 (c.in_default.ensures (tables_of kept) c.self.inside.next kept.answers) c.count_fixes-number.result _ _ _ _ (c.in_default.ensures (unnamed_in kept) c.self.inside.next kept.answers) (λ (h : 2 ≡ 0). let never : ⊥ = omega arith in never))

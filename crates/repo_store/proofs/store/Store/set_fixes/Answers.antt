@@ -1,4 +1,4 @@
-use Rattle.std.proofs.Common.{◌≡◌, ℕ, List, Ok, Err, length, map, drop, ap, ap₂, subst, ◌∙◌, arith}
+use Rattle.std.proofs.Common.{◌≡◌, ℕ, List, Ok, Err, refl, length, map, drop, ap, ap₂, subst, ◌∙◌, arith}
 use Rattle.std.proofs.lemmas.Result.{err_from_is_err_and}
 use Rattle.hook_base.specs.declared.change.Change.{Change}
 use Rattle.repo_store.specs.Faults.{IsRefusal}
@@ -40,8 +40,8 @@ invariant_of-self-in-Err g c =
     let now = forgotten_changes taken kept c.prepare_fixes.new.self.kept c.forget_since.new.self.kept c.count-before.result c.count-before.ensures prepared.kept (ap (λ (m : Mirror). m.kept) c.forget_since.ensures) in
     let complete = complete_set c.args.changes.now kept c.self.invariant.complete c.requires prepared.apart in
     let obeys = obeys_set kept c.self.invariant.obeys c.args.changes.now prepared.within complete in
-    refused_stands g.S.Store c.self.inside.conn new kept (setting c.args.changes.now kept) _ c.self.invariant same (g.met.S.Store.shut_if_dirty new.store) complete obeys
-    c.forget_since.new.self.kept now c.in-Err.error (c.in-Err.ensures (tables_of kept) none)
+    refused_stands g.S.Store c.self.inside.conn new c.self.inside.next c.self.inside.next kept (setting c.args.changes.now kept) _ c.self.invariant same (g.met.S.Store.shut_if_dirty new.store) complete obeys (c.self.invariant.first, c.self.invariant.last) c.self.inside.next refl
+    c.forget_since.new.self.kept now c.in-Err.error (c.in-Err.ensures (tables_of kept) c.self.inside.next kept.answers none)
 
 pub returns-in-Err-clause-change : goal.returns-in-Err-clause-change
 returns-in-Err-clause-change g c =
@@ -64,9 +64,9 @@ returns-in-Err-clause-transaction g c =
     let now = forgotten_changes taken kept c.prepare_fixes.new.self.kept c.forget_since.new.self.kept c.count-before.result c.count-before.ensures prepared.kept (ap (λ (m : Mirror). m.kept) c.forget_since.ensures) in
     let complete = complete_set c.args.changes.now kept c.self.invariant.complete c.requires prepared.apart in
     let obeys = obeys_set kept c.self.invariant.obeys c.args.changes.now prepared.within complete in
-    subst (λ (s : Shown g.row.S.Denot). IsOneTransaction g.S.Store s (record { conn = new; kept = c.forget_since.new.self.kept }) (Err c.fault_of.result) (setting c.args.changes.now s.kept)) c.self.view_is
-    (refused_transaction g.S.Store c.self.inside.conn new kept (setting c.args.changes.now kept) _ c.self.invariant same (g.met.S.Store.shut_if_dirty new.store) complete obeys
-    c.forget_since.new.self.kept now c.in-Err.error (c.in-Err.ensures (tables_of kept) none) c.fault_of.result _ _ (c.in-Err.ensures (unnamed_in kept) none) (λ (h : 1 ≡ 0). let never : ⊥ = omega arith in never))
+    subst (λ (s : Shown g.row.S.Denot). IsOneTransaction g.S.Store s (record { conn = new; kept = c.forget_since.new.self.kept; next = c.self.inside.next }) (Err c.fault_of.result) (setting c.args.changes.now s.kept)) c.self.view_is
+    (refused_transaction g.S.Store c.self.inside.conn new c.self.inside.next c.self.inside.next kept (setting c.args.changes.now kept) _ c.self.invariant same (g.met.S.Store.shut_if_dirty new.store) complete obeys (c.self.invariant.first, c.self.invariant.last) c.self.inside.next refl
+    c.forget_since.new.self.kept now c.in-Err.error (c.in-Err.ensures (tables_of kept) c.self.inside.next kept.answers none) c.fault_of.result _ _ _ _ (c.in-Err.ensures (unnamed_in kept) c.self.inside.next kept.answers none) (λ (h : 2 ≡ 0). let never : ⊥ = omega arith in never))
 
 pub invariant_of-self-2 : goal.invariant_of-self-2
 invariant_of-self-2 g c =
@@ -81,8 +81,8 @@ invariant_of-self-2 g c =
     let now = c.set_fixes.ensures ∙ ap₂ (λ (k : Kept) (l : List Change). record k { repo = record k.repo { fixes = l } }) prepared.kept prepared.fixes in
     let complete = complete_set c.args.changes.now kept c.self.invariant.complete c.requires prepared.apart in
     let obeys = obeys_set kept c.self.invariant.obeys c.args.changes.now prepared.within complete in
-    done_stands g.S.Store c.self.inside.conn new kept (setting c.args.changes.now kept) _ c.self.invariant same (g.met.S.Store.shut_if_dirty new.store) complete obeys
-    c.set_fixes.new.self.kept now c.in_default.field-0 (c.in_default.ensures (tables_of kept) none)
+    done_stands g.S.Store c.self.inside.conn new c.self.inside.next c.self.inside.next kept (setting c.args.changes.now kept) _ c.self.invariant same (g.met.S.Store.shut_if_dirty new.store) complete obeys (c.self.invariant.first, c.self.invariant.last) c.self.inside.next refl
+    c.set_fixes.new.self.kept now c.in_default.field-0 (c.in_default.ensures (tables_of kept) c.self.inside.next kept.answers none)
 
 pub returns-clause-change : goal.returns-clause-change
 returns-clause-change g c =
@@ -103,6 +103,6 @@ returns-clause-transaction g c =
     let now = c.set_fixes.ensures ∙ ap₂ (λ (k : Kept) (l : List Change). record k { repo = record k.repo { fixes = l } }) prepared.kept prepared.fixes in
     let complete = complete_set c.args.changes.now kept c.self.invariant.complete c.requires prepared.apart in
     let obeys = obeys_set kept c.self.invariant.obeys c.args.changes.now prepared.within complete in
-    subst (λ (s : Shown g.row.S.Denot). IsOneTransaction g.S.Store s (record { conn = new; kept = c.set_fixes.new.self.kept }) (Ok tt) (setting c.args.changes.now s.kept)) c.self.view_is
-    (done_transaction g.S.Store c.self.inside.conn new kept (setting c.args.changes.now kept) _ c.self.invariant same (g.met.S.Store.shut_if_dirty new.store) complete obeys
-    (g.met.S.Store.settled new.store) c.set_fixes.new.self.kept now c.in_default.field-0 (c.in_default.ensures (tables_of kept) none) tt _ _ (c.in_default.ensures (unnamed_in kept) none) (λ (h : 1 ≡ 0). let never : ⊥ = omega arith in never))
+    subst (λ (s : Shown g.row.S.Denot). IsOneTransaction g.S.Store s (record { conn = new; kept = c.set_fixes.new.self.kept; next = c.self.inside.next }) (Ok tt) (setting c.args.changes.now s.kept)) c.self.view_is
+    (done_transaction g.S.Store c.self.inside.conn new c.self.inside.next c.self.inside.next kept (setting c.args.changes.now kept) _ c.self.invariant same (g.met.S.Store.shut_if_dirty new.store) complete obeys (c.self.invariant.first, c.self.invariant.last)
+    (g.met.S.Store.settled new.store) c.self.inside.next refl c.set_fixes.new.self.kept now c.in_default.field-0 (c.in_default.ensures (tables_of kept) c.self.inside.next kept.answers none) tt _ _ _ _ (c.in_default.ensures (unnamed_in kept) c.self.inside.next kept.answers none) (λ (h : 2 ≡ 0). let never : ⊥ = omega arith in never))

@@ -1,4 +1,4 @@
-use Rattle.std.proofs.Common.{◌≢◌, ℕ, List, inl, inr, Ok, Err, drop, ap, ap₂, subst, ◌∙◌, ◌≡◌, arith}
+use Rattle.std.proofs.Common.{◌≢◌, ℕ, List, inl, inr, Ok, Err, refl, drop, ap, ap₂, subst, ◌∙◌, ◌≡◌, arith}
 use Rattle.std.specs.Str.{IsUtf8}
 use Rattle.hook_base.specs.Paths.{IsRepoPath, message_path}
 use Rattle.hook_base.specs.declared.file.File.{File}
@@ -30,8 +30,8 @@ invariant_of-self-in-Err g c =
     let now = forgotten c.args.bytes.now kept c.prepare.new.self.kept c.forget_since.new.self.kept c.count-before.result c.count-before.ensures prepared.kept (ap (λ (m : Mirror). m.kept) c.forget_since.ensures) in
     let complete = complete_staged c.args.path.now entry kept c.self.invariant.complete prepared.within.1 prepared.apart in
     let obeys = obeys_staged kept c.self.invariant.obeys c.args.path.now entry (legal c.args.path.now prepared.utf8 prepared.path c.requires) prepared.within.0 complete in
-    refused_stands g.S.Store c.self.inside.conn new kept (staging c.args.path.now entry kept) _ c.self.invariant same (g.met.S.Store.shut_if_dirty new.store) complete obeys
-    c.forget_since.new.self.kept now c.in-Err.error (c.in-Err.ensures (tables_of kept))
+    refused_stands g.S.Store c.self.inside.conn new c.self.inside.next c.self.inside.next kept (staging c.args.path.now entry kept) _ c.self.invariant same (g.met.S.Store.shut_if_dirty new.store) complete obeys (c.self.invariant.first, c.self.invariant.last) c.self.inside.next refl
+    c.forget_since.new.self.kept now c.in-Err.error (c.in-Err.ensures (tables_of kept) c.self.inside.next kept.answers)
 
 pub returns-in-Err-clause-change : goal.returns-in-Err-clause-change
 returns-in-Err-clause-change g c =
@@ -53,9 +53,9 @@ returns-in-Err-clause-transaction g c =
     let now = forgotten c.args.bytes.now kept c.prepare.new.self.kept c.forget_since.new.self.kept c.count-before.result c.count-before.ensures prepared.kept (ap (λ (m : Mirror). m.kept) c.forget_since.ensures) in
     let complete = complete_staged c.args.path.now entry kept c.self.invariant.complete prepared.within.1 prepared.apart in
     let obeys = obeys_staged kept c.self.invariant.obeys c.args.path.now entry (legal c.args.path.now prepared.utf8 prepared.path c.requires) prepared.within.0 complete in
-    subst (λ (s : Shown g.row.S.Denot). IsOneTransaction g.S.Store s (record { conn = new; kept = c.forget_since.new.self.kept }) (Err c.fault_of.result) (staging c.args.path.now entry s.kept)) c.self.view_is
-    (refused_transaction g.S.Store c.self.inside.conn new kept (staging c.args.path.now entry kept) _ c.self.invariant same (g.met.S.Store.shut_if_dirty new.store) complete obeys
-    c.forget_since.new.self.kept now c.in-Err.error (c.in-Err.ensures (tables_of kept)) c.fault_of.result _ _ (c.in-Err.ensures (unnamed_in kept)) (λ (h : 1 ≡ 0). let never : ⊥ = omega arith in never))
+    subst (λ (s : Shown g.row.S.Denot). IsOneTransaction g.S.Store s (record { conn = new; kept = c.forget_since.new.self.kept; next = c.self.inside.next }) (Err c.fault_of.result) (staging c.args.path.now entry s.kept)) c.self.view_is
+    (refused_transaction g.S.Store c.self.inside.conn new c.self.inside.next c.self.inside.next kept (staging c.args.path.now entry kept) _ c.self.invariant same (g.met.S.Store.shut_if_dirty new.store) complete obeys (c.self.invariant.first, c.self.invariant.last) c.self.inside.next refl
+    c.forget_since.new.self.kept now c.in-Err.error (c.in-Err.ensures (tables_of kept) c.self.inside.next kept.answers) c.fault_of.result _ _ _ _ (c.in-Err.ensures (unnamed_in kept) c.self.inside.next kept.answers) (λ (h : 2 ≡ 0). let never : ⊥ = omega arith in never))
 
 pub invariant_of-self-2 : goal.invariant_of-self-2
 invariant_of-self-2 g c =
@@ -69,8 +69,8 @@ invariant_of-self-2 g c =
     let now = c.stage.ensures ∙ ap₂ (λ (f : File) (k : Kept). record k { repo = with_staged f.path f.entry k.repo }) prepared.file prepared.kept in
     let complete = complete_staged c.args.path.now entry kept c.self.invariant.complete prepared.within.1 prepared.apart in
     let obeys = obeys_staged kept c.self.invariant.obeys c.args.path.now entry (legal c.args.path.now prepared.utf8 prepared.path c.requires) prepared.within.0 complete in
-    done_stands g.S.Store c.self.inside.conn new kept (staging c.args.path.now entry kept) _ c.self.invariant same (g.met.S.Store.shut_if_dirty new.store) complete obeys
-    c.stage.new.self.kept now c.in_default.field-0 (c.in_default.ensures (tables_of kept))
+    done_stands g.S.Store c.self.inside.conn new c.self.inside.next c.self.inside.next kept (staging c.args.path.now entry kept) _ c.self.invariant same (g.met.S.Store.shut_if_dirty new.store) complete obeys (c.self.invariant.first, c.self.invariant.last) c.self.inside.next refl
+    c.stage.new.self.kept now c.in_default.field-0 (c.in_default.ensures (tables_of kept) c.self.inside.next kept.answers)
 
 pub returns-clause-change : goal.returns-clause-change
 returns-clause-change g c =
@@ -91,6 +91,6 @@ returns-clause-transaction g c =
     let now = c.stage.ensures ∙ ap₂ (λ (f : File) (k : Kept). record k { repo = with_staged f.path f.entry k.repo }) prepared.file prepared.kept in
     let complete = complete_staged c.args.path.now entry kept c.self.invariant.complete prepared.within.1 prepared.apart in
     let obeys = obeys_staged kept c.self.invariant.obeys c.args.path.now entry (legal c.args.path.now prepared.utf8 prepared.path c.requires) prepared.within.0 complete in
-    subst (λ (s : Shown g.row.S.Denot). IsOneTransaction g.S.Store s (record { conn = new; kept = c.stage.new.self.kept }) (Ok tt) (staging c.args.path.now entry s.kept)) c.self.view_is
-    (done_transaction g.S.Store c.self.inside.conn new kept (staging c.args.path.now entry kept) _ c.self.invariant same (g.met.S.Store.shut_if_dirty new.store) complete obeys
-    (g.met.S.Store.settled new.store) c.stage.new.self.kept now c.in_default.field-0 (c.in_default.ensures (tables_of kept)) tt _ _ (c.in_default.ensures (unnamed_in kept)) (λ (h : 1 ≡ 0). let never : ⊥ = omega arith in never))
+    subst (λ (s : Shown g.row.S.Denot). IsOneTransaction g.S.Store s (record { conn = new; kept = c.stage.new.self.kept; next = c.self.inside.next }) (Ok tt) (staging c.args.path.now entry s.kept)) c.self.view_is
+    (done_transaction g.S.Store c.self.inside.conn new c.self.inside.next c.self.inside.next kept (staging c.args.path.now entry kept) _ c.self.invariant same (g.met.S.Store.shut_if_dirty new.store) complete obeys (c.self.invariant.first, c.self.invariant.last)
+    (g.met.S.Store.settled new.store) c.self.inside.next refl c.stage.new.self.kept now c.in_default.field-0 (c.in_default.ensures (tables_of kept) c.self.inside.next kept.answers) tt _ _ _ _ (c.in_default.ensures (unnamed_in kept) c.self.inside.next kept.answers) (λ (h : 2 ≡ 0). let never : ⊥ = omega arith in never))

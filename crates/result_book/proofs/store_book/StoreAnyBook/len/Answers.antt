@@ -1,5 +1,9 @@
-use Rattle.result_book.proofs.StoreBookLemmas.{distinct_rows}
+use Rattle.result_book.proofs.StoreBookLemmas.{within_rows}
+use Rattle.result_book.proofs.StoreRowLemmas.{distinct_rows}
 use Rattle.result_book.proofs.store_book.StoreAnyBook.len.Goals as goal
+
+pub returns-clause-within : goal.returns-clause-within
+returns-clause-within g c = within_rows c.args.self.now.kept c.answers_len.ensures.few
 
 pub returns-clause-distinct : goal.returns-clause-distinct
 returns-clause-distinct g c = distinct_rows c.args.self.now.kept.answers c.answers_len.ensures.keys

@@ -1,0 +1,83 @@
+//! A store of version 1 made one of version 2, inside a transaction.
+
+ghost use Rattle.std.specs.Prelude.{◌≡◌, false, ℕ, ◌+◌, ◌≤◌, List, [], ◌++◌, pos, length, map, reverse, take, OnOk};
+ghost use Rattle.store_tables.specs.Steps.{IsMade};
+ghost use Rattle.store_tables.specs.Tables.{AreKeyed, Holds, Tables, with_meta, with_new_meta};
+ghost use Rattle.store_tables.specs.Uses.{HoldsRows};
+ghost use Rattle.repo_store.specs.Answers.{HaveOwnKeys, KeptAnswer};
+ghost use Rattle.repo_store.specs.Bounded.{HoldsListed};
+ghost use Rattle.repo_store.specs.Index.{key_of};
+ghost use Rattle.repo_store.specs.Limits.{first_limit};
+ghost use Rattle.repo_store.specs.Rows.{limit_row, version_row};
+ghost use Rattle.repo_store.specs.Transactions.{IsCall};
+ghost use Rattle.repo_store.specs.UsesOf.{TellTheirKeys, greatest_tick, key_rows, without_all, without_uses_of};
+
+use crate::limits::FIRST_LIMIT;
+use crate::uses::{drop_all_in, number_in};
+use sqlite::{Alter, Connection, Error, Transaction};
+use store_tables::{make_uses, put_meta, replace_meta};
+
+// Makes the table of uses, numbers those of all keys, and takes out the answers under the first of these.
+fn list_in<S: Alter>(
+    tx: &mut Transaction<'_, S>,
+    keys: &[([u8; 32], [u8; 32])],
+    dropped: usize,
+) -> Result<(), Error>
+    requires { dropped ≤ length keys.now }
+    ensures same_reference { tx.new.conn.ghost_name ≡ tx.old.conn.ghost_name }
+    ensures few { OnOk result (length keys.now ≤ greatest_tick) }
+    ensures made { (t : Tables) → IsMade S.Store tx.old.conn.now tx.new.conn.now result (λ db. Holds db t × AreKeyed (db.trees 0)) (λ db. HoldsRows db (without_all (take dropped keys.now) t) (without_uses_of (take dropped keys.now) (key_rows (reverse keys.now)))) }
+{
+    make_uses(tx)?;
+    number_in(tx, keys)?;
+    drop_all_in(tx, &keys[..dropped])
+}
+
+// The same, and writes the limit and the version down.
+fn mark_in<S: Alter>(
+    tx: &mut Transaction<'_, S>,
+    keys: &[([u8; 32], [u8; 32])],
+    dropped: usize,
+) -> Result<(), Error>
+    requires { dropped ≤ length keys.now }
+    ensures same_reference { tx.new.conn.ghost_name ≡ tx.old.conn.ghost_name }
+    ensures few { OnOk result (length keys.now ≤ greatest_tick) }
+    ensures made { (t : Tables) → IsMade S.Store tx.old.conn.now tx.new.conn.now result (λ db. Holds db t × AreKeyed (db.trees 0)) (λ db. HoldsRows db (with_new_meta version_row (with_meta (limit_row (pos first_limit)) (without_all (take dropped keys.now) t))) (without_uses_of (take dropped keys.now) (key_rows (reverse keys.now)))) }
+{
+    list_in(tx, keys, dropped)?;
+    put_meta(tx, "limit", FIRST_LIMIT)?;
+    replace_meta(tx, "version", 2)
+}
+
+// The same, told of the answers: the keys are those of all, the last one first, and the first of them, so many, those of the
+// answers that are taken out.
+fn migrate_in<S: Alter>(
+    tx: &mut Transaction<'_, S>,
+    keys: &[([u8; 32], [u8; 32])],
+    dropped: usize,
+) -> Result<(), Error>
+    requires { dropped ≤ length keys.now }
+    ensures same_reference { tx.new.conn.ghost_name ≡ tx.old.conn.ghost_name }
+    ensures few { OnOk result (length keys.now ≤ greatest_tick) }
+    ensures made { (t : Tables) (front : List KeptAnswer) (back : List KeptAnswer) → keys.now ≡ map key_of (reverse (front ++ back)) → dropped ≡ length back → HaveOwnKeys (front ++ back) → TellTheirKeys (front ++ back) back → IsMade S.Store tx.old.conn.now tx.new.conn.now result (λ db. Holds db t × AreKeyed (db.trees 0)) (λ db. HoldsListed (length (front ++ back) + 1) front db (with_new_meta version_row (with_meta (limit_row (pos first_limit)) (without_all (map key_of (reverse back)) t)))) }
+{
+    mark_in(tx, keys, dropped)
+}
+
+/// Makes a store of version 2 of one of version 1, in one transaction. The keys are those of all its answers, the last one first,
+/// and the first of the keys, so many, are those of the answers that are taken out. `TooBig` comes where there are more answers
+/// than ticks.
+pub(crate) fn migrate_rows<S: Alter>(
+    conn: &mut Connection<S>,
+    keys: &[([u8; 32], [u8; 32])],
+    dropped: usize,
+) -> Result<(), Error>
+    requires outside { conn.old.in_transaction ≡ false }
+    requires part { dropped ≤ length keys.now }
+    ensures few { OnOk result (length keys.now ≤ greatest_tick) }
+    ensures call { (t : Tables) (front : List KeptAnswer) (back : List KeptAnswer) → keys.now ≡ map key_of (reverse (front ++ back)) → dropped ≡ length back → HaveOwnKeys (front ++ back) → TellTheirKeys (front ++ back) back → IsCall S.Store conn.old conn.new result (λ db. Holds db t × AreKeyed (db.trees 0)) (λ db. (length keys.now ≤ greatest_tick) × HoldsListed (length (front ++ back) + 1) front db (with_new_meta version_row (with_meta (limit_row (pos first_limit)) (without_all (map key_of (reverse back)) t)))) }
+{
+    let mut tx = conn.transaction();
+    migrate_in(&mut tx, keys, dropped)?;
+    tx.commit()
+}
