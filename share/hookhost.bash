@@ -46,7 +46,7 @@ _hookhost_command() {
     commit) options=(--no-verify -m -h --help) valued=(-m) filed=() most=0 ;;
     log) options=(-h --help) valued=() filed=() most=0 ;;
     show) options=(-h --help) valued=() filed=() most=0 ;;
-    memory) options=(-h --help) valued=() filed=() most=0 ;;
+    memory) options=(--limit= -h --help) valued=(--limit) filed=() most=0 ;;
     forget) options=(-h --help) valued=() filed=() most=0 ;;
     *) return ;;
   esac

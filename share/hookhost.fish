@@ -21,7 +21,7 @@ function __hookhost_takes
             set given (math $given + 1)
         else if test $word = --
             set is_ended 1
-        else if contains -- $word --chmod --paths-from --commit --hook-stage -m
+        else if contains -- $word --chmod --paths-from --commit --hook-stage -m --limit
             set is_pending 1
         end
     end
@@ -44,7 +44,7 @@ complete -c hookhost -n __fish_is_first_token -a accept -d 'Applies the fixes to
 complete -c hookhost -n __fish_is_first_token -a commit -d 'Commits the staged files, through the hooks of a commit'
 complete -c hookhost -n __fish_is_first_token -a log -d 'Prints the commits, the newest first'
 complete -c hookhost -n __fish_is_first_token -a show -d 'Prints a commit\'s message and its paths'
-complete -c hookhost -n __fish_is_first_token -a memory -d 'Prints how many answers of hooks\' commands are remembered'
+complete -c hookhost -n __fish_is_first_token -a memory -d 'Prints how many answers of hooks\' commands are remembered, or limits them'
 complete -c hookhost -n __fish_is_first_token -a forget -d 'Forgets the remembered answers, and prints how many there were'
 complete -c hookhost -n '__fish_is_first_token; and not __fish_contains_opt -s h help' -s h -l help -d 'Print help'
 complete -c hookhost -n '__fish_is_first_token; and not __fish_contains_opt -s V version' -s V -l version -d 'Print version'
@@ -82,5 +82,6 @@ complete -c hookhost -n '__hookhost_is commit' -s m -x -d 'The message, which ho
 complete -c hookhost -n '__hookhost_is commit; and not __fish_contains_opt -s h help' -s h -l help -d 'Print help'
 complete -c hookhost -n '__hookhost_is log; and not __fish_contains_opt -s h help' -s h -l help -d 'Print help'
 complete -c hookhost -n '__hookhost_is show; and not __fish_contains_opt -s h help' -s h -l help -d 'Print help'
+complete -c hookhost -n '__hookhost_is memory' -l limit -x -d 'Remembers at most so many answers from now on: from 1 to 100000'
 complete -c hookhost -n '__hookhost_is memory; and not __fish_contains_opt -s h help' -s h -l help -d 'Print help'
 complete -c hookhost -n '__hookhost_is forget; and not __fish_contains_opt -s h help' -s h -l help -d 'Print help'
