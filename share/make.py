@@ -19,7 +19,7 @@ from dataclasses import dataclass
 HERE = os.path.dirname(os.path.abspath(__file__))
 TOP = os.path.dirname(HERE)
 # The day on which the page's own texts were last looked over.
-DATE = "2026-11-27"
+DATE = "2026-11-28"
 # The arguments and the values that name files of the folder; for every other one nothing can be proposed.
 PATHS = ["CONFIG", "PATH", "FILE"]
 # What the page says of files and of the environment: how the sentences begin that say it, or words of its own.
