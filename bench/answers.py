@@ -1,22 +1,26 @@
 #!/usr/bin/env python3
 """Times remembered answers in real files: runs, commits, puts and the opening of a store that has them, and prints ratios.
 
-Usage: bench/answers.py [PROGRAM [STORE_TRIAL]]   (default: the built programs)
+Usage: bench/answers.py [--small] [--part=PART].. [PROGRAM [STORE_TRIAL]]   (default: the built programs)
 
-Ten hooks run `true` over all files, in a repository after one commit: where nothing is remembered, with the scratch folder still
-to be written and as an earlier run left it, and where all is. Beside them stand opening the store, by `log`, which for one commit
-does nothing else; `cat` of the same files; and pre-commit with the same hooks in a repository of Git, which has to report the
-same. A put is timed beside a staging, as calls on a store that is open and as what each adds to a command of its own. Opening
-10,000 answers is timed beside reading the same rows with the kit's database and hashing their contents, by store_trial. A commit
-whose hooks' answers are remembered is timed beside one without hooks. With `x_per_file` a slow hook, 5 ms a file, is timed where
-one file of 1,000 was edited, beside pre-commit, which runs it over all; and a hook that is remembered of each of 10,000 files.
+  --small       few files and answers and few turns, to see that all of it runs: the figures say nothing
+  --part=PART   only this part, which is runs, edited, single, puts, openings or commits
+
+Runs: ten hooks run `true` over all files, in a repository after one commit: where nothing is remembered, with the scratch folder
+still to be written and as an earlier run left it, and where all is. Beside them stand opening the store, by `memory`, which does
+nothing else; `cat` of the same files; and pre-commit with the same hooks in a repository of Git, which has to report the same.
+Edited: with `x_per_file` a slow hook, 5 ms a file, is timed where one file was edited, for which one child has to be started,
+beside pre-commit, which runs it over all. Single: a run that starts nothing, of a hook that is remembered of each file by itself.
+Each look-up of it is a use, since another answer is in front, and a transaction of its own. Puts: a put is timed beside a
+staging, as calls on a store that is open and as what each adds to a command of its own. Openings: opening up to 100,000 answers
+is timed beside reading the same tables with the kit's database and hashing their contents, by store_trial. Commits: one whose
+hooks' answers are remembered is timed beside one without hooks.
 
 Each time is wall time in milliseconds, the least of several runs in which all that is compared takes turns. The load of the last
 minute is told before each part.
 """
 import os
 import shutil
-import sqlite3
 import subprocess
 import sys
 import tempfile
@@ -24,20 +28,29 @@ from collections import defaultdict
 
 HERE = os.path.dirname(os.path.abspath(__file__))
 sys.path[:1] = [HERE, os.path.join(HERE, "..", "tests")]
-from timing import in_folder, program, show
+from timing import asked_parts, in_folder, is_asked, program, show
 
+SMALL = is_asked("--small")
+PARTS = asked_parts(["runs", "edited", "single", "puts", "openings", "commits"])
 PROGRAM = program()
 # What is left of the words names store_trial, which store.py reads.
 del sys.argv[1:2]
-from kept_answers import KeptAnswer, contents_of as contents_kept, digest, records_of
+from planting import FIRST_LIMIT, MOST_ANSWERS, answer_to, plant
 from store import FILES, SIZE, Play, contents_of, make_history, played
 
 FOLDER, CONFIGURATION, NEW = ".hookhost", ".pre-commit-config.yaml", "new.txt"
 STORE, LOG = f"{FOLDER}/store.db", f"{FOLDER}/store.db-wal"
-OPENING, RUN, RUN_ON_ALL = [PROGRAM, "log"], [PROGRAM, "run"], [PROGRAM, "run", "--all-files"]
+OPENING, RUN, RUN_ON_ALL = [PROGRAM, "memory"], [PROGRAM, "run"], [PROGRAM, "run", "--all-files"]
 COMMIT = [PROGRAM, "commit", "-m", "m"]
-RUNS, COMMANDS, CALLS, OPENINGS = 9, 40, 200, 9
+PRE_COMMIT = ["pre-commit", "run", "--all-files"]
+RUNS, COMMANDS, CALLS, OPENINGS, SLOW_RUNS = (2, 3, 10, 2, 1) if SMALL else (9, 40, 200, 9, 3)
 HOOKS, PUTS = 10, 20
+# How many files a run is over, and are edited among, and are remembered one by one; how many are staged where something is put
+# and where one is committed; and how many answers to each file a store is opened with.
+RUN_OVER = (100,) if SMALL else (1000, 10000)
+EDITED_AMONG, ONE_BY_ONE = (50, 200) if SMALL else (1000, 10000)
+STAGED = (10, 100) if SMALL else (10, 1000, 10000)
+TO_EACH_FILE = (1, 2) if SMALL else (5, 10, 100)
 # The most that a remembered run should take of opening the store and once `cat` of the files, and of pre-commit's time, by how
 # many files there are.
 AIM_BESIDE_CAT, AIM_BESIDE_PRE_COMMIT = 1, {1000: 0.2, 10000: 0.6}
@@ -51,11 +64,11 @@ WIDE_COMMANDS, WIDE_STATES = 10, 10
 
 # ---- repositories
 
-def hook(at, entry, *arguments):
-    """A hook of the stage `pre-commit`, which pre-commit starts once over all files, as hookhost does."""
+def hook(at, entry, *arguments, more=""):
+    """A hook of the stage `pre-commit`, which pre-commit starts once over all files, as hookhost does without other keys."""
     words = ", ".join(f'"{word}"' for word in arguments)
     command = f"language: system, entry: {entry}, args: [{words}], require_serial: true"
-    return f"  - {{id: hook{at}, name: Hook {at}, {command}, stages: [commit]}}\n"
+    return f"  - {{id: hook{at}, name: Hook {at}, {command}, stages: [commit]{more}}}\n"
 
 
 def hooks_of_true(count):
@@ -161,14 +174,14 @@ def one_round_of_runs(ours, git, names):
     times["remembered"] = ours.time(RUN_ON_ALL)
     times["opening"] = ours.time(OPENING)
     times["cat"] = in_folder(git, ["xargs", "-0", "/bin/cat"], names)
-    times["pre-commit"] = in_folder(git, ["pre-commit", "run", "--all-files"])
+    times["pre-commit"] = in_folder(git, PRE_COMMIT)
     return times
 
 
 def compare_reports(ours, git):
     """Both programs have to say the same of the same files, else they didn't do the same."""
     os.chdir(git)
-    theirs = do("pre-commit", "run", "--all-files", "--color", "never")
+    theirs = do(*PRE_COMMIT, "--color", "never")
     os.chdir(ours.folder)
     if do(*RUN_ON_ALL) != theirs:
         sys.exit("bench/answers.py: pre-commit reports something else")
@@ -186,7 +199,8 @@ def time_runs(folder, files):
     ours.look_for_answers(HOOKS)
     for what, run in (("the first run, which writes the folder", "first of all"), ("a first run, the folder written", "first")):
         show(f"{what}, {files} files", times[run], times["pre-commit"], "pre-commit")
-    show(f"a remembered run, {files} files", times["remembered"], times["pre-commit"], "pre-commit", AIM_BESIDE_PRE_COMMIT[files])
+    aim = AIM_BESIDE_PRE_COMMIT.get(files)
+    show(f"a remembered run, {files} files", times["remembered"], times["pre-commit"], "pre-commit", aim)
     show("", times["remembered"], times["opening"] + times["cat"], "opening and cat", AIM_BESIDE_CAT)
     more = times["remembered"] - times["opening"]
     print(f"{'':44} opening {times['opening']:.2f} ms, without answers {times['opening without answers']:.2f} ms; "
@@ -246,7 +260,7 @@ def time_commands(folder):
 
 def time_puts(folder):
     tell_load("puts")
-    for count in (10, 1000, 10000):
+    for count in STAGED:
         time_calls(folder, count)
     time_commands(folder)
 
@@ -254,8 +268,8 @@ def time_puts(folder):
 # ---- opening a store with answers
 
 def answer_of(which, files):
-    """What a command answered that got these files, found nothing and wrote nothing."""
-    return KeptAnswer([f"tool{which}".encode(), *(path.encode() for path, _, _ in files)], files, [], 0)
+    """What a command answered that got these files."""
+    return answer_to([f"tool{which}", *(path for path, _, _ in files)], files)
 
 
 def answers_of_each(commands):
@@ -275,31 +289,24 @@ def answers_of_all():
     return [answer_of(which, files) for which in range(WIDE_COMMANDS) for files in states]
 
 
-def plant(path, answers):
-    """Puts answers into a closed store as rows, which takes less time than to play them."""
-    blobs = {digest(each): each for answer in answers for each in contents_kept(answer)}
-    rows = [(*map(digest, records_of(answer)), answer.status) for answer in answers]
-    with sqlite3.connect(path) as held:
-        held.executemany("INSERT OR IGNORE INTO blobs VALUES (?, ?)", blobs.items())
-        held.executemany("INSERT INTO answers VALUES (?, ?, ?, ?, ?)", rows)
-    held.close()
-
-
 def time_opening(folder, what, answers, aim=None):
     path = os.path.join(folder, f"opening{len(answers)}.db")
     make_history(path, 1, True)
-    plant(path, answers)
-    times = least_of({line: played(path, [line])[0][0] for line in ("open", "connect", "read-tables")} for _ in range(OPENINGS))
+    plant(path, answers, MOST_ANSWERS)
+    lines = ("open", "connect", "read-tables")
+    times = least_of({line: played(path, [line])[0][0] for line in lines} for _ in range(OPENINGS))
     show(f"opening {what}", times["open"], times["read-tables"], "opened, read and hashed", aim)
-    size = os.path.getsize(path) / 1e6
-    print(f"{'':44} {times['connect']:9.2f} ms of it to open the database alone; {size:.1f} MB of file", flush=True)
+    size, most = os.path.getsize(path) / 1e6, {line: played(path, [line])[1] for line in lines}
+    print(f"{'':44} {times['connect']:9.2f} ms of it to open the database alone; {size:.1f} MB of file; peak memory "
+          f"{most['open']:.1f} MB, {most['open'] / most['read-tables']:.2f} times that of reading", flush=True)
 
 
 def time_openings(folder):
     tell_load(f"opening a store of one commit with {FILES} files")
     time_opening(folder, "no answers", [])
-    time_opening(folder, f"{5 * FILES} answers to a file each", answers_of_each(5))
-    time_opening(folder, f"{10 * FILES} answers to a file each", answers_of_each(10), AIM_OPENING)
+    for each in TO_EACH_FILE:
+        aim = AIM_OPENING if each >= 10 else None
+        time_opening(folder, f"{each * FILES} answers to a file each", answers_of_each(each), aim)
     time_opening(folder, f"{WIDE_COMMANDS * WIDE_STATES} answers to {FILES} files each", answers_of_all())
 
 
@@ -326,13 +333,22 @@ def time_commits(folder, files):
     show("two hooks of which nothing is remembered", times["anew"], times["none"], "no hooks")
 
 
-# ---- one file a child
+# ---- a child for each file
 
-SLOW = """sh -c 'for file; do sleep 0.005; done' slow"""
+PER_FILE = ", x_per_file: true"
 
 
-def per_file(hooks):
-    return [hook.replace("require_serial", "x_per_file: true, require_serial") for hook in hooks]
+def slow(starts):
+    """A command of 5 ms a file, which notes in a file outside that it was started."""
+    return f"sh -c 'echo >> {starts}; for file; do sleep 0.005; done' slow"
+
+
+def look_for_starts(starts, wanted):
+    """Looks that so many children were started."""
+    with open(starts, "rb") as file:
+        found = len(file.read())
+    if found != wanted:
+        sys.exit(f"bench/answers.py: {found} children were started, wanted are {wanted}")
 
 
 def edit_one(repository, number):
@@ -342,38 +358,62 @@ def edit_one(repository, number):
 
 
 def time_edited_file(folder, files):
-    """A slow hook that was run over each of the files, one of which was edited."""
+    """A slow hook that was run over each of the files, one of which was edited: one child is started, and no other."""
     tell_load(f"a hook of 5 ms a file, over {files} files")
-    hooks = [hook(0, SLOW)]
-    ours, git = Repository(os.path.join(folder, "slow"), files, per_file(hooks)), os.path.join(folder, "git.slow")
-    make_git(git, files, hooks)
+    starts, others = (os.path.join(folder, name) for name in ("starts", "starts.git"))
+    ours = Repository(os.path.join(folder, "slow"), files, [hook(0, slow(starts), more=PER_FILE)])
+    git = os.path.join(folder, "git.slow")
+    make_git(git, files, [hook(0, slow(others))])
     first = ours.time(RUN_ON_ALL)
     # The configuration is one of the files.
     ours.look_for_answers(files + 1)
+    look_for_starts(starts, files + 1)
     times = least_of(edit_one(ours, number) for number in range(RUNS))
     ours.look_for_answers(files + 1 + RUNS)
+    look_for_starts(starts, files + 1 + RUNS)
+    theirs = min(in_folder(git, PRE_COMMIT) for _ in range(SLOW_RUNS))
     show(f"one edited file of {files}", times["run"], times["opening"], "opening", AIM_EDITED)
-    show("", times["run"], in_folder(git, ["pre-commit", "run", "--all-files"]), "pre-commit", AIM_EDITED_BESIDE_PRE_COMMIT)
-    print(f"{'':44} the first run, with a child for each, {first:.0f} ms", flush=True)
+    show("", times["run"], theirs, "pre-commit", AIM_EDITED_BESIDE_PRE_COMMIT)
+    use = (times["run"] - times["opening"]) / files
+    print(f"{'':44} {use:.3f} ms for each file beside opening; the first run, with a child for each, {first:.0f} ms", flush=True)
 
 
 def time_one_by_one(folder, files):
-    """A run that starts nothing, whose hook is remembered of each file by itself."""
+    """A run that starts nothing, whose hook is remembered of each file by itself: as many as a new store remembers."""
     tell_load(f"a hook remembered of each of {files} files")
-    ours = Repository(os.path.join(folder, "single"), files, per_file(hooks_of_true(1)))
+    only = PER_FILE + ", files: ^many/"
+    ours = Repository(os.path.join(folder, "single"), files, [hook(0, '"true"', "hook0", more=only)])
     names = os.path.join(folder, "names.single")
     held = [(f"many/{at:06}", 0, contents_of(SIZE, 0, at)) for at in range(files)]
     for path, _, contents in held:
         write(path, contents.decode())
-    with open(CONFIGURATION, "rb") as file:
-        held.append((CONFIGURATION, 0, file.read()))
     write(names, "\0".join(path for path, _, _ in held))
-    plant(STORE, [KeptAnswer([b"true", b"hook0", each[0].encode()], [each], [], 0) for each in held])
+    plant(STORE, [answer_to(["true", "hook0", file[0]], [file]) for file in held], FIRST_LIMIT)
     ways = {"run": (RUN_ON_ALL,), "opening": (OPENING,), "cat": (["xargs", "-0", "/bin/cat"], names)}
     times = least_of({what: in_folder(ours.folder, *way) for what, way in ways.items()} for _ in range(RUNS))
-    ours.look_for_answers(files + 1)
-    show(f"{files} files, remembered one by one", times["run"] - times["opening"], times["cat"], "cat, beside opening", AIM_ONE_BY_ONE)
-    print(f"{'':44} the run {times['run']:.2f} ms, opening {times['opening']:.2f} ms", flush=True)
+    ours.look_for_answers(files)
+    if os.path.exists(os.path.join(FOLDER, "scratch")):
+        sys.exit("bench/answers.py: a child was started")
+    more = times["run"] - times["opening"]
+    show(f"{files} files, remembered one by one", more, times["cat"], "cat, beside opening", AIM_ONE_BY_ONE)
+    print(f"{'':44} the run {times['run']:.2f} ms, opening {times['opening']:.2f} ms; {more / files:.3f} ms for each file", flush=True)
+
+
+def time_part(folder, part):
+    if part == "runs":
+        for files in RUN_OVER:
+            time_runs(folder, files)
+    elif part == "edited":
+        time_edited_file(folder, EDITED_AMONG)
+    elif part == "single":
+        time_one_by_one(folder, ONE_BY_ONE)
+    elif part == "puts":
+        time_puts(folder)
+    elif part == "openings":
+        time_openings(folder)
+    else:
+        for files in STAGED:
+            time_commits(folder, files)
 
 
 def main():
@@ -381,14 +421,8 @@ def main():
         os.environ.update({f"GIT_{who}_NAME": "bench", f"GIT_{who}_EMAIL": "bench@localhost"})
     with tempfile.TemporaryDirectory() as folder:
         os.environ["PRE_COMMIT_HOME"] = os.path.join(folder, "pre-commit")
-        for files in AIM_BESIDE_PRE_COMMIT:
-            time_runs(folder, files)
-        time_edited_file(folder, 1000)
-        time_one_by_one(folder, 10000)
-        time_puts(folder)
-        time_openings(folder)
-        for files in (10, 1000, 10000):
-            time_commits(folder, files)
+        for part in PARTS:
+            time_part(folder, part)
         os.chdir("/")
 
 

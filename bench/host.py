@@ -5,8 +5,8 @@ Usage: bench/host.py [PROGRAM [STORE_TRIAL]]   (default: the built programs)
 
 The repositories are empty, or hold staged files of 400 bytes after some commits, each of which changes one file. Those of
 hookhost are made by store_trial. Each command is timed beside git's, and beside what opening the store takes, by
-store_trial, which opens it and does nothing else (its input is one line). `memory` and `forget` are timed with 100 answers in
-the store; git has nothing to stand beside them. Of many files of 400 bytes that one `add` stages, in a new repository, neither program
+store_trial, which opens it and does nothing else (its input is one line). `memory`, `memory --limit` and `forget` are timed with
+100 answers in the store, of which the limit drops half; git has nothing to stand beside them. Of many files of 400 bytes that one `add` stages, in a new repository, neither program
 has any content yet. Each time is wall time in milliseconds, the least of several runs in which the
 programs take turns. The peak memory is of the whole process.
 """
@@ -18,7 +18,7 @@ import tempfile
 from collections import namedtuple
 
 sys.path.insert(0, os.path.dirname(os.path.abspath(__file__)))
-from timing import HERE, in_folder, once, program, show
+from timing import HERE, in_folder, made_peak, once, peak, program, show
 
 PROGRAM = program()
 STORE_TRIAL = os.path.abspath(sys.argv[2] if len(sys.argv) > 2 else os.path.join(HERE, "..", "crates/store_trial/out/store_trial"))
@@ -41,8 +41,9 @@ OF_HISTORY = {
     "show": Pair(["show", "1"], ["show", "--name-only", "--format=%B", "first"]),
 }
 
-# The commands on remembered answers, and lines by which store_trial puts some.
-OF_ANSWERS = ["memory", "forget"]
+# The commands on remembered answers, and lines by which store_trial puts some, of which there is room for all again.
+OF_ANSWERS = {"memory": ["memory"], "memory --limit": ["memory", "--limit=50"], "forget": ["forget"]}
+FIRST_LIMIT = 10_000
 ANSWERS = [f"remember tool{at} {NEW} | {NEW}={at} | | 0" for at in range(100)]
 
 
@@ -105,7 +106,7 @@ def time_commands(ours, other, opening, has_history):
 def put_answers():
     """Puts answers into the folder's store. The commands behind that leave its log as commands do: with what store_trial leaves
     the next one would wait longer for the disk."""
-    play(ANSWERS)
+    play([f"set-limit {FIRST_LIMIT}", *ANSWERS])
     for pair in CHANGES.values():
         once([PROGRAM, *pair.ours])
 
@@ -116,25 +117,18 @@ def time_on_answers(folder, opening):
     rounds = []
     for _ in range(RUNS):
         put_answers()
-        rounds.append([once([STORE_TRIAL, STORE], opening), *(once([PROGRAM, what]) for what in OF_ANSWERS)])
+        rounds.append([once([STORE_TRIAL, STORE], opening), *(once([PROGRAM, *words]) for words in OF_ANSWERS.values())])
     opened, *times = map(min, zip(*rounds))
     return dict(zip(OF_ANSWERS, times)), opened
-
-
-def peak(helper, words, given="/dev/null"):
-    """The peak memory of the command in MB."""
-    with open(given, "rb") as stdin:
-        done = subprocess.run([helper, *words], stdin=stdin, stdout=subprocess.DEVNULL, stderr=subprocess.PIPE, text=True)
-    return int(done.stderr.split()[-1]) * 1024 / 1e6
 
 
 def tell_peaks(helper, folder, opening, has_history):
     os.chdir(folder)
     put_answers()
-    alone = peak(helper, [STORE_TRIAL, STORE], opening)
+    alone = peak(helper, [STORE_TRIAL, STORE], opening) / 1e6
     pairs = {**CHANGES, **LOOK_UPS, **(OF_HISTORY if has_history else {})}
-    words = [*(pair.ours for pair in pairs.values()), *([what] for what in OF_ANSWERS)]
-    peaks = [(each[0], peak(helper, [PROGRAM, *each])) for each in words]
+    words = {**{what: pair.ours for what, pair in pairs.items()}, **OF_ANSWERS}
+    peaks = [(what, peak(helper, [PROGRAM, *each]) / 1e6) for what, each in words.items()]
     told = ", ".join(f"{what} {most:.1f} MB, {most / alone:.2f} times" for what, most in peaks)
     print(f"{'':44} peak memory of opening alone {alone:.1f} MB; {told}")
 
@@ -163,7 +157,7 @@ def time_many(folder, helper):
             times[which].append(once(words))
             if number == MANY_RUNS - 1 and which == 0:
                 once([PROGRAM, "rm", "many"])
-                most = peak(helper, words)
+                most = peak(helper, words) / 1e6
             os.chdir(folder)
             shutil.rmtree(work)
     show(f"add: {MANY} new files", min(times[0]), min(times[1]), "git")
@@ -190,8 +184,7 @@ def time_history(folder, helper, files, commits):
 
 def main():
     with tempfile.TemporaryDirectory() as folder:
-        helper = os.path.join(folder, "peak")
-        subprocess.run(["cc", "-O1", "-o", helper, os.path.join(HERE, "peak.c")], check=True)
+        helper = made_peak(folder)
         time_init(folder)
         time_many(folder, helper)
         for number, (files, commits) in enumerate(HISTORIES):

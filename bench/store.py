@@ -38,6 +38,7 @@ READ = [
     "SELECT n, message FROM commits ORDER BY n",
     "SELECT n, path, mode, digest FROM entries ORDER BY n, path",
     "SELECT words, seen, output, changes, status FROM answers ORDER BY words, seen",
+    "SELECT words, seen, tick FROM uses ORDER BY tick",
 ]
 
 

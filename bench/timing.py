@@ -1,5 +1,7 @@
-"""What the benchmarks share: which program is timed, the least time of a command, and a line of figures."""
+"""What the benchmarks share: what is timed and how much of it, the least time and the peak memory of a command, and a
+line of figures."""
 import os
+import subprocess
 import sys
 import time
 
@@ -9,6 +11,23 @@ HERE = os.path.dirname(os.path.abspath(__file__))
 def program():
     """The program that is timed: the first argument, or the built one."""
     return os.path.abspath(sys.argv[1] if len(sys.argv) > 1 else os.path.join(HERE, "..", "crates/hookhost/out/hookhost"))
+
+
+def is_asked(option):
+    """Whether the script was given this option, which is no word of its any longer then."""
+    is_given = option in sys.argv
+    sys.argv[:] = [word for word in sys.argv if word != option]
+    return is_given
+
+
+def asked_parts(parts):
+    """The parts that the script was asked for by --part=NAME, in their order, or all. The options are no words then."""
+    options = [word for word in sys.argv[1:] if word.startswith("--part=")]
+    sys.argv[:] = [word for word in sys.argv if word not in options]
+    wanted = {option.removeprefix("--part=") for option in options}
+    if not wanted <= set(parts):
+        sys.exit(f"{sys.argv[0]}: the parts are {', '.join(parts)}")
+    return [part for part in parts if not options or part in wanted]
 
 
 def once(words, given="/dev/null"):
@@ -42,6 +61,27 @@ def least_in_turn(commands, runs=40):
         for which, (folder, words) in enumerate(commands):
             times[which].append(in_folder(folder, words))
     return [min(each) for each in times]
+
+
+def seconds_to_settle():
+    """For how long a file counts as one that a process may have changed without a sign, and some seconds more."""
+    waits = [f"/proc/sys/vm/dirty_{name}_centisecs" for name in ("expire", "writeback")]
+    return 4 * sum(int(open(each, encoding="ascii").read()) for each in waits) / 100 + 5
+
+
+def made_peak(folder):
+    """The program of peak.c, built in that folder."""
+    helper = os.path.join(folder, "peak")
+    subprocess.run(["cc", "-O1", "-o", helper, os.path.join(HERE, "peak.c")], check=True)
+    return helper
+
+
+def peak(helper, words, given="/dev/null"):
+    """The peak memory of the command in bytes, told by the program of peak.c, its input being that file."""
+    with open(given, "rb") as stdin:
+        done = subprocess.run([helper, *words], stdin=stdin, stdout=subprocess.DEVNULL, stderr=subprocess.PIPE,
+                              text=True)
+    return int(done.stderr.split()[-1]) * 1024
 
 
 def beside_aim(ratio, aim):

@@ -16,11 +16,10 @@ import sys
 import tempfile
 import time
 
-CHILDREN, SETTLED = "--children" in sys.argv, "--settled" in sys.argv
-sys.argv = [it for it in sys.argv if it not in ("--children", "--settled")]
 sys.path.insert(0, os.path.dirname(os.path.abspath(__file__)))
-from timing import HERE, least, least_in_turn, once, program, show
+from timing import is_asked, least, least_in_turn, made_peak, once, peak, program, seconds_to_settle, show
 
+CHILDREN, SETTLED = is_asked("--children"), is_asked("--settled")
 PROGRAM = program()
 PRE_COMMIT = shutil.which("pre-commit")
 CONFIGURATION = ".pre-commit-config.yaml"
@@ -107,21 +106,10 @@ def time_hooks(what, hooks, names, started, aim="", changes=False):
             sys.exit(f"bench/try.py: {what}: pre-commit reports something else")
         slow = min(once(theirs) for _ in range(1 if changes else 3))
         print(f"{'':44} {mine:9.2f} ms  pre-commit {slow:8.2f} ms  ratio {mine / slow:6.2f}{aim}")
-    size = sum(os.path.getsize(name) for name in paths)
-    print(f"{'':44} the first run, which writes the folder, {first:.2f} ms; peak memory {peak(ours) / size:.1f} times the tree of {size / 1e6:.1f} MB", flush=True)
+    size, most = sum(os.path.getsize(name) for name in paths), peak("../peak", ours)
+    print(f"{'':44} the first run, which writes the folder, {first:.2f} ms; "
+          f"peak memory {most / size:.1f} times the tree of {size / 1e6:.1f} MB", flush=True)
     return mine
-
-
-def seconds_to_settle():
-    """For how long a file counts as one that a process may have changed without a sign, and some seconds more."""
-    waits = [int(open(f"/proc/sys/vm/dirty_{name}_centisecs", encoding="ascii").read()) for name in ("expire", "writeback")]
-    return 4 * sum(waits) / 100 + 5
-
-
-def peak(words):
-    """The peak memory of the command in bytes."""
-    done = subprocess.run([os.path.abspath("../peak"), *words], stdin=subprocess.DEVNULL, stdout=subprocess.DEVNULL, stderr=subprocess.PIPE, text=True)
-    return int(done.stderr.split()[-1]) * 1024
 
 
 # Each has a word of its own, since a second child of one command on the same files isn't started.
@@ -153,7 +141,7 @@ def time_children():
 
 def in_repository(time_them):
     folder = tempfile.mkdtemp()
-    subprocess.run(["cc", "-O1", "-o", os.path.join(folder, "peak"), os.path.join(HERE, "peak.c")], check=True)
+    made_peak(folder)
     os.mkdir(os.path.join(folder, "repository"))
     os.chdir(os.path.join(folder, "repository"))
     try:
