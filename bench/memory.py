@@ -3,11 +3,11 @@
 
 Usage: bench/memory.py [HOOK_TRIAL]   (default: crates/hook_trial/out/hook_trial)
 
-Children answer at once, so that a run's own share is what is timed. A run of ten hooks, each of which gets all files, is timed
-where nothing is remembered and where all is, beside the same run by hooks of the language `fail`, which start no child. Then
-runs on one file are timed as more answers are remembered: ten look-ups in each run; a run for each answer, which puts it; and
-another, which looks it up. Each time is in milliseconds: what so many more runs take in a call, divided by their number, the
-least of several calls.
+Children answer at once, so that a run's own share is what is timed, over a book in memory with room for all answers. A run of
+ten hooks, each of which gets all files, is timed where nothing is remembered and where all is, beside the same run by hooks of
+the language `fail`, which start no child. Then runs on one file are timed as more answers are remembered: ten look-ups of the
+answer in front in each run; a run for each answer, which puts it; and another, which looks it up and brings it to the front.
+Each time is in milliseconds: what so many more runs take in a call, divided by their number, the least of several calls.
 """
 import os
 import subprocess
