@@ -1,7 +1,9 @@
 #!/usr/bin/env python3
 """Times runs whose answers are remembered, in one process of the built program hook_trial, and prints ratios.
 
-Usage: bench/memory.py [HOOK_TRIAL]   (default: crates/hook_trial/out/hook_trial)
+Usage: bench/memory.py [--small] [HOOK_TRIAL]   (default: crates/hook_trial/out/hook_trial)
+
+  --small   few files and answers, to see that all of it runs: the figures say nothing
 
 Children answer at once, so that a run's own share is what is timed, over a book in memory with room for all answers. A run of
 ten hooks, each of which gets all files, is timed where nothing is remembered and where all is, beside the same run by hooks of
@@ -15,12 +17,16 @@ import sys
 import time
 
 HERE = os.path.dirname(os.path.abspath(__file__))
+sys.path[:1] = [HERE]
+from timing import is_asked
+
+SMALL = is_asked("--small")
 PROGRAM = os.path.abspath(sys.argv[1] if len(sys.argv) > 1 else os.path.join(HERE, "..", "crates/hook_trial/out/hook_trial"))
-HOOKS, SIZE, TURNS = 10, 400, 5
+HOOKS, SIZE, TURNS = 10, 400, 2 if SMALL else 5
 AIM_BESIDE_FAIL, AIM_TWICE = 2, 2.2
 # The files of a run, and how many more runs a call makes.
-FILES = [(1000, 20), (10000, 4)]
-ROWS = [500, 1000, 5000, 10000]
+FILES = [(100, 20)] if SMALL else [(1000, 20), (10000, 4)]
+ROWS = [50, 100, 200, 400] if SMALL else [500, 1000, 5000, 10000]
 RUNS_AMONG = 100
 
 
