@@ -399,30 +399,21 @@ def time_one_by_one(folder, files):
     print(f"{'':44} the run {times['run']:.2f} ms, opening {times['opening']:.2f} ms; {more / files:.3f} ms for each file", flush=True)
 
 
-def time_part(folder, part):
-    if part == "runs":
-        for files in RUN_OVER:
-            time_runs(folder, files)
-    elif part == "edited":
-        time_edited_file(folder, EDITED_AMONG)
-    elif part == "single":
-        time_one_by_one(folder, ONE_BY_ONE)
-    elif part == "puts":
-        time_puts(folder)
-    elif part == "openings":
-        time_openings(folder)
-    else:
-        for files in STAGED:
-            time_commits(folder, files)
+def each_of(time_one, counts):
+    """A part that times one thing at some sizes."""
+    return lambda folder: [time_one(folder, count) for count in counts]
 
 
 def main():
+    parts = {"runs": each_of(time_runs, RUN_OVER), "edited": each_of(time_edited_file, [EDITED_AMONG]),
+             "single": each_of(time_one_by_one, [ONE_BY_ONE]), "puts": time_puts, "openings": time_openings,
+             "commits": each_of(time_commits, STAGED)}
     for who in ("AUTHOR", "COMMITTER"):
         os.environ.update({f"GIT_{who}_NAME": "bench", f"GIT_{who}_EMAIL": "bench@localhost"})
     with tempfile.TemporaryDirectory() as folder:
         os.environ["PRE_COMMIT_HOME"] = os.path.join(folder, "pre-commit")
         for part in PARTS:
-            time_part(folder, part)
+            parts[part](folder)
         os.chdir("/")
 
 
