@@ -78,6 +78,7 @@ EMPTY = [
     (*line("accept"), *STORE, refused("11 NoFixes") + kept()),
     (*line("log"), *STORE, done() + kept()),
     (*line("memory"), *STORE, done("remembered: 0\n") + kept()),
+    *((*line("limit", limit), *STORE, done("remembered: 0\n") + kept()) for limit in ["1", "100000"]),
     (*line("forget"), *STORE, done("forgotten: 0\n") + kept()),
     (*line("show", "0"), *STORE, ended(3, err="hookhost: no commit 0\n") + kept()),
     (*line("show", "1"), *STORE, ended(3, err="hookhost: no commit 1\n") + kept()),
@@ -441,6 +442,7 @@ SAYING = [
     (("log",), "1 first\n"),
     (("show", "1"), "first\nmore\n\na\nb\n"),
     (("memory",), "remembered: 0\n"),
+    (("limit", "2"), "remembered: 0\n"),
     (("forget",), "forgotten: 0\n"),
 ]
 
@@ -870,4 +872,102 @@ MEMORY = [
     ),
 ]
 
-ROWS = [("command_over", *row) for row in [*RUNS, *COMMITS, *REMEMBERED, *STEADY, *COMMITTED, *MEMORY, *EMPTY, *ADDED, *REMOVED, *BAD_PATHS, *GOOD_PATHS, *CLASHES, *TOO_LARGE, *SEVERAL, *FIXES, *STATUS, *CAT, *VERSIONS, *LOG, *SHOW, *WRITERS]]
+
+# ---- at most so many answers
+
+def limit(number, out="all", err="all"):
+    return line("limit", str(number), out=out, err=err)
+
+
+def only(letter):
+    """A run of one file, and what was started then."""
+    return (*run(f"{letter}.txt"), *COUNTS)
+
+
+# A hook with a child for each of three files, and these children, which pass.
+PER_FILE = hook("T", more=", x_per_file: true")
+PASSING = [child(f"c\t{letter}.txt", f"{letter}.txt=x") for letter in "abc"]
+STAGED_THREE = (*with_hooks(PER_FILE), *(word for letter in "abc" for word in add(f"{letter}.txt", "x\n")))
+OF_THREE = (*(word for row in PASSING for word in row), *STAGED_THREE)
+ADDED_FOUR = done() * 4
+ALL_FILES = (*run("all"), *COUNTS)
+
+
+def ran(calls, remembered, *rows):
+    """What a run says whose hook passes, and what was started then."""
+    return done(GOOD_T) + counted(calls, 0, remembered, *rows)
+
+
+THREE_RAN, AGAIN = ran(3, 3, 0, 1, 2), ran(3, 3)
+LIMITED = [
+    # The last two of three answers are kept, so that all are told anew. Then those of single files are used: the one that is used last
+    # stays longest.
+    (
+        *OF_THREE, *limit(2), *ALL_FILES, *ALL_FILES, *only("c"), *only("b"), *only("a"), *only("c"), *line("memory"),
+        ADDED_FOUR + done(REMEMBERS(0)) + ran(3, 2, 0, 1, 2) + ran(6, 2, 0, 1, 2) + ran(6, 2) * 2 + ran(7, 2, 0) + ran(8, 2, 2) + done(REMEMBERS(2)),
+    ),
+    # Of three answers the last one is left, by a limit as by many; a limit of what there is drops none.
+    (
+        *OF_THREE, *ALL_FILES, *limit(3), *ALL_FILES, *limit(1), *line("memory"), *only("c"), *only("b"), *only("c"),
+        ADDED_FOUR + THREE_RAN + done(REMEMBERS(3)) + AGAIN + done(REMEMBERS(1)) * 2 + ran(3, 1) + ran(4, 1, 1) + ran(5, 1, 2),
+    ),
+    (*OF_THREE, *limit(100_000), *ALL_FILES, *limit(2), *limit(1), *only("c"), ADDED_FOUR + done(REMEMBERS(0)) + THREE_RAN + done(REMEMBERS(2)) + done(REMEMBERS(1)) + ran(3, 1)),
+    # A look-up brings an answer to the front, so that another is dropped by the next one, or by a limit.
+    (
+        *OF_THREE, *limit(2), *run("a.txt"), *run("b.txt"), *run("a.txt"), *run("c.txt"), *only("a"), *only("b"),
+        ADDED_FOUR + done(REMEMBERS(0)) + done(GOOD_T) * 4 + ran(3, 2, 0, 1, 2) + ran(4, 2, 1),
+    ),
+    (*OF_THREE, *ALL_FILES, *only("a"), *limit(1), *only("a"), *only("c"), ADDED_FOUR + THREE_RAN + AGAIN + done(REMEMBERS(1)) + ran(3, 1) + ran(4, 1, 2)),
+    # So does that of a fresh run, also where the child that is started then is ended by a signal.
+    (
+        *PASSING[0], *child("c\ta.txt", "a.txt=x", fault="signal"), *PASSING[1], *PASSING[2], *STAGED_THREE,
+        *limit(2), *run("a.txt"), *run("b.txt"), *run("a.txt", how="fresh"), *run("c.txt"), *COUNTS, *run("a.txt"), *run("b.txt"), *COUNTS,
+        ADDED_FOUR + done(REMEMBERS(0)) + done(GOOD_T) * 2 + ended(1, out=failed("T", SIGNAL)) + done(GOOD_T) + counted(4, 1, 2, 0, 2, 1, 3)
+        + done(GOOD_T) * 2 + counted(5, 1, 2, 2),
+    ),
+    # A fresh run remembers as many, and finds none unsteady that was dropped.
+    (
+        *PASSING[0], *child("c\ta.txt", "a.txt=x", output="y\n"), *PASSING[1], *STAGED_THREE, *limit(1), *run("a.txt"), *run("b.txt"), *run("a.txt", how="fresh"), *COUNTS,
+        ADDED_FOUR + done(REMEMBERS(0)) + done(GOOD_T) * 3 + counted(3, 0, 1, 0, 2, 1),
+    ),
+    # An answer that is told anew takes no other's place.
+    (
+        *OF_THREE, *limit(2), *run("a.txt"), *run("b.txt"), *run("b.txt", how="fresh"), *COUNTS, *run("a.txt"), *run("b.txt"), *COUNTS,
+        ADDED_FOUR + done(REMEMBERS(0)) + done(GOOD_T) * 3 + counted(3, 0, 2, 0, 1, 1) + done(GOOD_T) * 2 + counted(3, 0, 2),
+    ),
+    # Two hooks with one child need room for one answer. What isn't remembered drops none.
+    (*GOOD, *with_hooks(T, U), *add("a.txt", "x\n"), *limit(1), *run(), *run(), *COUNTS, done() * 2 + done(REMEMBERS(0)) + done(GOOD_T + passed("U")) * 2 + counted(1, 0, 1, 0)),
+    (
+        *GOOD, *child("d\ta.txt", "a.txt=x", "b.md=z"), *with_hooks(T, hook("U", "d")), *add("a.txt", "x\n"), *add("b.md", "y\n"), *limit(1), *run(), *run(), *COUNTS,
+        ADDED_THREE + done(REMEMBERS(0)) + ended(1, out=GOOD_T + failed("U", MODIFIED)) * 2 + counted(3, 0, 1, 0, 1, 1),
+    ),
+    # The limit stays once all is forgotten, and for another host of the same store.
+    (
+        *OF_THREE, *ALL_FILES, *limit(2), *line("forget"), *ALL_FILES, *stage("d.md"), *ALL_FILES,
+        ADDED_FOUR + THREE_RAN + done(REMEMBERS(2)) + done(FORGOTTEN(2)) + ran(6, 2, 0, 1, 2) + ran(9, 2, 0, 1, 2),
+    ),
+    # With a greater one what was dropped is told again, and then all stays.
+    (
+        *OF_THREE, *limit(1), *ALL_FILES, *limit(10_000), *ALL_FILES, *ALL_FILES,
+        ADDED_FOUR + done(REMEMBERS(0)) + ran(3, 1, 0, 1, 2) + done(REMEMBERS(1)) + ran(5, 3, 0, 1) + ran(5, 3),
+    ),
+    # Of a commit's answers too the last ones stay. Those of the next commit of other files are told anew, and the message's once more.
+    (
+        *GOOD, *NOTED, *child("tell"), *child("c\ta.txt", "a.txt=y"), *WITH_STAGES, *limit(2), *commit("verified"), *COUNTS, *add("a.txt", "y\n"), *commit("verified"), *COUNTS,
+        done() * 2 + done(REMEMBERS(0)) + done(GOOD_T + passed("Note") + passed("Tell") + "commit 1\n") + counted(3, 0, 2, 0, 1, 2)
+        + done() + done(GOOD_T + passed("Note") + passed("Tell") + "commit 2\n") + counted(6, 0, 2, 3, 1, 2),
+    ),
+    # The repository stays as it was, and what is dropped is dropped, whatever becomes of the line.
+    (
+        *TRIM_LOOK, *limit(1), *line("fixes"), *line("cat", "a.txt"), *line("accept"), *line("memory"),
+        TRIMMED_ONE + done(REMEMBERS(1)) + done("M a.txt\n") + done("x \n") + done("accepted: 1\n") + done(REMEMBERS(1)),
+    ),
+    *(
+        (*OF_THREE, *ALL_FILES, *limit(2, out=str(count)), *line("memory"), ADDED_FOUR + THREE_RAN + cut_off(REMEMBERS(2)[:count]) + done(REMEMBERS(2)))
+        for count in [0, 1, 12, 13]
+    ),
+    *((*OF_THREE, *ALL_FILES, *limit(2, out=habit), *line("memory"), ADDED_FOUR + THREE_RAN + done(REMEMBERS(2)) * 2) for habit in PATIENT),
+    *((*OF_THREE, *ALL_FILES, *limit(2, err=habit), *line("memory"), ADDED_FOUR + THREE_RAN + done(REMEMBERS(2)) * 2) for habit in HABITS),
+]
+
+ROWS = [("command_over", *row) for row in [*LIMITED, *RUNS, *COMMITS, *REMEMBERED, *STEADY, *COMMITTED, *MEMORY, *EMPTY, *ADDED, *REMOVED, *BAD_PATHS, *GOOD_PATHS, *CLASHES, *TOO_LARGE, *SEVERAL, *FIXES, *STATUS, *CAT, *VERSIONS, *LOG, *SHOW, *WRITERS]]

@@ -252,7 +252,7 @@ LINES = [
         "  commit     Commits the staged files, through the hooks of a commit\n"
         "  log        Prints the commits, the newest first\n"
         "  show       Prints a commit's message and its paths\n"
-        "  memory     Prints how many answers of hooks' commands are remembered\n"
+        "  memory     Prints how many answers of hooks' commands are remembered, or limits them\n"
         "  forget     Forgets the remembered answers, and prints how many there were\n\n"
         "Options:\n"
         "  -h, --help     Print help\n"
@@ -288,7 +288,7 @@ USAGES = {
     "cat": "cat [--fixed | --commit=<N>] <PATH>",
     "log": "log",
     "show": "show <N>",
-    "memory": "memory",
+    "memory": "memory [--limit=<N>]",
     "forget": "forget",
 }
 
@@ -323,10 +323,23 @@ def no_number(value, name="<N>"):
     return f"invalid value '{value}' for '{name}': it has to be a number up to 4294967295"
 
 
+def no_limit(value):
+    return f"invalid value '{value}' for '--limit <N>': it has to be a number from 1 to 100000"
+
+
 def both_versions(value):
     return f"invalid value '{value}' for '--commit <N>': it can't stand beside --fixed"
 
 
+# Words by which `memory` limits what is remembered, and the limit.
+LIMITS = [
+    (["--limit=1"], 1),
+    (["--limit", "1"], 1),
+    (["--limit=10000"], 10_000),
+    (["--limit=100000"], 100_000),
+    (["--limit=007"], 7),
+    (["--limit=+5"], 5),
+]
 # Words of the commands on a repository, and what they ask for.
 REPOSITORY_LINES = [
     (["init"], "init\n"),
@@ -367,6 +380,7 @@ REPOSITORY_LINES = [
     (["show", "+1"], "show\n1\n"),
     (["show", "4294967295"], "show\n4294967295\n"),
     (["memory"], "memory\n"),
+    *((["memory", *words], f"limit {limit}\n") for words, limit in LIMITS),
     (["forget"], "forget\n"),
     # A value is missing, or there is one too many.
     (["cat"], refused("cat", "MissingRequiredArgument", missing("PATH"))),
@@ -405,6 +419,23 @@ REPOSITORY_LINES = [
     *((["show", word], refused("show", "InvalidValue", no_number(word))) for word in ["x", "4294967296", "1.0", " 1", "", "++1"]),
     (["show", "-1"], refused("show", "UnknownArgument", no_flag("-1"))),
     (["show", "--", "-1"], refused("show", "InvalidValue", no_number("-1"))),
+    # A limit is a number from 1 to 100,000, and is given once.
+    *(
+        (["memory", f"--limit={word}"], refused("memory", "InvalidValue", no_limit(word)))
+        for word in ["0", "00", "100001", "4294967295", "4294967296", "-1", "x", "", "1.0", " 1", "1 2", "++1"]
+    ),
+    (["memory", "--limit", "0"], refused("memory", "InvalidValue", no_limit("0"))),
+    (["memory", "--limit", "-1"], refused("memory", "UnknownArgument", "unexpected argument '-1' found")),
+    (["memory", "--limit", "1", "2"], refused("memory", "UnknownArgument", "unexpected argument '2' found")),
+    (
+        ["memory", "--limit"],
+        f"refused InvalidValue\nerror: a value is required for '--limit <N>' but none was supplied\n\n{MORE}",
+    ),
+    (
+        ["memory", "--limit=1", "--limit=1"],
+        refused("memory", "ArgumentConflict", "the argument '--limit <N>' cannot be used multiple times"),
+    ),
+    (["forget", "--limit=1"], refused("forget", "UnknownArgument", "unexpected argument '--limit' found")),
     # No word is short for another.
     (["help"], no_command("help")),
     (["stat"], no_command("stat", "  tip: a similar subcommand exists: 'status'\n\n")),
@@ -450,9 +481,10 @@ REPOSITORY_LINES = [
         "'hookhost: cannot use .hookhost/store.db' says that no store is here, or that it\n"
         "can't be opened: hookhost init makes one. 'hookhost: cannot use .hookhost/lock' says\n"
         "that another hookhost works here: wait for it. 'hookhost: standard output was not\n"
-        "taken' says that what is printed didn't go out whole: what was done stays. What\n"
-        "opening the store refuses is told as 'hookhost: refused: NUMBER NAME':\n"
-        "   1 NotAStore    the file is no store of this version\n"
+        "taken' says that what is printed didn't go out whole: what was done stays. A store\n"
+        "of an earlier version is taken over as it is opened. What opening the store refuses\n"
+        "is told as 'hookhost: refused: NUMBER NAME':\n"
+        "   1 NotAStore    the file is no store of a version that this program knows\n"
         "                  move it away, and make a store by hookhost init\n"
         "   2 Damaged      the store holds what no store holds\n"
         "                  take it from a backup: nothing here mends it\n"

@@ -1,12 +1,13 @@
-"""Runs over a book of remembered answers: what is started and what isn't, what is put, what a refusal of the book leaves, and
-which hooks are unsteady. The calls are
+"""Runs over a book of remembered answers: what is started and what isn't, what is put, what goes where only so many are kept, what a
+refusal of the book leaves, and which hooks are unsteady. The calls are
 
 play_book CONFIGURATION STEP..
 play COMMAND..
 
 with the steps that `crates/hook_trial/src/book_plays.rt` names and the commands of `plays.rt`. A run is answered by a line on it,
-by what it gave, and by how many answers are remembered and whether that of each row of the table is. The definitions say the
-same; these rows are those of users, and show that memory is enough for them."""
+by what it gave, and by how many answers are remembered and whether that of each row of the table is, which is looked up then and so
+used. The definitions say the same; these rows are those of users, and show that memory is enough for them."""
+from list_book import ListBook
 
 PROGRAM = "hook_trial"
 
@@ -217,6 +218,85 @@ RUNS = [
 ]
 
 
+# ---- a book that keeps only so many answers
+
+# A hook with a child for each of three files.
+LETTERS = "abc"
+PER_FILE = hooks(hook("T", "c", r"files: '\.txt$', x_per_file: true"))
+PASS_EACH = [word for letter in LETTERS for word in child("c", f"{letter}.txt", seen=[f"{letter}.txt=x"])]
+KILLED = details("T", "fault: ended by a signal")
+
+
+def run_over(book, letters, how, kth):
+    """How many children a run on these files starts over a book, and how many of them fail."""
+    calls = faults = 0
+    for letter in letters:
+        if book.find(letter) and how == "plain":
+            continue
+        calls += 1
+        if calls == kth:
+            faults += 1
+        else:
+            book.put(letter, True)
+    return calls, faults
+
+
+def limited(limit, *runs):
+    """Runs over one book with this limit, each by how it is made, the files that are there, and the call that fails. A row."""
+    book, steps, answer = ListBook(limit), [], ""
+    for how, letters, kth in runs:
+        for letter in LETTERS:
+            steps += file(f"{letter}.txt") if letter in letters else ("gone", f"{letter}.txt")
+        steps += run(how, kth=kth)
+        calls, faults = run_over(book, letters, how, kth)
+        held = ["held" if book.find(letter) else "lacking" for letter in LETTERS]
+        answer += told("failed" if faults else "passed", calls, faults, KILLED if faults else PASSED, held=held)
+    return (PER_FILE, *(word for letter in LETTERS for word in file(f"{letter}.txt")), *PASS_EACH, "limit", str(limit), *steps, answer)
+
+
+def all_three(how="plain", kth=0):
+    return how, LETTERS, kth
+
+
+def only(letters, how="plain", kth=0):
+    return how, letters, kth
+
+
+LIMITS = [
+    # The last answers are kept, so that of three files all are looked at again where two have room.
+    *(limited(limit, all_three(), all_three(), all_three("fresh"), all_three(), *(only(letter) for letter in "cbac")) for limit in [1, 2, 3, 4, 100_000]),
+    # Those of two files are found where two have room, beside a third that a run needs in between.
+    limited(2, only("ab"), only("ab"), only("c"), only("b"), only("a"), only("c")),
+    limited(1, only("a"), only("a"), only("b"), only("a"), only("a", "fresh"), only("a")),
+    # A child that fails takes no place. Where a fresh run starts it, what is remembered of it was looked up, and stays.
+    *(limited(limit, *(all_three(how, kth) for kth in [1, 2, 3]), all_three(), all_three()) for limit in [1, 2, 3] for how in ["plain", "fresh"]),
+    limited(2, only("ab"), only("a", "fresh", 1), only("c"), only("ab")),
+    # Two hooks with one child have one place in a book.
+    (
+        hooks(T, hook("U", "c")), *A, *PASS, "limit", "1", *run(), *run(), *run("fresh"),
+        "".join(told("passed", calls, 0, PASSED + line("U", "Passed"), held=["held"]) for calls in [1, 0, 2]),
+    ),
+    # Of two parts the first one makes room for the second, each time.
+    (hooks(T), *TWO_PARTS, "limit", "1", *run(), *run(), *run("fresh"), told("failed", 2, 0, BOTH, held=["lacking", "held"]) * 3),
+    # Another answer takes the place of its own row alone.
+    (
+        hooks(T), *TWO_PARTS, "limit", "2", *run(), "others", *THIRD_PARTS, *run("fresh"), *run(),
+        told("failed", 2, 0, BOTH, held=["held", "held"]) + told("failed", 2, 0, "unsteady: t\n", details("T", "exit code: 3", output="one\nthree\n"), held=["held", "held"])
+        + told("failed", 0, 0, details("T", "exit code: 3", output="one\nthree\n"), held=["held", "held"]),
+    ),
+    # What is dropped isn't there to be told from: the hook is steady, though its child answers otherwise by now.
+    (
+        hooks(T), *A, *PASS, *child("c", "a.txt", seen=["a.txt=y"]), "limit", "1", *run(), *file("a.txt", "y\n"), *run(), "others", *child("c", "a.txt", status=1, output="x\n"), *A, *run("fresh"),
+        told("passed", 1, 0, PASSED, held=["held", "lacking"]) + told("passed", 1, 0, PASSED, held=["lacking", "held"]) + told("failed", 1, 0, X_FAILED, held=["held"]),
+    ),
+    # A book keeps its limit once all is forgotten.
+    (
+        PER_FILE, *(word for letter in LETTERS for word in file(f"{letter}.txt")), *PASS_EACH, "limit", "2", *run(), "forget", *run(),
+        told("passed", 3, 0, PASSED, held=["lacking", "held", "held"]) + "2 forgotten\n" + told("passed", 3, 0, PASSED, held=["lacking", "held", "held"]),
+    ),
+]
+
+
 # ---- a book of which one call is refused
 
 # Hooks with a child that changes its file, with two parts, with a child that strays, with one that can't be started, and with one
@@ -247,15 +327,15 @@ REFUSALS = {
 }
 
 
-def counted(held, is_fresh, refused):
+def counted(book, is_fresh, refused):
     """Whether a run is refused whose look-up or put of this number is (0: none), and how many children it starts and faults it has.
-    The rows that are put join those that are held."""
+    What it uses before that is used, and what it puts is put."""
     asked = calls = faults = 0
     for row, is_put in PARTS:
         asked += 1
         if asked == refused:
             return True, calls, faults
-        if row in held and not is_fresh:
+        if book.find(row) and not is_fresh:
             continue
         calls += 1
         faults += row is None
@@ -263,26 +343,25 @@ def counted(held, is_fresh, refused):
             asked += 1
             if asked == refused:
                 return True, calls, faults
-            held.add(row)
+            book.put(row, True)
     return False, calls, faults
 
 
-def refusing(*runs):
+def refusing(*runs, limit=10_000):
     """Runs over one book, each by whether it is fresh, the call of the book that is refused, and by what; or None, where what is
     remembered is forgotten. A row."""
-    held, steps, answer = set(), [], ""
+    book, steps, answer = ListBook(limit), [], ""
     for each in runs:
         if each is None:
             steps.append("forget")
-            answer += f"{len(held)} forgotten\n"
-            held = set()
+            answer += f"{book.forget()} forgotten\n"
             continue
         how, refused, refusal = each
         steps += run(how, book=refused, refusal=refusal)
-        is_refused, calls, faults = counted(held, how == "fresh", refused)
-        words = ["held" if row in held else "lacking" for row in range(5)]
+        is_refused, calls, faults = counted(book, how == "fresh", refused)
+        words = ["held" if book.find(row) else "lacking" for row in range(5)]
         answer += told(REFUSALS[refusal], calls, faults, held=words) if is_refused else told("failed", calls, faults, *GIVEN, held=words)
-    return (*OVER_REFUSING, *steps, answer)
+    return (*OVER_REFUSING, "limit", str(limit), *steps, answer)
 
 
 ALL, ALL_FRESH = ("plain", 0, "damaged"), ("fresh", 0, "damaged")
@@ -295,6 +374,12 @@ BOOKS = [
     refusing(*(each for call in range(1, BOOK_CALLS + 1) for each in [("plain", 5, "collision"), ("plain", call, "damaged"), ALL, None])),
     refusing(ALL, *(each for call in range(1, BOOK_CALLS + 1) for each in [("fresh", call, "damaged"), ALL])),
     refusing(*(("plain", call, "damaged") for call in range(1, BOOK_CALLS + 1)), ALL),
+    # The same where fewer have room than a run puts: what was used and put before a refused call is used and put.
+    *(
+        refusing(*(each for call in range(1, BOOK_CALLS + 1) for how in ["plain", "fresh"] for each in [(how, call, refusal), ALL]), limit=limit)
+        for limit in [1, 2, 3]
+        for refusal in REFUSALS
+    ),
 ]
 
 
@@ -406,4 +491,4 @@ def many_plays():
 # A repository has no commit of the number 0, and none behind its last one.
 NEITHER = "no files\n" * 2
 
-ROWS = [*(("play_book", *row) for row in [*RUNS, *BOOKS, many_books()]), *(("play", *row, answer + NEITHER) for *row, answer in [*HOSTS, many_plays()])]
+ROWS = [*(("play_book", *row) for row in [*RUNS, *LIMITS, *BOOKS, many_books()]), *(("play", *row, answer + NEITHER) for *row, answer in [*HOSTS, many_plays()])]
