@@ -28,11 +28,12 @@ A session file holds cases. `== NAME` begins a case, in an empty folder. Within 
   -- sql TEXT       sqlite3 answers this to SQL on the store: the lines that follow, and nothing else
   -- files          the lines that follow are the folder's files, all of them, in order
 
-After each command but an `init`, `add`, `rm`, `accept`, `run`, `run-files`, `commit` or `forget` that is done, every file has to be as
-it was; it is done also where its output takes no more, and where a hook fails. Behind one that runs hooks and is refused, the
-repository in the store has to be as it was, since answers may have been remembered. Two files may change, since every command
-that opens a store does that to them: the lock, and the log that the database begins anew. What lies in the scratch folder of the commands of hooks isn't looked at, nor is the folder
-that holds it.
+After each command but an `init`, `add`, `rm`, `accept`, `run`, `run-files`, `commit`, `forget` or `memory --limit` that is done, every
+file has to be as it was; it is done also where its output takes no more, and where a hook fails. Behind one that runs hooks and is
+refused, the repository in the store has to be as it was, since answers may have been remembered. So it has to be behind any command
+that takes a store of an earlier version over. Two files may change, since every command that opens a store does that to them: the
+lock, and the log that the database begins anew. What lies in the scratch folder of the commands of hooks isn't looked at, nor is the
+folder that holds it.
 """
 import fcntl
 import os
@@ -53,7 +54,9 @@ FOLDER, SCRATCH = "./.hookhost", "./.hookhost/scratch"
 LAID = ("file", "bytes", "fill", "repeat", "folder", "link", "remove", "demo")
 LOOKED_AT = ("play", "sql", "files")
 RUNNING = ("run", "run-files", "commit")
-REPOSITORY = ("meta", "staged", "fixes", "commits", "entries")
+REPOSITORY = ("staged", "fixes", "commits", "entries")
+# What `meta` has in a store of an earlier version.
+EARLIER = [("version", 1)]
 CHANGING = ("init", "add", "rm", "accept", "run", "run-files", "commit", "forget")
 
 
@@ -135,22 +138,36 @@ def files_that_stay():
     return {path: held for path, held in found.items() if path not in (FOLDER, "./" + LOCK, "./" + STORE + "-wal")}
 
 
-def repository_in(store):
-    """The rows of a store's repository, whose file holds these bytes."""
+def rows_in(store, tables):
+    """The rows of these tables of a store, whose file holds these bytes, or None where it is no database that has them."""
     database = sqlite3.connect(":memory:")
-    # The database in memory has no log, so the bytes must not ask for one.
-    database.deserialize(store[:18] + b"\1\1" + store[20:])
-    rows = [database.execute(f"SELECT * FROM {table}").fetchall() for table in REPOSITORY]
-    database.close()
-    return rows
+    try:
+        # The database in memory has no log, so the bytes must not ask for one.
+        database.deserialize(store[:18] + b"\1\1" + store[20:])
+        return [database.execute(f"SELECT * FROM {table}").fetchall() for table in tables]
+    except sqlite3.DatabaseError:
+        return None
+    finally:
+        database.close()
+
+
+def changes_all(words):
+    """Whether a command that is done may change all of a store."""
+    limits = words[:1] == ["memory"] and any(word.startswith("--limit") for word in words)
+    return limits or words[:1] in [[word] for word in CHANGING]
 
 
 def is_left(before, after, words):
-    """The files are as before; behind hooks the store may have other answers."""
+    """The files are as before. Behind hooks the store may have other answers, and one of an earlier version may be taken over."""
     store = "./" + STORE
-    if before == after or words[:1] not in [[word] for word in RUNNING] or store not in before or store not in after:
+    if before == after or store not in before or store not in after:
         return before == after
-    return {**before, store: repository_in(before[store])} == {**after, store: repository_in(after[store])}
+    is_taken_over = rows_in(before[store], ["meta"]) == [EARLIER] and rows_in(after[store], ["meta"]) != [EARLIER]
+    if not is_taken_over and words[:1] not in [[word] for word in RUNNING]:
+        return False
+    tables = REPOSITORY if is_taken_over else ("meta", *REPOSITORY)
+    found, wanted = ({**files, store: rows_in(files[store], tables)} for files in (after, before))
+    return wanted[store] is not None and found == wanted
 
 
 def run_alone(command):
@@ -163,7 +180,7 @@ def run_alone(command):
     if held:
         held.close()
     is_done = command["status"] in (0, 1) or command["output"] is not None
-    may_change = is_done and command["words"][:1] in [[word] for word in CHANGING]
+    may_change = is_done and changes_all(command["words"])
     return wrong or (None if may_change or is_left(before, files_that_stay(), command["words"]) else "it changed the folder's files")
 
 
