@@ -1,5 +1,4 @@
-"""Cases of tests/host.py: runs of hooks that a signal ends while their child goes on, runs side by side in one folder, and what
-is remembered of many answers and of large ones. And the hooks of those runs whose answers a kill must not lose.
+"""Cases of tests/host.py: runs of hooks that a signal ends while their child goes on, and runs side by side in one folder.
 
 A child waits until the script or a child of a later run tells it to go on, so each case is the same each time. Whoever it
 outlives, the script ends it.
@@ -13,8 +12,7 @@ from concurrent.futures import ThreadPoolExecutor
 from contextlib import suppress
 from pathlib import Path
 
-from host_program import IGNORE_FILE, LOCK, PROGRAM, STORE, Wrong, check, do, paths_in, play, rows, run, staged_rows, write
-from kept_answers import SELECT_ROWS, KeptAnswer, digest, planting_all, row_of
+from host_program import IGNORE_FILE, LOCK, PROGRAM, STORE, Wrong, check, do, paths_in, run, write
 
 MARK = "scratch.run"
 
@@ -247,204 +245,10 @@ def touches_nothing_outside_its_folder(folder):
                 says(work, RUN, wanted["run"], f"after {text}")
 
 
-# ---- runs that put answers
-
-# A word beside which a command has room for one name of two letters, so that each of three names is a part of its own.
-LONG = b"c" * (131_072 - len(b'sh -c echo "$2" --  c1'))
-# Hooks that pass, fail, change a file or take one out, with several parts, all files or none; one ends by a signal, and the
-# last is answered by what the first has put.
-PUTTING = b"""repos:
-- repo: local
-  hooks:
-  - {id: look, name: Look, language: system, entry: cat, files: ^a, verbose: true}
-  - {id: told, name: Told, language: system, entry: 'true', args: [--one, two words], files: ^a}
-  - {id: mend, name: Mend, language: system, entry: sed -i s/x/y/, files: ^b}
-  - {id: fails, name: Fails, language: system, entry: "sh -c 'echo no; exit 3' --", files: ^b}
-  - {id: parts, name: Parts, language: system, entry: sh -c 'echo "$2"' --, args: [%s], files: ^c, require_serial: true}
-  - {id: away, name: Away, language: system, entry: rm, files: ^d}
-  - {id: all, name: All, language: system, entry: sh -c 'echo all', pass_filenames: false}
-  - {id: ends, name: Ends, language: system, entry: sh -c 'kill -9 $$', files: ^a}
-  - {id: more, name: More, language: system, entry: sed -i s/y/z/, files: ^b}
-  - {id: again, name: Again, language: system, entry: cat, files: ^a, verbose: true}
-""" % LONG
-# The staged files of that: a path, a mode and contents.
-PUT_FILES = [
-    (".pre-commit-config.yaml", 0, PUTTING), ("a1", 0, b"one\n"), ("a2", 1, b"two"), ("b1", 0, b"x\n"), ("b2", 0, b"none\n"),
-    ("c1", 0, b"1" * 1000), ("c2", 0, b"2" * 1000), ("c3", 0, b"3" * 1000), ("d1", 0, b"gone\n"),
-]
-
-
-def put_files(*begins, **now):
-    """Those of the files whose paths begin so, some of them with other contents by now."""
-    return [(path, mode, now.get(path, held)) for path, mode, held in PUT_FILES if path.startswith(begins)]
-
-
-# What the children of those hooks answer, in their order.
-RUN_ANSWERS = [
-    KeptAnswer([b"cat", b"a1", b"a2"], put_files("a"), [], 0, b"one\ntwo"),
-    KeptAnswer([b"true", b"--one", b"two words", b"a1", b"a2"], put_files("a"), [], 0),
-    KeptAnswer([b"sed", b"-i", b"s/x/y/", b"b1", b"b2"], put_files("b"), [("b1", b"y\n")], 0),
-    KeptAnswer([b"sh", b"-c", b"echo no; exit 3", b"--", b"b1", b"b2"], put_files("b", b1=b"y\n"), [], 3, b"no\n"),
-    KeptAnswer([b"sh", b"-c", b'echo "$2"', b"--", LONG, b"c1"], put_files("c1"), [], 0, b"c1\n"),
-    KeptAnswer([b"sh", b"-c", b'echo "$2"', b"--", LONG, b"c2"], put_files("c2"), [], 0, b"c2\n"),
-    KeptAnswer([b"sh", b"-c", b'echo "$2"', b"--", LONG, b"c3"], put_files("c3"), [], 0, b"c3\n"),
-    KeptAnswer([b"rm", b"d1"], put_files("d"), [("d1", None)], 0),
-    KeptAnswer([b"sh", b"-c", b"echo all"], put_files(".", "a", "b", "c", b1=b"y\n"), [], 0, b"all\n"),
-    KeptAnswer([b"sed", b"-i", b"s/y/z/", b"b1", b"b2"], put_files("b", b1=b"y\n"), [("b1", b"z\n")], 0),
-]
-# How many answers are planted into the file of a store.
-MANY = 100_000
-# Two hooks that leave a mark in the working folder: one whose answer is planted, and one whose answer isn't.
-KNOWN, NEW = b"echo >> ../../known", b"echo >> ../../new; echo new"
-TWO_HOOKS = b"""repos:
-- repo: local
-  hooks:
-  - {id: known, name: Known, language: system, entry: sh -c '%s' --, files: ^a, verbose: true}
-  - {id: new, name: New, language: system, entry: sh -c '%s' --, files: ^a, verbose: true}
-""" % (KNOWN, NEW)
-ONE = [("a", 0, b"1\n")]
-PLANTED = KeptAnswer([b"sh", b"-c", KNOWN, b"--", b"a"], ONE, [], 0, b"planted\n")
-PUT = KeptAnswer([b"sh", b"-c", NEW, b"--", b"a"], ONE, [], 0, b"new\n")
-
-
-def many_answers():
-    """Answers of commands each of which has seen each of 500 versions of a file, and one of a hook."""
-    changes = [[], [("a", b"mended\n")], [("a", None)]]
-    for at in range(MANY - 1):
-        seen = [("a", at % 2, b"version %d\n" % (at % 500))]
-        yield KeptAnswer([b"tool", b"%d" % (at // 500), b"a"], seen, changes[at % 3], at % 256, b"said %d\n" % (at % 100))
-    yield PLANTED
-
-
-def stage_hooks(folder, hooks):
-    """Makes the folder a repository in which these hooks and one file are staged."""
-    do(folder, "init")
-    for path, held in ((".pre-commit-config.yaml", hooks), ("a", b"1\n")):
-        write(folder, path, held)
-        do(folder, "add", path)
-
-
 def line(name, end):
     """A hook's first line in a report of 80 columns."""
     return f"{name:.<73}{end}\n".encode()
 
 
-def starts_of(folder, names):
-    """How often each of the hooks was started that leave a line in a file of their name."""
-    marks = {name: Path(folder, name) for name in names}
-    return {name: mark.stat().st_size if mark.exists() else 0 for name, mark in marks.items()}
-
-
-def remembers_many_answers(folder):
-    """Among many answers one is found, and one more is put; they are counted, and all are forgotten."""
-    stage_hooks(folder, TWO_HOOKS)
-    planted, store = ".bail on\n" + planting_all(list(many_answers())), os.path.join(folder, STORE)
-    done = subprocess.run(["sqlite3", "-batch", store], input=planted.encode(), capture_output=True, timeout=60)
-    check((done.returncode, done.stderr) == (0, b""), f"sqlite3 says {done.stderr!r}")
-    start = time.monotonic()
-    check(do(folder, "memory") == b"remembered: %d\n" % MANY, "memory says another number of planted answers")
-    print(f"memory of {MANY} answers: {time.monotonic() - start:.1f} s")
-    told = line("Known", "Passed") + b"- hook id: known\n\nplanted\n\n" + line("New", "Passed") + b"- hook id: new\n\nnew\n\n"
-    for _ in range(2):
-        said = run(folder, "run", "--all-files")
-        check(said == (0, told, b""), f"beside many answers a run says {said!r}")
-        starts = starts_of(folder, ("known", "new"))
-        check(starts == {"known": 0, "new": 1}, f"beside many answers the hooks are started {starts!r} times")
-        check(do(folder, "memory") == b"remembered: %d\n" % (MANY + 1), "memory says another number behind a run")
-    forgets_many_answers(folder)
-
-
-def forgets_many_answers(folder):
-    """The answer that was put is written as the reference says, and all are forgotten, and nothing else changes."""
-    found, status = rows(folder, SELECT_ROWS), do(folder, "status")
-    check(len(found) == MANY + 1 and row_of(PUT) in found, f"sqlite3 finds {len(found)} answers, or another one that was put")
-    check(status == b"A .pre-commit-config.yaml\nA a\n", f"beside many answers status says {status!r}")
-    check(do(folder, "forget") == b"forgotten: %d\n" % (MANY + 1), "another number is forgotten")
-    check(do(folder, "memory") == b"remembered: 0\n", "something is still remembered")
-    check(do(folder, "status") == status, "behind a forget other files are staged")
-    left = rows(folder, "PRAGMA integrity_check; PRAGMA foreign_key_check; SELECT count(*) FROM answers")
-    check(left == ["ok", "0"], f"behind a forget sqlite3 finds {left!r}")
-
-
-# What hooks do that leave a mark too. Some answer as much as there may be, and some a byte more or a good deal.
-LARGE = {
-    "First": "echo first",
-    "Loud": "head -c 17825792 /dev/zero",
-    "Louder": "head -c 1048577 /dev/zero >&2",
-    "Grown": "head -c 16777217 /dev/zero > $1",
-    "Most": "head -c 1048576 /dev/zero",
-    "Full": "head -c 16777216 /dev/zero > $1",
-    "Last": "wc -c < $1",
-}
-LARGE_HOOKS = "repos:\n- repo: local\n  hooks:\n" + "".join(
-    f"  - {{id: {name}, name: {name}, language: system, entry: sh -c 'echo >> ../../{name}; {does}' --, files: ^a}}\n"
-    for name, does in LARGE.items())
-FAULTS = {
-    "Loud": b"- fault: output is longer than 1048576 bytes\n",
-    "Louder": b"- fault: output is longer than 1048576 bytes\n",
-    "Grown": b"- fault: files could not be written or read back\n",
-}
-LARGEST = bytes(16777216)
-
-
-def large_answers():
-    """What is kept of those hooks."""
-    for name, seen, changes, output in [("First", ONE, [], b"first\n"), ("Most", ONE, [], bytes(1048576)),
-                                        ("Full", ONE, [("a", LARGEST)], b""), ("Last", [("a", 0, LARGEST)], [], b"16777216\n")]:
-        yield KeptAnswer([b"sh", b"-c", f"echo >> ../../{name}; {LARGE[name]}".encode(), b"--", b"a"], seen, changes, 0, output)
-
-
-def large_report():
-    """What a run of those hooks prints."""
-    for name in LARGE:
-        said = FAULTS.get(name, b"- files were modified by this hook\n" if name == "Full" else b"")
-        yield line(name, "Failed") + b"- hook id: " + name.encode() + b"\n" + said if said else line(name, "Passed")
-
-
-def remembers_the_largest_answers_and_no_larger_ones(folder):
-    """More than a child may write, and a file that is larger than one may be, are faults each time, so that no answer of a real
-    child is too large to be kept. The largest are kept, beside those before and behind them."""
-    stage_hooks(folder, LARGE_HOOKS.encode())
-    play(folder, ["commit first\\n"])
-    files, wanted = staged_rows(folder), sorted(map(row_of, large_answers()))
-    for count in (1, 2):
-        said = run(folder, "run", "--all-files")
-        check(said == (1, b"".join(large_report()), b""), f"with large answers a run says {said!r:.2000}")
-        starts = starts_of(folder, LARGE)
-        check(starts == {name: count if name in FAULTS else 1 for name in LARGE}, f"large answers come of {starts!r} starts")
-        check(rows(folder, SELECT_ROWS) == wanted, "of large answers others are kept")
-        check(do(folder, "memory") == b"remembered: %d\n" % len(wanted), "of large answers memory says another number")
-        shown = [do(folder, word) for word in ("status", "fixes", "log")]
-        check(shown == [b"", b"M a\n", b"1 first\n"] and staged_rows(folder) == files, f"with large answers it shows {shown!r}")
-    check(do(folder, "accept") == b"accepted: 1\n", "the largest file isn't accepted")
-    check(do(folder, "cat", "a") == LARGEST, "the largest file is another")
-
-
-# As many bytes of paths as may be staged beside those of two files: a record of them has half of the bytes that it may have. One
-# of as many files as may be staged would have three quarters, and none has more.
-DEEP = ("d" * 249 + "/") * 15
-MOST_PATHS = [DEEP + f"{at:0250d}" for at in range(8_388_608 // 4000)]
-MOST_HOOK = b"""repos:
-- repo: local
-  hooks:
-  - {id: all, name: All, language: system, entry: sh -c 'echo >> ../../all', pass_filenames: false}
-"""
-
-
-def remembers_an_answer_that_saw_the_most_paths(folder):
-    """A record of seen files that is as large as the bytes of staged paths allow is kept, and found."""
-    stage_hooks(folder, MOST_HOOK)
-    rows(folder, f"WITH RECURSIVE c(n) AS (SELECT 0 UNION ALL SELECT n + 1 FROM c WHERE n < {len(MOST_PATHS) - 1}) "
-         f"INSERT INTO staged SELECT '{DEEP}' || printf('%0250d', n), 0, x'{digest(ONE[0][2]).hex()}' FROM c")
-    for _ in range(2):
-        said = run(folder, "run", "--all-files")
-        check(said == (0, line("All", "Passed"), b""), f"with the most paths a run says {said!r:.2000}")
-        check(starts_of(folder, ["all"]) == {"all": 1}, "with the most paths the hook isn't started once")
-    seen = [(".pre-commit-config.yaml", 0, MOST_HOOK), *ONE, *((path, 0, ONE[0][2]) for path in MOST_PATHS)]
-    wanted, found = KeptAnswer([b"sh", b"-c", b"echo >> ../../all"], seen, [], 0), rows(folder, SELECT_ROWS)
-    check(found == [row_of(wanted)], f"with the most paths sqlite3 finds {found!r}")
-
-
 CASES = [tells_nothing_of_a_child_that_outlived_its_run, outlasts_a_child_that_goes_on_writing, leaves_no_mark_where_it_ended_by_itself,
-         lets_a_try_have_a_folder_of_its_own, lets_runs_go_side_by_side, touches_nothing_outside_its_folder,
-         remembers_many_answers, remembers_the_largest_answers_and_no_larger_ones, remembers_an_answer_that_saw_the_most_paths]
+         lets_a_try_have_a_folder_of_its_own, lets_runs_go_side_by_side, touches_nothing_outside_its_folder]
