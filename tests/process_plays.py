@@ -1,17 +1,19 @@
 #!/usr/bin/env python3
 """Plays random commands on repositories in real files by two hosts, each command in a process of its own, so that the store is
-closed and opened between any two. One host remembers what children answered; the other is told `forget` before each command
-that can run hooks, so that it runs them from scratch.
+closed and opened between any two. One host remembers what children answered, at most as many answers as a command of the play has
+said; the other remembers one answer alone, and in three plays of four it's told `forget` before each command that can run hooks, so
+that it runs them from scratch.
 
 Usage: tests/process_plays.py [PLAYS [COMMANDS [SEED]]]   (default: 40 plays of 60 commands each, of the seeds from 1 on)
 
 Both have to print the same, to end with the same status, and to leave the same repository, which SQLite reads in the file of
 the store alone. The children are tests/play_child.c: what they answer follows from their words and from the files that they
-have seen, and each says in a log of its host that it was started. From the log of the host that forgets follows what the
-other has to start: in the same order the children that its book lacks, and in a fresh run all of them. The model of a book
-knows the words of a child and the files that it has seen by a digest that the child says, and their modes, which the child
-can't see, from the store. What ended as an answer and changed its seen files alone is put into it, and so it says how many
-answers are remembered.
+have seen, and each says in a log of its host that it was started. The log of the host that remembers one answer tells which children a
+command needs, in their order: it lacks only those that are the last answer, whose look-up changes no book. From that follows what the
+other has to start: the children that its book lacks, and in a fresh run all of them. The model of a book is the list of
+tests/list_book.py. It knows the words of a child and the files that it has seen by a digest that the child says, and their modes, which
+the child can't see, from the store. What ended as an answer and changed its seen files alone is put into it. After each command each
+store has to remember the same in the same order: the digests are told anew from the contents that its uses name.
 
 With an even seed some children print a clock, which moves between commands. The host that remembers reports what it said when
 the answer was remembered, and behind a fresh run it names the hooks of which the clock says otherwise now.
@@ -33,7 +35,9 @@ from concurrent.futures import ProcessPoolExecutor
 from contextlib import suppress
 from pathlib import Path
 
+from host_books import Book, book_in
 from host_program import CRATES, STORE, Wrong, check, run, write
+from list_book import ListBook
 
 PROGRAM = CRATES / "hookhost/out/hookhost"
 GIVEN = [int(word) for word in sys.argv[1:]]
@@ -71,8 +75,10 @@ MOST_COMMAND, LONG = 131_072, 0.06
 # How often each kind of command is drawn, those at the beginning of a play, and how often what hinders hooks is mended.
 KINDS = {
     "add": 16, "configuration": 5, "executable": 4, "rm": 3, "run": 30, "again": 20, "commit": 24, "accept": 2,
-    "forget": 2, "memory": 2, "status": 1, "fixes": 1, "log": 1, "show": 1,
+    "forget": 2, "memory": 2, "limit": 4, "status": 1, "fixes": 1, "log": 1, "show": 1,
 }
+# At most how many answers the host that remembers keeps.
+LIMITS = [1, 2, 3, 5, 10_000, 10_000]
 BEGINNING = ["anchor", "configuration", "add", "add", "add"]
 MENDED = 0.4
 RUNNING = ("run", "run-files", "commit")
@@ -86,11 +92,18 @@ SHOWN = {
 # The words, the contents of the file that is to be staged, the value of SKIP, and whether the clock moves before it.
 Command = collections.namedtuple("Command", "words held skip ticks", defaults=[None, None, False])
 File = collections.namedtuple("File", "mode held")
-# How a child ends, the letters that say what it may do, a digest of its words and of the files that it has seen, and these
-# files' paths with their modes.
-Child = collections.namedtuple("Child", "ending letters digest modes")
-# The children that are started, the ids of the unsteady hooks, and what the clock said when each child answered, by its digest.
+# The children that are started, the ids of the unsteady hooks, and what the clock said when each child answered, by its digest. It
+# may have said two things within a command, where the answer was dropped in between.
 Starts = collections.namedtuple("Starts", "children unsteady said")
+
+
+class Child(collections.namedtuple("Child", "ending letters digest modes")):
+    """How a child ends, the letters that say what it may do, a digest of its words and of the files that it has seen, and these
+    files' paths with their modes."""
+
+    @property
+    def key(self):
+        return self.digest, self.modes
 
 
 # ---- what is drawn by chance
@@ -118,9 +131,11 @@ def random_hook(rng, number, has_clock):
 
 
 def with_long_argument(rng, hook):
-    """The hook with an argument that leaves so few bytes to names that it needs several children, or some name doesn't fit."""
-    argument = "n" * (MOST_COMMAND - len("play_child c ") - rng.choice([8, 12, 16, 20, 24]))
-    keys = {"language": "system", "entry": "play_child c", "args": [argument], "pass_filenames": True}
+    """The hook with an argument that leaves so few bytes to names that it needs several children, or some name doesn't fit. A further
+    file that its children see is still told to them."""
+    also = [word for word in hook.get("args", []) if word.startswith("--also=")]
+    argument = "n" * (MOST_COMMAND - len(" ".join(["play_child", "c", *also, ""])) - rng.choice([8, 12, 16, 20, 24]))
+    keys = {"language": "system", "entry": "play_child c", "args": [argument, *also], "pass_filenames": True}
     return hook | keys | {"files": "^[a-z]", "types": [], "stages": []}
 
 
@@ -162,6 +177,8 @@ def random_command(rng, kind, has_clock, staged, last):
         return Command(random_run(rng, sorted(staged)), None, skip, ticks)
     if kind == "commit":
         return Command(("commit", *rng.choice([[], [], [], ["--no-verify"]]), "-m", rng.choice(MESSAGES)), None, skip, ticks)
+    if kind == "limit":
+        return Command(("memory", f"--limit={rng.choice(LIMITS)}"))
     return Command((kind, str(rng.randint(1, 9))) if kind == "show" else (kind,))
 
 
@@ -194,12 +211,12 @@ class Host:
     """A repository in a folder of its own, and what the model says that is remembered in it."""
 
     def __init__(self, top, name):
-        self.folder, self.log, self.known, self.book = os.path.join(top, name), os.path.join(top, f"{name}.log"), 0, {}
+        self.folder, self.log, self.known, self.book = os.path.join(top, name), os.path.join(top, f"{name}.log"), 0, ListBook()
         self.environment = {variable: value for variable, value in os.environ.items() if variable != "SKIP"}
         self.environment |= {"PLAY_LOG": self.log, "PLAY_CLOCK": os.path.join(top, "clock")}
         os.mkdir(self.folder)
         write(top, f"{name}.log", b"")
-        self.does("init", b"")
+        self.does(("init",), b"")
 
     def play(self, command):
         """The status and what is printed. A file lies in the folder only while it is staged."""
@@ -214,14 +231,21 @@ class Host:
                 os.removedirs(os.path.dirname(os.path.join(self.folder, path)))
         return answer
 
-    def does(self, word, wanted):
-        answer = self.play(Command((word,)))
-        check(answer == (0, wanted, b""), f"{word} is answered {answer!r}, wanted {wanted!r}")
+    def does(self, words, wanted):
+        answer = self.play(Command(words))
+        check(answer == (0, wanted, b""), f"{words!r} is answered {answer!r}, wanted {wanted!r}")
 
-    def counts(self, word):
-        """That `memory` or `forget` prints how many answers the model remembers."""
-        self.does(word, f"{'remembered' if word == 'memory' else 'forgotten'}: {len(self.book)}\n".encode())
-        self.book = {} if word == "forget" else self.book
+    def memory(self):
+        """That `memory` prints how many answers the model remembers."""
+        self.does(("memory",), f"remembered: {len(self.book)}\n".encode())
+
+    def forget(self):
+        self.does(("forget",), f"forgotten: {self.book.forget()}\n".encode())
+
+    def limit(self, number):
+        """That a limit drops what the model drops."""
+        self.book.keep_to(number)
+        self.does(("memory", f"--limit={number}"), f"remembered: {len(self.book)}\n".encode())
 
     def children(self, staged):
         """The children that were started since this was asked last, in their order, where these files were staged."""
@@ -234,33 +258,37 @@ class Host:
     def starts(self, children, is_fresh, clock):
         """Which of the children that a command needs are started. What is remembered of these is put into the book, with what
         the clock says."""
-        starts = Starts([], [], {})
+        starts = Starts([], [], collections.defaultdict(set))
         for child in children:
-            key = child.digest, child.modes
-            found = self.book.get(key)
+            found = self.book.find(child.key)
             if found is not None and not is_fresh:
-                starts.said[child.digest] = found
+                starts.said[child.digest].add(found)
                 continue
             starts.children.append(child)
-            starts.said[child.digest] = clock
+            starts.said[child.digest].add(clock)
             if child.ending == "answers":
-                self.book[key] = clock
+                self.book.put(child.key, clock)
                 _, has_clock, number = child.letters.partition("t")
                 starts.unsteady.extend([f"h{number}"] if has_clock and found not in (None, clock) else [])
         return starts
 
     def shown(self):
-        """The repository that the store's file alone shows, how many answers it remembers, and whether it is whole."""
+        """The repository that the store's file alone shows, the book that it remembers, and whether it is whole."""
         held = Path(self.folder, STORE).read_bytes()
         database = sqlite3.connect(":memory:")
         # The database in memory has no log, so the bytes must not ask for one.
         database.deserialize(held[:18] + b"\1\1" + held[20:])
         ask = lambda text: database.execute(text).fetchall()
-        found = {name: ask(text) for name, text in SHOWN.items()}, ask("SELECT count(*) FROM answers")[0][0]
+        found = {name: ask(text) for name, text in SHOWN.items()}, book_in(database)
         broken = ask("PRAGMA foreign_key_check"), ask("PRAGMA integrity_check")
         database.close()
         check(broken == ([], [("ok",)]), f"SQLite finds the store's file broken: {broken!r}")
         return found
+
+    def check_book(self, found):
+        """That a book in a store is that of the model."""
+        wanted = Book(self.book.limit, [key for key, _ in self.book.rows()])
+        check(found == wanted, f"at most {found.limit} answers are remembered, {len(found.keys)} in all, wanted {wanted.limit} and {len(wanted.keys)}: {found.keys!r:.1000}, wanted {wanted.keys!r:.1000}")
 
 
 def child_of(line, staged):
@@ -277,8 +305,10 @@ class Play:
 
     def __init__(self, top, seed):
         self.top, self.rng, self.has_clock, self.clock = top, random.Random(seed), seed % 2 == 0, 0
+        self.forgets = seed % 4 != 1
         self.remembering, self.forgetting = self.hosts = [Host(top, name) for name in ("remembering", "forgetting")]
         self.commands, self.staged, self.has_fixes, self.ends = [], {}, False, collections.Counter()
+        self.forgetting.limit(1)
 
     def run(self):
         for at in range(COMMANDS):
@@ -304,20 +334,28 @@ class Play:
         write(self.top, "clock", str(self.clock).encode())
         word, is_fresh = command.words[0], "--fresh" in command.words
         if word in ("memory", "forget"):
-            for host in self.hosts:
-                host.counts(word)
+            self.ask_of_memory(command)
             return self.check_shown()
-        if word in RUNNING:
-            self.forgetting.counts("forget")
+        if word in RUNNING and self.forgets:
+            self.forgetting.forget()
         remembering, forgetting = (host.play(command) for host in self.hosts)
         self.ends[f"{word} {remembering[0]}"] += 1
         check_answers(remembering, forgetting, self.check_children(is_fresh))
         self.check_shown()
 
+    def ask_of_memory(self, command):
+        """Counts what both hosts remember, or has them forget it; or sets the limit of the one that remembers more than one answer."""
+        word, *limit = command.words
+        if limit:
+            self.ends["answers dropped by a limit"] += len(self.remembering.book)
+            self.remembering.limit(int(limit[0].partition("=")[2]))
+            self.ends["answers dropped by a limit"] -= len(self.remembering.book)
+        for host in self.hosts if not limit else []:
+            host.forget() if word == "forget" else host.memory()
+
     def check_children(self, is_fresh):
         """That both hosts started what they had to. What the one that remembers has started."""
         remembering, forgetting = (host.children(self.staged) for host in self.hosts)
-        # Within one command the other host remembers too.
         wanted = self.forgetting.starts(forgetting, is_fresh, self.clock).children
         check(forgetting == wanted, f"from scratch it starts {forgetting!r}, of which it remembers some")
         starts = self.remembering.starts(forgetting, is_fresh, self.clock)
@@ -328,13 +366,13 @@ class Play:
         return starts
 
     def check_shown(self):
-        """That both stores show the same repository, and remember as many answers as the model."""
-        (remembering, count), (forgetting, other) = (host.shown() for host in self.hosts)
+        """That both stores show the same repository, and remember what the model does."""
+        (remembering, book), (forgetting, other) = (host.shown() for host in self.hosts)
         for name in SHOWN:
             found, wanted = remembering[name], forgetting[name]
             check(found == wanted, f"the {name} are {found!r:.2000}, and from scratch {wanted!r:.2000}")
-        books = [len(host.book) for host in self.hosts]
-        check([count, other] == books, f"{[count, other]} answers are remembered, wanted {books}")
+        self.remembering.check_book(book)
+        self.forgetting.check_book(other)
         self.has_fixes = bool(forgetting["fixes"])
         self.staged = {path: File(mode, held) for path, mode, held in forgetting["staged files"]}
 
@@ -344,15 +382,23 @@ class Play:
         found, wanted = ([host.play(command) for command in commands] for host in self.hosts)
         check(found == wanted, f"it shows {found!r:.2000}, and from scratch {wanted!r:.2000}")
         for host in self.hosts:
-            host.counts("memory")
+            host.memory()
 
 
 def check_answers(remembering, forgetting, starts):
     """That both hosts say the same, but for unsteady hooks, and for what the clock said when a child answered."""
-    status, out, err = forgetting
-    out = re.sub(rb"clock (\w+) \d+", lambda found: b"clock %s %d" % (found[1], starts.said[found[1].decode()]), out)
-    wanted = status, out + b"".join(f"unsteady: {name}\n".encode() for name in dict.fromkeys(starts.unsteady)), err
-    check(remembering == wanted, f"it says {remembering!r:.3000}, wanted {wanted!r:.3000}")
+    wanted = with_clocks(forgetting[1], starts.said) + b"".join(f"unsteady: {name}\n".encode() for name in dict.fromkeys(starts.unsteady))
+    found = with_clocks(remembering[1], {digest: clocks for digest, clocks in starts.said.items() if len(clocks) > 1})
+    check((remembering[0], found, remembering[2]) == (forgetting[0], wanted, forgetting[2]), f"it says {remembering!r:.3000}, wanted {forgetting[0]}, {wanted!r:.3000}, {forgetting[2]!r}")
+
+
+def with_clocks(out, said):
+    """What is printed, where each of these children tells all that the clock said when it answered."""
+    def told(found):
+        clocks = said.get(found[1].decode())
+        return found[0] if clocks is None else b"clock %s %s" % (found[1], " or ".join(map(str, sorted(clocks))).encode())
+
+    return re.sub(rb"clock (\w+) \d+", told, out)
 
 
 def line_of(command):
