@@ -1,15 +1,16 @@
-"""The book that a store remembers of children that are tests/play_child.c, for tests/process_plays.py and tests/long_runs.py.
+"""The book that a store remembers, beside the model of tests/list_book.py: for tests/host.py, and for tests/process_plays.py and
+tests/long_runs.py, whose children are tests/play_child.c.
 
-A child says of itself a digest of its words and of the files that it has seen. Here that is told anew from the contents that a use of the
-store names, so that the uses tell which child's answer is the first, which the second, and so on.
+Such a child says of itself a digest of its words and of the files that it has seen. Here that is told anew from the contents that a use
+of the store names, so that the uses tell which child's answer is the first, which the second, and so on.
 """
 import collections
 import struct
 
 from host_program import check
+from list_book import ListBook
 
-# The limit, and the children whose answers are remembered, the most recently used first: of each what it says of itself, and the paths of
-# the files that it has seen with their modes.
+# The limit, and the keys of the answers that are remembered, the most recently used first.
 Book = collections.namedtuple("Book", "limit keys")
 # The kinds of what lies in a folder, as a child tells them.
 FILE, FOLDER = 0, 1
@@ -17,8 +18,24 @@ FILE, FOLDER = 0, 1
 FOUND = {}
 
 
-def book_in(database):
-    """The book of a store, each answer of which has to have its use."""
+def book_of(model):
+    """The book that a model tells."""
+    return Book(model.limit, [key for key, _ in model.rows()])
+
+
+def model_of(book, told=True):
+    """The model of a book, in which the same is told of each key."""
+    model = ListBook(book.limit)
+    for key in reversed(book.keys):
+        model.put(key, told)
+    return model
+
+
+# ---- the children that a store tells of
+
+def children_in(database):
+    """The book of a store, each answer of which has to have its use. A key is what a child says of itself, and the paths of the files that
+    it has seen with their modes."""
     ask = lambda text, *given: database.execute(text, given).fetchall()
     (limit,), = ask("SELECT value FROM meta WHERE name = 'limit'")
     rows = ask("SELECT words, seen FROM uses ORDER BY tick DESC")
@@ -41,14 +58,17 @@ def key_of(words, seen, held):
         state = digested(state, word + b"\0")
     for path in sorted([*files, *folders]):
         kind, contents = (FILE, files[path][1]) if path in files else (FOLDER, b"")
-        state = digested(state, path + b"\0" + struct.pack("=iQ", kind, len(contents)) + contents)
+        for each in (path + b"\0", struct.pack("=i", kind), struct.pack("=Q", len(contents)), contents):
+            state = digested(state, each)
     return f"{state:016x}", tuple((path.decode(), files[path][0]) for path in sorted(files))
 
 
 def digested(state, data):
-    """FNV-1a over further bytes."""
-    for byte in data:
-        state = (state ^ byte) * 1099511628211 & 0xFFFFFFFFFFFFFFFF
+    """The digest with further bytes, as tests/play_child.c takes them, eight at a time."""
+    padded = data + bytes(-len(data) % 8)
+    for piece in struct.unpack(f"={len(padded) // 8}Q", padded):
+        state = (state ^ piece) * 1099511628211 & 0xFFFFFFFFFFFFFFFF
+        state ^= state >> 32
     return state
 
 

@@ -4,6 +4,7 @@ model of tests/list_book.py.
 import os
 from concurrent.futures import ThreadPoolExecutor
 
+from host_books import Book, book_of, model_of
 from host_program import LOCK, check, do, rows, run, write
 from host_state import book_in, kept_contents, state
 from kept_answers import GREATEST_TICK, KeptAnswer, contents_of, use_of
@@ -41,8 +42,8 @@ class Limited:
     def check_book(self):
         """That sqlite3 finds the book of the model, and that `memory` counts it."""
         found = book_in(self.folder)
-        uses, wanted = "".join(self.known.get(key, "?") for key in found.uses), "".join(key for key, _ in self.book.rows())
-        check((found.limit, uses) == (self.book.limit, wanted), f"of at most {found.limit} answers are remembered {uses!r}, wanted {wanted!r} of {self.book.limit}")
+        found = Book(found.limit, [self.known.get(key, "?") for key in found.keys])
+        check(found == book_of(self.book), f"what is remembered is {found!r}, wanted {book_of(self.book)!r}")
         said = do(self.folder, "memory")
         check(said == b"remembered: %d\n" % len(self.book), f"of {len(self.book)} answers memory says {said!r}")
 
@@ -202,10 +203,8 @@ def keeps_one_limit_of_programs_at_once(folder):
         count = sum(pool.map(work, range(len(numbers))))
     check(count > 0, "no program met another")
     found = book_in(folder)
-    check(found.limit in numbers and set(found.uses) <= set(limited.known), f"programs at once leave {found!r}")
-    limited.book = ListBook(found.limit)
-    for key in reversed(found.uses):
-        limited.book.put(limited.known[key], True)
+    check(found.limit in numbers and set(found.keys) <= set(limited.known), f"programs at once leave {found!r}")
+    limited.book = model_of(Book(found.limit, [limited.known[key] for key in found.keys]))
     limited.check_book()
     limited.run("abcdefgh")
     print(f"four programs at once that set limits: {count} times refused")

@@ -6,6 +6,14 @@ from pathlib import Path
 
 from host_program import STORE, check, do, run, staged_rows, write
 
+# Three hooks, each with a child.
+THREE_HOOKS = b"""repos:
+- repo: local
+  hooks:
+  - {id: first, name: First, language: system, entry: 'true', args: [first]}
+  - {id: second, name: Second, language: system, entry: 'true', args: [second]}
+  - {id: third, name: Third, language: system, entry: 'true', args: [third]}
+"""
 
 
 def waits_for(folder, helper, *words):
@@ -19,8 +27,8 @@ def waits_for(folder, helper, *words):
 
 
 def waits_for_the_disk_only_where_something_is_written(folder):
-    """Each of both files is waited for, with its folder, when it is opened. A change waits for the log twice, once for the
-    database, and three times until the log is empty again."""
+    """Each of both files is waited for, with its folder, when it is opened. A change waits for the log twice; and once there was one, the
+    database is waited for, and three times until the log is empty again."""
     helper = os.path.join(folder, "waits.so")
     subprocess.run(["cc", "-shared", "-fPIC", "-O1", "-o", helper, str(Path(__file__).resolve().parent / "count_waits.c"), "-ldl"], check=True)
     do(folder, "init")
@@ -28,11 +36,14 @@ def waits_for_the_disk_only_where_something_is_written(folder):
     write(folder, "b", b"2")
     counts = [waits_for(folder, helper, *words) for words in (["add", "a"], ["add", "b"], ["status"], ["cat", "a"], ["rm", "b"], ["log"], ["fixes"])]
     check(counts == [10, 10, 4, 4, 10, 4, 4], f"the disk is waited for {counts} times")
-    # An answer is put as a change is; a run whose answers are remembered, and which leaves no fixes, writes nothing.
-    write(folder, ".pre-commit-config.yaml", b"repos:\n- repo: local\n  hooks: [{id: look, name: Look, language: system, entry: 'true'}]\n")
+    # An answer is put as a change is, and used so, but for the one in front: its run, which leaves no fixes, writes nothing.
+    write(folder, ".pre-commit-config.yaml", THREE_HOOKS)
     do(folder, "add", ".pre-commit-config.yaml")
-    counts = [waits_for(folder, helper, "run", "--all-files") for _ in range(2)]
-    check(counts == [10, 4], f"the disk is waited for {counts} times by a run and by one that remembers")
+    runs = [("run", "--all-files", *words) for words in ([], [], ["third"], ["first"], ["first"], ["--fresh"])]
+    counts = [waits_for(folder, helper, *words) for words in runs]
+    check(counts == [14, 14, 4, 10, 4, 18], f"the disk is waited for {counts} times by runs of hooks")
+    counts = [waits_for(folder, helper, *words) for words in (["memory"], ["memory", "--limit=2"], ["forget"])]
+    check(counts == [4, 10, 10], f"the disk is waited for {counts} times by what changes the answers alone")
     # Without the log a command makes it, and one that reads takes it away again.
     os.remove(os.path.join(folder, STORE + "-wal"))
     counts = [waits_for(folder, helper, *words) for words in (["status"], ["rm", "a"], ["status"])]

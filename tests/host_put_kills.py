@@ -6,12 +6,12 @@ import os
 import shutil
 from pathlib import Path
 
+from host_books import book_of, model_of
 from host_kills import Killed
 from host_model import MESSAGE
 from host_program import PROGRAM, Wrong, check, do, play, refuses, rows, run, write
-from host_state import HOOKS, Book, book_in, found_first, kept_contents, state, state_of_rows, with_files
+from host_state import HOOKS, book_in, found_first, kept_contents, state, state_of_rows, with_files
 from kept_answers import SELECT_ROWS, KeptAnswer, contents_of, row_of, use_of
-from list_book import ListBook
 
 # A word beside which a command has room for one name of two letters, so that each of three names is a part of its own.
 LONG = b"c" * (131_072 - len(b'sh -c echo "$2" --  c1'))
@@ -75,7 +75,7 @@ def remembered(folder, told):
     found, wanted = rows(folder, SELECT_ROWS), [row_of(answer) for answer in told]
     places = [wanted.index(row) if row in wanted else row for row in found]
     check(sorted(found) == sorted(wanted[:len(found)]), f"of {len(told)} answers these are remembered: {places!r}")
-    uses, in_order = book_in(folder).uses, [use_of(answer) for answer in reversed(told[:len(found)])]
+    uses, in_order = book_in(folder).keys, [use_of(answer) for answer in reversed(told[:len(found)])]
     is_used_again = len(found) == len(told) and uses == [*in_order[-1:], *in_order[:-1]]
     check(uses == in_order or is_used_again, f"of {len(told)} answers {len(found)} are remembered in another order")
     return len(found)
@@ -185,21 +185,13 @@ def keeps_what_was_answered_before_a_kill_of_a_commit(folder):
 
 def looked_up(book, parts):
     """The books that a run of these parts passes through, and how many children it starts."""
-    passed, starts = [Book(book.limit, [key for key, _ in book.rows()])], 0
+    passed, starts = [book_of(book)], 0
     for part in parts:
         starts += part is None or use_of(part) not in book
         if part is not None and book.find(use_of(part)) is None:
             book.put(use_of(part), True)
-        passed.append(Book(book.limit, [key for key, _ in book.rows()]))
+        passed.append(book_of(book))
     return passed, starts
-
-
-def list_book_of(book):
-    """The model of a book, as sqlite3 reads that."""
-    model = ListBook(book.limit)
-    for key in reversed(book.uses):
-        model.put(key, True)
-    return model
 
 
 def keeps_a_book_of_the_run(folder, base):
@@ -207,7 +199,7 @@ def keeps_a_book_of_the_run(folder, base):
     play(base, ["fix a1 2", "set"])
     words, programs, killed = ["run", "--all-files"], counted_programs(folder), Killed(folder, base)
     work = killed.copy()
-    passed, starts = looked_up(list_book_of(book_in(work)), RUN_PARTS)
+    passed, starts = looked_up(model_of(book_in(work)), RUN_PARTS)
     before = state(work)
     wanted, after = (*started(work, words, programs), book_in(work)), state(work)
     check(before != after, "a run changes nothing")
@@ -221,7 +213,7 @@ def keeps_a_book_of_the_run(folder, base):
             is_done = found == after and book == passed[-1]
             check(is_done or found == before and not is_ended, f"after a kill it shows {found!r:.1000}")
             left[passed.index(book)] += 1
-            behind, starts = looked_up(list_book_of(book), RUN_PARTS)
+            behind, starts = looked_up(model_of(book), RUN_PARTS)
             again = (*started(work, words, programs), book_in(work))
             check(again == (wanted[0], starts, behind[-1]) and state(work) == after, f"behind {book!r:.500} a run says {again!r:.1000}")
         if any(0 < at < len(passed) - 1 for at in left):
@@ -233,14 +225,14 @@ def keeps_all_answers_in_a_kill_of_a_run_that_uses_them(folder):
     base = with_files(folder, PUT_FILES)
     check(run(base, "run", "--all-files")[0] == 1, "the hooks don't fail")
     # Another order than that in which a run leaves them.
-    check(run(base, "run-files", "c2", "b1", "d1")[0] == 1 and len(book_in(base).uses) >= len(RUN_ANSWERS), "nothing is remembered")
+    check(run(base, "run-files", "c2", "b1", "d1")[0] == 1 and len(book_in(base).keys) >= len(RUN_ANSWERS), "nothing is remembered")
     keeps_a_book_of_the_run(folder, base)
 
 
 def keeps_the_last_answers_in_a_kill_of_a_run_that_drops_some(folder):
     base = with_files(folder, PUT_FILES)
     do(base, "memory", "--limit=3")
-    check(run(base, "run", "--all-files")[0] == 1 and len(book_in(base).uses) == 3, "the hooks don't fail, or others are remembered")
+    check(run(base, "run", "--all-files")[0] == 1 and len(book_in(base).keys) == 3, "the hooks don't fail, or others are remembered")
     keeps_a_book_of_the_run(folder, base)
 
 

@@ -5,6 +5,7 @@ import random
 import shutil
 import tempfile
 
+from host_books import Book
 from host_program import STORE, check, do, play, rows, staged_rows, write
 from kept_answers import GREATEST_TICK, digest
 
@@ -18,8 +19,6 @@ HOOKS = b"""repos:
   - {id: behind, name: Behind, language: system, entry: 'true', stages: [post-commit], always_run: true}
   - {id: change, name: Change, language: system, entry: "sed -i 's/x/y/'", stages: [manual]}
 """
-# The limit of what is remembered, and the keys of the answers, the most recently used first, each as `use_of` writes it.
-Book = collections.namedtuple("Book", "limit uses")
 BOOK = """SELECT 'meta', name, value FROM meta ORDER BY name; SELECT 'answer', lower(hex(words)), lower(hex(seen)) FROM answers;
 SELECT 'use', lower(hex(words)), lower(hex(seen)), tick FROM uses ORDER BY tick DESC; SELECT 'table', name FROM sqlite_schema WHERE type = 'table'"""
 # What makes a store of version 2 one of version 1.
@@ -58,7 +57,8 @@ def state_of_rows(folder):
 
 
 def book_in(folder):
-    """The book that sqlite3 reads of a store, which has to be one of version 2: each answer with its use, and no more than its limit."""
+    """The book that sqlite3 reads of a store, which has to be one of version 2: each answer with its use, and no more than its limit. A key
+    is as `use_of` writes it."""
     found = collections.defaultdict(list)
     for kind, *columns in (line.split("|") for line in rows(folder, BOOK)):
         found[kind].append(columns)

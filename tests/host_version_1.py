@@ -7,9 +7,10 @@ import subprocess
 from pathlib import Path
 
 import host_files
+from host_books import Book
 from host_kills import Killed
 from host_program import PROGRAM, STORE, check, do, rows, run, write
-from host_state import TO_VERSION_1, Book, book_in, found_first, state, state_of_rows
+from host_state import TO_VERSION_1, book_in, found_first, state, state_of_rows
 from kept_answers import SELECT_ROWS, KeptAnswer, planting_all, row_of, use_of
 from version_1 import stores
 
@@ -84,9 +85,9 @@ def is_taken_over_by_each_command(folder):
         limit = 2 if "--limit=2" in words else 10_000
         left = [] if words == ["forget"] else keys[:limit]
         is_run = words[0] in ("run", "run-files") and status == 1
-        check(book.limit == limit and (set(book.uses) >= set(left) if is_run else book.uses == left), f"{words!r} on a store of version 1 leaves {book!r:.1000}")
+        check(book.limit == limit and (set(book.keys) >= set(left) if is_run else book.keys == left), f"{words!r} on a store of version 1 leaves {book!r:.1000}")
         check(after == before or status != 3 and words[0] not in ("status", "fixes", "log", "show", "cat"), f"{words!r} on a store of version 1 leaves other rows")
-        check(do(work, "memory") == b"remembered: %d\n" % len(book.uses), f"behind {words!r} memory says another number")
+        check(do(work, "memory") == b"remembered: %d\n" % len(book.keys), f"behind {words!r} memory says another number")
     for at, (words, status) in enumerate(CLOSED):
         work = laid("fixes", folder, f"closed{at}")
         before = Path(work, STORE).read_bytes()
@@ -128,7 +129,7 @@ def takes_over_as_many_answers_as_a_new_store_remembers(folder):
         before, wanted = state_of_rows(work), taken_over(answers)
         check(do(work, "memory") == b"remembered: 10000\n", f"of {count} answers memory says another number")
         check(book_in(work) == wanted and state_of_rows(work) == before, f"of {count} answers others are taken over")
-        kept = set(wanted.uses)
+        kept = set(wanted.keys)
         check(rows(work, SELECT_ROWS) == sorted(row_of(answer) for answer in answers if use_of(answer) in kept), f"of {count} answers the rows are others")
 
 

@@ -3,21 +3,24 @@
 
 Usage: tests/long_runs.py [--commands=N] [--seed=N] [PROGRAM]   (default: 200 commands, seed 1, crates/hookhost/out/hookhost)
 
-The commands, the two hosts and the book of what is remembered are those of tests/process_plays.py. In the repository of the host that
-remembers, one command in some is killed, at a random moment or before a random call of the system. SQLite looks at its folder before any
-program opens it: it has to be the repository before the command, and then the command is asked for again, or the one after it, which is
-that of the other host. What the children of a killed command told is remembered in their order, up to one of them, and none of these is
-started again.
+The commands, the two hosts and the book of what is remembered, with its limits, are those of tests/process_plays.py. In the repository
+of the host that remembers, one command in some is killed, at a random moment or before a random call of the system. SQLite looks at its
+folder before any program opens it: it has to be the repository before the command, and then the command is asked for again, or the one
+after it, which is that of the other host. The book that a killed command leaves is one of those that it passes through, as it looks up
+what it needs and puts what its children told; so what was put is remembered in its order, up to one of them, and isn't started again.
 
 At the end the store is read by sqlite3, and nothing has grown beyond what the repository holds: the file of the store is compared with
 one into which the same rows were written anew, the peak of the memory that a look takes on both, and in the folder lies what lies
 there behind a single command.
 """
 import collections
+import copy
 import os
 import random
 import resource
+import shutil
 import signal
+import sqlite3
 import subprocess
 import sys
 import tempfile
@@ -31,6 +34,7 @@ WORDS = [word for word in sys.argv[1:] if not word.startswith("--")]
 sys.argv[1:] = []
 
 import process_plays  # noqa: E402
+from host_books import book_of, children_in, model_of  # noqa: E402
 from host_program import CRATES, IGNORE_FILE, LOCK, STORE, Wrong, check, paths_in, write  # noqa: E402
 from process_plays import RUNNING, Command, Play, line_of  # noqa: E402
 from stops_repository import LOG, QUICK, adopt_orphans, left_in, wait_for_orphans  # noqa: E402
@@ -57,8 +61,12 @@ class LongPlay(Play):
 
     def __init__(self, top, seed):
         super().__init__(top, seed)
+        # Behind a kill the last answer that was put is another one for each host.
+        self.forgets = True
         # What the moments of kills are drawn by, apart from the commands, which are the same however long these take.
         self.chance, self.seconds = random.Random(f"kills {seed}"), 0.05
+        # The book before a command that was killed, what it left of that, and the children that it started.
+        self.killed = None
 
     def step(self, command):
         if len(self.commands) % 1000 == 999:
@@ -74,17 +82,16 @@ class LongPlay(Play):
     def kill(self, command):
         """Plays a command by the host that remembers, and kills it. Whether it left the repository as it was."""
         host = self.remembering
-        before, (staged, fixes) = left_in(host.folder), (self.staged, self.has_fixes)
+        before = left_in(host.folder)
         status, out = self.play_and_kill(command)
         wait_for_orphans()
         after = left_in(host.folder)
         self.ends["killed" if status < 0 else "ended before its kill"] += 1
-        self.note_children(command, len(after.answers))
+        self.note_book(command)
         is_done = after.repository != before.repository
         self.ends["killed, and done" if is_done else "killed, and as before"] += status < 0
         is_told = command.words[0] == "commit" and out.splitlines()[-1:] and out.splitlines()[-1].startswith(b"commit ")
         check(is_done or not is_told, f"a killed command says {out!r} and nothing is committed")
-        self.staged, self.has_fixes = staged, fixes
         return not is_done
 
     def play_and_kill(self, command):
@@ -109,26 +116,71 @@ class LongPlay(Play):
                 os.removedirs(os.path.dirname(os.path.join(host.folder, path)))
         return program.returncode, out
 
-    def note_children(self, command, count):
-        """Puts into the book what is remembered of the children that a killed command started: of their answers the first ones."""
-        host = self.remembering
-        if command.words[0] == "forget":
-            check(count in (0, len(host.book)), f"a killed forget leaves {count} answers of {len(host.book)}")
-            host.book = host.book if count else {}
-        told = [child for child in host.children(self.staged) if child.ending == "answers" and (child.digest, child.modes) not in host.book]
-        new = list(dict.fromkeys((child.digest, child.modes) for child in told))
-        check(len(host.book) <= count <= len(host.book) + len(new), f"{count} answers are remembered, of {len(host.book)} and {len(new)} that were told")
-        host.book |= {key: self.clock for key in new[:count - len(host.book)]}
+    def note_book(self, command):
+        """Takes over the book that a killed command left. Where it runs hooks, what it needs is told by the other host, later."""
+        host, before, (word, *words) = self.remembering, self.remembering.book, command.words
+        found, children = book_left(host.folder), host.children(self.staged)
+        after = copy.deepcopy(before)
+        if word == "forget":
+            after.forget()
+        elif word == "memory" and words:
+            after.keep_to(int(words[0].partition("=")[2]))
+        if word in RUNNING:
+            self.killed = before, found, children
+        else:
+            check(found in (book_of(before), book_of(after)) and not children, f"a killed {command.words!r} leaves {found!r:.1000}")
+        host.book = model_of(found, self.clock)
+
+    def needed(self, is_fresh):
+        """The children that a command needs; and that one which was killed before left a book that these lead to."""
+        children = super().needed(is_fresh)
+        if self.killed:
+            book, found, started = self.killed
+            passed, starts = passed_through(book, children, is_fresh)
+            check(started == starts[:len(started)], f"a killed command starts {started!r:.1000}, wanted {starts!r:.1000}")
+            check(found in passed, f"a killed command leaves {found!r:.1000}, wanted one of {passed!r:.3000}")
+            self.ends["books of killed commands that are neither the first nor the last"] += found not in (passed[0], passed[-1])
+            self.killed = None
+        return children
 
     def step_after_kill(self, command):
         """Where the killed command was done, the other host does it alone."""
         self.commands.append(command)
         if command.words[0] in RUNNING:
-            self.forgetting.counts("forget")
+            self.forgetting.forget()
         self.forgetting.play(command)
-        self.forgetting.starts(self.forgetting.children(self.staged), False, self.clock)
+        self.needed("--fresh" in command.words)
         self.look()
         self.check_shown()
+
+
+def book_left(work):
+    """The book that the two files of a store stand for."""
+    with tempfile.TemporaryDirectory(dir=QUICK) as folder:
+        for name in (STORE, LOG):
+            with suppress(FileNotFoundError):
+                shutil.copyfile(os.path.join(work, name), os.path.join(folder, os.path.basename(name)))
+        database = sqlite3.connect(os.path.join(folder, os.path.basename(STORE)))
+        try:
+            return children_in(database)
+        finally:
+            database.close()
+
+
+def passed_through(book, children, is_fresh):
+    """The books that a command passes through which needs these children, and which of these it starts."""
+    book, starts = copy.deepcopy(book), []
+    passed = [book_of(book)]
+    for child in children:
+        is_found = book.find(child.key) is not None
+        passed.append(book_of(book))
+        if is_found and not is_fresh:
+            continue
+        starts.append(child)
+        if child.ending == "answers":
+            book.put(child.key, 0)
+            passed.append(book_of(book))
+    return passed, starts
 
 
 # ---- what has grown

@@ -35,7 +35,7 @@ from concurrent.futures import ProcessPoolExecutor
 from contextlib import suppress
 from pathlib import Path
 
-from host_books import Book, book_in
+from host_books import book_of, children_in
 from host_program import CRATES, STORE, Wrong, check, run, write
 from list_book import ListBook
 
@@ -279,7 +279,7 @@ class Host:
         # The database in memory has no log, so the bytes must not ask for one.
         database.deserialize(held[:18] + b"\1\1" + held[20:])
         ask = lambda text: database.execute(text).fetchall()
-        found = {name: ask(text) for name, text in SHOWN.items()}, book_in(database)
+        found = {name: ask(text) for name, text in SHOWN.items()}, children_in(database)
         broken = ask("PRAGMA foreign_key_check"), ask("PRAGMA integrity_check")
         database.close()
         check(broken == ([], [("ok",)]), f"SQLite finds the store's file broken: {broken!r}")
@@ -287,8 +287,8 @@ class Host:
 
     def check_book(self, found):
         """That a book in a store is that of the model."""
-        wanted = Book(self.book.limit, [key for key, _ in self.book.rows()])
-        check(found == wanted, f"at most {found.limit} answers are remembered, {len(found.keys)} in all, wanted {wanted.limit} and {len(wanted.keys)}: {found.keys!r:.1000}, wanted {wanted.keys!r:.1000}")
+        wanted = book_of(self.book)
+        check(found == wanted, f"it remembers {len(found.keys)} answers, wanted {len(wanted.keys)}: {found!r:.1000}, wanted {wanted!r:.1000}")
 
 
 def child_of(line, staged):
@@ -355,15 +355,21 @@ class Play:
 
     def check_children(self, is_fresh):
         """That both hosts started what they had to. What the one that remembers has started."""
-        remembering, forgetting = (host.children(self.staged) for host in self.hosts)
-        wanted = self.forgetting.starts(forgetting, is_fresh, self.clock).children
-        check(forgetting == wanted, f"from scratch it starts {forgetting!r}, of which it remembers some")
+        remembering, forgetting = self.remembering.children(self.staged), self.needed(is_fresh)
         starts = self.remembering.starts(forgetting, is_fresh, self.clock)
         check(remembering == starts.children, f"it starts {remembering!r}, wanted {starts!r}; from scratch {forgetting!r}")
         self.ends.update(child.ending for child in remembering)
         replayed = len(forgetting) - len(remembering)
         self.ends.update(started=len(remembering), replayed=replayed, unsteady=len(starts.unsteady))
         return starts
+
+    def needed(self, is_fresh):
+        """The children that a command needs, which the host that remembers one answer alone has started. Those that it lacks are no look-up
+        of an answer that isn't in front."""
+        children = self.forgetting.children(self.staged)
+        wanted = self.forgetting.starts(children, is_fresh, self.clock).children
+        check(children == wanted, f"from scratch it starts {children!r}, of which it remembers some")
+        return children
 
     def check_shown(self):
         """That both stores show the same repository, and remember what the model does."""
