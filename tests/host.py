@@ -27,8 +27,8 @@ import host_unusable
 import host_version_1
 from host_program import Wrong
 
-TOPICS = [host_names, host_unusable, host_folder, host_at_once, host_kills, host_put_kills, host_log, host_files, host_runs, host_answers, host_limit,
-          host_version_1]
+TOPICS = [host_names, host_unusable, host_folder, host_at_once, host_kills, host_put_kills, host_log, host_files,
+          host_runs, host_answers, host_limit, host_version_1]
 
 
 def main():

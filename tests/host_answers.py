@@ -51,13 +51,14 @@ def starts_of(folder, names):
 def plant(work, answers):
     """Puts answers into a store, of which the last one is in front."""
     text = ".bail on\n" + planting_all(answers)
-    done = subprocess.run(["sqlite3", "-batch", os.path.join(work, STORE)], input=text.encode(), capture_output=True, timeout=120)
+    words = ["sqlite3", "-batch", os.path.join(work, STORE)]
+    done = subprocess.run(words, input=text.encode(), capture_output=True, timeout=120)
     check((done.returncode, done.stderr) == (0, b""), f"sqlite3 says {done.stderr!r}")
 
 
 def remembers_as_many_answers_as_there_may_be(folder):
-    """Among them one is found, and one more is put, for which the last one goes; they are counted, and all are forgotten. Of as many in
-    a store of version 1 those are taken over that a new store remembers."""
+    """Among them one is found, and one more is put, for which the last one goes; they are counted, and all are
+    forgotten. Of as many in a store of version 1 those are taken over that a new store remembers."""
     work, answers = os.path.join(folder, "work"), list(many_answers())
     os.mkdir(work)
     stage_hooks(work, TWO_HOOKS)
@@ -77,19 +78,23 @@ def remembers_as_many_answers_as_there_may_be(folder):
     check(book_in(work) == (MANY, uses), "of many answers others are remembered, or in another order")
     forgets_many_answers(shutil.copytree(work, os.path.join(folder, "forgetting")))
     rows(work, TO_VERSION_1)
-    check(do(work, "memory") == b"remembered: %d\n" % TAKEN_OVER, "of many answers in a store of version 1 another number is remembered")
-    check(book_in(work) == (TAKEN_OVER, sorted(uses, reverse=True)[:TAKEN_OVER]), "of many answers in a store of version 1 others are remembered")
+    check(do(work, "memory") == b"remembered: %d\n" % TAKEN_OVER,
+          "of many answers in a store of version 1 another number is remembered")
+    check(book_in(work) == (TAKEN_OVER, sorted(uses, reverse=True)[:TAKEN_OVER]),
+          "of many answers in a store of version 1 others are remembered")
 
 
 def forgets_many_answers(work):
     """The answer that was put is written as the reference says, and all are forgotten, and nothing else changes."""
     found, status = rows(work, SELECT_ROWS), do(work, "status")
-    check(len(found) == MANY and row_of(PUT) in found, f"sqlite3 finds {len(found)} answers, or another one that was put")
+    check(len(found) == MANY and row_of(PUT) in found,
+          f"sqlite3 finds {len(found)} answers, or another one that was put")
     check(status == b"A .pre-commit-config.yaml\nA a\n", f"beside many answers status says {status!r}")
     check(do(work, "forget") == b"forgotten: %d\n" % MANY, "another number is forgotten")
     check(do(work, "memory") == b"remembered: 0\n", "something is still remembered")
     check(do(work, "status") == status, "behind a forget other files are staged")
-    check(rows(work, "PRAGMA integrity_check; PRAGMA foreign_key_check") == ["ok"] and book_in(work) == (MANY, []), "behind a forget sqlite3 finds something else")
+    check(rows(work, "PRAGMA integrity_check; PRAGMA foreign_key_check") == ["ok"] and book_in(work) == (MANY, []),
+          "behind a forget sqlite3 finds something else")
 
 
 # What hooks do that leave a mark too. Some answer as much as there may be, and some a byte more or a good deal.
@@ -171,4 +176,5 @@ def remembers_an_answer_that_saw_the_most_paths(folder):
     check(found == [row_of(wanted)], f"with the most paths sqlite3 finds {found!r}")
 
 
-CASES = [remembers_as_many_answers_as_there_may_be, remembers_the_largest_answers_and_no_larger_ones, remembers_an_answer_that_saw_the_most_paths]
+CASES = [remembers_as_many_answers_as_there_may_be, remembers_the_largest_answers_and_no_larger_ones,
+         remembers_an_answer_that_saw_the_most_paths]

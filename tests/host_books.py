@@ -1,8 +1,9 @@
-"""The book that a store remembers, beside the model of tests/list_book.py: for tests/host.py, and for tests/process_plays.py and
-tests/long_runs.py, whose children are tests/play_child.c.
+"""The book that a store remembers, beside the model of tests/list_book.py: for tests/host.py, and for
+tests/process_plays.py and tests/long_runs.py, whose children are tests/play_child.c.
 
-Such a child says of itself a digest of its words and of the files that it has seen. Here that is told anew from the contents that a use
-of the store names, so that the uses tell which child's answer is the first, which the second, and so on.
+Such a child says of itself a digest of its words and of the files that it has seen. Here that is told anew from the
+contents that a use of the store names, so that the uses tell which child's answer is the first, which the second, and
+so on.
 """
 import collections
 import struct
@@ -34,8 +35,8 @@ def model_of(book, told=True):
 # ---- the children that a store tells of
 
 def children_in(database):
-    """The book of a store, each answer of which has to have its use. A key is what a child says of itself, and the paths of the files that
-    it has seen with their modes."""
+    """The book of a store, each answer of which has to have its use. A key is what a child says of itself, and the
+    paths of the files that it has seen with their modes."""
     ask = lambda text, *given: database.execute(text, given).fetchall()
     (limit,), = ask("SELECT value FROM meta WHERE name = 'limit'")
     rows = ask("SELECT words, seen FROM uses ORDER BY tick DESC")
@@ -52,7 +53,8 @@ def key_of(words, seen, held):
     words = read_list(words, read_bytes)
     files = {path: (mode, held(digest)) for path, mode, digest in read_list(seen, read_seen)}
     # One that has seen all files tells the folders too.
-    folders = {path[:at] for path in files for at, letter in enumerate(path) if letter == ord("/")} if b"--whole" in words else set()
+    folders = {path[:at] for path in files for at, letter in enumerate(path) if letter == ord("/")}
+    folders = folders if b"--whole" in words else set()
     state = 14695981039346656037
     for word in words[1:]:
         state = digested(state, word + b"\0")

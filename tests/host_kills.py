@@ -1,5 +1,5 @@
-"""Cases of tests/host.py: commands that are killed at random moments, each on a copy of a repository, which then is the one before the command
-or the one after it."""
+"""Cases of tests/host.py: commands that are killed at random moments, each on a copy of a repository, which then is the
+one before the command or the one after it."""
 import os
 import random
 import shutil
@@ -170,7 +170,8 @@ def is_left_whole_by_kills_of_forget(folder):
 
 
 def is_left_whole_by_kills_of_a_limit(folder):
-    """After a kill as many answers are remembered as before, or as the limit leaves, the last ones, and then it is set too."""
+    """After a kill as many answers are remembered as before, or as the limit leaves, the last ones, and then it is set
+    too."""
     base = os.path.join(folder, "base")
     os.mkdir(base)
     do(base, "init")
@@ -179,13 +180,17 @@ def is_left_whole_by_kills_of_a_limit(folder):
         write(base, f"{at:02}.txt", b"%d\n" % at)
     do(base, "add", ".")
     said, before, files = run(base, "run", "--all-files"), book_in(base), state(base)
-    check(said[0] == 0 and len(before.keys) == 40, f"a run says {said!r:.500}, and {len(before.keys)} answers are remembered")
+    check(said[0] == 0 and len(before.keys) == 40,
+          f"a run says {said!r:.500}, and {len(before.keys)} answers are remembered")
     after = (3, before.keys[:3])
     for work, is_ended, out in Killed(folder, base).each([PROGRAM, "memory", "--limit=3"]):
         found = found_first(work, book_in)
-        check(found == after or found == before and not is_ended and out == b"", f"after a kill that says {out!r} the book is {found!r:.1000}")
-        check(b"remembered: 3\n".startswith(out) and state(work) == files, f"a killed limit says {out!r}, or changes the repository")
-        check(do(work, "memory") == b"remembered: %d\n" % len(found.keys) and book_in(work) == found, "the program finds another book")
+        check(found == after or found == before and not is_ended and out == b"",
+              f"after a kill that says {out!r} the book is {found!r:.1000}")
+        check(b"remembered: 3\n".startswith(out) and state(work) == files,
+              f"a killed limit says {out!r}, or changes the repository")
+        check(do(work, "memory") == b"remembered: %d\n" % len(found.keys) and book_in(work) == found,
+              "the program finds another book")
 
 
 CASES = [is_left_whole_by_kills_of_init, is_left_whole_by_kills_of_add_rm_and_accept,

@@ -1,5 +1,5 @@
-"""Cases of tests/host.py: a limit to how many answers are remembered. Which of them are is told by sqlite3, from the front on, beside the
-model of tests/list_book.py.
+"""Cases of tests/host.py: a limit to how many answers are remembered. Which of them are is told by sqlite3, from the
+front on, beside the model of tests/list_book.py.
 """
 import os
 from concurrent.futures import ThreadPoolExecutor
@@ -14,7 +14,8 @@ from list_book import ListBook
 PER_FILE = b"""repos:
 - repo: local
   hooks:
-  - {id: t, name: T, language: system, entry: "sh -c 'echo $1 >> ../../started' --", files: '[.]txt$', stages: [pre-commit], x_per_file: true}
+  - {id: t, name: T, language: system, entry: "sh -c 'echo $1 >> ../../started' --", files: '[.]txt$',
+     stages: [pre-commit], x_per_file: true}
 """
 PASSED = b"T" + b"." * 72 + b"Passed\n"
 LETTERS = "abc"
@@ -58,7 +59,8 @@ class Limited:
         """Runs the hook on these files, which has to start the children that the model lacks. How many these are."""
         path = os.path.join(self.folder, "started")
         write(self.folder, "started", b"")
-        words = ["run", *options, "--all-files"] if letters == self.letters else ["run-files", *options, *(f"{letter}.txt" for letter in letters)]
+        named = [f"{letter}.txt" for letter in letters]
+        words = ["run", *options, "--all-files"] if letters == self.letters else ["run-files", *options, *named]
         said = run(self.folder, *words)
         check(said == (0, PASSED, b""), f"{words!r} says {said!r}")
         wanted = []
@@ -78,8 +80,8 @@ class Limited:
 
 
 def remembers_the_answers_that_were_used_last(folder):
-    """Of three answers two are kept, so that a run of three files finds none of its own; those of single files are used, and the one
-    that was used last stays longest."""
+    """Of three answers two are kept, so that a run of three files finds none of its own; those of single files are
+    used, and the one that was used last stays longest."""
     limited = Limited(folder)
     limited.limit(2)
     starts = [limited.run(letters) for letters in ("abc", "abc", "c", "b", "a", "c", "a", "abc")]
@@ -100,7 +102,8 @@ def drops_answers_once_a_limit_is_set(folder):
 
 
 def keeps_its_limit(folder):
-    """It stays over commands of every kind, over forgetting, and with other hooks staged; each that is set takes the place of the last."""
+    """It stays over commands of every kind, over forgetting, and with other hooks staged; each that is set takes the
+    place of the last."""
     limited = Limited(folder)
     for number, starts in ((1, [3, 0, 3]), (2, [3, 0, 3]), (3, [3, 0, 0]), (100_000, [3, 0, 0])):
         limited.limit(number)
@@ -108,9 +111,11 @@ def keeps_its_limit(folder):
         check(found == starts, f"with a limit of {number} the runs start {found!r} children")
         limited.forget()
         limited.forget()
-        for words in (["status"], ["log"], ["rm", "a.txt"], ["add", "a.txt"], ["commit", "--no-verify", "-m", f"with {number}"]):
+        others = (["status"], ["log"], ["rm", "a.txt"], ["add", "a.txt"], ["commit", "--no-verify", "-m", "text"])
+        for words in others:
             status, _, err = run(folder, *words)
-            check((status, err) == (0, b"") or words[0] == "commit" and number > 1, f"{words!r} ends with {status} and says {err!r}")
+            check((status, err) == (0, b"") or words[0] == "commit" and number > 1,
+                  f"{words!r} ends with {status} and says {err!r}")
         limited.check_book()
 
 
@@ -118,7 +123,8 @@ def counts_what_a_fresh_run_and_a_commit_use(folder):
     """Both look each answer up, and put those that they lack, at most as many as there may be."""
     limited = Limited(folder)
     limited.limit(2)
-    starts = [limited.run("ab"), limited.run("a", "--fresh"), limited.run("c"), limited.run("a"), limited.run("abc", "--fresh"), limited.run("bc")]
+    runs = (("ab",), ("a", "--fresh"), ("c",), ("a",), ("abc", "--fresh"), ("bc",))
+    starts = [limited.run(*words) for words in runs]
     check(starts == [2, 1, 1, 0, 3, 0], f"the runs start {starts!r} children")
     said = run(folder, "commit", "-m", "text")
     check(said == (0, PASSED + b"commit 1\n", b""), f"a commit says {said!r}")
@@ -129,22 +135,26 @@ def counts_what_a_fresh_run_and_a_commit_use(folder):
 
 
 # Words that are no limit.
-NO_LIMITS = [["--limit=0"], ["--limit", "0"], ["--limit=100001"], ["--limit=4294967297"], ["--limit=-1"], ["--limit", "-1"], ["--limit=x"], ["--limit="],
-             ["--limit=1 2"], ["--limit", "1", "2"], ["--limit"], ["--limit=1", "--limit=2"], ["2"]]
+NO_LIMITS = [
+    ["--limit=0"], ["--limit", "0"], ["--limit=100001"], ["--limit=4294967297"], ["--limit=-1"], ["--limit", "-1"],
+    ["--limit=x"], ["--limit="], ["--limit=1 2"], ["--limit", "1", "2"], ["--limit"], ["--limit=1", "--limit=2"], ["2"],
+]
 
 
 def refuses_what_is_no_limit(folder):
     """It is a fault of usage, with or without a store, and leaves the limit that was."""
     for words in NO_LIMITS:
         status, out, err = run(folder, "memory", *words)
-        check((status, out) == (2, b"") and err.startswith(b"error: "), f"memory {words!r} ends with {status} and says {err!r}")
+        check((status, out) == (2, b"") and err.startswith(b"error: "),
+              f"memory {words!r} ends with {status} and says {err!r}")
         check(os.listdir(folder) == [], f"memory {words!r} leaves {os.listdir(folder)!r}")
     limited = Limited(folder)
     limited.run("abc")
     limited.limit(2)
     for words in NO_LIMITS:
         status, out, err = run(folder, "memory", *words)
-        check((status, out) == (2, b"") and err.startswith(b"error: "), f"memory {words!r} ends with {status} and says {err!r}")
+        check((status, out) == (2, b"") and err.startswith(b"error: "),
+              f"memory {words!r} ends with {status} and says {err!r}")
     limited.check_book()
 
 
@@ -164,9 +174,11 @@ def used(ticks, letter):
 
 
 def renumbers_uses_where_no_greater_number_is_left(folder):
-    """Each use has a number that is one greater than all. Where that would pass the greatest, the others are first numbered from 1 on."""
+    """Each use has a number that is one greater than all. Where that would pass the greatest, the others are first
+    numbered from 1 on."""
     limited, ticks = Limited(folder, "abcd"), {}
-    for room, letters in ((None, "abc"), (0, "c"), (0, "a"), (0, "d"), (1, "bc"), (2, "abcd"), (None, "da"), (3, "dcba"), (0, "abcd")):
+    runs = [(None, "abc"), (0, "c"), (0, "a"), (0, "d"), (1, "bc"), (2, "abcd"), (None, "da"), (3, "dcba"), (0, "abcd")]
+    for room, letters in runs:
         if room is not None:
             more = GREATEST_TICK - room - max(ticks.values())
             rows(folder, f"UPDATE uses SET tick = tick + {more}")
@@ -184,7 +196,8 @@ def renumbers_uses_where_no_greater_number_is_left(folder):
 
 
 def keeps_one_limit_of_programs_at_once(folder):
-    """Beside one another programs set limits, run hooks, forget and look. Each is done alone, and refused while another is."""
+    """Beside one another programs set limits, run hooks, forget and look. Each is done alone, and refused while another
+    is."""
     limited = Limited(folder, "abcdefgh")
     numbers, refused = (1, 2, 3, 5), (3, b"", f"hookhost: cannot use {LOCK}\n".encode())
 
@@ -193,7 +206,9 @@ def keeps_one_limit_of_programs_at_once(folder):
         count = 0
         for step in range(7):
             path = f"{limited.letters[(at + step) % 8]}.txt"
-            words = (["memory", f"--limit={numbers[at]}"], ["run-files", path], ["memory"], ["run-files", path, "a.txt"], ["forget"])[(at + step) % 5]
+            commands = (["memory", f"--limit={numbers[at]}"], ["run-files", path], ["memory"],
+                        ["run-files", path, "a.txt"], ["forget"])
+            words = commands[(at + step) % len(commands)]
             while (answer := run(folder, *words)) == refused:
                 count += 1
             check(answer[0] == 0 and answer[2] == b"", f"{words!r} beside others ends with {answer!r}")
@@ -210,5 +225,6 @@ def keeps_one_limit_of_programs_at_once(folder):
     print(f"four programs at once that set limits: {count} times refused")
 
 
-CASES = [remembers_the_answers_that_were_used_last, drops_answers_once_a_limit_is_set, keeps_its_limit, counts_what_a_fresh_run_and_a_commit_use,
-         refuses_what_is_no_limit, renumbers_uses_where_no_greater_number_is_left, keeps_one_limit_of_programs_at_once]
+CASES = [remembers_the_answers_that_were_used_last, drops_answers_once_a_limit_is_set, keeps_its_limit,
+         counts_what_a_fresh_run_and_a_commit_use, refuses_what_is_no_limit,
+         renumbers_uses_where_no_greater_number_is_left, keeps_one_limit_of_programs_at_once]

@@ -27,8 +27,8 @@ def waits_for(folder, helper, *words):
 
 
 def waits_for_the_disk_only_where_something_is_written(folder):
-    """Each of both files is waited for, with its folder, when it is opened. A change waits for the log twice; and once there was one, the
-    database is waited for, and three times until the log is empty again."""
+    """Each of both files is waited for, with its folder, when it is opened. A change waits for the log twice; and once
+    there was one, the database is waited for, and three times until the log is empty again."""
     helper = os.path.join(folder, "waits.so")
     subprocess.run(["cc", "-shared", "-fPIC", "-O1", "-o", helper, str(Path(__file__).resolve().parent / "count_waits.c"), "-ldl"], check=True)
     do(folder, "init")
@@ -36,7 +36,8 @@ def waits_for_the_disk_only_where_something_is_written(folder):
     write(folder, "b", b"2")
     counts = [waits_for(folder, helper, *words) for words in (["add", "a"], ["add", "b"], ["status"], ["cat", "a"], ["rm", "b"], ["log"], ["fixes"])]
     check(counts == [10, 10, 4, 4, 10, 4, 4], f"the disk is waited for {counts} times")
-    # An answer is put as a change is, and used so, but for the one in front: its run, which leaves no fixes, writes nothing.
+    # An answer is put as a change is, and used so, but for the one in front: its run, which leaves no fixes,
+    # writes nothing.
     write(folder, ".pre-commit-config.yaml", THREE_HOOKS)
     do(folder, "add", ".pre-commit-config.yaml")
     runs = [("run", "--all-files", *words) for words in ([], [], ["third"], ["first"], ["first"], ["--fresh"])]

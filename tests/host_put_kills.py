@@ -1,5 +1,5 @@
-"""Cases of tests/host.py: kills of commands whose hooks put answers or use them. Of those that are put the first ones are remembered
-then, as many as there may be, and those that are used stand in the order in which they were.
+"""Cases of tests/host.py: kills of commands whose hooks put answers or use them. Of those that are put the first ones
+are remembered then, as many as there may be, and those that are used stand in the order in which they were.
 """
 import collections
 import os
@@ -56,7 +56,8 @@ RUN_ANSWERS = [
     KeptAnswer([b"sh", b"-c", b"echo all"], put_files(".", "a", "b", "c", b1=b"y\n"), [], 0, b"all\n"),
     KeptAnswer([b"sed", b"-i", b"s/y/z/", b"b1", b"b2"], put_files("b", b1=b"y\n"), [("b1", b"z\n")], 0),
 ]
-# The answers that a run needs, in the order of its parts: one child ends by a signal, and the last one is that of the first.
+# The answers that a run needs, in the order of its parts: one child ends by a signal, and the last one is that of the
+# first.
 RUN_PARTS = [*RUN_ANSWERS[:-1], None, RUN_ANSWERS[-1], RUN_ANSWERS[0]]
 # The staged files of a commit, and what the children of `HOOKS` answer in it: of the files, of the message twice, and behind it.
 COMMITTED = [(".pre-commit-config.yaml", 0, HOOKS), ("x", 0, b"x" * 100)]
@@ -70,8 +71,8 @@ COMMIT_ANSWERS = [
 
 
 def remembered(folder, told):
-    """How many answers are remembered, by sqlite3: the first of those that are told, and no others. The last one is in front, but once
-    all are told the first may be used again."""
+    """How many answers are remembered, by sqlite3: the first of those that are told, and no others. The last one is in
+    front, but once all are told the first may be used again."""
     found, wanted = rows(folder, SELECT_ROWS), [row_of(answer) for answer in told]
     places = [wanted.index(row) if row in wanted else row for row in found]
     check(sorted(found) == sorted(wanted[:len(found)]), f"of {len(told)} answers these are remembered: {places!r}")
@@ -195,7 +196,8 @@ def looked_up(book, parts):
 
 
 def keeps_a_book_of_the_run(folder, base):
-    """A killed run leaves one of the books that a whole one passes through, and the next run starts just what that one lacks."""
+    """A killed run leaves one of the books that a whole one passes through, and the next run starts just what that one
+    lacks."""
     play(base, ["fix a1 2", "set"])
     words, programs, killed = ["run", "--all-files"], counted_programs(folder), Killed(folder, base)
     work = killed.copy()
@@ -215,7 +217,8 @@ def keeps_a_book_of_the_run(folder, base):
             left[passed.index(book)] += 1
             behind, starts = looked_up(model_of(book), RUN_PARTS)
             again = (*started(work, words, programs), book_in(work))
-            check(again == (wanted[0], starts, behind[-1]) and state(work) == after, f"behind {book!r:.500} a run says {again!r:.1000}")
+            check(again == (wanted[0], starts, behind[-1]) and state(work) == after,
+                  f"behind {book!r:.500} a run says {again!r:.1000}")
         if any(0 < at < len(passed) - 1 for at in left):
             return print(f"books that they left: {', '.join(f'number {at} ({left[at]} times)' for at in sorted(left))}")
     raise Wrong("kills of a run left the first book or the last one")
@@ -225,14 +228,16 @@ def keeps_all_answers_in_a_kill_of_a_run_that_uses_them(folder):
     base = with_files(folder, PUT_FILES)
     check(run(base, "run", "--all-files")[0] == 1, "the hooks don't fail")
     # Another order than that in which a run leaves them.
-    check(run(base, "run-files", "c2", "b1", "d1")[0] == 1 and len(book_in(base).keys) >= len(RUN_ANSWERS), "nothing is remembered")
+    check(run(base, "run-files", "c2", "b1", "d1")[0] == 1 and len(book_in(base).keys) >= len(RUN_ANSWERS),
+          "nothing is remembered")
     keeps_a_book_of_the_run(folder, base)
 
 
 def keeps_the_last_answers_in_a_kill_of_a_run_that_drops_some(folder):
     base = with_files(folder, PUT_FILES)
     do(base, "memory", "--limit=3")
-    check(run(base, "run", "--all-files")[0] == 1 and len(book_in(base).keys) == 3, "the hooks don't fail, or others are remembered")
+    check(run(base, "run", "--all-files")[0] == 1 and len(book_in(base).keys) == 3,
+          "the hooks don't fail, or others are remembered")
     keeps_a_book_of_the_run(folder, base)
 
 

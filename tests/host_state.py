@@ -19,8 +19,10 @@ HOOKS = b"""repos:
   - {id: behind, name: Behind, language: system, entry: 'true', stages: [post-commit], always_run: true}
   - {id: change, name: Change, language: system, entry: "sed -i 's/x/y/'", stages: [manual]}
 """
-BOOK = """SELECT 'meta', name, value FROM meta ORDER BY name; SELECT 'answer', lower(hex(words)), lower(hex(seen)) FROM answers;
-SELECT 'use', lower(hex(words)), lower(hex(seen)), tick FROM uses ORDER BY tick DESC; SELECT 'table', name FROM sqlite_schema WHERE type = 'table'"""
+BOOK = """SELECT 'meta', name, value FROM meta ORDER BY name;
+SELECT 'answer', lower(hex(words)), lower(hex(seen)) FROM answers;
+SELECT 'use', lower(hex(words)), lower(hex(seen)), tick FROM uses ORDER BY tick DESC;
+SELECT 'table', name FROM sqlite_schema WHERE type = 'table'"""
 # What makes a store of version 2 one of version 1.
 TO_VERSION_1 = "DROP TABLE uses; DELETE FROM meta WHERE name = 'limit'; UPDATE meta SET value = 1"
 TABLES = ["answers", "blobs", "commits", "entries", "fixes", "meta", "staged", "uses"]
@@ -57,16 +59,19 @@ def state_of_rows(folder):
 
 
 def book_in(folder):
-    """The book that sqlite3 reads of a store, which has to be one of version 2: each answer with its use, and no more than its limit. A key
-    is as `use_of` writes it."""
+    """The book that sqlite3 reads of a store, which has to be one of version 2: each answer with its use, and no more
+    than its limit. A key is as `use_of` writes it."""
     found = collections.defaultdict(list)
     for kind, *columns in (line.split("|") for line in rows(folder, BOOK)):
         found[kind].append(columns)
     tables, meta = sorted(name for name, in found["table"]), dict(found["meta"])
-    check(tables == TABLES and sorted(meta) == ["limit", "version"] and meta["version"] == "2", f"it has the tables {tables!r}, and in meta {meta!r}")
-    limit, ticks, uses = int(meta["limit"]), [int(tick) for *_, tick in found["use"]], ["|".join(key) for *key, _ in found["use"]]
+    check(tables == TABLES and sorted(meta) == ["limit", "version"] and meta["version"] == "2",
+          f"it has the tables {tables!r}, and in meta {meta!r}")
+    limit, ticks = int(meta["limit"]), [int(tick) for *_, tick in found["use"]]
+    uses = ["|".join(key) for *key, _ in found["use"]]
     check(all(1 <= tick <= GREATEST_TICK for tick in ticks), f"there are the ticks {ticks!r:.500}")
-    check(sorted(uses) == sorted("|".join(key) for key in found["answer"]), f"of {len(found['answer'])} answers others are used: {uses!r:.500}")
+    check(sorted(uses) == sorted("|".join(key) for key in found["answer"]),
+          f"of {len(found['answer'])} answers others are used: {uses!r:.500}")
     check(1 <= limit <= 100_000 and len(uses) <= limit, f"with a limit of {limit} there are {len(uses)} answers")
     return Book(limit, uses)
 

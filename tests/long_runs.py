@@ -1,17 +1,19 @@
 #!/usr/bin/env python3
-"""Plays one long list of random commands on one repository with the built program, of which some are killed, beside a model.
+"""Plays one long list of random commands on one repository with the built program, of which some are killed, beside a
+model.
 
 Usage: tests/long_runs.py [--commands=N] [--seed=N] [PROGRAM]   (default: 200 commands, seed 1, crates/hookhost/out/hookhost)
 
-The commands, the two hosts and the book of what is remembered, with its limits, are those of tests/process_plays.py. In the repository
-of the host that remembers, one command in some is killed, at a random moment or before a random call of the system. SQLite looks at its
-folder before any program opens it: it has to be the repository before the command, and then the command is asked for again, or the one
-after it, which is that of the other host. The book that a killed command leaves is one of those that it passes through, as it looks up
-what it needs and puts what its children told; so what was put is remembered in its order, up to one of them, and isn't started again.
+The commands, the two hosts and the book of what is remembered, with its limits, are those of tests/process_plays.py. In
+the repository of the host that remembers, one command in some is killed, at a random moment or before a random call of
+the system. SQLite looks at its folder before any program opens it: it has to be the repository before the command, and
+then the command is asked for again, or the one after it, which is that of the other host. The book that a killed
+command leaves is one of those that it passes through, as it looks up what it needs and puts what its children told; so
+what was put is remembered in its order, up to one of them, and isn't started again.
 
-At the end the store is read by sqlite3, and nothing has grown beyond what the repository holds: the file of the store is compared with
-one into which the same rows were written anew, the peak of the memory that a look takes on both, and in the folder lies what lies
-there behind a single command.
+At the end the store is read by sqlite3, and nothing has grown beyond what the repository holds: the file of the store
+is compared with one into which the same rows were written anew, the peak of the memory that a look takes on both, and
+in the folder lies what lies there behind a single command.
 """
 import collections
 import copy
@@ -117,7 +119,8 @@ class LongPlay(Play):
         return program.returncode, out
 
     def note_book(self, command):
-        """Takes over the book that a killed command left. Where it runs hooks, what it needs is told by the other host, later."""
+        """Takes over the book that a killed command left. Where it runs hooks, what it needs is told by the other host,
+        later."""
         host, before, (word, *words) = self.remembering, self.remembering.book, command.words
         found, children = book_left(host.folder), host.children(self.staged)
         after = copy.deepcopy(before)
@@ -128,7 +131,8 @@ class LongPlay(Play):
         if word in RUNNING:
             self.killed = before, found, children
         else:
-            check(found in (book_of(before), book_of(after)) and not children, f"a killed {command.words!r} leaves {found!r:.1000}")
+            check(found in (book_of(before), book_of(after)) and not children,
+                  f"a killed {command.words!r} leaves {found!r:.1000}")
         host.book = model_of(found, self.clock)
 
     def needed(self, is_fresh):
@@ -137,9 +141,10 @@ class LongPlay(Play):
         if self.killed:
             book, found, started = self.killed
             passed, starts = passed_through(book, children, is_fresh)
-            check(started == starts[:len(started)], f"a killed command starts {started!r:.1000}, wanted {starts!r:.1000}")
+            check(started == starts[:len(started)],
+                  f"a killed command starts {started!r:.1000}, wanted {starts!r:.1000}")
             check(found in passed, f"a killed command leaves {found!r:.1000}, wanted one of {passed!r:.3000}")
-            self.ends["books of killed commands that are neither the first nor the last"] += found not in (passed[0], passed[-1])
+            self.ends["killed between two answers"] += found not in (passed[0], passed[-1])
             self.killed = None
         return children
 

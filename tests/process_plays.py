@@ -1,22 +1,23 @@
 #!/usr/bin/env python3
-"""Plays random commands on repositories in real files by two hosts, each command in a process of its own, so that the store is
-closed and opened between any two. One host remembers what children answered, at most as many answers as a command of the play has
-said; the other remembers one answer alone, and in three plays of four it's told `forget` before each command that can run hooks, so
-that it runs them from scratch.
+"""Plays random commands on repositories in real files by two hosts, each command in a process of its own, so that the
+store is closed and opened between any two. One host remembers what children answered, at most as many answers as a
+command of the play has said; the other remembers one answer alone, and in three plays of four it's told `forget` before
+each command that can run hooks, so that it runs them from scratch.
 
 Usage: tests/process_plays.py [PLAYS [COMMANDS [SEED]]]   (default: 40 plays of 60 commands each, of the seeds from 1 on)
 
-Both have to print the same, to end with the same status, and to leave the same repository, which SQLite reads in the file of
-the store alone. The children are tests/play_child.c: what they answer follows from their words and from the files that they
-have seen, and each says in a log of its host that it was started. The log of the host that remembers one answer tells which children a
-command needs, in their order: it lacks only those that are the last answer, whose look-up changes no book. From that follows what the
-other has to start: the children that its book lacks, and in a fresh run all of them. The model of a book is the list of
-tests/list_book.py. It knows the words of a child and the files that it has seen by a digest that the child says, and their modes, which
-the child can't see, from the store. What ended as an answer and changed its seen files alone is put into it. After each command each
-store has to remember the same in the same order: the digests are told anew from the contents that its uses name.
+Both have to print the same, to end with the same status, and to leave the same repository, which SQLite reads in the
+file of the store alone. The children are tests/play_child.c: what they answer follows from their words and from the
+files that they have seen, and each says in a log of its host that it was started. The log of the host that remembers
+one answer tells which children a command needs, in their order: it lacks only those that are the last answer, whose
+look-up changes no book. From that follows what the other has to start: the children that its book lacks, and in a fresh
+run all of them. The model of a book is the list of tests/list_book.py. It knows the words of a child and the files that
+it has seen by a digest that the child says, and their modes, which the child can't see, from the store. What ended as
+an answer and changed its seen files alone is put into it. After each command each store has to remember the same in the
+same order: the digests are told anew from the contents that its uses name.
 
-With an even seed some children print a clock, which moves between commands. The host that remembers reports what it said when
-the answer was remembered, and behind a fresh run it names the hooks of which the clock says otherwise now.
+With an even seed some children print a clock, which moves between commands. The host that remembers reports what it
+said when the answer was remembered, and behind a fresh run it names the hooks of which the clock says otherwise now.
 
 What a command prints and leaves beside that isn't the model's: tests/plays.py says it of hosts in memory.
 """
@@ -92,14 +93,15 @@ SHOWN = {
 # The words, the contents of the file that is to be staged, the value of SKIP, and whether the clock moves before it.
 Command = collections.namedtuple("Command", "words held skip ticks", defaults=[None, None, False])
 File = collections.namedtuple("File", "mode held")
-# The children that are started, the ids of the unsteady hooks, and what the clock said when each child answered, by its digest. It
+# The children that are started, the ids of the unsteady hooks, and what the clock said when each child answered, by
+# its digest. It
 # may have said two things within a command, where the answer was dropped in between.
 Starts = collections.namedtuple("Starts", "children unsteady said")
 
 
 class Child(collections.namedtuple("Child", "ending letters digest modes")):
-    """How a child ends, the letters that say what it may do, a digest of its words and of the files that it has seen, and these
-    files' paths with their modes."""
+    """How a child ends, the letters that say what it may do, a digest of its words and of the files that it has seen,
+    and these files' paths with their modes."""
 
     @property
     def key(self):
@@ -131,8 +133,8 @@ def random_hook(rng, number, has_clock):
 
 
 def with_long_argument(rng, hook):
-    """The hook with an argument that leaves so few bytes to names that it needs several children, or some name doesn't fit. A further
-    file that its children see is still told to them."""
+    """The hook with an argument that leaves so few bytes to names that it needs several children, or some name doesn't
+    fit. A further file that its children see is still told to them."""
     also = [word for word in hook.get("args", []) if word.startswith("--also=")]
     argument = "n" * (MOST_COMMAND - len(" ".join(["play_child", "c", *also, ""])) - rng.choice([8, 12, 16, 20, 24]))
     keys = {"language": "system", "entry": "play_child c", "args": [argument, *also], "pass_filenames": True}
@@ -211,7 +213,8 @@ class Host:
     """A repository in a folder of its own, and what the model says that is remembered in it."""
 
     def __init__(self, top, name):
-        self.folder, self.log, self.known, self.book = os.path.join(top, name), os.path.join(top, f"{name}.log"), 0, ListBook()
+        self.folder, self.log, self.known = os.path.join(top, name), os.path.join(top, f"{name}.log"), 0
+        self.book = ListBook()
         self.environment = {variable: value for variable, value in os.environ.items() if variable != "SKIP"}
         self.environment |= {"PLAY_LOG": self.log, "PLAY_CLOCK": os.path.join(top, "clock")}
         os.mkdir(self.folder)
@@ -288,7 +291,8 @@ class Host:
     def check_book(self, found):
         """That a book in a store is that of the model."""
         wanted = book_of(self.book)
-        check(found == wanted, f"it remembers {len(found.keys)} answers, wanted {len(wanted.keys)}: {found!r:.1000}, wanted {wanted!r:.1000}")
+        check(found == wanted,
+              f"it remembers {len(found.keys)} answers, {found!r:.1000}, wanted {len(wanted.keys)}, {wanted!r:.1000}")
 
 
 def child_of(line, staged):
@@ -344,7 +348,8 @@ class Play:
         self.check_shown()
 
     def ask_of_memory(self, command):
-        """Counts what both hosts remember, or has them forget it; or sets the limit of the one that remembers more than one answer."""
+        """Counts what both hosts remember, or has them forget it; or sets the limit of the one that remembers more than
+        one answer."""
         word, *limit = command.words
         if limit:
             self.ends["answers dropped by a limit"] += len(self.remembering.book)
@@ -364,8 +369,8 @@ class Play:
         return starts
 
     def needed(self, is_fresh):
-        """The children that a command needs, which the host that remembers one answer alone has started. Those that it lacks are no look-up
-        of an answer that isn't in front."""
+        """The children that a command needs, which the host that remembers one answer alone has started. Those that it
+        lacks are no look-up of an answer that isn't in front."""
         children = self.forgetting.children(self.staged)
         wanted = self.forgetting.starts(children, is_fresh, self.clock).children
         check(children == wanted, f"from scratch it starts {children!r}, of which it remembers some")
@@ -393,16 +398,20 @@ class Play:
 
 def check_answers(remembering, forgetting, starts):
     """That both hosts say the same, but for unsteady hooks, and for what the clock said when a child answered."""
-    wanted = with_clocks(forgetting[1], starts.said) + b"".join(f"unsteady: {name}\n".encode() for name in dict.fromkeys(starts.unsteady))
+    unsteady = b"".join(f"unsteady: {name}\n".encode() for name in dict.fromkeys(starts.unsteady))
+    wanted = with_clocks(forgetting[1], starts.said) + unsteady
     found = with_clocks(remembering[1], {digest: clocks for digest, clocks in starts.said.items() if len(clocks) > 1})
-    check((remembering[0], found, remembering[2]) == (forgetting[0], wanted, forgetting[2]), f"it says {remembering!r:.3000}, wanted {forgetting[0]}, {wanted!r:.3000}, {forgetting[2]!r}")
+    check((remembering[0], found, remembering[2]) == (forgetting[0], wanted, forgetting[2]),
+          f"it says {remembering!r:.3000}, wanted {forgetting[0]}, {wanted!r:.3000}, {forgetting[2]!r}")
 
 
 def with_clocks(out, said):
     """What is printed, where each of these children tells all that the clock said when it answered."""
     def told(found):
         clocks = said.get(found[1].decode())
-        return found[0] if clocks is None else b"clock %s %s" % (found[1], " or ".join(map(str, sorted(clocks))).encode())
+        if clocks is None:
+            return found[0]
+        return b"clock %s %s" % (found[1], " or ".join(map(str, sorted(clocks))).encode())
 
     return re.sub(rb"clock (\w+) \d+", told, out)
 

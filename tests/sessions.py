@@ -28,12 +28,12 @@ A session file holds cases. `== NAME` begins a case, in an empty folder. Within 
   -- sql TEXT       sqlite3 answers this to SQL on the store: the lines that follow, and nothing else
   -- files          the lines that follow are the folder's files, all of them, in order
 
-After each command but an `init`, `add`, `rm`, `accept`, `run`, `run-files`, `commit`, `forget` or `memory --limit` that is done, every
-file has to be as it was; it is done also where its output takes no more, and where a hook fails. Behind one that runs hooks and is
-refused, the repository in the store has to be as it was, since answers may have been remembered. So it has to be behind any command
-that takes a store of an earlier version over. Two files may change, since every command that opens a store does that to them: the
-lock, and the log that the database begins anew. What lies in the scratch folder of the commands of hooks isn't looked at, nor is the
-folder that holds it.
+After each command but an `init`, `add`, `rm`, `accept`, `run`, `run-files`, `commit`, `forget` or `memory --limit` that
+is done, every file has to be as it was; it is done also where its output takes no more, and where a hook fails. Behind
+one that runs hooks and is refused, the repository in the store has to be as it was, since answers may have been
+remembered. So it has to be behind any command that takes a store of an earlier version over. Two files may change,
+since every command that opens a store does that to them: the lock, and the log that the database begins anew. What lies
+in the scratch folder of the commands of hooks isn't looked at, nor is the folder that holds it.
 """
 import fcntl
 import os
@@ -139,7 +139,8 @@ def files_that_stay():
 
 
 def rows_in(store, tables):
-    """The rows of these tables of a store, whose file holds these bytes, or None where it is no database that has them."""
+    """The rows of these tables of a store, whose file holds these bytes, or None where it is no database that has
+    them."""
     database = sqlite3.connect(":memory:")
     try:
         # The database in memory has no log, so the bytes must not ask for one.
@@ -158,7 +159,8 @@ def changes_all(words):
 
 
 def is_left(before, after, words):
-    """The files are as before. Behind hooks the store may have other answers, and one of an earlier version may be taken over."""
+    """The files are as before. Behind hooks the store may have other answers, and one of an earlier version may be
+    taken over."""
     store = "./" + STORE
     if before == after or store not in before or store not in after:
         return before == after
