@@ -86,12 +86,20 @@ def planting(contents, records, status, version=2):
     return blobs + f"INSERT INTO answers VALUES ({', '.join(f'''x'{each}' ''' for each in digests)}, {status})" + use
 
 
+def statements_of(answers, tick=None):
+    """SQL that puts the rows of answers into a store, and their uses where they have a tick: that of the first, and one more for
+    each further one."""
+    columns = [row_of(answer).split("|") for answer in answers]
+    rows = ["INSERT INTO answers VALUES (x'{}', x'{}', x'{}', x'{}', {})".format(*each) for each in columns]
+    uses = [] if tick is None else [
+        "INSERT INTO uses VALUES (x'{}', x'{}', {})".format(*each[:2], tick + at) for at, each in enumerate(columns)]
+    return rows + uses
+
+
 def planting_all(answers, version=2):
     """SQL that puts answers with all that they name into a store, in one transaction. Contents that many name are put once. The last
     one stands in front of a store of version 2 then; nothing sees to its limit."""
     kept = sorted({each for answer in answers for each in contents_of(answer)})
-    blobs = "".join(f"INSERT OR IGNORE INTO blobs VALUES (x'{digest(each).hex()}', x'{each.hex()}');\n" for each in kept)
-    columns = [row_of(answer).split("|") for answer in answers]
-    rows = "".join("INSERT INTO answers VALUES (x'{}', x'{}', x'{}', x'{}', {});\n".format(*each) for each in columns)
-    uses = "".join(f"{using(*each[:2])};\n" for each in columns) if version == 2 else ""
-    return f"BEGIN;\n{blobs}{rows}{uses}COMMIT;\n"
+    blobs = [f"INSERT OR IGNORE INTO blobs VALUES (x'{digest(each).hex()}', x'{each.hex()}')" for each in kept]
+    uses = [using(*use_of(answer).split("|")) for answer in answers] if version == 2 else []
+    return "".join(f"{each};\n" for each in ["BEGIN", *blobs, *statements_of(answers), *uses, "COMMIT"])

@@ -1,22 +1,38 @@
-"""The tables of cases of tests/store.py: lines with their answers, and what is done to a store's file and refused then."""
+"""The tables of cases of tests/store.py: lines with their answers. What is done to the file of a store is in store_plants.py."""
 import hashlib
 
-from kept_answers import KeptAnswer, b, changed_item, changes_record, contents_of, digest, listed, n4, records_of, seen_item
+from kept_answers import GREATEST_TICK
+
+MODES = {"plain": 0, "executable": 1}
+
+
+def unescaped(text):
+    """The bytes of contents as a line writes them."""
+    return text.replace("\\\\", "\0").replace("\\n", "\n").replace("\\t", "\t").replace("\0", "\\").encode()
+
 
 SHOWN = ["staged", "head", "log", "fixes", "trees"]
 # Single facts that a store is asked for: paths that are staged in some plays, their folders, and paths below them.
 FACTS = [*(f"look {path}" for path in ["a", "b.txt", "dir/c", "dir", "di", "dir/c/d", "a/b/c", "dir/cd"]), "count", "walk",
-         *(f"{word} {number}" for word in ("message", "files") for number in range(3))]
+         *(f"{word} {number}" for word in ("message", "files") for number in range(3)), "answers", "limit"]
 # What a store shows that has a.txt staged, with the contents 1, and nothing else.
 ONE_STAGED = ["ok\tplain\ta.txt\t1", "ok", "ok", "ok", "ok"]
-SCHEMA = [
-    "CREATE TABLE answers (words BLOB NOT NULL REFERENCES blobs, seen BLOB NOT NULL REFERENCES blobs, output BLOB NOT NULL REFERENCES blobs, changes BLOB NOT NULL REFERENCES blobs, status INTEGER NOT NULL, PRIMARY KEY (words, seen)) STRICT",
-    "CREATE TABLE blobs (digest BLOB PRIMARY KEY, bytes BLOB NOT NULL) STRICT",
-    "CREATE TABLE commits (n INTEGER PRIMARY KEY, message BLOB NOT NULL) STRICT",
-    "CREATE TABLE entries (n INTEGER NOT NULL REFERENCES commits, path TEXT NOT NULL, mode INTEGER NOT NULL, digest BLOB NOT NULL REFERENCES blobs, PRIMARY KEY (n, path)) STRICT",
-    "CREATE TABLE fixes (path TEXT PRIMARY KEY, gone INTEGER NOT NULL, digest BLOB REFERENCES blobs) STRICT",
+# The statements by which the tables of version 1 are made, in their order; and those of version 2, which has one more.
+FIRST_TABLES = [
     "CREATE TABLE meta (name TEXT PRIMARY KEY, value INTEGER NOT NULL) STRICT",
+    "CREATE TABLE blobs (digest BLOB PRIMARY KEY, bytes BLOB NOT NULL) STRICT",
     "CREATE TABLE staged (path TEXT PRIMARY KEY, mode INTEGER NOT NULL, digest BLOB NOT NULL REFERENCES blobs) STRICT",
+    "CREATE TABLE fixes (path TEXT PRIMARY KEY, gone INTEGER NOT NULL, digest BLOB REFERENCES blobs) STRICT",
+    "CREATE TABLE commits (n INTEGER PRIMARY KEY, message BLOB NOT NULL) STRICT",
+    "CREATE TABLE entries (n INTEGER NOT NULL REFERENCES commits, path TEXT NOT NULL, mode INTEGER NOT NULL, "
+    "digest BLOB NOT NULL REFERENCES blobs, PRIMARY KEY (n, path)) STRICT",
+    "CREATE TABLE answers (words BLOB NOT NULL REFERENCES blobs, seen BLOB NOT NULL REFERENCES blobs, "
+    "output BLOB NOT NULL REFERENCES blobs, changes BLOB NOT NULL REFERENCES blobs, status INTEGER NOT NULL, "
+    "PRIMARY KEY (words, seen)) STRICT",
+]
+TABLES = [
+    *FIRST_TABLES,
+    "CREATE TABLE uses (words BLOB NOT NULL, seen BLOB NOT NULL, tick INTEGER NOT NULL UNIQUE, PRIMARY KEY (words, seen)) STRICT",
 ]
 STORY = [
     ("create", "ok"),
@@ -286,6 +302,19 @@ STOPPED_COMMANDS = [*FOUR_CHILDREN, "create", f"stage plain {FOUR_STAGES}", "add
                     "accept-fixes", "remove dir/c", "forget-answers", "commit-verified m"]
 STOPPED_RUNS = [*RUN_CHILDREN, "create", f"stage plain {RUN_CONFIG}", "add - a.txt x\\t\\n", "run-hooks changed", "accept-fixes", "run-hooks changed",
                 "run-hooks changed", "forget-answers", "run-hooks changed"]
+# Looking up, remembering and limiting.
+STOPPED_USES = ["create", "remember a | | | 0", "remember b | | | 1", "remember c | | | 2", "recall a |", "recall a |", "recall b |",
+                "set-limit 2", "recall d |", "remember d | | | 3", "recall b |", "remember d | | | 4", "limit-answers 1",
+                "remember e | | | 5", "set-limit 3", "remember f | | | 6", "forget", "remember a | | | 7"]
+# Plays of which each allocation is refused. Of the commands of a host all that may be refused are made again at once, as far as they
+# leave something to be made.
+REFUSED_PLAY = [
+    *FOUR_CHILDREN, "create", "stage plain a.txt 1", "fix a.txt 2", "set", "accept", "commit m\\n", "blob abc",
+    "remember c a | a=1 | a=2 | 3 | one", "recall c a | a=1", "forget", "add - h 1", "remove h", "fix a.txt 3", "set",
+    "stage-all add - h 1 | add executable h 2 | remove h | add - i 3", "edit-all add - i 4 | add - j/k 5 | remove i | remove j/k",
+    "unstage a.txt", f"stage plain {FOUR_STAGES}", "add - b.txt 1", *["run-hooks all"] * 2, *["forget-answers"] * 2,
+    *["accept-fixes"] * 2, *["commit-verified m"] * 2, "close", "open", *SHOWN, "tree 1", "tree 0", "tree 3",
+]
 # Paths that clash with those of the random plays, and texts that are none.
 OTHER_PATHS = ["a/b", "dir", "dir/c/x", "b.txt.old", "", "/a", "a/", "./a", ".git/a", "e\x7f"]
 # Calls on a store that has a.txt staged, and the fixes that it has then.
@@ -302,9 +331,10 @@ FIXES_AFTER = [
     (["fix a.txt 2", "set", "fix b.txt 2", "set"], "ok"),
     (["fix a.txt 2", "set", "fix a.txt 3", "set"], "ok\ta.txt\tnow\t3"),
 ]
+NO_STORE = "the database holds no store of a version that is known"
 # Each refusal: its number, its name and what it says.
 FAULTS = [
-    ("1", "NotAStore", "the database holds no store of this version"),
+    ("1", "NotAStore", NO_STORE),
     ("2", "Damaged", "the store is damaged"),
     ("3", "Sql", "there is already an object of this name"),
     ("3", "Sql", "database or disk is full"),
@@ -348,69 +378,32 @@ ANSWER_ROWS = [
     ("answers", "two", "one", "four", "three", "0"),
 ]
 ANSWER_ROWS_LEFT = ANSWER_ROWS[1:]
+# The uses stand in the order of their ticks.
+USE_ROWS = [
+    ("uses", "two", "one", "1"),
+    ("uses", "one", "two", "2"),
+]
+USE_ROWS_LEFT = [
+    ("uses", "two", "one", "3"),
+]
 # Lines that end the program with status 2, on an open store.
-BAD_LINES = ["", "stag", "stage", "staged ", "staged a.txt", "create a", "set a", "execute", "faults a", "stage plain a.txt", "stage odd a.txt 1", "stage plain ../a.txt 1", "stage plain .git/COMMIT_EDITMSG 1",
-             "stage plain a.txt \\x", "stage plain a.txt \\", "unstage /a", "tree x", "create", "open", "stage-many 1 1",
-             "stage-all", "stage-all add", "stage-all add - b.txt", "stage-all remove a.txt | move a.txt", "stage-all add odd b.txt 1", "edit-all", "edit-all remove",
-             "edit-all add - b.txt \\x", "edit-all remove a.txt | ", "accept-fixes ", "run-hooks", "run-hooks b.txt", "commit-verified", "commit-unverified", "commit-verified \\x", "child", "child tidy | |", "child tidy | | | ",
-             "child tidy | | | 256", "child tidy | a.txt | | 0", "child tidy | ../a=1 | | 0", "child tidy | a=\\x | | 0", "child tidy | | b a | 0", "child tidy | | .git/a | 0"]
+BAD_LINES = [
+    "", "stag", "stage", "staged ", "staged a.txt", "create a", "set a", "execute", "faults a", "stage plain a.txt",
+    "stage odd a.txt 1", "stage plain ../a.txt 1", "stage plain .git/COMMIT_EDITMSG 1", "stage plain a.txt \\x",
+    "stage plain a.txt \\", "unstage /a", "tree x", "create", "open", "stage-many 1 1", "stage-all", "stage-all add",
+    "stage-all add - b.txt", "stage-all remove a.txt | move a.txt", "stage-all add odd b.txt 1", "edit-all", "edit-all remove",
+    "edit-all add - b.txt \\x", "edit-all remove a.txt | ", "accept-fixes ", "run-hooks", "run-hooks b.txt", "commit-verified",
+    "commit-unverified", "commit-verified \\x", "child", "child tidy | |", "child tidy | | | ", "child tidy | | | 256",
+    "child tidy | a.txt | | 0", "child tidy | ../a=1 | | 0", "child tidy | a=\\x | | 0", "child tidy | | b a | 0",
+    "child tidy | | .git/a | 0", "limit 1", "answer-limit 1",
+    *(f"{word}{limit}" for word in ("set-limit", "limit-answers") for limit in ["", " ", " x", " -1", " 0", " 100001", " 1 1"]),
+]
 FILLING = ["create", "stage plain a.txt 1", "stage plain b.txt 2", "commit m\\n", "commit n\\n", "fix a.txt 2", "set", "close"]
 # The digests of the contents 1 and 2.
 ONE, TWO = (hashlib.sha256(text).hexdigest() for text in (b"1", b"2"))
-NOT_A_STORE, DAMAGED, SQL = "refused\t1\tNotAStore\t", "refused\t2\tDamaged\t", "refused\t3\tSql\t"
+NOT_A_STORE, DAMAGED, SQL = f"refused\t1\tNotAStore\t{NO_STORE}", "refused\t2\tDamaged\t", "refused\t3\tSql\t"
 NO_ROWID = SQL + "no rowid is left"
 TOO_LARGE, TOO_MANY = "refused\t6\tTooLarge\tcontents, a message or a record of more than 16 MiB", "refused\t7\tTooMany\t"
-# What is done to the file of FILLING, how it is refused then, and what takes it back.
-PLANTS = [
-    ("no version", "DELETE FROM meta", NOT_A_STORE, "INSERT INTO meta VALUES ('version', 1)"),
-    ("another version", "UPDATE meta SET value = 7", NOT_A_STORE, "UPDATE meta SET value = 1"),
-    ("a second number", "INSERT INTO meta VALUES ('edition', 1)", NOT_A_STORE, "DELETE FROM meta WHERE name = 'edition'"),
-    ("a version under another name", "UPDATE meta SET name = 'edition'", NOT_A_STORE, "UPDATE meta SET name = 'version'"),
-    ("a blob under another digest", "INSERT INTO blobs VALUES (x'00', x'33')", DAMAGED, "DELETE FROM blobs WHERE digest = x'00'"),
-    ("other bytes under a digest", f"UPDATE blobs SET bytes = x'33' WHERE digest = x'{ONE}'", DAMAGED, f"UPDATE blobs SET bytes = x'31' WHERE digest = x'{ONE}'"),
-    ("an illegal staged path", f"INSERT INTO staged VALUES ('a/../b', 0, x'{ONE}')", DAMAGED, "DELETE FROM staged WHERE path = 'a/../b'"),
-    ("an illegal committed path", f"INSERT INTO entries VALUES (1, '../x', 0, x'{ONE}')", DAMAGED, "DELETE FROM entries WHERE path = '../x'"),
-    ("an illegal path of a fix", "INSERT INTO fixes VALUES ('../x', 1, NULL)", DAMAGED, "DELETE FROM fixes WHERE path = '../x'"),
-    ("a staged path of the repository's own", f"INSERT INTO staged VALUES ('.git/COMMIT_EDITMSG', 0, x'{ONE}')", DAMAGED,
-     "DELETE FROM staged WHERE path = '.git/COMMIT_EDITMSG'"),
-    ("an empty staged path", f"INSERT INTO staged VALUES ('', 0, x'{ONE}')", DAMAGED, "DELETE FROM staged WHERE path = ''"),
-    ("the contents of another digest", f"UPDATE blobs SET bytes = x'32' WHERE digest = x'{ONE}'", DAMAGED, f"UPDATE blobs SET bytes = x'31' WHERE digest = x'{ONE}'"),
-    ("a staged mode below 0", "UPDATE staged SET mode = -1 WHERE path = 'a.txt'", DAMAGED, "UPDATE staged SET mode = 0 WHERE path = 'a.txt'"),
-    ("a staged mode of 2", "UPDATE staged SET mode = 2 WHERE path = 'a.txt'", DAMAGED, "UPDATE staged SET mode = 0 WHERE path = 'a.txt'"),
-    ("a committed mode of 2", "UPDATE entries SET mode = 2 WHERE n = 1 AND path = 'a.txt'", DAMAGED, "UPDATE entries SET mode = 0 WHERE n = 1 AND path = 'a.txt'"),
-    ("a fix with a gone of 2", "INSERT INTO fixes VALUES ('b.txt', 2, NULL)", DAMAGED, "DELETE FROM fixes WHERE path = 'b.txt'"),
-    ("a fix with a gone of 2 and contents", "UPDATE fixes SET gone = 2", DAMAGED, "UPDATE fixes SET gone = 0"),
-    ("a gone fix with contents", "UPDATE fixes SET gone = 1", DAMAGED, "UPDATE fixes SET gone = 0"),
-    ("a fix with no contents", "INSERT INTO fixes VALUES ('b.txt', 0, NULL)", DAMAGED, "DELETE FROM fixes WHERE path = 'b.txt'"),
-    ("a fix of a file that isn't staged", "INSERT INTO fixes VALUES ('c.txt', 1, NULL)", DAMAGED, "DELETE FROM fixes WHERE path = 'c.txt'"),
-    ("commits 1 and 3", "UPDATE commits SET n = 3 WHERE n = 2; UPDATE entries SET n = 3 WHERE n = 2", DAMAGED,
-     "UPDATE commits SET n = 2 WHERE n = 3; UPDATE entries SET n = 2 WHERE n = 3"),
-    ("commits 1, 2 and 4", "INSERT INTO commits VALUES (4, x'6d')", DAMAGED, "DELETE FROM commits WHERE n = 4"),
-    ("a commit 0", "INSERT INTO commits VALUES (0, x'6d')", DAMAGED, "DELETE FROM commits WHERE n = 0"),
-    ("a commit below 0", "INSERT INTO commits VALUES (-1, x'6d')", DAMAGED, "DELETE FROM commits WHERE n = -1"),
-    ("8 MiB of staged paths and more", "WITH RECURSIVE c(n) AS (SELECT 1 UNION ALL SELECT n + 1 FROM c WHERE n < 2049) "
-     f"INSERT INTO staged SELECT printf('%04096d', n), 0, x'{ONE}' FROM c", DAMAGED, "DELETE FROM staged WHERE length(path) = 4096"),
-    ("100,001 staged files", "WITH RECURSIVE c(n) AS (SELECT 1 UNION ALL SELECT n + 1 FROM c WHERE n < 99999) "
-     f"INSERT INTO staged SELECT 'd/' || n, 0, x'{ONE}' FROM c", DAMAGED, "DELETE FROM staged WHERE path = 'd/1'"),
-    ("more than 100,000 commits", "WITH RECURSIVE c(n) AS (SELECT 3 UNION ALL SELECT n + 1 FROM c WHERE n < 100001) "
-     "INSERT INTO commits SELECT n, x'6d' FROM c", DAMAGED, "DELETE FROM commits WHERE n > 2"),
-    ("contents of more than 16 MiB", f"INSERT INTO blobs VALUES (x'{hashlib.sha256(bytes(16777217)).hexdigest()}', zeroblob(16777217))", DAMAGED,
-     "DELETE FROM blobs WHERE length(bytes) > 16777216"),
-    ("a message of more than 16 MiB", "UPDATE commits SET message = zeroblob(16777217) WHERE n = 2", DAMAGED, "UPDATE commits SET message = x'6e0a' WHERE n = 2"),
-    # A row more is put in after all others, so behind the greatest rowid there is room for none. Behind the one below it there is.
-    *((f"the greatest rowid in {table}", f"UPDATE {table} SET rowid = {2 ** 63 - 1} WHERE {where}", NO_ROWID, f"UPDATE {table} SET rowid = {2 ** 63 - 2} WHERE {where}")
-      for table, where in [("meta", "name = 'version'"), ("blobs", f"digest = x'{ONE}'"), ("staged", "path = 'a.txt'"), ("fixes", "path = 'a.txt'"),
-                           ("entries", "n = 1 AND path = 'a.txt'")]),
-    ("the greatest rowid in answers", f"INSERT INTO answers (rowid, words, seen, output, changes, status) VALUES ({2 ** 63 - 1}, x'{ONE}', x'{ONE}', x'{TWO}', x'{TWO}', 0)", NO_ROWID,
-     "DELETE FROM answers"),
-    # Here the tables' own rules are broken, which the kit's database refuses when it opens a file.
-    ("an entry without its commit", f"INSERT INTO entries VALUES (3, 'a.txt', 0, x'{ONE}')", SQL, "DELETE FROM entries WHERE n = 3"),
-    ("a staged digest that isn't there", "INSERT INTO staged VALUES ('c.txt', 0, x'00')", SQL, "DELETE FROM staged WHERE path = 'c.txt'"),
-    ("a committed digest that isn't there", "INSERT INTO entries VALUES (1, 'c.txt', 0, x'00')", SQL, "DELETE FROM entries WHERE path = 'c.txt'"),
-    ("a digest of a fix that isn't there", "INSERT INTO fixes VALUES ('b.txt', 0, x'00')", SQL, "DELETE FROM fixes WHERE path = 'b.txt'"),
-    *((f"the {column} of an answer that aren't there", f"INSERT INTO answers VALUES ({', '.join(digests)}, 0)", SQL, "DELETE FROM answers")
-      for column, digests in [(column, [f"x'{ONE}'"] * at + ["x'00'"] + [f"x'{TWO}'"] * (3 - at)) for at, column in enumerate(["words", "seen files", "output", "changes"])]),
-]
 # What is remembered and found, on the store of FILLING.
 ANSWERS_STORY = [
     ("answers", "ok\t0"),
@@ -436,14 +429,113 @@ ANSWERS_STORY = [
 ]
 RECALLED = ["recall c a.txt | a.txt=1", "recall c a.txt b.txt | a.txt=1 b.txt=2", "recall |", "recall c .git/COMMIT_EDITMSG | .git/COMMIT_EDITMSG=m"]
 ANSWERS_LEFT = 4
-# An answer, the words and seen files of a line that recalls it, and what is told of it.
-PLANTED_ANSWERS = [
-    (KeptAnswer([b"c", b"a.txt"], [("a.txt", 0, b"abc")], [], 0), "c a.txt | a.txt=abc", "0\t"),
-    (KeptAnswer([b"c"], [("a", 0, b""), ("b/c", 0, b"1")], [("a", b"new"), ("b/c", None)], 255, b"said\n"), "c | a= b/c=1", "255\tsaid\\n\ta\tnow\tnew\tb/c\tgone"),
-    (KeptAnswer(["\u00e9".encode()], [(MESSAGE, 0, b"m\n")], [(MESSAGE, b"n\n")], 1), f"\u00e9 | {MESSAGE}=m\\n", f"1\t\t{MESSAGE}\tnow\tn\\n"),
-    (KeptAnswer([], [], [], 7), " | ", "7\t"),
+# What is left where a limit is met: the answers that were put or found last.
+LIMIT_STORY = [
+    ("create", "ok"),
+    ("limit", "ok\t10000"),
+    ("answer-limit", "ok\t10000"),
+    ("set-limit 2", "ok"),
+    ("limit", "ok\t2"),
+    ("remember a | | | 1", "ok"),
+    ("remember b | | | 2", "ok"),
+    ("remember c | | | 3", "ok"),
+    ("answers", "ok\t2"),
+    ("recall a |", "ok\tnone"),
+    # Found, it is in front, so that the next one goes in place of the other.
+    ("recall b |", "ok\t2\t"),
+    ("remember d | | | 4", "ok"),
+    ("recall c |", "ok\tnone"),
+    ("recall b |", "ok\t2\t"),
+    ("recall d |", "ok\t4\t"),
+    # An answer to what was asked before drops none, and is in front.
+    ("remember b | | | 5", "ok"),
+    ("answers", "ok\t2"),
+    ("close", "ok"),
+    ("open", "ok"),
+    ("answer-limit", "ok\t2"),
+    ("remember e | | | 6", "ok"),
+    ("recall d |", "ok\tnone"),
+    ("recall b |", "ok\t5\t"),
+    ("recall e |", "ok\t6\t"),
+    ("recall b |", "ok\t5\t"),
+    ("limit-answers 3", "ok\t2"),
+    ("remember a | | | 7", "ok"),
+    ("recall e |", "ok\t6\t"),
+    ("answers", "ok\t3"),
+    # What was used last is left, in the same order.
+    ("limit-answers 2", "ok\t2"),
+    ("recall b |", "ok\tnone"),
+    ("set-limit 2", "ok"),
+    ("answers", "ok\t2"),
+    ("close", "ok"),
+    ("open", "ok"),
+    ("set-limit 1", "ok"),
+    ("recall a |", "ok\tnone"),
+    ("recall e |", "ok\t6\t"),
+    ("remember e | | | 8", "ok"),
+    ("recall e |", "ok\t8\t"),
+    ("remember f | | | 9", "ok"),
+    ("recall e |", "ok\tnone"),
+    ("limit-answers 100000", "ok\t1"),
+    ("limit", "ok\t100000"),
+    ("forget", "ok\t1"),
+    ("limit", "ok\t100000"),
+    ("limit-answers 1", "ok\t0"),
+    ("remember g | | | 0", "ok"),
+    ("remember h | | | 0", "ok"),
+    ("forget-answers", "ok\t1"),
+    ("answer-limit", "ok\t1"),
+    ("remember i | | | 0", "ok"),
+    ("close", "ok"),
 ]
-
+# The lines that recall three answers, of which the last one is in front.
+THREE_RECALLS = ["recall c a.txt | a.txt=1", "recall d |", "recall c | a.txt=1 b="]
+LAST, MIDDLE, FRONT = THREE_RECALLS
+# Plays on them of which each allocation is refused: of uses, of a store that may be of version 1, which is opened once more where it
+# wasn't, and of one whose last tick is the greatest.
+REFUSED_USES = ["open", LAST, MIDDLE, FRONT, "recall e |", "remember e | | | 0 | one", "set-limit 4", "set-limit 3", LAST,
+                "remember f | | | 0", "limit-answers 2", "limit", "answers", "close"]
+REFUSED_MIGRATION = ["open", "close", "open", "answers", "limit", MIDDLE, "close"]
+REFUSED_TICKS = ["open", LAST, MIDDLE, "close"]
+# Calls on a store of these, and how many transactions they are.
+USING_PLAYS = [
+    ([], 0),
+    ([FRONT], 0),
+    (["recall e |"], 0),
+    (["answers", "limit", "answer-limit", *[FRONT] * 3, "recall c |", FRONT], 0),
+    ([LAST], 1),
+    ([MIDDLE], 1),
+    ([LAST, LAST, "recall e |", LAST], 1),
+    ([LAST, MIDDLE, FRONT], 3),
+    ([LAST, FRONT, LAST], 3),
+    (["remember e | | | 0"], 1),
+    (["remember e | | | 0", "recall e |"], 1),
+    (["remember d | | | 4"], 1),
+    (["remember c | a.txt=1 b= | | 5"], 1),
+    (["set-limit 2", MIDDLE], 2),
+    (["set-limit 1", FRONT, LAST, MIDDLE], 1),
+    (["limit-answers 3", LAST, "remember e | | | 0", MIDDLE], 3),
+    (["forget", LAST], 1),
+]
+# The tick of the last of these, calls, the ticks then, and how many transactions the calls were.
+TICK_PLAYS = [
+    (1, [LAST], [2, 3, 4], 1),
+    (7, [MIDDLE, MIDDLE, "recall e |", FRONT], [7, 10, 11], 2),
+    (7, ["remember e | | | 0"], [7, 8, 9, 10], 1),
+    (7, ["set-limit 3", "remember e | | | 0"], [8, 9, 10], 2),
+    (GREATEST_TICK - 3, [LAST], [GREATEST_TICK - 2, GREATEST_TICK - 1, GREATEST_TICK], 1),
+    (GREATEST_TICK - 3, [LAST, MIDDLE], [2, 3, 4], 3),
+    (GREATEST_TICK - 2, [FRONT, "recall e |"], [GREATEST_TICK - 2, GREATEST_TICK - 1, GREATEST_TICK], 0),
+    (GREATEST_TICK - 2, ["set-limit 2"], [GREATEST_TICK - 1, GREATEST_TICK], 1),
+    (GREATEST_TICK - 2, ["set-limit 2", MIDDLE], [2, 3], 3),
+    (GREATEST_TICK - 2, [LAST], [2, 3, 4], 2),
+    (GREATEST_TICK - 2, [LAST, LAST, MIDDLE, FRONT, LAST], [5, 6, 7], 5),
+    (GREATEST_TICK - 2, ["remember e | | | 0"], [1, 2, 3, 4], 2),
+    (GREATEST_TICK - 2, ["remember d | | | 4"], [1, 3, 4], 2),
+    (GREATEST_TICK - 2, ["remember c | a.txt=1 b= | | 5"], [1, 2, 4], 2),
+    (GREATEST_TICK - 2, ["set-limit 3", "remember e | | | 0"], [2, 3, 4], 3),
+    (GREATEST_TICK - 2, ["close", "open", MIDDLE], [1, 3, 4], 2),
+]
 
 LARGE = "1" * 16777217
 # A file that has a byte too many is refused before it clashes.
@@ -504,73 +596,3 @@ def largest_answers():
         ("output", lambda size: f"c | | | 0 | {'1' * size}"),
     ]:
         yield name, line(most), line(most + 1)
-
-
-def damaged_answers():
-    """Answers that break one rule of a store each: its name, the contents that are planted, the four records and the status."""
-    whole = KeptAnswer([b"c", b"a"], [("a", 0, b"1"), ("b", 1, b"2")], [("a", b"3"), ("b", None)], 0)
-    contents, records = contents_of(whole), records_of(whole)
-    words, seen, output, changes = records
-    yield "an answer of status 256", contents, records, 256
-    yield "an answer of a status below 0", contents, records, -1
-    for at, name in [(0, "words"), (1, "seen files"), (3, "changes")]:
-        for end in range(len(records[at])):
-            yield f"{name} cut at {end}", contents, [*records[:at], records[at][:end], *records[at + 1:]], 0
-        yield f"{name} with a byte more", contents, [*records[:at], records[at] + b"\0", *records[at + 1:]], 0
-    for name, other in [
-        ("a word that is no text", listed([b(b"\xff")])),
-        ("more words than are there", n4(3) + words[4:]),
-    ]:
-        yield name, contents, [other, seen, output, changes], 0
-    one, two = digest(b"1"), digest(b"2")
-    for name, items in [
-        ("a seen file of another mode", [seen_item("a", 2, one), seen_item("b", 1, two)]),
-        ("a seen file whose contents aren't kept", [seen_item("a", 0, one), seen_item("b", 1, bytes(32))]),
-        ("a seen file of no path", [seen_item("", 0, one), seen_item("a", 0, one), seen_item("b", 0, one)]),
-        ("a seen file above the repository", [seen_item("../a", 0, one), seen_item("a", 0, one), seen_item("b", 0, one)]),
-        ("a seen file under .git", [seen_item(".git/config", 0, one), seen_item("a", 0, one), seen_item("b", 0, one)]),
-        ("seen files that don't rise", [seen_item("b", 1, two), seen_item("a", 0, one)]),
-        ("a seen file twice", [seen_item("a", 0, one), seen_item("a", 0, one), seen_item("b", 1, two)]),
-    ]:
-        yield name, contents, [words, listed(items), output, changes], 0
-    for name, items in [
-        ("a change of a file that wasn't seen", [changed_item("c", digest(b"3"))]),
-        ("a change whose contents aren't kept", [changed_item("a", bytes(32))]),
-        ("changes that don't rise", [changed_item("b", None), changed_item("a", None)]),
-        ("a change twice", [changed_item("a", None), changed_item("a", None)]),
-        ("a change with another mark", [b(b"a") + b"\2" + one]),
-    ]:
-        yield name, contents, [words, seen, output, listed(items)], 0
-    yield "no changes, and a file that wasn't seen is gone", contents, [words, listed([]), output, changes_record([("a", None)])], 0
-
-
-# What the tables of the file of FILLING themselves refuse, so that no store comes to hold it.
-REFUSED_ROWS = [
-    f"INSERT INTO entries VALUES (3, 'a.txt', 0, x'{ONE}')",
-    "INSERT INTO staged VALUES ('c.txt', 0, x'00')",
-    "INSERT INTO entries VALUES (1, 'c.txt', 0, x'00')",
-    "INSERT INTO fixes VALUES ('b.txt', 0, x'00')",
-    f"DELETE FROM blobs WHERE digest = x'{ONE}'",
-    "DELETE FROM commits WHERE n = 1",
-    f"INSERT INTO staged VALUES ('a.txt', 0, x'{TWO}')",
-    f"INSERT INTO entries VALUES (1, 'a.txt', 1, x'{TWO}')",
-    "INSERT INTO commits VALUES (2, x'6d')",
-    "INSERT INTO staged VALUES ('c.txt', 'plain', NULL)",
-]
-# What is done to the tables of the file of FILLING, so that it holds no store.
-OTHER_TABLES = [
-    ("no version that can be read", "DROP TABLE meta"),
-    ("a table more", "CREATE TABLE notes (text TEXT) STRICT"),
-    ("an index more", "CREATE INDEX modes ON staged (mode)"),
-    ("a view more", "CREATE VIEW paths AS SELECT path FROM staged"),
-    ("a table less", "DROP TABLE answers"),
-    ("another table of that name", "DROP TABLE answers; CREATE TABLE answers (words BLOB NOT NULL) STRICT"),
-]
-# What the kit's database itself doesn't open, so that nothing can be said of its tables.
-OTHER_SCHEMAS = [
-    ("a trigger", "CREATE TRIGGER forget AFTER INSERT ON staged BEGIN DELETE FROM fixes; END"),
-    ("an index on an expression", "CREATE INDEX lengths ON staged (length(path))"),
-    ("an index of some rows", "CREATE INDEX plain ON staged (path) WHERE mode = 0"),
-    ("a view with a window", "CREATE VIEW numbered AS SELECT row_number() OVER () FROM staged"),
-    ("pages that move by themselves", "PRAGMA auto_vacuum = FULL; VACUUM"),
-]

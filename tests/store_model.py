@@ -4,15 +4,12 @@ import random
 
 from kept_answers import KeptAnswer, contents_of, digest, records_of
 from list_book import ListBook
-from store_cases import CHILDREN, CONFIG, CONFIG_PATH, HOOKS, MESSAGE, OTHER_PATHS, PLANTED_STORES, SHOWN, TO_VERSION_1
+from store_cases import CHILDREN, CONFIG, CONFIG_PATH, HOOKS, MESSAGE, MODES, NOT_A_STORE, OTHER_PATHS, SQL, SHOWN, unescaped
+from store_plants import PLANTED_STORES, TO_VERSION_1, contents_in
 
 NO_CONFIG, NOTHING_STAGED = "refused\t7\tNoConfig\tnone", "refused\t10\tNothingStaged\tnone"
-MODES = {"plain": 0, "executable": 1}
+NO_TABLE = SQL + "no such table"
 NO_FIXES, EMPTY_MESSAGE = "refused\t11\tNoFixes\tnone", "refused\t12\tEmptyMessage\tnone"
-
-
-def unescaped(text):
-    return text.replace("\\\\", "\0").replace("\\n", "\n").replace("\\t", "\t").replace("\0", "\\").encode()
 
 
 def path_fault(path):
@@ -77,6 +74,12 @@ def migrated(book):
     return book_of(sorted((answer for _, answer in book.rows()), key=lambda answer: [digest(record) for record in key_records(answer)]))
 
 
+def store_of(planted):
+    """What a store has that SQL made, and that isn't open."""
+    return {"version": planted.version, "staged": dict(planted.staged), "fixes": {}, "history": list(planted.history),
+            "blobs": set(contents_in(planted)), "answers": book_of(planted.answers)}
+
+
 def begun_message(message):
     return message if not message or message.endswith("\\n") else message + "\\n"
 
@@ -107,22 +110,23 @@ class Model:
     def create(self):
         if self.store is not None:
             return "refused\t3\tSql\tthere is already an object of this name"
-        self.store, self.is_open = {"version": 2, "staged": {}, "fixes": {}, "history": [], "blobs": set(), "answers": ListBook()}, True
+        self.store = {"version": 2, "staged": {}, "fixes": {}, "history": [], "blobs": set(), "answers": ListBook()}
+        self.is_open = True
         return "ok"
 
     def execute(self, text):
         """Makes one of the planted stores in an empty database, and opens it not; or one of version 1 of that which is there."""
         if text == TO_VERSION_1:
+            if self.store is None:
+                return NO_TABLE
             self.store |= {"version": 1}
             return "ok"
-        version, answers = PLANTED_STORES[text]
-        self.create()
-        self.store |= {"version": version, "blobs": {each for answer in answers for each in contents_of(answer)}, "answers": book_of(answers)}
-        return self.close()
+        self.store = store_of(PLANTED_STORES[text])
+        return "ok"
 
     def open(self):
         if self.store is None:
-            return "refused\t1\tNotAStore\tthe database holds no store of this version"
+            return NOT_A_STORE
         if self.store["version"] == 1:
             self.store |= {"version": 2, "answers": migrated(self.store["answers"])}
         self.is_open = True
@@ -223,8 +227,11 @@ class Model:
 
     def recall(self, text):
         answer = self.store["answers"].find(key_records(answer_in(text + " | | 0")))
-        if answer is None:
-            return "ok\tnone"
+        return "ok\tnone" if answer is None else self.told(answer)
+
+    @staticmethod
+    def told(answer):
+        """What is answered where an answer is found."""
         changes = "".join(f"\t{path}\tgone" if now is None else f"\t{path}\tnow\t{escaped(now)}" for path, now in answer.changes)
         return f"ok\t{answer.status}\t{escaped(answer.output)}{changes}"
 
@@ -416,6 +423,13 @@ class Model:
         return found
 
 
+def model_over(planted):
+    """The model of a store that SQL made."""
+    model = Model()
+    model.store = store_of(planted)
+    return model
+
+
 def model_of(lines):
     model = Model()
     for line in lines:
@@ -428,22 +442,40 @@ def key_of(line):
     return "|".join(line.split("|")[:2])
 
 
+def recall_of(answer):
+    """The line that recalls an answer, whose seen files are plain."""
+    seen = " ".join(f"{path}={escaped(contents)}" for path, _, contents in answer.seen)
+    return f"recall {' '.join(word.decode() for word in answer.words)} | {seen}"
+
+
 def recalled_by(play):
-    """The lines that recall each answer that a play's children or its lines tell, each with all that is told to it."""
-    told = {}
+    """The lines that recall each answer that a play's children, its lines or the stores that it makes tell, each with all that is told
+    to it."""
+    answers = []
     for line in play:
-        word, _, row = line.partition(" ")
-        if word in ("child", "remember"):
-            recall = f"recall {key_of(row)}"
-            told.setdefault(recall, []).append(model_of(["create", f"remember {row}"]).play(recall))
+        word, _, rest = line.partition(" ")
+        answers += [answer_in(rest)] if word in ("child", "remember") else PLANTED_STORES[rest].answers if rest in PLANTED_STORES else []
+    told = {}
+    for answer in answers:
+        told.setdefault(recall_of(answer), []).append(Model.told(answer))
     return told
 
 
-def lines_behind(play, count):
+def lines_behind(play, count, is_open):
     """The lines that open a store behind a stop, have told what is remembered, go on with the line of the play that was stopped, and
-    have told what stands and is remembered then. None where no line was."""
-    told = recalled_by(play)
-    return ["open", "answers", *told, *play[count + (play[count] in ("create", "open")):], *SHOWN, "answers", *told] if count < len(play) else []
+    have told what stands and is remembered then; where no store was open, with those behind the one that opens it. None where no line
+    was stopped."""
+    if count == len(play):
+        return []
+    told, rest = recalled_by(play), play[count:]
+    if not is_open:
+        rest = rest[next(at for at, line in enumerate(rest) if line in ("create", "open")) + 1:]
+    return ["open", "answers", *told, *rest, *SHOWN, "answers", *told]
+
+
+def is_stopped_behind(answer, right):
+    """A commit was made, and only the hooks behind it were stopped."""
+    return answer != right and answer == right.replace("\ttold", "\tstopped")
 
 
 def random_answer(chance, paths, contents):
@@ -472,7 +504,7 @@ def random_play(seed, length):
     lines = ["create", *CHILDREN, f"stage plain {CONFIG}"]
     while len(lines) < length:
         path, content = chance.choice(paths), chance.choice(contents)
-        kind = chance.randrange(25)
+        kind = chance.randrange(26)
         if kind < 4:
             lines.append(f"stage {chance.choice(['plain', 'executable'])} {path} {content}")
         elif kind == 4:
@@ -503,6 +535,8 @@ def random_play(seed, length):
             # A limit of a few rows is met soon, and stays for a while.
             limit = chance.choice([1, 2, 2, 3, 3, 3, 10_000])
             lines.append(chance.choice(["limit", "answer-limit", f"set-limit {limit}", f"limit-answers {limit}"]))
+        elif kind == 23:
+            lines += ["close", *[f"execute {TO_VERSION_1}"][chance.randrange(2):], "open"]
         else:
             lines.append(f"{chance.choice(['commit-verified', 'commit-unverified'])} {chance.choice(['m', 'm', content])}")
     return lines
