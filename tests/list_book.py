@@ -1,4 +1,5 @@
-"""The model of a book: what is remembered for each key, the most recently used first, and at most as many rows as its limit."""
+"""The model of a book: what is remembered for each key, the most recently used first, and at most as many rows as its
+limit."""
 
 
 class ListBook:

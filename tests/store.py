@@ -1,15 +1,17 @@
 #!/usr/bin/env python3
 """Plays calls on stores in real files with the built program, and reads the files with sqlite3.
 
-Usage: tests/store.py [PROGRAM [CASE..]]   (default: crates/store_trial/out/store_trial, and all cases; a case by its name, with `_`)
+Usage: tests/store.py [PROGRAM [CASE..]]   (default: crates/store_trial/out/store_trial, and all cases; a case by its
+name, with `_`)
 
-A store is played by lines, each answered by a line of fields that tabs part. Beside it runs a model of a store, as a few
-dictionaries and a list of what is remembered (tests/store_model.py). The files are read, and damaged, by the program sqlite3, which
-makes stores of version 1 too. A play is killed at random moments, each allocation of a play is refused in turn
-(tests/refuse_allocation.c), and a disk in memory stops at each of its operations in turn.
+A store is played by lines, each answered by a line of fields that tabs part. Beside it runs a model of a store, as a
+few dictionaries and a list of what is remembered (tests/store_model.py). The files are read, and damaged, by the
+program sqlite3, which makes stores of version 1 too. A play is killed at random moments, each allocation of a play is
+refused in turn (tests/refuse_allocation.c), and a disk in memory stops at each of its operations in turn.
 
-The cases stand by their topic in tests/store_plays.py, store_answers.py, store_versions.py, store_damage.py, store_large.py,
-store_stops.py and store_memory.py, over the programs of store_program.py; what they play is in store_cases.py and store_plants.py.
+The cases stand by their topic in tests/store_plays.py, store_answers.py, store_versions.py, store_damage.py,
+store_large.py, store_stops.py and store_memory.py, over the programs of store_program.py; what they play is in
+store_cases.py and store_plants.py.
 """
 import subprocess
 import sys
@@ -24,8 +26,8 @@ import store_stops
 import store_versions
 from store_program import Wrong
 
-CASES = [case for topic in (store_plays, store_answers, store_versions, store_damage, store_large, store_stops, store_memory)
-         for case in topic.CASES]
+TOPICS = [store_plays, store_answers, store_versions, store_damage, store_large, store_stops, store_memory]
+CASES = [case for topic in TOPICS for case in topic.CASES]
 
 
 def main():

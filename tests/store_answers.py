@@ -1,17 +1,17 @@
-"""Cases of tests/store.py: the remembered answers, which stand in the order in which they were used, up to a limit; and what a use
-of one writes."""
+"""Cases of tests/store.py: the remembered answers, which stand in the order in which they were used, up to a limit; and
+what a use of one writes."""
 import os
 
 from kept_answers import contents_of, planting, records_of
 from store_cases import ANSWERS_LEFT, ANSWERS_STORY, FILLING, LIMIT_STORY, RECALLED, SHOWN, TICK_PLAYS, USING_PLAYS
 from store_model import Model, model_of, model_over
 from store_plants import PLANTED_ANSWERS, PlantedStore, REPOSITORY, THREE_ANSWERS, planting_store
-from store_program import answers, ask, check, check_file, check_story, commits_in_log, run, run_words
+from store_program import answers, ask, check, check_file, check_story, commits_in_log, run, run_words, ticks_in
 
 
 def remembers_answers(folder):
-    """What is put is found, by its words and its seen files with their modes and bytes, and by nothing else; another answer to the
-    same takes its place; all of it outlives the process, and a commit; and it can be forgotten."""
+    """What is put is found, by its words and its seen files with their modes and bytes, and by nothing else; another
+    answer to the same takes its place; all of it outlives the process, and a commit; and it can be forgotten."""
     path, model = os.path.join(folder, "store.db"), model_of(FILLING)
     answers(path, FILLING)
     lines = [line for line, _ in ANSWERS_STORY]
@@ -30,19 +30,22 @@ def remembers_answers(folder):
     model.play("forget")
     given = answers(path, ["open", "answers", "forget", "answers", "forget", *RECALLED, "close"])
     count = f"ok\t{ANSWERS_LEFT}"
-    check(given == ["ok", count, count, "ok\t0", "ok\t0", *["ok\tnone"] * len(RECALLED), "ok"], f"forgetting is answered {given!r}")
+    wanted = ["ok", count, count, "ok\t0", "ok\t0", *["ok\tnone"] * len(RECALLED), "ok"]
+    check(given == wanted, f"forgetting is answered {given!r}")
     check_file(path, model.store)
 
 
 def remembers_many_answers(_folder):
     """More than anyone would think a book has to make room for."""
     keys = [f"c | a.txt={number}" for number in range(1100)]
-    lines = ["create", *(f"remember {key} | a.txt=x | 0 | {key[-3:]}" for key in keys), *(f"recall {key}" for key in keys), "answers",
-             "crash", "open", "answers", *(f"recall {key}" for key in keys), "forget", "answers"]
+    lines = ["create", *(f"remember {key} | a.txt=x | 0 | {key[-3:]}" for key in keys),
+             *(f"recall {key}" for key in keys), "answers", "crash", "open", "answers",
+             *(f"recall {key}" for key in keys), "forget", "answers"]
     model = Model()
     wanted = ["ok" if line == "crash" else model.play(line) for line in lines]
     given, status, said = run_words(["log", str(2 ** 63)], lines)
-    check(status == 0 and len(given) == len(lines), f"status {status} after {len(given)} of {len(lines)} answers: {said!r}")
+    check(status == 0 and len(given) == len(lines),
+          f"status {status} after {len(given)} of {len(lines)} answers: {said!r}")
     check_story(list(zip(lines, wanted)), given)
     check(f"ok\t{len(keys)}" in wanted, "not all answers are remembered")
 
@@ -59,7 +62,8 @@ def finds_answers_that_another_program_wrote(folder):
 
 
 def keeps_the_answers_that_were_used_last(folder):
-    """Up to the limit, which outlives the process and what is forgotten. Whoever opens the file next finds the same order."""
+    """Up to the limit, which outlives the process and what is forgotten. Whoever opens the file next finds the same
+    order."""
     path, model = os.path.join(folder, "store.db"), Model()
     check_story(LIMIT_STORY, answers(path, [line for line, _ in LIMIT_STORY]))
     for line, wanted in LIMIT_STORY:
@@ -86,20 +90,21 @@ def planted_with(folder, name, tick):
     return path, model_over(planted)
 
 
-def ticks_in(path):
-    return [int(line) for line in ask(path, "SELECT tick FROM uses ORDER BY tick")]
+def check_played(path, model, lines):
+    """Opened, and left open at the end, so that its log is left too, a file is answered as its model."""
+    lines = ["open", *lines]
+    given, status, _ = run(path, lines)
+    check((given, status) == ([model.play(line) for line in lines], 0), f"{lines!r} are answered {given!r}")
 
 
 def writes_no_more_than_a_use(folder):
-    """A look-up of the row in front, and one that finds nothing, leave the file as it was, to the byte. One that moves a row, and each
-    other call that changes what is remembered, is one transaction."""
+    """A look-up of the row in front, and one that finds nothing, leave the file as it was, to the byte. One that moves
+    a row, and each other call that changes what is remembered, is one transaction."""
     for at, (lines, count) in enumerate(USING_PLAYS):
         path, model = planted_with(folder, at, 1)
         with open(path, "rb") as file:
             before = file.read()
-        given, status, _ = run(path, ["open", *lines])
-        model.play("open")
-        check((given, status) == (["ok", *(model.play(line) for line in lines)], 0), f"{lines!r} are answered {given!r}")
+        check_played(path, model, lines)
         found = commits_in_log(path)
         check(found == count, f"{lines!r} are {found} transactions, wanted {count}")
         with open(path, "rb") as file:
@@ -111,14 +116,13 @@ def numbers_the_ticks_anew(folder):
     """Where a use would pass the greatest tick, and in no other case: in a transaction of its own, in their order."""
     for at, (tick, lines, ticks, count) in enumerate(TICK_PLAYS):
         path, model = planted_with(folder, at, tick)
-        given, status, _ = run(path, ["open", *lines])
-        model.play("open")
-        check((given, status) == (["ok", *(model.play(line) for line in lines)], 0), f"from tick {tick}, {lines!r} are answered {given!r}")
+        check_played(path, model, lines)
         found = commits_in_log(path)
         check(found == count, f"from tick {tick}, {lines!r} are {found} transactions, wanted {count}")
-        check(ticks_in(path) == ticks, f"from tick {tick}, {lines!r} leave the ticks {ticks_in(path)!r}, wanted {ticks!r}")
+        check(ticks_in(path) == ticks, f"from tick {tick}, {lines!r} leave the ticks {ticks_in(path)!r}")
         check_file(path, model.store)
 
 
-CASES = [remembers_answers, remembers_many_answers, finds_answers_that_another_program_wrote, keeps_the_answers_that_were_used_last,
-         tells_the_order_in_the_tables, writes_no_more_than_a_use, numbers_the_ticks_anew]
+CASES = [remembers_answers, remembers_many_answers, finds_answers_that_another_program_wrote,
+         keeps_the_answers_that_were_used_last, tells_the_order_in_the_tables, writes_no_more_than_a_use,
+         numbers_the_ticks_anew]

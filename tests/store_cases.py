@@ -1,4 +1,5 @@
-"""The tables of cases of tests/store.py: lines with their answers. What is done to the file of a store is in store_plants.py."""
+"""The tables of cases of tests/store.py: lines with their answers. What is done to the file of a store is in
+store_plants.py."""
 import hashlib
 
 from kept_answers import GREATEST_TICK
@@ -60,7 +61,8 @@ STORY = [
     ("fix-gone b.txt", "ok"),
     ("set", "ok"),
 ]
-# Accepted fixes are committed, and the commit stays where its file is unstaged; then a commit of no files, and two files.
+# Accepted fixes are committed, and the commit stays where its file is unstaged; then a commit of no files, and two
+# files.
 UNSTAGED_STORY = [
     ("create", "ok"),
     ("stage plain a.txt 1", "ok"),
@@ -172,8 +174,8 @@ CONFIG_PATH, MESSAGE = ".pre-commit-config.yaml", ".git/COMMIT_EDITMSG"
 
 
 def configured(*hooks):
-    """A configuration of hooks, each the word of its children, its stage, and how the paths end that it gets: a text, or none where
-    it gets no paths and always runs. It is as a line writes it."""
+    """A configuration of hooks, each the word of its children, its stage, and how the paths end that it gets: a text,
+    or none where it gets no paths and always runs. It is as a line writes it."""
     rows = [f"  - {{id: {word}, name: {word.capitalize()}, language: system, entry: {word}, stages: [{stage}], "
             + ("always_run: true}" if ending is None else f"files: '{ending.replace('.', '[.]')}$'}}") for word, stage, ending in hooks]
     return "".join(line + "\\n" for line in ["repos:", "- repo: local", "  hooks:", *rows])
@@ -200,8 +202,8 @@ CHILDREN = [
     f"child sign {MESSAGE} | {MESSAGE}=3\\n | {MESSAGE}=m\\n | 1",
     "child tell | | | 0",
 ]
-# A host's runs, acceptances and commits: what each answers, and what stands there then. No row answers for the message n, for
-# the contents 5 or for an executable file.
+# A host's runs, acceptances and commits: what each answers, and what stands there then. No row answers for the message
+# n, for the contents 5 or for an executable file.
 HOOKS_STORY = [
     ("accept-fixes", "no store"),
     ("run-hooks all", "no store"),
@@ -252,7 +254,8 @@ HOOKS_STORY = [
     ("add executable b.txt 1", "ok"),
     ("run-hooks changed", "ok\tfailed"),
 ]
-# What the children of the hooks of four stages answer beside that, and those of a run whose first hook takes blanks from a file.
+# What the children of the hooks of four stages answer beside that, and those of a run whose first hook takes blanks
+# from a file.
 MARKED = "m\\nmarked\\n"
 FOUR_CHILDREN = [
     *CHILDREN,
@@ -261,7 +264,8 @@ FOUR_CHILDREN = [
     f"child sign {MESSAGE} | {MESSAGE}={MARKED} | {MESSAGE}={MARKED}signed\\n | 0",
 ]
 RUN_CHILDREN = ["child trim a.txt | a.txt=x\\t\\n | a.txt=x\\n | 0", "child trim a.txt | a.txt=x\\n | | 0", "child look a.txt | a.txt=x\\n | | 0"]
-# What the hooks of each stage of a commit leave to the next one, and of the runs what each starts, by what is remembered.
+# What the hooks of each stage of a commit leave to the next one, and of the runs what each starts, by what is
+# remembered.
 FOUR_STORY = [
     ("create", "ok"),
     (f"stage plain {FOUR_STAGES}", "ok"),
@@ -291,8 +295,8 @@ RUN_STORY = [
     ("run-hooks changed", "ok\tpassed"),
     ("forget-answers", "ok\t3"),
 ]
-# Plays in which a disk stops: of the store's calls, of a host's commands, the last of which needs a child in each stage of a commit,
-# and of runs of two hooks, of which the first keeps a fix and the last start no child.
+# Plays in which a disk stops: of the store's calls, of a host's commands, the last of which needs a child in each stage
+# of a commit, and of runs of two hooks, of which the first keeps a fix and the last start no child.
 STOPPED_CALLS = ["create", "stage plain a.txt 1", "stage executable tools/run 2", "blob 3", "fix a.txt 4", "set", "accept", "commit m\\n",
                  "remember c a.txt | a.txt=6 | a.txt=7 | 0 | one", "remember c a.txt | a.txt=6 | | 1", "unstage a.txt", "fix-gone tools/run", "set",
                  "stage plain tools/run 5", "commit n\\n", "forget", "remember d | | | 0",
@@ -306,8 +310,8 @@ STOPPED_RUNS = [*RUN_CHILDREN, "create", f"stage plain {RUN_CONFIG}", "add - a.t
 STOPPED_USES = ["create", "remember a | | | 0", "remember b | | | 1", "remember c | | | 2", "recall a |", "recall a |", "recall b |",
                 "set-limit 2", "recall d |", "remember d | | | 3", "recall b |", "remember d | | | 4", "limit-answers 1",
                 "remember e | | | 5", "set-limit 3", "remember f | | | 6", "forget", "remember a | | | 7"]
-# Plays of which each allocation is refused. Of the commands of a host all that may be refused are made again at once, as far as they
-# leave something to be made.
+# Plays of which each allocation is refused. Of the commands of a host all that may be refused are made again at once,
+# as far as they leave something to be made.
 REFUSED_PLAY = [
     *FOUR_CHILDREN, "create", "stage plain a.txt 1", "fix a.txt 2", "set", "accept", "commit m\\n", "blob abc",
     "remember c a | a=1 | a=2 | 3 | one", "recall c a | a=1", "forget", "add - h 1", "remove h", "fix a.txt 3", "set",
@@ -343,8 +347,8 @@ FAULTS = [
     ("6", "TooLarge", "contents, a message or a record of more than 16 MiB"),
     ("7", "TooMany", "more commits, staged files or paths than a store takes"),
 ]
-# The rows of the play of statements, in the order of their keys: the numbers, and those once some are replaced; what is left
-# once some rows are taken out, and what is taken out.
+# The rows of the play of statements, in the order of their keys: the numbers, and those once some are replaced; what is
+# left once some rows are taken out, and what is taken out.
 META_ROWS = [
     ("meta", "limit", "2"),
     ("meta", "version", "1"),
@@ -491,8 +495,8 @@ LIMIT_STORY = [
 # The lines that recall three answers, of which the last one is in front.
 THREE_RECALLS = ["recall c a.txt | a.txt=1", "recall d |", "recall c | a.txt=1 b="]
 LAST, MIDDLE, FRONT = THREE_RECALLS
-# Plays on them of which each allocation is refused: of uses, of a store that may be of version 1, which is opened once more where it
-# wasn't, and of one whose last tick is the greatest.
+# Plays on them of which each allocation is refused: of uses, of a store that may be of version 1, which is opened once
+# more where it wasn't, and of one whose last tick is the greatest.
 REFUSED_USES = ["open", LAST, MIDDLE, FRONT, "recall e |", "remember e | | | 0 | one", "set-limit 4", "set-limit 3", LAST,
                 "remember f | | | 0", "limit-answers 2", "limit", "answers", "close"]
 REFUSED_MIGRATION = ["open", "close", "open", "answers", "limit", MIDDLE, "close"]
@@ -548,8 +552,8 @@ LARGE_CHILDREN = [
     f"child sign {MESSAGE} | {MESSAGE}=n\\n | | 0",
     f"child tell | | | 0 | {LARGE}",
 ]
-# Such an answer stops a run and the hooks before a commit, and leaves what was put before and the rest as it was. Hooks behind a
-# commit are stopped, and the commit is made.
+# Such an answer stops a run and the hooks before a commit, and leaves what was put before and the rest as it was. Hooks
+# behind a commit are stopped, and the commit is made.
 LARGE_STORY = [
     ("create", "ok"),
     (f"stage plain {CONFIG}", "ok"),
@@ -580,7 +584,8 @@ LARGE_STORY = [
 
 
 def seen_of_size(size):
-    """Seen files whose record has this size, where that is large: paths of 4,096 bytes, and a shorter one behind them."""
+    """Seen files whose record has this size, where that is large: paths of 4,096 bytes, and a shorter one behind
+    them."""
     count, rest = divmod(size - 4, 4096 + 37)
     return [*(f"{at:04096d}" for at in range(count)), "1" * (rest - 37)]
 

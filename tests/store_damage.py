@@ -1,13 +1,14 @@
-"""Cases of tests/store.py: files that another program changed, so that they hold no store, or one that is damaged. They are refused,
-and stay as they are."""
+"""Cases of tests/store.py: files that another program changed, so that they hold no store, or one that is damaged. They
+are refused, and stay as they are."""
 import os
 import shutil
 
 from kept_answers import planting
 from store_cases import DAMAGED, FILLING, NOT_A_STORE, ONE, SHOWN, SQL, THREE_RECALLS
 from store_model import model_of, model_over
-from store_plants import (FIRST_META_PLANTS, HARMLESS_PLANTS, LARGE_PLANTS, META_PLANTS, OTHER_FIRST_TABLES, OTHER_SCHEMAS, OTHER_TABLES,
-                          PLANTS, REFUSED_ROWS, SECOND_STORE, TO_VERSION_1, USE_PLANTS, damaged_answers, planting_store)
+from store_plants import (FIRST_META_PLANTS, HARMLESS_PLANTS, LARGE_PLANTS, META_PLANTS, OTHER_FIRST_TABLES,
+                          OTHER_SCHEMAS, OTHER_TABLES, PLANTS, REFUSED_ROWS, SECOND_STORE, TO_VERSION_1, USE_PLANTS,
+                          damaged_answers, planting_store)
 from store_program import answers, ask, change, check, check_file, check_rows, rows_of, run_words, shown
 
 
@@ -55,7 +56,8 @@ def refuses_planted_files_of_version_1(folder):
 
 
 def refuses_uses_and_limits_that_break_a_rule(folder):
-    """Whatever one of them lacks or has too much of: it is damaged, and where that is taken back all stands in its order."""
+    """Whatever one of them lacks or has too much of: it is damaged, and where that is taken back all stands in its
+    order."""
     path, model = os.path.join(folder, "store.db"), model_over(SECOND_STORE)
     for name, text, refusal, repair in USE_PLANTS:
         ask(path, planting_store(SECOND_STORE))
@@ -118,7 +120,8 @@ def refuses_files_with_other_tables(folder):
             change(path, text)
             before = ask(path, ".dump")
             for word, refusal in (("open", NOT_A_STORE), ("create", SQL)):
-                check(answers(path, [word])[0].startswith(refusal), f"{name}: {word} is answered {answers(path, [word])!r}")
+                given = answers(path, [word])
+                check(given[0].startswith(refusal), f"{name}: {word} is answered {given!r}")
             check(ask(path, ".dump") == before, f"{name}: the refusal changed the file")
         for at, (name, text) in enumerate(OTHER_SCHEMAS):
             path = os.path.join(folder, f"{version}.schema{at}.db")
@@ -134,13 +137,15 @@ def refuses_files_that_hold_no_store(folder):
     check(answers(path, ["open", "staged"]) == [NOT_A_STORE, "no store"], "an empty file is a store")
     check(answers(path, ["create", "close"]) == ["ok", "ok"], "no store is made in an empty database")
     for words in ([os.path.join(folder, "again.db")], ["database", "100000"]):
-        given, status, _ = run_words(words, ["open", "create", *SHOWN, "crash" if len(words) > 1 else "close", "open", *SHOWN])
+        ends = "crash" if len(words) > 1 else "close"
+        given, status, _ = run_words(words, ["open", "create", *SHOWN, ends, "open", *SHOWN])
         check(status == 0 and given == [NOT_A_STORE, *["ok"] * 13], f"{words!r}: answered {given!r}")
     other = os.path.join(folder, "other.db")
     ask(other, "CREATE TABLE notes (text TEXT) STRICT; INSERT INTO notes VALUES ('mine')")
     for word, refusal in (("open", NOT_A_STORE), ("create", SQL)):
         check(answers(other, [word])[0].startswith(refusal), f"{word} takes another program's database")
-    check(ask(other, "SELECT text FROM notes") == ["mine"] and len(ask(other, "SELECT name FROM sqlite_schema")) == 1, "another program's rows were changed")
+    left = ask(other, "SELECT text FROM notes"), ask(other, "SELECT name FROM sqlite_schema")
+    check(left == (["mine"], ["notes"]), f"another program's rows were changed: {left!r}")
     text = os.path.join(folder, "text.db")
     with open(text, "wb") as file:
         file.write(b"no database\n" * 1000)
@@ -151,4 +156,5 @@ def refuses_files_that_hold_no_store(folder):
 
 CASES = [refuses_planted_files, refuses_planted_files_of_version_1, refuses_uses_and_limits_that_break_a_rule,
          takes_uses_and_limits_within_their_bounds, refuses_planted_answers,
-         refuses_rows_of_contents_and_commits_that_are_not_there, refuses_files_that_hold_no_store, refuses_files_with_other_tables]
+         refuses_rows_of_contents_and_commits_that_are_not_there, refuses_files_that_hold_no_store,
+         refuses_files_with_other_tables]

@@ -3,26 +3,28 @@ import hashlib
 import os
 
 from kept_answers import SELECT_ROWS, SELECT_USES
-from store_cases import (LARGE_CHILDREN, LARGE_STORY, ONE, ONE_STAGED, SHOWN, TOO_LARGE, TOO_MANY, largest_answers)
+from store_cases import LARGE_CHILDREN, LARGE_STORY, ONE, ONE_STAGED, SHOWN, TOO_LARGE, TOO_MANY, largest_answers
 from store_model import key_of, model_of
 from store_program import answers, ask, check, check_file, check_story, rows_of_model, shown
 
 
 def refuses_what_is_too_large(folder):
     path = os.path.join(folder, "store.db")
-    given = answers(path, ["create", "stage plain a.txt 1", "blob-of 16777217", "stage-many 1 16777217 0", "commit " + "m" * 16777217,
-                           "fix a.txt " + "1" * 16777217, "set", *SHOWN])
+    given = answers(path, ["create", "stage plain a.txt 1", "blob-of 16777217", "stage-many 1 16777217 0",
+                           "commit " + "m" * 16777217, "fix a.txt " + "1" * 16777217, "set", *SHOWN])
     check(given[2:5] == [TOO_LARGE] * 3 and given[6:7] == [TOO_LARGE], f"answered {[line[:80] for line in given]!r}")
     check(given[7:] == ONE_STAGED, "a refusal changed the store")
-    given = answers(path, ["open", "blob-of 16777216", "stage-many 1 16777216 0", "weigh", "commit " + "m" * 16777216, "close"])
+    most = ["open", "blob-of 16777216", "stage-many 1 16777216 0", "weigh", "commit " + "m" * 16777216, "close"]
     digest = hashlib.sha256(b"0 0 ".ljust(16777216, b".")).hexdigest()
-    check(given == ["ok", f"ok\t{digest}", "ok", "ok\t2\t16777217", "ok\t1", "ok"], f"16 MiB: answered {[line[:80] for line in given]!r}")
+    wanted = ["ok", f"ok\t{digest}", "ok", "ok\t2\t16777217", "ok\t1", "ok"]
+    check_story(list(zip(most, wanted)), answers(path, most), "16 MiB: ")
     check(answers(path, ["open", "weigh"]) == ["ok", "ok\t2\t16777217"], "16 MiB aren't there when it is opened again")
 
 
 def refuses_answers_that_are_too_large(folder):
-    """An answer of which something is as large as contents may be is kept, and found when the store is opened again. One of which
-    it is a byte larger is refused and found nowhere. Changes have no larger record than the files that were seen."""
+    """An answer of which something is as large as contents may be is kept, and found when the store is opened again.
+    One of which it is a byte larger is refused and found nowhere. Changes have no larger record than the files that
+    were seen."""
     first = ["create", "remember d | | | 1"]
     for at, (name, largest, larger) in enumerate(largest_answers()):
         path, model = os.path.join(folder, f"{at}.db"), model_of(first)
@@ -54,8 +56,8 @@ def refuses_more_files_than_a_tree_may_have(folder):
         ask(path, f"WITH RECURSIVE c(n) AS (SELECT 1 UNION ALL SELECT n + 1 FROM c WHERE n < {count}) "
             f"INSERT INTO staged SELECT {path_of}, 0, x'{ONE}' FROM c")
         given = answers(path, [
-            "open", f"stage plain {there} 2", f"stage plain {new} 2", "stage-many 1 16777217 0", "weigh", f"add - {new} 2",
-            f"add - {there} 3", f"edit-all add - {there} 4 | add - {new} 2",
+            "open", f"stage plain {there} 2", f"stage plain {new} 2", "stage-many 1 16777217 0", "weigh",
+            f"add - {new} 2", f"add - {there} 3", f"edit-all add - {there} 4 | add - {new} 2",
             f"stage-all add - {there} 4 | remove {there} | add - {there} 2 | add - {new} 2",
             f"edit-all remove {there} | add - {new} 2", f"stage-all remove {new} | add - {there} 2", f"unstage {there}",
             f"stage plain {new} 2", "close"])
@@ -72,7 +74,8 @@ def refuses_more_commits_than_a_store_may_have(folder):
     """The 100,000th commit is taken, one more is refused and leaves the store as it was, and its file can be opened."""
     path, model = os.path.join(folder, "store.db"), model_of(["create", "stage plain a.txt 1"])
     answers(path, ["create", "stage plain a.txt 1", "close"])
-    ask(path, "WITH RECURSIVE c(n) AS (SELECT 1 UNION ALL SELECT n + 1 FROM c WHERE n < 99999) INSERT INTO commits SELECT n, x'6d' FROM c")
+    ask(path, "WITH RECURSIVE c(n) AS (SELECT 1 UNION ALL SELECT n + 1 FROM c WHERE n < 99999) "
+        "INSERT INTO commits SELECT n, x'6d' FROM c")
     model.store["history"] = [("m", {})] * 99999
     last = ["commit n", "fix a.txt 2", "set"]
     given = answers(path, ["open", *last, "commit o", *SHOWN, "close"])

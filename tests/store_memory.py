@@ -1,5 +1,5 @@
-"""Cases of tests/store.py: each allocation of a play is refused in turn (tests/refuse_allocation.c). A refused call has changed
-nothing, and the store can be opened then."""
+"""Cases of tests/store.py: each allocation of a play is refused in turn (tests/refuse_allocation.c). A refused call has
+changed nothing, and the store can be opened then."""
 import copy
 import os
 import shutil
@@ -14,12 +14,14 @@ from store_program import HERE, answers, ask, check, rows_of, rows_of_model, run
 
 def refusing_library(folder):
     library = os.path.join(folder, "refuse.so")
-    subprocess.run(["cc", "-shared", "-fPIC", "-O1", "-o", library, os.path.join(HERE, "refuse_allocation.c"), "-ldl"], check=True)
+    source = os.path.join(HERE, "refuse_allocation.c")
+    subprocess.run(["cc", "-shared", "-fPIC", "-O1", "-o", library, source, "-ldl"], check=True)
     return library
 
 
 def is_want(answer):
-    """The call, or the command of a host, was refused for want of memory, as which the database's own want comes too."""
+    """The call, or the command of a host, was refused for want of memory, as which the database's own want comes
+    too."""
     return answer.startswith(("refused\t4\tOutOfMemory\t", "refused\t1\tOutOfMemory\t", "refused\tStore\t4\t"))
 
 
@@ -34,15 +36,16 @@ class RefusedPlay:
             ask(self.file, planting_store(planted))
 
     def models_after(self, given, status):
-        """The models of what the file may hold after these answers: a refused call has changed nothing, and where the program itself gave
-        up, the call may be done or not. And whether one was refused."""
+        """The models of what the file may hold after these answers: a refused call has changed nothing, and where the
+        program itself gave up, the call may be done or not. And whether one was refused."""
         model, is_refused = copy.deepcopy(self.model), False
         for line, answer in zip(self.play, given):
             after = copy.deepcopy(model)
             right = after.play(line)
             is_done = answer == right or is_stopped_behind(answer, right)
             if answer != right:
-                check(not is_refused and (is_done or is_want(answer)), f"{line!r} is answered {answer!r}, wanted {right!r}")
+                check(not is_refused and (is_done or is_want(answer)),
+                      f"{line!r} is answered {answer!r}, wanted {right!r}")
                 is_refused = True
                 # A store that can't be closed is closed all the same, and fixes that can't be set wait no more.
                 model.is_open = after.is_open if line == "close" else model.is_open
@@ -74,7 +77,8 @@ class RefusedPlay:
         return is_refused, is_noticed
 
     def check_file(self, path, models, place):
-        """The file holds what one of the models does, to the order of what is remembered where SQL made it, and can be opened."""
+        """The file holds what one of the models does, to the order of what is remembered where SQL made it, and can be
+        opened."""
         if self.file:
             found = rows_of(path)
             models = [model for model in models if rows_of_model(model.store) == found]
@@ -98,7 +102,8 @@ def refuses_each_allocation(refused):
 
 
 def refuses_for_want_of_memory(folder):
-    """Each allocation of a play of every call is refused in turn; and of plays on planted stores, after which their order is told."""
+    """Each allocation of a play of every call is refused in turn; and of plays on planted stores, after which their
+    order is told."""
     library = refusing_library(folder)
     for name, planted, play, least in [
         ("calls", None, REFUSED_PLAY, 100), ("uses", SECOND_STORE, REFUSED_USES, 50),

@@ -4,7 +4,8 @@ import random
 
 from kept_answers import KeptAnswer, contents_of, digest, records_of
 from list_book import ListBook
-from store_cases import CHILDREN, CONFIG, CONFIG_PATH, HOOKS, MESSAGE, MODES, NOT_A_STORE, OTHER_PATHS, SQL, SHOWN, unescaped
+from store_cases import (CHILDREN, CONFIG, CONFIG_PATH, HOOKS, MESSAGE, MODES, NOT_A_STORE, OTHER_PATHS, SHOWN, SQL,
+                         unescaped)
 from store_plants import PLANTED_STORES, TO_VERSION_1, contents_in
 
 NO_CONFIG, NOTHING_STAGED = "refused\t7\tNoConfig\tnone", "refused\t10\tNothingStaged\tnone"
@@ -69,9 +70,9 @@ def book_of(answers):
 
 
 def migrated(book):
-    """The book that a migration makes of the answers of a store of version 1: the greatest key is in front. A key is what the columns
-    have, two digests, and those are compared by their bytes."""
-    return book_of(sorted((answer for _, answer in book.rows()), key=lambda answer: [digest(record) for record in key_records(answer)]))
+    """The book that a migration makes of the answers of a store of version 1: the greatest key is in front. A key is
+    what the columns have, two digests, and those are compared by their bytes."""
+    return book_of(sorted((answer for _, answer in book.rows()), key=lambda answer: list(map(digest, key_records(answer)))))
 
 
 def store_of(planted):
@@ -85,8 +86,8 @@ def begun_message(message):
 
 
 class Model:
-    """What a store holds, and what it answers to a line. Contents and messages stay as the lines write them, but for all contents
-    that are kept, which are bytes."""
+    """What a store holds, and what it answers to a line. Contents and messages stay as the lines write them, but for
+    all contents that are kept, which are bytes."""
 
     def __init__(self):
         self.store, self.is_open, self.waiting, self.children = None, False, {}, []
@@ -115,7 +116,8 @@ class Model:
         return "ok"
 
     def execute(self, text):
-        """Makes one of the planted stores in an empty database, and opens it not; or one of version 1 of that which is there."""
+        """Makes one of the planted stores in an empty database, and opens it not; or one of version 1 of that which is
+        there."""
         if text == TO_VERSION_1:
             if self.store is None:
                 return NO_TABLE
@@ -232,7 +234,8 @@ class Model:
     @staticmethod
     def told(answer):
         """What is answered where an answer is found."""
-        changes = "".join(f"\t{path}\tgone" if now is None else f"\t{path}\tnow\t{escaped(now)}" for path, now in answer.changes)
+        changes = "".join(f"\t{path}\tgone" if now is None else f"\t{path}\tnow\t{escaped(now)}"
+                          for path, now in answer.changes)
         return f"ok\t{answer.status}\t{escaped(answer.output)}{changes}"
 
     def answers(self):
@@ -267,9 +270,9 @@ class Model:
         return [(word, ending) for word, at, ending in HOOKS[self.store["staged"][CONFIG_PATH][1]] if at == stage]
 
     def run_stage(self, stage, paths, tree):
-        """The tree that the hooks of a stage leave, of which each gets those of these paths that end as it says, and whether all pass:
-        one that gets none does, else its child has to end with 0 and to change no file but the message's. A child that has no
-        row isn't started; the rows are of plain files."""
+        """The tree that the hooks of a stage leave, of which each gets those of these paths that end as it says, and
+        whether all pass: one that gets none does, else its child has to end with 0 and to change no file but the
+        message's. A child that has no row isn't started; the rows are of plain files."""
         is_passed = True
         for word, ending in self.hooks_of(stage):
             seen = {path: tree[path] for path in sorted(paths) if path in tree and path.endswith(ending)}
@@ -282,8 +285,8 @@ class Model:
         return tree, is_passed
 
     def answered(self, words, seen):
-        """What is remembered for the words and the seen files, or else the answer of a child, which is remembered then; none where
-        no row has one, since it isn't started."""
+        """What is remembered for the words and the seen files, or else the answer of a child, which is remembered then;
+        none where no row has one, since it isn't started."""
         files = [(path, MODES[mode], unescaped(content)) for path, (mode, content) in sorted(seen.items())]
         asked = KeptAnswer([word.encode() for word in words], files, [], 0)
         answer = self.store["answers"].find(key_records(asked))
@@ -344,7 +347,8 @@ class Model:
         return self.commit_filled(message)
 
     def commit_filled(self, message):
-        """Commits, unless the message is blank. The plays have no message but those, in which there is nothing to clean."""
+        """Commits, unless the message is blank. The plays have no message but those, in which there is nothing to
+        clean."""
         if not message.replace("\\n", "").strip():
             return EMPTY_MESSAGE
         made = self.commit(message)
@@ -449,12 +453,15 @@ def recall_of(answer):
 
 
 def recalled_by(play):
-    """The lines that recall each answer that a play's children, its lines or the stores that it makes tell, each with all that is told
-    to it."""
+    """The lines that recall each answer that a play's children, its lines or the stores that it makes tell, each with
+    all that is told to it."""
     answers = []
     for line in play:
         word, _, rest = line.partition(" ")
-        answers += [answer_in(rest)] if word in ("child", "remember") else PLANTED_STORES[rest].answers if rest in PLANTED_STORES else []
+        if word in ("child", "remember"):
+            answers.append(answer_in(rest))
+        elif rest in PLANTED_STORES:
+            answers += PLANTED_STORES[rest].answers
     told = {}
     for answer in answers:
         told.setdefault(recall_of(answer), []).append(Model.told(answer))
@@ -462,9 +469,9 @@ def recalled_by(play):
 
 
 def lines_behind(play, count, is_open):
-    """The lines that open a store behind a stop, have told what is remembered, go on with the line of the play that was stopped, and
-    have told what stands and is remembered then; where no store was open, with those behind the one that opens it. None where no line
-    was stopped."""
+    """The lines that open a store behind a stop, have told what is remembered, go on with the line of the play that was
+    stopped, and have told what stands and is remembered then; where no store was open, with those behind the one that
+    opens it. None where no line was stopped."""
     if count == len(play):
         return []
     told, rest = recalled_by(play), play[count:]

@@ -1,11 +1,12 @@
-"""What other programs do to the files of stores in tests/store.py: stores that they make, rows and tables that they change, and how
-the program refuses these then."""
+"""What other programs do to the files of stores in tests/store.py: stores that they make, rows and tables that they
+change, and how the program refuses these then."""
 import collections
 import hashlib
 
 from kept_answers import (GREATEST_TICK, KeptAnswer, b, changed_item, changes_record, contents_of, digest, listed, n4,
                           records_of, seen_item, statements_of, use_of)
-from store_cases import (DAMAGED, FIRST_TABLES, LAST, MESSAGE, MIDDLE, MODES, NOT_A_STORE, ONE, SQL, TABLES, TWO, unescaped)
+from store_cases import (DAMAGED, FIRST_TABLES, LAST, MESSAGE, MIDDLE, MODES, NOT_A_STORE, ONE, SQL, TABLES, TWO,
+                         unescaped)
 
 NO_ROWID = SQL + "no rowid is left"
 GREATEST_ROWID = 2 ** 63 - 1
@@ -18,8 +19,8 @@ PLANTED_ANSWERS = [
     (KeptAnswer([], [], [], 7), " | ", "7\t"),
 ]
 
-# What is done to the file of FILLING, how it is refused then, and what takes it back. A store of version 1 that has these rows is
-# refused in the same way.
+# What is done to the file of FILLING, how it is refused then, and what takes it back. A store of version 1 that has
+# these rows is refused in the same way.
 PLANTS = [
     ("a blob under another digest", "INSERT INTO blobs VALUES (x'00', x'33')", DAMAGED, "DELETE FROM blobs WHERE digest = x'00'"),
     ("other bytes under a digest", f"UPDATE blobs SET bytes = x'33' WHERE digest = x'{ONE}'", DAMAGED, f"UPDATE blobs SET bytes = x'31' WHERE digest = x'{ONE}'"),
@@ -43,7 +44,8 @@ PLANTS = [
     ("commits 1, 2 and 4", "INSERT INTO commits VALUES (4, x'6d')", DAMAGED, "DELETE FROM commits WHERE n = 4"),
     ("a commit 0", "INSERT INTO commits VALUES (0, x'6d')", DAMAGED, "DELETE FROM commits WHERE n = 0"),
     ("a commit below 0", "INSERT INTO commits VALUES (-1, x'6d')", DAMAGED, "DELETE FROM commits WHERE n = -1"),
-    # A row more is put in after all others, so behind the greatest rowid there is room for none. Behind the one below it there is.
+    # A row more is put in after all others, so behind the greatest rowid there is room for none. Behind the one below
+    # it there is.
     *((f"the greatest rowid in {table}", f"UPDATE {table} SET rowid = {2 ** 63 - 1} WHERE {where}", NO_ROWID, f"UPDATE {table} SET rowid = {2 ** 63 - 2} WHERE {where}")
       for table, where in [("blobs", f"digest = x'{ONE}'"), ("staged", "path = 'a.txt'"), ("fixes", "path = 'a.txt'"), ("entries", "n = 1 AND path = 'a.txt'")]),
     ("the greatest rowid in answers", f"INSERT INTO answers (rowid, words, seen, output, changes, status) VALUES ({2 ** 63 - 1}, x'{ONE}', x'{ONE}', x'{TWO}', x'{TWO}', 0)", NO_ROWID,
@@ -71,7 +73,7 @@ LARGE_PLANTS = [
 REPAIRED_META = "DELETE FROM meta; INSERT INTO meta VALUES ('version', 2), ('limit', 10000)"
 # Rows of `meta` that tell no version, or one that isn't that of the tables.
 META_PLANTS = [
-    (name, f"DELETE FROM meta; INSERT INTO meta VALUES {rows}" if rows else "DELETE FROM meta", NOT_A_STORE, REPAIRED_META)
+    (name, f"DELETE FROM meta{rows and '; INSERT INTO meta VALUES '}{rows}", NOT_A_STORE, REPAIRED_META)
     for name, rows in [
         ("no rows of meta", ""),
         ("no version", "('limit', 10000)"),
@@ -91,7 +93,7 @@ META_PLANTS = [
 ]
 # The same of version 1, to the file of FILLING as one of version 1.
 FIRST_META_PLANTS = [
-    (name, f"DELETE FROM meta; INSERT INTO meta VALUES {rows}" if rows else "DELETE FROM meta", NOT_A_STORE,
+    (name, f"DELETE FROM meta{rows and '; INSERT INTO meta VALUES '}{rows}", NOT_A_STORE,
      "DELETE FROM meta; INSERT INTO meta VALUES ('version', 1)")
     for name, rows in [
         ("no rows of meta", ""),
@@ -105,15 +107,14 @@ FIRST_META_PLANTS = [
         ("a version under another name", "('edition', 1)"),
     ]
 ]
-# Answers that stand in a store beside one staged file and one commit, in the order of `THREE_RECALLS`: the last one is in front where
-# nothing else is said.
+# Answers that stand in a store beside one staged file and one commit, in the order of `THREE_RECALLS`: the last one is
+# in front where nothing else is said.
 THREE_ANSWERS = [
     KeptAnswer([b"c", b"a.txt"], [("a.txt", 0, b"1")], [("a.txt", b"2")], 0, b"one"),
     KeptAnswer([b"d"], [], [], 3),
     KeptAnswer([b"c"], [("a.txt", 0, b"1"), ("b", 0, b"")], [("b", None)], 255, b"\n"),
 ]
-REPAIRED_USES = "; ".join(["DELETE FROM uses", *(
-    "INSERT INTO uses VALUES (x'{}', x'{}', {})".format(*use_of(answer).split("|"), at + 1) for at, answer in enumerate(THREE_ANSWERS))])
+REPAIRED_USES = "; ".join(["DELETE FROM uses", *statements_of(THREE_ANSWERS, 1)[len(THREE_ANSWERS):]])
 FIRST_ANSWER = "words = x'{}' AND seen = x'{}'".format(*use_of(THREE_ANSWERS[0]).split("|"))
 # What is done to a store of version 2 with these answers, so that it is damaged, and what takes it back.
 USE_PLANTS = [
@@ -129,12 +130,13 @@ USE_PLANTS = [
         *((f"a tick of {tick}", f"UPDATE uses SET tick = {tick} WHERE tick = 2")
           for tick in [0, -1, GREATEST_TICK + 1, 2 ** 63 - 1, -2 ** 63]),
     ]),
-    ("a use without an answer", f"DELETE FROM answers WHERE {FIRST_ANSWER}", DAMAGED, "; ".join(statements_of(THREE_ANSWERS[:1]))),
+    ("a use without an answer", f"DELETE FROM answers WHERE {FIRST_ANSWER}", DAMAGED,
+     "; ".join(statements_of(THREE_ANSWERS[:1]))),
     ("no limit", "DELETE FROM meta WHERE name = 'limit'", DAMAGED, REPAIRED_META),
     *((f"a limit of {limit}", f"UPDATE meta SET value = {limit} WHERE name = 'limit'", DAMAGED, REPAIRED_META)
       for limit in [0, -1, 100_001, 2 ** 32 + 10_000, 2 ** 63 - 1, -2 ** 63]),
-    *((f"three answers where the limit is {limit}", f"UPDATE meta SET value = {limit} WHERE name = 'limit'", DAMAGED, REPAIRED_META)
-      for limit in [1, 2]),
+    *((f"three answers where the limit is {limit}", f"UPDATE meta SET value = {limit} WHERE name = 'limit'", DAMAGED,
+       REPAIRED_META) for limit in [1, 2]),
     ("the greatest rowid in uses", f"UPDATE uses SET rowid = {GREATEST_ROWID} WHERE tick = 2", NO_ROWID,
      f"UPDATE uses SET rowid = {GREATEST_ROWID - 1} WHERE tick = 2"),
 ]
@@ -151,7 +153,8 @@ HARMLESS_PLANTS = [
 
 
 def damaged_answers():
-    """Answers that break one rule of a store each: its name, the contents that are planted, the four records and the status."""
+    """Answers that break one rule of a store each: its name, the contents that are planted, the four records and the
+    status."""
     whole = KeptAnswer([b"c", b"a"], [("a", 0, b"1"), ("b", 1, b"2")], [("a", b"3"), ("b", None)], 0)
     contents, records = contents_of(whole), records_of(whole)
     words, seen, output, changes = records
@@ -212,7 +215,7 @@ OTHER_TABLES = [
     ("no table of uses", "DROP TABLE uses"),
     ("uses whose ticks may be equal", f"DROP TABLE uses; {TABLES[-1].replace(' UNIQUE', '')}"),
     ("uses without a key", f"DROP TABLE uses; {TABLES[-1].replace(', PRIMARY KEY (words, seen)', '')}"),
-    ("uses that refer to answers", f"DROP TABLE uses; {TABLES[-1].replace('(words, seen))', '(words, seen), FOREIGN KEY (words, seen) REFERENCES answers)')}"),
+    ("uses that refer to answers", f"DROP TABLE uses; {TABLES[-1].replace('seen BLOB', 'seen BLOB REFERENCES blobs')}"),
     ("an index more on uses", "CREATE INDEX lately ON uses (tick)"),
     ("the answers behind the uses", f"DROP TABLE answers; {FIRST_TABLES[-1]}"),
 ]
@@ -235,27 +238,29 @@ OTHER_SCHEMAS = [
 
 # ---- stores that SQL makes
 
-# A store by its version, its staged files and commits as the model has them, its remembered answers, and in version 2 the tick of
-# the first of these, which is the last used; each other has a tick more than the one before it.
+# A store by its version, its staged files and commits as the model has them, its remembered answers, and in version 2
+# the tick of the first of these, which was used least lately; each further one has a tick more.
 PlantedStore = collections.namedtuple("PlantedStore", "version staged history answers tick", defaults=[1])
 
 
 def contents_in(planted):
     """All contents that a store keeps."""
     trees = [planted.staged, *(tree for _, tree in planted.history)]
-    return sorted({unescaped(text) for tree in trees for _, text in tree.values()} | {each for answer in planted.answers for each in contents_of(answer)})
+    files = {unescaped(text) for tree in trees for _, text in tree.values()}
+    return sorted(files.union(*map(contents_of, planted.answers)))
 
 
 def planting_store(planted):
     """SQL that makes a store in an empty database, in one transaction, on one line."""
     columns = lambda path, mode, text: f"'{path}', {MODES[mode]}, x'{digest(unescaped(text)).hex()}'"
-    second = planted.version == 2
+    second, history = planted.version == 2, list(enumerate(planted.history, 1))
     return "; ".join([
         "BEGIN", *(TABLES if second else FIRST_TABLES), f"INSERT INTO meta VALUES ('version', {planted.version})",
         *(["INSERT INTO meta VALUES ('limit', 10000)"] if second else []),
         *(f"INSERT INTO blobs VALUES (x'{digest(each).hex()}', x'{each.hex()}')" for each in contents_in(planted)),
-        *(f"INSERT INTO commits VALUES ({at}, x'{unescaped(message).hex()}')" for at, (message, _) in enumerate(planted.history, 1)),
-        *(f"INSERT INTO entries VALUES ({at}, {columns(path, *file)})" for at, (_, tree) in enumerate(planted.history, 1) for path, file in tree.items()),
+        *(f"INSERT INTO commits VALUES ({at}, x'{unescaped(message).hex()}')" for at, (message, _) in history),
+        *(f"INSERT INTO entries VALUES ({at}, {columns(path, *file)})" for at, (_, tree) in history
+          for path, file in tree.items()),
         *(f"INSERT INTO staged VALUES ({columns(path, *file)})" for path, file in planted.staged.items()),
         *statements_of(planted.answers, planted.tick if second else None), "COMMIT",
     ])
@@ -268,7 +273,9 @@ SECOND_STORE = PlantedStore(2, *REPOSITORY, THREE_ANSWERS)
 LAST_TICKS = PlantedStore(2, *REPOSITORY, THREE_ANSWERS, GREATEST_TICK - len(THREE_ANSWERS) + 1)
 PLANTED_STORES = {planting_store(planted): planted for planted in (FIRST_STORE, SECOND_STORE, LAST_TICKS)}
 # SQL that makes a store of version 1 of one of version 2.
-TO_VERSION_1 = "BEGIN; DELETE FROM meta WHERE name = 'limit'; UPDATE meta SET value = 1 WHERE name = 'version'; DROP TABLE uses; COMMIT"
+TO_VERSION_1 = ("BEGIN; DELETE FROM meta WHERE name = 'limit'; UPDATE meta SET value = 1 WHERE name = 'version'; "
+                "DROP TABLE uses; COMMIT")
 # Plays in which a disk stops, of a store of version 1 that is opened, and of one whose last tick is the greatest.
-STOPPED_MIGRATION = [f"execute {planting_store(FIRST_STORE)}", "open", MIDDLE, "stage plain b.txt 2", "remember e | | | 0", "set-limit 2"]
+STOPPED_MIGRATION = [f"execute {planting_store(FIRST_STORE)}", "open", MIDDLE, "stage plain b.txt 2",
+                     "remember e | | | 0", "set-limit 2"]
 STOPPED_TICKS = [f"execute {planting_store(LAST_TICKS)}", "open", LAST, MIDDLE, "remember e | | | 0"]

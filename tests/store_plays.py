@@ -1,18 +1,18 @@
-"""Cases of tests/store.py: stories, line by line, and random plays beside the model, in files that are read by sqlite3 then; and plays
-that are killed."""
+"""Cases of tests/store.py: stories, line by line, and random plays beside the model, in files that are read by sqlite3
+then; and plays that are killed."""
 import copy
 import os
 import random
 import subprocess
 
-from store_cases import (ANSWER_ROWS, ANSWER_ROWS_LEFT, BAD_LINES, CHILDREN, COMMITTED_ROWS, EDITABLE, EDITABLE_COUNTS, EDITED,
-                         EDITED_COUNTS, EDITS, FACTS, FAULTS, FIXES_AFTER, FOUR_CHILDREN, FOUR_STORY, HOOKS_STORY, HOST_STORY,
-                         KEPT_ROWS, LARGE_EDITS, LATER_REFUSED_EDITS, META_ROWS, NOT_A_STORE, ONE_STAGED, REFUSED_EDITS,
-                         REPLACED_META_ROWS, RUN_CHILDREN, RUN_STORY, SHOWN, SQL, STORY, TAKEN_ROWS, UNSTAGED_STORY, USE_ROWS,
-                         USE_ROWS_LEFT)
+from store_cases import (ANSWER_ROWS, ANSWER_ROWS_LEFT, BAD_LINES, CHILDREN, COMMITTED_ROWS, EDITABLE, EDITABLE_COUNTS,
+                         EDITED, EDITED_COUNTS, EDITS, FACTS, FAULTS, FIXES_AFTER, FOUR_CHILDREN, FOUR_STORY,
+                         HOOKS_STORY, HOST_STORY, KEPT_ROWS, LARGE_EDITS, LATER_REFUSED_EDITS, META_ROWS, NOT_A_STORE,
+                         ONE_STAGED, REFUSED_EDITS, REPLACED_META_ROWS, RUN_CHILDREN, RUN_STORY, SHOWN, SQL, STORY,
+                         TAKEN_ROWS, UNSTAGED_STORY, USE_ROWS, USE_ROWS_LEFT)
 from store_model import Model, model_of, random_play
-from store_program import (PROGRAM, answered_until_killed, answers, ask, check, check_file, check_story, rows_of, rows_of_model,
-                           run, run_words, seconds_of, shown)
+from store_program import (PROGRAM, answered_until_killed, answers, ask, check, check_file, check_story, rows_of,
+                           rows_of_model, run, run_words, seconds_of, shown)
 
 
 def plays_the_story(folder):
@@ -32,8 +32,9 @@ def plays_the_story_of_an_unstaged_file(folder):
 def plays_the_story_of_a_host(folder):
     path = os.path.join(folder, "store.db")
     large = "1" * 16777217
-    story = [*HOST_STORY, (f"add - /a {large}", "refused\t3\tBadPath\t2"), (f"add - a.txt/b {large}", "refused\t5\tTooLarge\tnone"),
-             (f"add - a.txt {large[1:]}", "ok"), ("weigh", "ok\t2\t16777220")]
+    story = [*HOST_STORY, (f"add - /a {large}", "refused\t3\tBadPath\t2"),
+             (f"add - a.txt/b {large}", "refused\t5\tTooLarge\tnone"), (f"add - a.txt {large[1:]}", "ok"),
+             ("weigh", "ok\t2\t16777220")]
     check_story(story, answers(path, [line for line, _ in story]))
 
 
@@ -53,11 +54,12 @@ def makes_several_changes_at_once(folder):
 
 def makes_none_of_several_changes_where_one_is_refused(folder):
     """Wherever it stands among them, and whatever refuses it: the file, the fixes and the contents are as they were."""
-    each = [(" | ".join([*EDITABLE[:at], edit, *EDITABLE[at:]]), *refusals, at) for edit, *refusals in [*REFUSED_EDITS, *LARGE_EDITS]
-            for at in range(len(EDITABLE) + 1)]
+    each = [(" | ".join([*EDITABLE[:at], edit, *EDITABLE[at:]]), *refusals, at)
+            for edit, *refusals in [*REFUSED_EDITS, *LARGE_EDITS] for at in range(len(EDITABLE) + 1)]
     for by_store, word in enumerate(["edit-all", "stage-all"]):
         path, model = os.path.join(folder, f"{word}.db"), model_of(EDITED)
-        refused = [(f"{word} {edits}", f"refused\t{refusals[by_store]}\tat\t{at}") for edits, *refusals, at in [*each, *LATER_REFUSED_EDITS]]
+        refused = [(f"{word} {edits}", f"refused\t{refusals[by_store]}\tat\t{at}")
+                   for edits, *refusals, at in [*each, *LATER_REFUSED_EDITS]]
         given = answers(path, [*EDITED, *(line for line, _ in refused), *SHOWN, "close"])[len(EDITED):]
         check_story(refused, given)
         for line, wanted in refused:
@@ -66,13 +68,15 @@ def makes_none_of_several_changes_where_one_is_refused(folder):
         check(ask(path, COUNTS) == EDITABLE_COUNTS[:1], f"{word}: sqlite3 counts {ask(path, COUNTS)!r} after refusals")
         check_file(path, model_of(EDITED).store)
         made = f"{word} {' | '.join(EDITABLE)}"
-        check(answers(path, ["open", made, "close"]) == ["ok"] * 3 and model.play(made) == "ok", f"{word}: the changes alone are refused")
-        check(ask(path, COUNTS) == EDITABLE_COUNTS[1:], f"{word}: sqlite3 counts {ask(path, COUNTS)!r} after the changes")
+        check(answers(path, ["open", made, "close"]) == ["ok"] * 3, f"{word}: the changes alone are refused")
+        check(model.play(made) == "ok", f"{word}: the model refuses the changes alone")
+        check(ask(path, COUNTS) == EDITABLE_COUNTS[1:], f"{word}: sqlite3 counts {ask(path, COUNTS)!r} then")
         check_file(path, model.store)
 
 
 def plays_the_stories_of_hooks(folder):
-    for at, (children, told) in enumerate([(CHILDREN, HOOKS_STORY), (FOUR_CHILDREN, FOUR_STORY), (RUN_CHILDREN, RUN_STORY)]):
+    stories = [(CHILDREN, HOOKS_STORY), (FOUR_CHILDREN, FOUR_STORY), (RUN_CHILDREN, RUN_STORY)]
+    for at, (children, told) in enumerate(stories):
         path, model = os.path.join(folder, f"{at}.db"), Model()
         story = [*((line, "ok") for line in children), *told]
         check_story(story, answers(path, [line for line, _ in story]))
@@ -106,8 +110,8 @@ def reads_rows_in_the_order_of_their_keys(folder):
 def keeps_each_content_once(folder):
     path = os.path.join(folder, "store.db")
     answers(path, ["create", "stage plain a.txt 1", "stage plain b.txt 1", "commit m\\n", "close"])
-    counts = ask(path, "SELECT (SELECT count(*) FROM blobs), (SELECT count(*) FROM commits), (SELECT count(*) FROM entries)")
-    check(counts == ["1|1|2"], f"blobs, commits and entries number {counts!r}")
+    counts = [ask(path, f"SELECT count(*) FROM {table}") for table in ("blobs", "commits", "entries")]
+    check(counts == [["1"], ["1"], ["2"]], f"blobs, commits and entries number {counts!r}")
 
 
 def plays_as_the_model(folder):
@@ -129,8 +133,8 @@ def plays_as_the_model(folder):
 def refuses_bad_lines(folder):
     for at, line in enumerate(BAD_LINES):
         path = os.path.join(folder, f"{at}.db")
-        given, status, said = run(path, ["create", "stage plain a.txt 1", line])
-        check((given, status, said) == (["ok", "ok"], 2, "store_trial: this line can't be played\n"), f"{line!r}: {given!r} {status} {said!r}")
+        found = run(path, ["create", "stage plain a.txt 1", line])
+        check(found == (["ok", "ok"], 2, "store_trial: this line can't be played\n"), f"{line!r}: {found!r}")
         check(shown(path) == ONE_STAGED, f"{line!r} leaves {shown(path)!r}")
     for words in ([], ["log", "x"], ["disk", "1"], ["log", "1", "2"]):
         done = subprocess.run([PROGRAM, *words], capture_output=True, stdin=subprocess.DEVNULL)
@@ -156,8 +160,8 @@ def state_when_opened(model):
 
 
 def is_left_whole_by_a_kill(folder):
-    """Killed at random moments, the store is the one after some calls, at least those that were answered, in what it shows
-    and in its rows, in which contents stand that no file has."""
+    """Killed at random moments, the store is the one after some calls, at least those that were answered, in what it
+    shows and in its rows, in which contents stand that no file has."""
     chance = random.Random(1)
     lines = random_play(7, 600)
     # The least of three, so that a busy moment doesn't put the kills after the play's end; and a second at most.
@@ -173,7 +177,8 @@ def is_left_whole_by_a_kill(folder):
         found = opened[1:] if opened[0] == "ok" else None
         check(found is not None or opened[0] == NOT_A_STORE, f"kill {number}: {opened[0]!r}")
         state = (found, rows_of(path) if found else None)
-        check(state in [states[answered][-1], *states[min(answered + 1, len(lines))]], f"kill {number} after {answered} answers: it is {state!r}")
+        check(state in [states[answered][-1], *states[min(answered + 1, len(lines))]],
+              f"kill {number} after {answered} answers: it is {state!r}")
         in_play += 0 < answered < len(lines)
     check(in_play > 0, "no kill came in mid-play")
     print(f"kills: {in_play} of 40 came in mid-play")
@@ -181,5 +186,6 @@ def is_left_whole_by_a_kill(folder):
 
 CASES = [plays_the_story, plays_the_story_of_an_unstaged_file, plays_the_story_of_a_host, makes_several_changes_at_once,
          makes_none_of_several_changes_where_one_is_refused, plays_the_stories_of_hooks,
-         keeps_fixes_of_staged_files_until_the_next_stage, numbers_and_says_each_refusal, reads_rows_in_the_order_of_their_keys,
-         keeps_each_content_once, plays_as_the_model, refuses_bad_lines, refuses_a_second_store, is_left_whole_by_a_kill]
+         keeps_fixes_of_staged_files_until_the_next_stage, numbers_and_says_each_refusal,
+         reads_rows_in_the_order_of_their_keys, keeps_each_content_once, plays_as_the_model, refuses_bad_lines,
+         refuses_a_second_store, is_left_whole_by_a_kill]

@@ -10,7 +10,8 @@ from kept_answers import GREATEST_TICK, SELECT_ROWS, SELECT_USES, digest, row_of
 from store_cases import FIRST_TABLES, MODES, SHOWN, TABLES, unescaped
 
 HERE = os.path.dirname(os.path.abspath(__file__))
-PROGRAM = os.path.abspath(sys.argv[1] if len(sys.argv) > 1 else os.path.join(HERE, "..", "crates/store_trial/out/store_trial"))
+BUILT = os.path.join(HERE, "..", "crates/store_trial/out/store_trial")
+PROGRAM = os.path.abspath(sys.argv[1] if len(sys.argv) > 1 else BUILT)
 NOBODY = 65534
 SQLITE = shutil.which("sqlite3") or sys.exit("tests/store.py: there is no sqlite3 to read the files with")
 
@@ -49,7 +50,8 @@ def run_words(words, lines, program=PROGRAM, **how):
 def answers(path, lines):
     """The answers to lines, each of which has to have one."""
     given, status, said = run(path, lines)
-    check(status == 0 and len(given) == len(lines), f"status {status} after {len(given)} of {len(lines)} answers: {said!r} {given[-1:]!r}")
+    check(status == 0 and len(given) == len(lines),
+          f"status {status} after {len(given)} of {len(lines)} answers: {said!r} {given[-1:]!r}")
     return given
 
 
@@ -118,7 +120,7 @@ MARK = "-- rows of "
 def rows_of(path):
     """The rows of each of these tables that a file has, as lines."""
     there = ask(path, "SELECT name FROM sqlite_schema WHERE type = 'table' ORDER BY name")
-    lines = ask(path, " ".join(f"SELECT '{MARK}{table}'; {select};" for table, select in SELECTS.items() if table in there))
+    lines = ask(path, " ".join(f"SELECT '{MARK}{table}'; {SELECTS[table]};" for table in SELECTS if table in there))
     found = {}
     for line in lines:
         if line.startswith(MARK):
@@ -128,8 +130,13 @@ def rows_of(path):
     return found
 
 
+def ticks_in(path):
+    return [int(line) for line in ask(path, "SELECT tick FROM uses ORDER BY tick")]
+
+
 def commits_in_log(path):
-    """How many transactions stand in the log beside a file: each ends with the frame of a page that tells the size of the database."""
+    """How many transactions stand in the log beside a file: each ends with the frame of a page that tells the size of
+    the database."""
     if not os.path.exists(path + "-wal"):
         return 0
     with open(path + "-wal", "rb") as file:
@@ -147,6 +154,10 @@ def digest_of(text):
     return digest(unescaped(text)).hex()
 
 
+def files_of(tree):
+    return [f"{path}|{MODES[mode]}|{digest_of(content)}" for path, (mode, content) in sorted(tree.items())]
+
+
 def meta_of(store):
     return {1: ["version|1"], 2: [f"limit|{store['answers'].limit}", "version|2"]}[store["version"]]
 
@@ -157,11 +168,11 @@ def rows_of_model(store):
     rows = {
         "meta": meta_of(store),
         "blobs": sorted(f"{digest(content).hex()}|{content.hex().upper()}" for content in store["blobs"]),
-        "staged": [f"{path}|{MODES[mode]}|{digest_of(content)}" for path, (mode, content) in sorted(store["staged"].items())],
-        "fixes": [f"{path}|1|" if now is None else f"{path}|0|{digest_of(now)}" for path, now in sorted(store["fixes"].items())],
-        "commits": [f"{at + 1}|{hex_of(message)}" for at, (message, _) in enumerate(store["history"])],
-        "entries": [f"{at + 1}|{path}|{MODES[mode]}|{digest_of(content)}" for at, (_, tree) in enumerate(store["history"])
-                    for path, (mode, content) in sorted(tree.items())],
+        "staged": files_of(store["staged"]),
+        "fixes": [f"{path}|1|" if now is None else f"{path}|0|{digest_of(now)}"
+                  for path, now in sorted(store["fixes"].items())],
+        "commits": [f"{at}|{hex_of(message)}" for at, (message, _) in enumerate(store["history"], 1)],
+        "entries": [f"{at}|{file}" for at, (_, tree) in enumerate(store["history"], 1) for file in files_of(tree)],
         "answers": sorted(row_of(answer) for answer in kept),
     }
     return rows | {"uses": [use_of(answer) for answer in kept]} if store["version"] == 2 else rows
@@ -171,7 +182,8 @@ def check_rows(found, store, place=""):
     wanted = rows_of_model(store)
     check(found.keys() == wanted.keys(), f"{place}the tables are {list(found)!r}, wanted {list(wanted)!r}")
     for table in wanted:
-        check(found[table] == wanted[table], f"{place}the rows of {table} are {found[table]!r:.2000}, wanted {wanted[table]!r:.2000}")
+        check(found[table] == wanted[table],
+              f"{place}the rows of {table} are {found[table]!r:.2000}, wanted {wanted[table]!r:.2000}")
 
 
 def check_file(path, store):

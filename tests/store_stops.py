@@ -1,5 +1,5 @@
-"""Cases of tests/store.py: a disk in memory that stops at each operation on its log or its database file in turn, and loses what
-wasn't synchronized. What is opened then is what stood before a line or what stands behind it."""
+"""Cases of tests/store.py: a disk in memory that stops at each operation on its log or its database file in turn, and
+loses what wasn't synchronized. What is opened then is what stood before a line or what stands behind it."""
 import copy
 import os
 from concurrent.futures import ThreadPoolExecutor
@@ -15,7 +15,8 @@ STOPPED = (SQL, "refused\t2\tStore\t3", "refused\tStore\t3\tat\tnone")
 
 
 def model_before_the_stop(play, which, number, given):
-    """The model after the lines before the first that was stopped, their number, and whether hooks behind a commit were."""
+    """The model after the lines before the first that was stopped, their number, and whether hooks behind a commit
+    were."""
     model = Model()
     for count, (line, answer) in enumerate(zip(play, given)):
         after = copy.deepcopy(model)
@@ -25,12 +26,13 @@ def model_before_the_stop(play, which, number, given):
             check(is_behind or answer.startswith(STOPPED), f"{which} {number}: {line!r} is answered {answer!r}")
             return model, count, is_behind
         model = after
+    check(len(given) == len(play), f"{which} {number}: {len(given)} of {len(play)} lines are answered")
     return model, len(play), False
 
 
 def counts_of(store):
-    """The answer to read-tables: the rows of a store's tables but for the contents and the uses, the contents, and that none of them
-    stands under another's digest. In `meta` a store of version 1 has a row less."""
+    """The answer to read-tables: the rows of a store's tables but for the contents and the uses, the contents, and that
+    none of them stands under another's digest. In `meta` a store of version 1 has a row less."""
     rows = rows_of_model(store)
     count = sum(len(rows[table]) for table in ("meta", "staged", "fixes", "commits", "entries", "answers"))
     return f"ok\t{count}\t{len(rows['blobs'])}\t0"
@@ -45,7 +47,8 @@ def opened(store):
 
 
 def state_of(store):
-    """How many rows a store has, and what it shows and how many rows it has once it is opened; or none where there is no store."""
+    """How many rows a store has, and what it shows and how many rows it has once it is opened; or none where there is
+    no store."""
     if store is None:
         return None
     then = opened(store)
@@ -57,8 +60,8 @@ def state_and_store(model):
 
 
 def lines_of_order(store):
-    """Lines that tell in which order the answers of a store stand, with what is answered to them: where the limit falls by one, the last
-    one is gone."""
+    """Lines that tell in which order the answers of a store stand, with what is answered to them: where the limit falls
+    by one, the last one is gone."""
     model, lines = opened(store), ["answers", "limit"]
     recalls = [recall_of(answer) for _, answer in model.store["answers"].rows()]
     for count in range(len(recalls) - 1, 0, -1):
@@ -68,7 +71,8 @@ def lines_of_order(store):
 
 
 def tells_order(words, played, store):
-    """Whether the answers of the store that is opened after a crash behind these lines stand in the order of this one."""
+    """Whether the answers of the store that is opened after a crash behind these lines stand in the order of this
+    one."""
     wanted = [("crash", "ok"), ("open", "ok"), *lines_of_order(store)]
     given, status, _ = run_words(words, [*played, *(line for line, _ in wanted)])
     return status == 0 and given[len(played):] == [answer for _, answer in wanted]
@@ -76,8 +80,8 @@ def tells_order(words, played, store):
 
 def state_after_the_stop(played, words, answered, model, lines_on):
     """What a store shows, and how many rows it has, that is opened after a crash behind the lines that were played, and
-    crashes again before its rows are counted; and what is answered to further lines then. Until the first crash it has to show
-    what it did before, unless none is open. Where there is no store, one is made for these lines."""
+    crashes again before its rows are counted; and what is answered to further lines then. Until the first crash it has
+    to show what it did before, unless none is open. Where there is no store, one is made for these lines."""
     before = model.shown() if model.is_open else []
     lines = [*played, *(SHOWN if before else []), "crash", "read-tables", "open", *SHOWN, "crash", "read-tables"]
     given, status, _ = run_words(words, [*lines, *lines_on])
@@ -92,13 +96,14 @@ def state_after_the_stop(played, words, answered, model, lines_on):
     if is_opened == "ok":
         return [counts, *found, counts_then], given_on
     made, _, _ = run_words(words, [*played, "crash", "create", *lines_on[1:]])
-    check(made[len(played):][:2] == ["ok", "ok"], f"{words}: where there is no store, none can be made: {made[len(played):][:2]!r}")
-    return None, made[len(played) + 1:]
+    made = made[len(played):]
+    check(made[:2] == ["ok", "ok"], f"{words}: where there is no store, none can be made: {made[:2]!r}")
+    return None, made[1:]
 
 
 def check_lines_behind(play, place, lines, given, model):
-    """What stood in the model's store remembers what was told and nothing else, and all lines are answered as by the model, which runs
-    hooks from scratch wherever no row is remembered."""
+    """What stood in the model's store remembers what was told and nothing else, and all lines are answered as by the
+    model, which runs hooks from scratch wherever no row is remembered."""
     told = recalled_by(play)
     # A fix that waited for the line that was stopped waits no more.
     model.is_open, model.waiting = False, {}
@@ -110,15 +115,17 @@ def check_lines_behind(play, place, lines, given, model):
         answered = dict(zip(told, given[at + 1:]))
         kept = [line for line, answer in answered.items() if answer != "ok\tnone"]
         check(given[at] == f"ok\t{len(kept)}", f"{place}: of {given[at]!r} answers the children tell {len(kept)}")
-        check(all(answered[line] in told[line] for line in kept), f"{place}: the answers {answered!r} aren't those of the children")
+        check(all(answered[line] in told[line] for line in kept), f"{place}: the answers {answered!r} aren't the children's")
 
 
 def play_stopped(play, which, number):
-    """Plays up to the line at which the disk stops, crashes, opens the store again, and plays on. Answers how many lines stand before
-    that one, or none where no line was stopped."""
+    """Plays up to the line at which the disk stops, crashes, opens the store again, and plays on. Answers how many
+    lines stand before that one, or none where no line was stopped."""
     words = [which, str(number)]
     given, status, _ = run_words(words, play)
-    check(status == 0 and len(given) == len(play), f"{words}: status {status} after {len(given)} answers")
+    # On a disk that stopped, no store can be opened.
+    ends = len(given) == len(play) or play[len(given)] == "open"
+    check(ends and status == (0 if len(given) == len(play) else 2), f"{words}: status {status} after {given[-1:]!r}")
     model, count, is_behind = model_before_the_stop(play, which, number, given)
     before, states = copy.deepcopy(model), [state_and_store(model)]
     if count < len(play):
@@ -129,8 +136,10 @@ def play_stopped(play, which, number):
         states = [(state, store) for state, store in states if state[1:-1] == states[-1][0][1:-1]]
     played, lines = play[:count + 1], lines_behind(play, count, before.is_open)
     found, given_on = state_after_the_stop(played, words, given[:count + 1], before, lines)
-    stores = [store for state, store in states if state == found and (store is None or tells_order(words, played, store))]
-    check(stores, f"{words}: {found!r} is none of {[state for state, _ in states]!r}, or its answers stand in another order")
+    alike = [store for state, store in states if state == found]
+    check(alike, f"{words}: {found!r} is none of {[state for state, _ in states]!r}")
+    stores = [store for store in alike if store is None or tells_order(words, played, store)]
+    check(stores, f"{words}: the answers stand in another order than in {len(alike)} stores")
     if count == len(play):
         return None
     model.store = stores[0]
@@ -139,13 +148,14 @@ def play_stopped(play, which, number):
 
 
 def stops_of(play, which):
-    """Where a play stops, as `play_stopped` says it, while the disk stops at each of its operations on a file in turn."""
+    """Where a play stops, as `play_stopped` says it, while the disk stops at each of its operations on a file in
+    turn."""
     with ThreadPoolExecutor(max_workers=len(os.sched_getaffinity(0))) as pool:
         stops = []
         while None not in stops:
             stops += pool.map(lambda number: play_stopped(play, which, number), range(len(stops), len(stops) + 64))
     ended = stops.index(None)
-    check(stops[ended:].count(None) == len(stops) - ended, f"a play that was stopped at more operations on the {which} ended")
+    check(stops[ended:].count(None) == len(stops) - ended, f"stopped at more operations on the {which}, a play ended")
     return stops[:ended]
 
 
@@ -161,8 +171,8 @@ def writes(play):
 
 
 def is_left_before_or_after_a_line_by_a_stop(play):
-    """The disk stops at each operation on the log, and at each on the database file, and loses what wasn't synchronized. Each
-    line that writes to the disk has to be stopped."""
+    """The disk stops at each operation on the log, and at each on the database file, and loses what wasn't
+    synchronized. Each line that writes to the disk has to be stopped."""
     stops = {which: stops_of(play, which) for which in ("log", "database")}
     unstopped = [play[at] for at in writes(play) if at not in stops["log"]]
     check(not unstopped, f"lines that no stop met: {unstopped!r}")
@@ -187,7 +197,8 @@ def is_left_before_or_after_a_use_by_a_stop(_folder):
 
 
 def is_of_one_version_behind_a_stop(_folder):
-    """A store of version 1 with a commit, a staged file and three answers stays so or is taken over, with all of them."""
+    """A store of version 1 with a commit, a staged file and three answers stays so or is taken over, with all of
+    them."""
     is_left_before_or_after_a_line_by_a_stop(STOPPED_MIGRATION)
 
 
@@ -204,15 +215,15 @@ def has_tick(words, played, tick):
 
 
 def is_whole_between_new_ticks_and_a_use(_folder):
-    """Stops leave a store whose ticks end with the greatest, one whose ticks are numbered anew, and one in which the use has a tick
-    more: all three come."""
+    """Stops leave a store whose ticks end with the greatest, one whose ticks are numbered anew, and one in which the
+    use has a tick more: all three come."""
     played, found = [*STOPPED_TICKS[:2], LAST], []
     for number in range(1000):
         words = ["log", str(number)]
         given, status, _ = run_words(words, played)
-        check(status == 0 and len(given) == len(played), f"{words}: status {status} after {given!r}")
         if given[:2] != ["ok", "ok"]:
             continue
+        check(status == 0 and len(given) == len(played), f"{words}: status {status} after {given!r}")
         ticks = tuple(tick for tick in (1, 2, 3, 4, GREATEST_TICK) if has_tick(words, played, tick))
         found += [ticks] if ticks not in found else []
         if given[2].startswith("ok"):
@@ -221,5 +232,5 @@ def is_whole_between_new_ticks_and_a_use(_folder):
 
 
 CASES = [is_left_before_or_after_a_call_by_a_stop, is_left_before_or_after_a_command_by_a_stop,
-         is_left_before_or_after_a_run_by_a_stop, is_left_before_or_after_a_use_by_a_stop, is_of_one_version_behind_a_stop,
-         is_left_before_or_after_new_ticks_by_a_stop, is_whole_between_new_ticks_and_a_use]
+         is_left_before_or_after_a_run_by_a_stop, is_left_before_or_after_a_use_by_a_stop,
+         is_of_one_version_behind_a_stop, is_left_before_or_after_new_ticks_by_a_stop, is_whole_between_new_ticks_and_a_use]

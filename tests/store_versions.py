@@ -1,4 +1,5 @@
-"""Cases of tests/store.py: stores of version 1, which become ones of version 2 when they are opened, in one transaction."""
+"""Cases of tests/store.py: stores of version 1, which become ones of version 2 when they are opened, in one
+transaction."""
 import collections
 import os
 import random
@@ -7,18 +8,19 @@ import shutil
 import sqlite3
 
 from kept_answers import KeptAnswer, planting_all, use_of
-from store_cases import FIRST_TABLES, SHOWN, SQL, THREE_RECALLS
+from store_cases import FIRST_TABLES, MODES, SHOWN, SQL, THREE_RECALLS
 from store_model import model_over
 from store_plants import FIRST_STORE, GREATEST_ROWID, NO_ROWID, planting_store
 from store_program import (answered_until_killed, answers, ask, check, check_file, check_rows, commits_in_log,
-                           held_back_by_permissions, rows_of, run, run_words, seconds_of)
+                           held_back_by_permissions, rows_of, run, run_words, seconds_of, ticks_in)
 from version_1 import stores
 
 FIRST_META = "INSERT INTO meta VALUES ('version', 1)"
 
 
 def uses_of(rows):
-    """The uses that a migration makes of the rows of all answers: the greatest key in front, and no more than 10,000."""
+    """The uses that a migration makes of the rows of all answers: the greatest key in front, and no more than
+    10,000."""
     return ["|".join(row.split("|")[:2]) for row in reversed(rows["answers"])][:10_000]
 
 
@@ -28,11 +30,8 @@ def check_migrated(found, before, place):
     wanted = before | {"meta": ["limit|10000", "version|2"], "uses": uses, "answers": before["answers"][-10_000:]}
     check(found.keys() == wanted.keys(), f"{place}: the tables are {list(found)!r}")
     for table in wanted:
-        check(found[table] == wanted[table], f"{place}: the rows of {table} are {found[table]!r:.2000}, wanted {wanted[table]!r:.2000}")
-
-
-def ticks_of(path):
-    return [int(line) for line in ask(path, "SELECT tick FROM uses ORDER BY tick")]
+        check(found[table] == wanted[table],
+              f"{place}: the rows of {table} are {found[table]!r:.2000}, wanted {wanted[table]!r:.2000}")
 
 
 def takes_a_store_of_version_1_over(folder):
@@ -46,9 +45,10 @@ def takes_a_store_of_version_1_over(folder):
     check(given[-2:] == ["ok\t3", "ok\t10000"], f"it has {given[-2:]!r} answers and limit")
     check(commits_in_log(path) == 1, f"it is taken over in {commits_in_log(path)} transactions")
     check_file(path, model.store)
-    check(ticks_of(path) == [1, 2, 3], f"its ticks are {ticks_of(path)!r}")
+    check(ticks_in(path) == [1, 2, 3], f"its ticks are {ticks_in(path)!r}")
     given, status, _ = run(path, lines)
-    check((given, status, commits_in_log(path)) == ([model.play(line) for line in lines], 0, 0), f"opened again it is answered {given!r}")
+    check((given, status) == ([model.play(line) for line in lines], 0), f"opened again it is answered {given!r}")
+    check(commits_in_log(path) == 0, f"opened again it takes {commits_in_log(path)} transactions")
     lines = ["open", *THREE_RECALLS, "remember e | | | 0", "stage plain b 1", "commit n", *SHOWN, "close"]
     given = answers(path, lines)
     check(given == [model.play(line) for line in lines], f"then it is answered {given!r}")
@@ -57,6 +57,15 @@ def takes_a_store_of_version_1_over(folder):
 
 def escaped(held):
     return held.decode("utf-8", "surrogateescape").replace("\\", "\\\\").replace("\n", "\\n").replace("\t", "\\t")
+
+
+def tree_fields(files):
+    modes = list(MODES)
+    return [field for mode, name, held in files for field in (modes[mode], escaped(name), escaped(held))]
+
+
+def change_fields(held):
+    return ["gone"] if held is None else ["now", escaped(held)]
 
 
 def shown_by_rows(path):
@@ -69,17 +78,19 @@ def shown_by_rows(path):
         commits = ask_rows("SELECT n, message FROM commits ORDER BY n")
         fixes = ask_rows("SELECT path, bytes FROM fixes LEFT JOIN blobs USING (digest) ORDER BY path")
     database.close()
-    tree = lambda files: [field for mode, name, held in files for field in (("plain", "executable")[mode], escaped(name), escaped(held))]
-    files = {n: [row[1:] for row in entries if row[0] == n] for n, _ in commits}
+    trees = {n: tree_fields(row[1:] for row in entries if row[0] == n) for n, _ in commits}
     return ["\t".join(["ok", *fields]) for fields in [
-        tree(staged), tree(files[len(files)]) if files else [], [field for n, message in commits for field in (str(n), escaped(message))],
-        [field for name, held in fixes for field in (escaped(name), *(["gone"] if held is None else ["now", escaped(held)]))],
-        [field for n, _ in commits for field in (str(n), *tree(files[n]))],
+        tree_fields(staged),
+        trees.get(len(commits), []),
+        [field for n, message in commits for field in (str(n), escaped(message))],
+        [field for name, held in fixes for field in (escaped(name), *change_fields(held))],
+        [field for n, _ in commits for field in (str(n), *trees[n])],
     ]]
 
 
 def opens_each_store_of_an_earlier_program(folder):
-    """Each of the stores that a program of version 1 left shows what stands in its rows, and has these and its uses then."""
+    """Each of the stores that a program of version 1 left shows what stands in its rows, and has these and its uses
+    then."""
     check(len(stores.names()) == 7, f"the stores are {stores.names()!r}")
     for name in stores.names():
         work = os.path.join(folder, name)
@@ -88,11 +99,12 @@ def opens_each_store_of_an_earlier_program(folder):
         before, wanted = rows_of(path), shown_by_rows(path)
         count = len(before["answers"])
         lines = ["open", *SHOWN, "answers", "limit"]
-        given, status, said = run(path, lines)
-        check((given, status) == (["ok", *wanted, f"ok\t{count}", "ok\t10000"], 0), f"{name} shows {given!r:.2000}, wanted {wanted!r:.2000} {said}")
+        given, status, _ = run(path, lines)
+        check((given, status) == (["ok", *wanted, f"ok\t{count}", "ok\t10000"], 0),
+              f"{name} shows {given!r:.2000}, wanted {wanted!r:.2000}")
         check(commits_in_log(path) == 1, f"{name} is taken over in {commits_in_log(path)} transactions")
         check_migrated(rows_of(path), before, name)
-        check(ticks_of(path) == list(range(1, count + 1)), f"the ticks of {name} are {ticks_of(path)!r}")
+        check(ticks_in(path) == list(range(1, count + 1)), f"the ticks of {name} are {ticks_in(path)!r}")
         check(shown_by_rows(path) == wanted, f"{name} shows {shown_by_rows(path)!r} then")
         given = answers(path, ["open", *SHOWN, "answers", "close"])
         check(given == ["ok", *wanted, f"ok\t{count}", "ok"], f"opened again, {name} shows {given!r}")
@@ -130,13 +142,15 @@ def keeps_the_last_10_000_answers_of_version_1(folder):
         wanted = [f"ok\t{told[use].status}\t" for use in (uses[0], uses[-1])]
         lines = ["open", "answers", "limit", *(recall_of(told[use]) for use in dropped), "close"]
         given = answers(path, lines)
-        check(given == ["ok", "ok\t10000", "ok\t10000", *["ok\tnone"] * len(dropped), "ok"], f"{count} answers: answered {given!r}")
+        check(given == ["ok", "ok\t10000", "ok\t10000", *["ok\tnone"] * len(dropped), "ok"],
+              f"{count} answers: answered {given!r}")
         check_migrated(rows_of(path), before, f"{count} answers")
-        ticks = ticks_of(path)
-        check(ticks == list(range(count - 9_999, count + 1)), f"{count} answers: the ticks are {ticks[:3]!r} .. {ticks[-3:]!r}")
-        check(ask(path, "PRAGMA integrity_check; PRAGMA foreign_key_check") == ["ok"], f"{count} answers: the file isn't sound")
+        ticks = ticks_in(path)
+        check(ticks == list(range(count - 9_999, count + 1)), f"{count} answers: the ticks are {ticks[:3]!r} and on")
+        sound = ask(path, "PRAGMA integrity_check; PRAGMA foreign_key_check")
+        check(sound == ["ok"], f"{count} answers: the file isn't sound: {sound!r:.500}")
         given = answers(path, ["open", *found, "remember e | | | 0", "answers", found[0], "close"])
-        check(given == ["ok", *wanted, "ok", "ok\t10000", wanted[0], "ok"], f"{count} answers: then it is answered {given!r}")
+        check(given == ["ok", *wanted, "ok", "ok\t10000", wanted[0], "ok"], f"{count} answers: then answered {given!r}")
         os.remove(path)
 
 
@@ -197,7 +211,7 @@ def leaves_one_version_where_the_disk_is_full(folder):
         full = lambda: resource.setrlimit(resource.RLIMIT_FSIZE, (size, size))
         # The signal that such a write sends is ignored here, and stays so.
         given, status, said = run_words([path], ["open", *SHOWN], preexec_fn=full, restore_signals=False)
-        check(status == 0 and (given[0] == "ok" or given[0].startswith(SQL)), f"{size} bytes: answered {given!r}, {said!r}")
+        check(status == 0 and given[0].startswith(("ok", SQL)), f"{size} bytes: answered {given!r}, {said!r}")
         if given[0] == "ok":
             check(given == [model.play(line) for line in ["open", *SHOWN]], f"{size} bytes: it shows {given!r}")
             check_rows(rows_of(path), model.store, f"{size} bytes: ")
@@ -220,13 +234,15 @@ def is_whole_where_a_migration_is_killed(folder):
         shutil.copyfile(whole, path)
         answered_until_killed(path, ["open"], chance.uniform(0.002, seconds))
         # sqlite3 reads copies, since it puts the log into the file.
-        copies = [shutil.copyfile(each, each.replace("store.db", "copy.db")) for each in (path, path + "-wal") if os.path.exists(each)]
+        left = [each for each in (path, path + "-wal") if os.path.exists(each)]
+        copies = [shutil.copyfile(each, each.replace("store.db", "copy.db")) for each in left]
         found = rows_of(copies[0])
         versions["uses" in found] += 1
         check(found == before or "uses" in found, f"kill {number}: the rows of version 1 are {found!r:.2000}")
         if "uses" in found:
             check_migrated(found, before, f"kill {number}")
-        check(answers(path, ["open", "answers", "limit", "close"]) == ["ok", "ok\t1000", "ok\t10000", "ok"], f"kill {number}: it isn't opened")
+        given = answers(path, ["open", "answers", "limit", "close"])
+        check(given == ["ok", "ok\t1000", "ok\t10000", "ok"], f"kill {number}: then it is answered {given!r}")
         check_migrated(rows_of(path), before, f"kill {number}, opened again")
         for each in [path, path + "-wal", *copies]:
             if os.path.exists(each):
@@ -235,7 +251,7 @@ def is_whole_where_a_migration_is_killed(folder):
     print(f"kills of migrations: {versions[False]} left version 1, {versions[True]} version 2")
 
 
-CASES = [takes_a_store_of_version_1_over, opens_each_store_of_an_earlier_program, keeps_the_last_10_000_answers_of_version_1,
-         leaves_version_1_where_no_rowid_is_left, takes_over_a_version_whose_rowid_leaves_room,
-         leaves_version_1_where_the_file_may_only_be_read, leaves_one_version_where_the_disk_is_full,
-         is_whole_where_a_migration_is_killed]
+CASES = [takes_a_store_of_version_1_over, opens_each_store_of_an_earlier_program,
+         keeps_the_last_10_000_answers_of_version_1, leaves_version_1_where_no_rowid_is_left,
+         takes_over_a_version_whose_rowid_leaves_room, leaves_version_1_where_the_file_may_only_be_read,
+         leaves_one_version_where_the_disk_is_full, is_whole_where_a_migration_is_killed]
