@@ -1,13 +1,14 @@
 """Cases of tests/store.py: each allocation of a play is refused in turn (tests/refuse_allocation.c). A refused call has
 changed nothing, and the store can be opened then."""
 import copy
+import functools
 import os
 import shutil
 import subprocess
 from concurrent.futures import ThreadPoolExecutor
 
 from store_cases import REFUSED_MIGRATION, REFUSED_PLAY, REFUSED_TICKS, REFUSED_USES, SHOWN
-from store_model import Model, is_stopped_behind, model_over
+from store_model import Course, Model, is_stopped_behind, model_over
 from store_plants import FIRST_STORE, LAST_TICKS, SECOND_STORE, planting_store
 from store_program import HERE, answers, ask, check, rows_of, rows_of_model, run
 
@@ -25,40 +26,61 @@ def is_want(answer):
     return answer.startswith(("refused\t4\tOutOfMemory\t", "refused\t1\tOutOfMemory\t", "refused\tStore\t4\t"))
 
 
+@functools.cache
+def rows_in(model):
+    """The rows that the file of a model must have."""
+    return rows_of_model(model.store)
+
+
+@functools.cache
+def shown_when_opened(model):
+    """What is answered where the file of a model is opened, and what it shows then."""
+    opened = copy.deepcopy(model)
+    return [opened.open(), *([] if opened.store is None else opened.shown())]
+
+
 class RefusedPlay:
     """A play over the file of a planted store, or over none, of which one allocation is refused."""
 
     def __init__(self, folder, library, name, planted, play):
-        self.folder, self.library, self.name, self.play = folder, library, name, play
-        self.model = model_over(planted) if planted else Model()
+        self.folder, self.library, self.name = folder, library, name
+        self.course = Course(play, model_over(planted) if planted else Model())
+        # What is left where the program itself gives up at a line, which may be done or not.
+        models = list(zip(self.course.models, self.course.models[1:]))
+        self.given_up = [[before, *after.states(copy.deepcopy)] for before, after in models]
+        self.behind = {}
         self.file = os.path.join(folder, f"{name}.db") if planted else None
         if planted:
             ask(self.file, planting_store(planted))
 
+    def course_behind(self, at, is_done):
+        """The course of the lines behind one that was refused, or of whose changes only the hooks behind a commit were."""
+        if (at, is_done) not in self.behind:
+            model, after = (copy.deepcopy(self.course.models[each]) for each in (at + is_done, at + 1))
+            # A store that can't be closed is closed all the same, and fixes that can't be set wait no more.
+            model.is_open = after.is_open if self.course.play[at] == "close" else model.is_open
+            model.waiting = after.waiting
+            self.behind[at, is_done] = Course(self.course.play[at + 1:], model)
+        return self.behind[at, is_done]
+
     def models_after(self, given, status):
-        """The models of what the file may hold after these answers: a refused call has changed nothing, and where the
-        program itself gave up, the call may be done or not. And whether one was refused."""
-        model, is_refused = copy.deepcopy(self.model), False
-        for line, answer in zip(self.play, given):
-            after = copy.deepcopy(model)
-            right = after.play(line)
-            is_done = answer == right or is_stopped_behind(answer, right)
-            if answer != right:
-                check(not is_refused and (is_done or is_want(answer)),
-                      f"{line!r} is answered {answer!r}, wanted {right!r}")
-                is_refused = True
-                # A store that can't be closed is closed all the same, and fixes that can't be set wait no more.
-                model.is_open = after.is_open if line == "close" else model.is_open
-                model.waiting = after.waiting
-            if is_done:
-                model = after
-        if len(given) == len(self.play):
-            check(status == 0, f"status {status}")
-            return [model], is_refused
-        check(status == 3 and not is_refused, f"status {status} after {len(given)} answers")
-        after = copy.deepcopy(model)
-        after.play(self.play[len(given)])
-        return [model, *after.states(lambda each: copy.deepcopy(each))], True
+        """The models of what the file may hold after these answers: a refused call has changed nothing. And whether one was
+        refused, or the program gave up."""
+        course, at = self.course, self.course.first_other(given)
+        if at < len(given):
+            line, answer, right = course.play[at], given[at], course.answers[at]
+            is_done = is_stopped_behind(answer, right)
+            check(is_done or is_want(answer), f"{line!r} is answered {answer!r}, wanted {right!r}")
+            behind = self.course_behind(at, is_done)
+            rest = given[at + 1:]
+            other = behind.first_other(rest)
+            check(rest == behind.answers, f"behind {line!r}: {rest[other:][:1]!r}, wanted {behind.answers[other:][:1]!r}")
+            course = behind
+        elif len(given) < len(course.play):
+            check(status == 3, f"status {status} after {len(given)} answers")
+            return self.given_up[len(given)], True
+        check(status == 0, f"status {status}")
+        return [course.models[-1]], course is not self.course
 
     def run(self, number):
         """Plays with the allocation of this number refused. Answers whether one was, and whether that was noticed."""
@@ -66,7 +88,7 @@ class RefusedPlay:
         if self.file:
             shutil.copyfile(self.file, path)
         env = dict(os.environ, LD_PRELOAD=self.library, REFUSE_ALLOCATION=str(number), REFUSED_FILE=mark)
-        given, status, said = run(path, self.play, env)
+        given, status, said = run(path, self.course.play, env)
         models, is_noticed = self.models_after(given, status)
         check(said == ("store_trial: out of memory\n" if status == 3 else ""), f"allocation {number}: it says {said!r}")
         self.check_file(path, models, f"{self.name}, allocation {number}: ")
@@ -81,12 +103,11 @@ class RefusedPlay:
         opened."""
         if self.file:
             found = rows_of(path)
-            models = [model for model in models if rows_of_model(model.store) == found]
+            models = [model for model in models if rows_in(model) == found]
             check(models, f"{place}its rows are {found!r}")
         is_opened, *found = answers(path, ["open", *SHOWN])
-        states = [copy.deepcopy(model) for model in models]
-        wanted = [(model.open(), *([] if model.store is None else model.shown())) for model in states]
-        given = (is_opened, *(found if is_opened == "ok" else []))
+        given = [is_opened, *(found if is_opened == "ok" else [])]
+        wanted = [shown_when_opened(model) for model in models]
         check(given in wanted, f"{place}it shows {given!r}, wanted one of {wanted!r}")
 
 

@@ -427,6 +427,23 @@ class Model:
         return found
 
 
+class Course:
+    """A play beside the model: the model before each line and behind the last one, and what each is answered. It is made
+    once for many runs of the play, and none of its models is changed."""
+
+    def __init__(self, play, model):
+        self.play, self.models, self.answers = play, [model], []
+        for line in play:
+            after = copy.deepcopy(self.models[-1])
+            self.answers.append(after.play(line))
+            self.models.append(after)
+
+    def first_other(self, given):
+        """Which of these answers is the first that isn't the model's. As many as there are where all of them are."""
+        pairs = enumerate(zip(given, self.answers))
+        return next((at for at, (answer, right) in pairs if answer != right), len(given))
+
+
 def model_over(planted):
     """The model of a store that SQL made."""
     model = Model()

@@ -2,6 +2,7 @@
 import os
 import shutil
 import signal
+import sqlite3
 import subprocess
 import sys
 import time
@@ -114,20 +115,17 @@ SELECTS = {
     "answers": SELECT_ROWS,
     "uses": SELECT_USES,
 }
-MARK = "-- rows of "
 
 
 def rows_of(path):
-    """The rows of each of these tables that a file has, as lines."""
-    there = ask(path, "SELECT name FROM sqlite_schema WHERE type = 'table' ORDER BY name")
-    lines = ask(path, " ".join(f"SELECT '{MARK}{table}'; {SELECTS[table]};" for table in SELECTS if table in there))
-    found = {}
-    for line in lines:
-        if line.startswith(MARK):
-            found[line.removeprefix(MARK)] = rows = []
-        else:
-            rows.append(line)
-    return found
+    """The rows of each of these tables that a file has, as lines, whose columns bars part."""
+    database = sqlite3.connect(path)
+    there = [name for name, in database.execute("SELECT name FROM sqlite_schema WHERE type = 'table' ORDER BY name")]
+    found = {table: database.execute(SELECTS[table]).fetchall() for table in SELECTS if table in there}
+    # Closed, it leaves no log beside the file, as the program sqlite3 does.
+    database.close()
+    column = lambda value: "" if value is None else str(value)
+    return {table: ["|".join(map(column, row)) for row in rows] for table, rows in found.items()}
 
 
 def ticks_in(path):

@@ -1,33 +1,21 @@
 """Cases of tests/store.py: a disk in memory that stops at each operation on its log or its database file in turn, and
 loses what wasn't synchronized. What is opened then is what stood before a line or what stands behind it."""
+import collections
 import copy
 import os
 from concurrent.futures import ThreadPoolExecutor
 
 from kept_answers import GREATEST_TICK
 from store_cases import LAST, NOT_A_STORE, SHOWN, SQL, STOPPED_CALLS, STOPPED_COMMANDS, STOPPED_RUNS, STOPPED_USES
-from store_model import Model, is_stopped_behind, lines_behind, recall_of, recalled_by
+from store_model import Course, Model, is_stopped_behind, lines_behind, recall_of, recalled_by
 from store_plants import STOPPED_MIGRATION, STOPPED_TICKS
 from store_program import check, rows_of_model, run_words
 
 # What a call answers where the disk stops, and what a command of a host does. Of several changes none is named then.
 STOPPED = (SQL, "refused\t2\tStore\t3", "refused\tStore\t3\tat\tnone")
-
-
-def model_before_the_stop(play, which, number, given):
-    """The model after the lines before the first that was stopped, their number, and whether hooks behind a commit
-    were."""
-    model = Model()
-    for count, (line, answer) in enumerate(zip(play, given)):
-        after = copy.deepcopy(model)
-        right = after.play(line)
-        if answer != right:
-            is_behind = is_stopped_behind(answer, right)
-            check(is_behind or answer.startswith(STOPPED), f"{which} {number}: {line!r} is answered {answer!r}")
-            return model, count, is_behind
-        model = after
-    check(len(given) == len(play), f"{which} {number}: {len(given)} of {len(play)} lines are answered")
-    return model, len(play), False
+# What may be left where a play stops: a store, or none; how many rows it has, and what it shows and how many rows it has
+# once it is opened; and lines that tell in which order its answers stand, with what is answered to them.
+Left = collections.namedtuple("Left", "store state order")
 
 
 def counts_of(store):
@@ -47,134 +35,140 @@ def opened(store):
 
 
 def state_of(store):
-    """How many rows a store has, and what it shows and how many rows it has once it is opened; or none where there is
-    no store."""
     if store is None:
         return None
     then = opened(store)
     return [counts_of(store), *then.shown(), counts_of(then.store)]
 
 
-def state_and_store(model):
-    return state_of(model.store), copy.deepcopy(model.store)
-
-
 def lines_of_order(store):
-    """Lines that tell in which order the answers of a store stand, with what is answered to them: where the limit falls
-    by one, the last one is gone."""
+    """Where the limit falls by one, the last answer is gone."""
+    if store is None:
+        return []
     model, lines = opened(store), ["answers", "limit"]
     recalls = [recall_of(answer) for _, answer in model.store["answers"].rows()]
     for count in range(len(recalls) - 1, 0, -1):
         lines += [f"set-limit {count}", recalls[count]]
     lines += recalls[:1]
-    return [(line, model.play(line)) for line in lines]
+    return [("crash", "ok"), ("open", "ok"), *((line, model.play(line)) for line in lines)]
 
 
-def tells_order(words, played, store):
-    """Whether the answers of the store that is opened after a crash behind these lines stand in the order of this
-    one."""
-    wanted = [("crash", "ok"), ("open", "ok"), *lines_of_order(store)]
-    given, status, _ = run_words(words, [*played, *(line for line, _ in wanted)])
-    return status == 0 and given[len(played):] == [answer for _, answer in wanted]
+def left_as(store):
+    return Left(copy.deepcopy(store), state_of(store), lines_of_order(store))
 
 
-def state_after_the_stop(played, words, answered, model, lines_on):
-    """What a store shows, and how many rows it has, that is opened after a crash behind the lines that were played, and
-    crashes again before its rows are counted; and what is answered to further lines then. Until the first crash it has
-    to show what it did before, unless none is open. Where there is no store, one is made for these lines."""
-    before = model.shown() if model.is_open else []
-    lines = [*played, *(SHOWN if before else []), "crash", "read-tables", "open", *SHOWN, "crash", "read-tables"]
-    given, status, _ = run_words(words, [*lines, *lines_on])
-    check(status == 0 and len(given) == len(lines + lines_on) and given[:len(played)] == answered,
-          f"{words}: played again it answers {given!r}, status {status}")
-    given, given_on = given[:len(lines)], given[len(lines):]
-    still = given[len(played):-len(SHOWN) - 5]
-    crashed, counts, is_opened, *found, crashed_again, counts_then = given[-len(SHOWN) - 5:]
-    check(crashed == crashed_again == "ok", f"{words}: the crashes are answered {crashed!r} and {crashed_again!r}")
-    check(still == before, f"{words}: a call that was stopped left {still!r} in place of {before!r}")
-    check(is_opened in ("ok", NOT_A_STORE), f"{words}: opened again: {is_opened!r}")
-    if is_opened == "ok":
-        return [counts, *found, counts_then], given_on
-    made, _, _ = run_words(words, [*played, "crash", "create", *lines_on[1:]])
-    made = made[len(played):]
-    check(made[:2] == ["ok", "ok"], f"{words}: where there is no store, none can be made: {made[:2]!r}")
-    return None, made[1:]
+def answered(words, lines):
+    """The answers to lines with those that are wanted, on a disk that stops so, and whether they are these."""
+    given, status, _ = run_words(words, [line for line, _ in lines])
+    return status == 0 and given == [answer for _, answer in lines]
 
 
-def check_lines_behind(play, place, lines, given, model):
-    """What stood in the model's store remembers what was told and nothing else, and all lines are answered as by the
-    model, which runs hooks from scratch wherever no row is remembered."""
-    told = recalled_by(play)
-    # A fix that waited for the line that was stopped waits no more.
-    model.is_open, model.waiting = False, {}
-    wanted = [model.play("create" if line == "open" and model.store is None else line) for line in lines]
-    for line, answer, right in zip(lines, given, wanted):
-        check(answer == right, f"{place}: then {line!r} is answered {answer!r}, wanted {right!r}")
-    check(len(given) == len(lines), f"{place}: {len(given)} of {len(lines)} lines are answered then")
-    for at in (1, len(lines) - len(told) - 1):
-        answered = dict(zip(told, given[at + 1:]))
-        kept = [line for line, answer in answered.items() if answer != "ok\tnone"]
-        check(given[at] == f"ok\t{len(kept)}", f"{place}: of {given[at]!r} answers the children tell {len(kept)}")
-        check(all(answered[line] in told[line] for line in kept), f"{place}: the answers {answered!r} aren't the children's")
+class StoppedPlay:
+    """A play in which the disk stops: its course, and what may be left where it stops at a line, or at none."""
 
+    def __init__(self, play):
+        self.play, self.course, self.told = play, Course(play, Model()), recalled_by(play)
+        models = self.course.models
+        stores = [[before.store, *after.states(lambda each: each.store)] for before, after in zip(models, models[1:])]
+        self.left = [[left_as(store) for store in each] for each in [*stores, [models[-1].store]]]
 
-def play_stopped(play, which, number):
-    """Plays up to the line at which the disk stops, crashes, opens the store again, and plays on. Answers how many
-    lines stand before that one, or none where no line was stopped."""
-    words = [which, str(number)]
-    given, status, _ = run_words(words, play)
-    # On a disk that stopped, no store can be opened.
-    ends = len(given) == len(play) or play[len(given)] == "open"
-    check(ends and status == (0 if len(given) == len(play) else 2), f"{words}: status {status} after {given[-1:]!r}")
-    model, count, is_behind = model_before_the_stop(play, which, number, given)
-    before, states = copy.deepcopy(model), [state_and_store(model)]
-    if count < len(play):
-        model.play(play[count])
-        states += model.states(state_and_store)
-    if is_behind:
-        # The commit is told, so nothing loses it.
-        states = [(state, store) for state, store in states if state[1:-1] == states[-1][0][1:-1]]
-    played, lines = play[:count + 1], lines_behind(play, count, before.is_open)
-    found, given_on = state_after_the_stop(played, words, given[:count + 1], before, lines)
-    alike = [store for state, store in states if state == found]
-    check(alike, f"{words}: {found!r} is none of {[state for state, _ in states]!r}")
-    stores = [store for store in alike if store is None or tells_order(words, played, store)]
-    check(stores, f"{words}: the answers stand in another order than in {len(alike)} stores")
-    if count == len(play):
-        return None
-    model.store = stores[0]
-    check_lines_behind(play, f"{words}, behind {play[count][:200]!r}", lines, given_on, model)
-    return count
+    def run(self, which, number):
+        """Plays up to the line at which the disk stops, crashes, opens the store again, and plays on. Answers how many
+        lines stand before that one, or none where no line was stopped."""
+        words = [which, str(number)]
+        given, status, _ = run_words(words, self.play)
+        # On a disk that stopped, no store can be opened.
+        ends = len(given) == len(self.play) or self.play[len(given)] == "open"
+        check(ends and status == (0 if len(given) == len(self.play) else 2), f"{words}: status {status} after {given!r}")
+        at = self.course.first_other(given)
+        check(at < len(given) or at == len(self.play), f"{words}: {at} of {len(self.play)} lines are answered")
+        left = self.left[at]
+        if at < len(self.play):
+            is_behind = is_stopped_behind(given[at], self.course.answers[at])
+            check(is_behind or given[at].startswith(STOPPED), f"{words}: {self.play[at]!r} is answered {given[at]!r}")
+            # Where a commit is told, nothing loses it.
+            left = [each for each in left if not is_behind or each.state[1:-1] == left[-1].state[1:-1]]
+        self.check_left(words, at, given[:at + 1], left)
+        return at if at < len(self.play) else None
 
+    def check_left(self, words, at, given, left):
+        """What is opened behind the stop is left there, to the order of its answers, and goes on as the model does."""
+        played, lines = self.play[:at + 1], self.lines_behind(at)
+        state, given_on = self.state_behind(words, at, given, lines)
+        alike = [each for each in left if each.state == state]
+        check(alike, f"{words}: {state!r} is none of {[each.state for each in left]!r}")
+        begun = list(zip(played, given))
+        found = [each for each in alike if each.store is None or answered(words, [*begun, *each.order])]
+        check(found, f"{words}: the answers stand in another order than in any of {len(alike)} stores")
+        if lines:
+            self.check_lines_behind(f"{words}, behind {played[-1][:200]!r}", at, lines, given_on, found[0].store)
 
-def stops_of(play, which):
-    """Where a play stops, as `play_stopped` says it, while the disk stops at each of its operations on a file in
-    turn."""
-    with ThreadPoolExecutor(max_workers=len(os.sched_getaffinity(0))) as pool:
-        stops = []
-        while None not in stops:
-            stops += pool.map(lambda number: play_stopped(play, which, number), range(len(stops), len(stops) + 64))
-    ended = stops.index(None)
-    check(stops[ended:].count(None) == len(stops) - ended, f"stopped at more operations on the {which}, a play ended")
-    return stops[:ended]
+    def lines_behind(self, at):
+        return lines_behind(self.play, at, self.course.models[at].is_open)
 
+    def state_behind(self, words, at, before, lines_on):
+        """What a store shows, and how many rows it has, that is opened after a crash behind the lines that were played, and
+        crashes again before its rows are counted; and what is answered to further lines then. Until the first crash it has
+        to show what it did before, unless none is open. Where there is no store, one is made for these lines."""
+        model, played = self.course.models[at], self.play[:at + 1]
+        shown = model.shown() if model.is_open else []
+        lines = [*played, *(SHOWN if shown else []), "crash", "read-tables", "open", *SHOWN, "crash", "read-tables"]
+        given, status, _ = run_words(words, [*lines, *lines_on])
+        check(status == 0 and len(given) == len(lines + lines_on) and given[:len(played)] == before,
+              f"{words}: played again it answers {given!r}, status {status}")
+        given, given_on = given[:len(lines)], given[len(lines):]
+        still = given[len(played):-len(SHOWN) - 5]
+        crashed, counts, is_opened, *found, crashed_again, counts_then = given[-len(SHOWN) - 5:]
+        check(crashed == crashed_again == "ok", f"{words}: the crashes are answered {crashed!r} and {crashed_again!r}")
+        check(still == shown, f"{words}: a call that was stopped left {still!r} in place of {shown!r}")
+        check(is_opened in ("ok", NOT_A_STORE), f"{words}: opened again: {is_opened!r}")
+        if is_opened == "ok":
+            return [counts, *found, counts_then], given_on
+        made, _, _ = run_words(words, [*played, "crash", "create", *lines_on[1:]])
+        made = made[len(played):]
+        check(made[:2] == ["ok", "ok"], f"{words}: where there is no store, none can be made: {made[:2]!r}")
+        return None, made[1:]
 
-def writes(play):
-    """Which of the lines of a play change what stands in the store, but for the one that makes it."""
-    model, found = Model(), set()
-    for at, line in enumerate(play):
-        before = copy.deepcopy(model.store)
-        model.play(line)
-        if before != model.store:
-            found.add(at)
-    return found
+    def answers_behind(self, at, lines, store):
+        """What the model answers to lines behind a stop that left this store. It runs hooks from scratch wherever no row
+        is remembered, and a fix that waited for the line that was stopped waits no more."""
+        model = copy.deepcopy(self.course.models[at])
+        model.store, model.is_open, model.waiting = copy.deepcopy(store), False, {}
+        return [model.play("create" if line == "open" and store is None else line) for line in lines]
+
+    def check_lines_behind(self, place, at, lines, given, store):
+        """What stood in the store remembers what was told and nothing else, and all lines are answered as by the model."""
+        for line, answer, right in zip(lines, given, self.answers_behind(at, lines, store)):
+            check(answer == right, f"{place}: then {line!r} is answered {answer!r}, wanted {right!r}")
+        check(len(given) == len(lines), f"{place}: {len(given)} of {len(lines)} lines are answered then")
+        for first in (1, len(lines) - len(self.told) - 1):
+            found = dict(zip(self.told, given[first + 1:]))
+            kept = [line for line, answer in found.items() if answer != "ok\tnone"]
+            check(given[first] == f"ok\t{len(kept)}", f"{place}: of {given[first]!r} answers the children tell {len(kept)}")
+            check(all(found[line] in self.told[line] for line in kept), f"{place}: {found!r} aren't what the children told")
+
+    def stops(self, which):
+        """Where the play stops, as `run` says it, while the disk stops at each of its operations on a file in turn."""
+        with ThreadPoolExecutor(max_workers=len(os.sched_getaffinity(0))) as pool:
+            stops = []
+            while None not in stops:
+                stops += pool.map(lambda number: self.run(which, number), range(len(stops), len(stops) + 64))
+        ended = stops.index(None)
+        check(stops[ended:].count(None) == len(stops) - ended, f"stopped at more operations on the {which}, a play ended")
+        return stops[:ended]
+
+    def writes(self):
+        """Which of the lines change what stands in the store, or make it."""
+        models = enumerate(zip(self.course.models, self.course.models[1:]))
+        return {at for at, (before, after) in models if before.store != after.store}
 
 
 def is_left_before_or_after_a_line_by_a_stop(play):
     """The disk stops at each operation on the log, and at each on the database file, and loses what wasn't
     synchronized. Each line that writes to the disk has to be stopped."""
-    stops = {which: stops_of(play, which) for which in ("log", "database")}
-    unstopped = [play[at] for at in writes(play) if at not in stops["log"]]
+    stopped = StoppedPlay(play)
+    stops = {which: stopped.stops(which) for which in ("log", "database")}
+    unstopped = [play[at] for at in stopped.writes() if at not in stops["log"]]
     check(not unstopped, f"lines that no stop met: {unstopped!r}")
     check(len(stops["log"]) > 40 and len(stops["database"]) > 10, f"too few stops: {stops!r}")
     print(f"stops: at {len(stops['log'])} operations on the log and {len(stops['database'])} on the database file")

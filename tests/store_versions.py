@@ -191,6 +191,21 @@ def takes_over_a_version_whose_rowid_leaves_room(folder):
     check_file(path, model.store)
 
 
+def refuses_what_it_took_over_to_the_last_rowid(folder):
+    """Two rowids behind it are room for both rows, of which the last then has the greatest. It is refused until another
+    program gives it another one."""
+    path, model = os.path.join(folder, "store.db"), model_over(FIRST_STORE)
+    ask(path, planting_store(FIRST_STORE))
+    ask(path, f"UPDATE meta SET rowid = {GREATEST_ROWID - 2}")
+    check(answers(path, ["open", "close", "open"]) == ["ok", "ok", NO_ROWID], "it isn't taken over, or not refused then")
+    model.open()
+    check_file(path, model.store)
+    ask(path, "UPDATE meta SET rowid = rowid - 1")
+    lines = ["open", *SHOWN, "answers", "limit", "close"]
+    given = answers(path, lines)
+    check(given == [model.play(line) for line in lines], f"with another rowid it is answered {given!r}")
+
+
 def leaves_version_1_where_the_file_may_only_be_read(folder):
     path = os.path.join(folder, "store.db")
     ask(path, planting_store(FIRST_STORE))
@@ -205,7 +220,8 @@ def leaves_version_1_where_the_file_may_only_be_read(folder):
 def leaves_one_version_where_the_disk_is_full(folder):
     """No file may become larger than so many bytes: refused, it is of version 1, and taken over, of version 2."""
     path, refused, given = os.path.join(folder, "store.db"), 0, []
-    for size in range(0, 200_000, 1500):
+    # The pages of the migration take 24 KiB of the log, behind which it makes room for 256 more.
+    for size in [*range(0, 28_000, 1_000), *range(30_000, 330_000, 50_000)]:
         ask(path, planting_store(FIRST_STORE))
         before, model = rows_of(path), model_over(FIRST_STORE)
         full = lambda: resource.setrlimit(resource.RLIMIT_FSIZE, (size, size))
@@ -253,5 +269,6 @@ def is_whole_where_a_migration_is_killed(folder):
 
 CASES = [takes_a_store_of_version_1_over, opens_each_store_of_an_earlier_program,
          keeps_the_last_10_000_answers_of_version_1, leaves_version_1_where_no_rowid_is_left,
-         takes_over_a_version_whose_rowid_leaves_room, leaves_version_1_where_the_file_may_only_be_read,
-         leaves_one_version_where_the_disk_is_full, is_whole_where_a_migration_is_killed]
+         takes_over_a_version_whose_rowid_leaves_room, refuses_what_it_took_over_to_the_last_rowid,
+         leaves_version_1_where_the_file_may_only_be_read, leaves_one_version_where_the_disk_is_full,
+         is_whole_where_a_migration_is_killed]
