@@ -276,6 +276,5 @@ PLANTED_STORES = {planting_store(planted): planted for planted in (FIRST_STORE, 
 TO_VERSION_1 = ("BEGIN; DELETE FROM meta WHERE name = 'limit'; UPDATE meta SET value = 1 WHERE name = 'version'; "
                 "DROP TABLE uses; COMMIT")
 # Plays in which a disk stops, of a store of version 1 that is opened, and of one whose last tick is the greatest.
-STOPPED_MIGRATION = [f"execute {planting_store(FIRST_STORE)}", "open", MIDDLE, "stage plain b.txt 2",
-                     "remember e | | | 0", "set-limit 2"]
+STOPPED_MIGRATION = [f"execute {planting_store(FIRST_STORE)}", "open", MIDDLE, "stage plain b.txt 2", "set-limit 2"]
 STOPPED_TICKS = [f"execute {planting_store(LAST_TICKS)}", "open", LAST, MIDDLE, "remember e | | | 0"]
