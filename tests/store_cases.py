@@ -495,12 +495,11 @@ LIMIT_STORY = [
 # The lines that recall three answers, of which the last one is in front.
 THREE_RECALLS = ["recall c a.txt | a.txt=1", "recall d |", "recall c | a.txt=1 b="]
 LAST, MIDDLE, FRONT = THREE_RECALLS
-# Plays on them of which each allocation is refused: of uses; on a store of version 1; and on one whose last tick is the
-# greatest.
+# Plays on them of which each allocation is refused: of uses, the first of which passes the greatest tick; and on a store
+# of version 1.
 REFUSED_USES = ["open", LAST, MIDDLE, FRONT, "recall e |", "remember e | | | 0 | one", "set-limit 4", "set-limit 3", LAST,
                 "remember f | | | 0", "limit-answers 2", "limit", "answers", "close"]
 REFUSED_MIGRATION = ["open", MIDDLE, "close"]
-REFUSED_TICKS = ["open", LAST, MIDDLE, "close"]
 # Calls on a store of these, and how many transactions they are.
 USING_PLAYS = [
     ([], 0),

@@ -7,9 +7,9 @@ import shutil
 import subprocess
 from concurrent.futures import ThreadPoolExecutor
 
-from store_cases import REFUSED_MIGRATION, REFUSED_PLAY, REFUSED_TICKS, REFUSED_USES, SHOWN
+from store_cases import REFUSED_MIGRATION, REFUSED_PLAY, REFUSED_USES, SHOWN
 from store_model import Course, Model, is_stopped_behind, model_over
-from store_plants import FIRST_STORE, LAST_TICKS, SECOND_STORE, planting_store
+from store_plants import FIRST_STORE, LAST_TICKS, planting_store
 from store_program import HERE, answers, ask, check, rows_of, rows_of_model, run
 
 
@@ -127,8 +127,8 @@ def refuses_for_want_of_memory(folder):
     order is told."""
     library = refusing_library(folder)
     for name, planted, play, least in [
-        ("calls", None, REFUSED_PLAY, 100), ("uses", SECOND_STORE, REFUSED_USES, 50),
-        ("migration", FIRST_STORE, REFUSED_MIGRATION, 50), ("ticks", LAST_TICKS, REFUSED_TICKS, 50),
+        ("calls", None, REFUSED_PLAY, 100), ("uses", LAST_TICKS, REFUSED_USES, 50),
+        ("migration", FIRST_STORE, REFUSED_MIGRATION, 50),
     ]:
         count, noticed = refuses_each_allocation(RefusedPlay(folder, library, name, planted, play))
         check(count > least and noticed > least / 2, f"{name}: {count} allocations were refused, and {noticed} noticed")
