@@ -221,7 +221,7 @@ def leaves_one_version_where_the_disk_is_full(folder):
     """No file may become larger than so many bytes: refused, it is of version 1, and taken over, of version 2."""
     path, refused, given = os.path.join(folder, "store.db"), 0, []
     # The pages of the migration take 24 KiB of the log, behind which it makes room for 256 more.
-    for size in [*range(0, 28_000, 1_000), *range(30_000, 330_000, 50_000)]:
+    for size in [*range(0, 28_000, 1_000), *range(30_000, 400_000, 60_000)]:
         ask(path, planting_store(FIRST_STORE))
         before, model = rows_of(path), model_over(FIRST_STORE)
         full = lambda: resource.setrlimit(resource.RLIMIT_FSIZE, (size, size))
