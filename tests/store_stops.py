@@ -96,8 +96,9 @@ class StoppedPlay:
 
     def check_left(self, words, at, given, left):
         """What is opened behind the stop is left there, to the order of its answers, and goes on as the model does."""
-        played, lines = self.play[:at + 1], self.lines_behind(at)
-        state, given_on = self.state_behind(words, at, given, lines)
+        played, is_open = self.play[:at + 1], self.course.models[at].is_open
+        lines = lines_behind(self.play, at, is_open)
+        state, given_on = self.state_behind(words, played, given, left[0].state[1:-1] if is_open else [], lines)
         alike = [each for each in left if each.state == state]
         check(alike, f"{words}: {state!r} is none of {[each.state for each in left]!r}")
         begun = list(zip(played, given))
@@ -106,15 +107,11 @@ class StoppedPlay:
         if lines:
             self.check_lines_behind(f"{words}, behind {played[-1][:200]!r}", at, lines, given_on, found[0].store)
 
-    def lines_behind(self, at):
-        return lines_behind(self.play, at, self.course.models[at].is_open)
-
-    def state_behind(self, words, at, before, lines_on):
+    @staticmethod
+    def state_behind(words, played, before, shown, lines_on):
         """What a store shows, and how many rows it has, that is opened after a crash behind the lines that were played, and
         crashes again before its rows are counted; and what is answered to further lines then. Until the first crash it has
-        to show what it did before, unless none is open. Where there is no store, one is made for these lines."""
-        model, played = self.course.models[at], self.play[:at + 1]
-        shown = model.shown() if model.is_open else []
+        to show this, where one is open. Where there is no store, one is made for these lines."""
         lines = [*played, *(SHOWN if shown else []), "crash", "read-tables", "open", *SHOWN, "crash", "read-tables"]
         given, status, _ = run_words(words, [*lines, *lines_on])
         check(status == 0 and len(given) == len(lines + lines_on) and given[:len(played)] == before,
