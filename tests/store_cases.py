@@ -33,7 +33,8 @@ FIRST_TABLES = [
 ]
 TABLES = [
     *FIRST_TABLES,
-    "CREATE TABLE uses (words BLOB NOT NULL, seen BLOB NOT NULL, tick INTEGER NOT NULL UNIQUE, PRIMARY KEY (words, seen)) STRICT",
+    "CREATE TABLE uses (words BLOB NOT NULL, seen BLOB NOT NULL, tick INTEGER NOT NULL UNIQUE, "
+    "PRIMARY KEY (words, seen)) STRICT",
 ]
 STORY = [
     ("create", "ok"),
@@ -307,16 +308,17 @@ STOPPED_COMMANDS = [*FOUR_CHILDREN, "create", f"stage plain {FOUR_STAGES}", "add
 STOPPED_RUNS = [*RUN_CHILDREN, "create", f"stage plain {RUN_CONFIG}", "add - a.txt x\\t\\n", "run-hooks changed", "accept-fixes", "run-hooks changed",
                 "run-hooks changed", "forget-answers", "run-hooks changed"]
 # Looking up, remembering and limiting.
-STOPPED_USES = ["create", "remember a | | | 0", "remember b | | | 1", "remember c | | | 2", "recall a |", "recall a |", "recall b |",
-                "set-limit 2", "recall d |", "remember d | | | 3", "recall b |", "remember d | | | 4", "limit-answers 1",
-                "remember e | | | 5", "set-limit 3", "remember f | | | 6", "forget", "remember a | | | 7"]
+STOPPED_USES = ["create", "remember a | | | 0", "remember b | | | 1", "remember c | | | 2", "recall a |", "recall a |",
+                "recall b |", "set-limit 2", "recall d |", "remember d | | | 3", "recall b |", "remember d | | | 4",
+                "limit-answers 1", "remember e | | | 5", "set-limit 3", "remember f | | | 6", "forget",
+                "remember a | | | 7"]
 # Plays of which each allocation is refused. Of the commands of a host all that may be refused are made again at once,
 # as far as they leave something to be made.
 REFUSED_PLAY = [
     *FOUR_CHILDREN, "create", "stage plain a.txt 1", "fix a.txt 2", "set", "accept", "commit m\\n", "blob abc",
     "remember c a | a=1 | a=2 | 3 | one", "recall c a | a=1", "forget", "add - h 1", "remove h", "fix a.txt 3", "set",
-    "stage-all add - h 1 | add executable h 2 | remove h | add - i 3", "edit-all add - i 4 | add - j/k 5 | remove i | remove j/k",
-    "unstage a.txt", f"stage plain {FOUR_STAGES}", "add - b.txt 1", *["run-hooks all"] * 2, *["forget-answers"] * 2,
+    "stage-all add - h 1 | add executable h 2 | remove h | add - i 3",
+    "edit-all add - i 4 | add - j/k 5 | remove i | remove j/k", "unstage a.txt", f"stage plain {FOUR_STAGES}", "add - b.txt 1", *["run-hooks all"] * 2, *["forget-answers"] * 2,
     *["accept-fixes"] * 2, *["commit-verified m"] * 2, "close", "open", *SHOWN, "tree 1", "tree 0", "tree 3",
 ]
 # Paths that clash with those of the random plays, and texts that are none.
@@ -395,12 +397,13 @@ BAD_LINES = [
     "", "stag", "stage", "staged ", "staged a.txt", "create a", "set a", "execute", "faults a", "stage plain a.txt",
     "stage odd a.txt 1", "stage plain ../a.txt 1", "stage plain .git/COMMIT_EDITMSG 1", "stage plain a.txt \\x",
     "stage plain a.txt \\", "unstage /a", "tree x", "create", "open", "stage-many 1 1", "stage-all", "stage-all add",
-    "stage-all add - b.txt", "stage-all remove a.txt | move a.txt", "stage-all add odd b.txt 1", "edit-all", "edit-all remove",
-    "edit-all add - b.txt \\x", "edit-all remove a.txt | ", "accept-fixes ", "run-hooks", "run-hooks b.txt", "commit-verified",
-    "commit-unverified", "commit-verified \\x", "child", "child tidy | |", "child tidy | | | ", "child tidy | | | 256",
+    "stage-all add - b.txt", "stage-all remove a.txt | move a.txt", "stage-all add odd b.txt 1", "edit-all",
+    "edit-all remove", "edit-all add - b.txt \\x", "edit-all remove a.txt | ", "accept-fixes ", "run-hooks",
+    "run-hooks b.txt", "commit-verified", "commit-unverified", "commit-verified \\x", "child", "child tidy | |", "child tidy | | | ", "child tidy | | | 256",
     "child tidy | a.txt | | 0", "child tidy | ../a=1 | | 0", "child tidy | a=\\x | | 0", "child tidy | | b a | 0",
     "child tidy | | .git/a | 0", "limit 1", "answer-limit 1",
-    *(f"{word}{limit}" for word in ("set-limit", "limit-answers") for limit in ["", " ", " x", " -1", " 0", " 100001", " 1 1"]),
+    *(f"{word}{limit}" for word in ("set-limit", "limit-answers")
+      for limit in ["", " ", " x", " -1", " 0", " 100001", " 1 1"]),
 ]
 FILLING = ["create", "stage plain a.txt 1", "stage plain b.txt 2", "commit m\\n", "commit n\\n", "fix a.txt 2", "set", "close"]
 # The digests of the contents 1 and 2.
@@ -497,8 +500,8 @@ THREE_RECALLS = ["recall c a.txt | a.txt=1", "recall d |", "recall c | a.txt=1 b
 LAST, MIDDLE, FRONT = THREE_RECALLS
 # Plays on them of which each allocation is refused: of uses, the first of which passes the greatest tick; and on a store
 # of version 1.
-REFUSED_USES = ["open", LAST, MIDDLE, FRONT, "recall e |", "remember e | | | 0 | one", "set-limit 4", "set-limit 3", LAST,
-                "remember f | | | 0", "limit-answers 2", "limit", "answers", "close"]
+REFUSED_USES = ["open", LAST, MIDDLE, FRONT, "recall e |", "remember e | | | 0 | one", "set-limit 4", "set-limit 3",
+                LAST, "remember f | | | 0", "limit-answers 2", "limit", "answers", "close"]
 REFUSED_MIGRATION = ["open", MIDDLE, "close"]
 # Calls on a store of these, and how many transactions they are.
 USING_PLAYS = [

@@ -54,7 +54,7 @@ class RefusedPlay:
             ask(self.file, planting_store(planted))
 
     def course_behind(self, at, is_done):
-        """The course of the lines behind one that was refused, or of whose changes only the hooks behind a commit were."""
+        """The course of the lines behind one that was refused, or that is a commit whose last hooks were stopped."""
         if (at, is_done) not in self.behind:
             model, after = (copy.deepcopy(self.course.models[each]) for each in (at + is_done, at + 1))
             # A store that can't be closed is closed all the same, and fixes that can't be set wait no more.
@@ -64,8 +64,8 @@ class RefusedPlay:
         return self.behind[at, is_done]
 
     def models_after(self, given, status):
-        """The models of what the file may hold after these answers: a refused call has changed nothing. And whether one was
-        refused, or the program gave up."""
+        """The models of what the file may hold after these answers: a refused call has changed nothing. And whether one
+        was refused, or the program gave up."""
         course, at = self.course, self.course.first_other(given)
         if at < len(given):
             line, answer, right = course.play[at], given[at], course.answers[at]
@@ -74,7 +74,8 @@ class RefusedPlay:
             behind = self.course_behind(at, is_done)
             rest = given[at + 1:]
             other = behind.first_other(rest)
-            check(rest == behind.answers, f"behind {line!r}: {rest[other:][:1]!r}, wanted {behind.answers[other:][:1]!r}")
+            check(rest == behind.answers,
+                  f"behind {line!r}: {rest[other:][:1]!r}, wanted {behind.answers[other:][:1]!r}")
             course = behind
         elif len(given) < len(course.play):
             check(status == 3, f"status {status} after {len(given)} answers")

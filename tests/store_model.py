@@ -72,7 +72,8 @@ def book_of(answers):
 def migrated(book):
     """The book that a migration makes of the answers of a store of version 1: the greatest key is in front. A key is
     what the columns have, two digests, and those are compared by their bytes."""
-    return book_of(sorted((answer for _, answer in book.rows()), key=lambda answer: list(map(digest, key_records(answer)))))
+    answers = [answer for _, answer in book.rows()]
+    return book_of(sorted(answers, key=lambda answer: list(map(digest, key_records(answer)))))
 
 
 def store_of(planted):

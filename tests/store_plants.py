@@ -47,7 +47,8 @@ PLANTS = [
     # A row more is put in after all others, so behind the greatest rowid there is room for none. Behind the one below
     # it there is.
     *((f"the greatest rowid in {table}", f"UPDATE {table} SET rowid = {2 ** 63 - 1} WHERE {where}", NO_ROWID, f"UPDATE {table} SET rowid = {2 ** 63 - 2} WHERE {where}")
-      for table, where in [("blobs", f"digest = x'{ONE}'"), ("staged", "path = 'a.txt'"), ("fixes", "path = 'a.txt'"), ("entries", "n = 1 AND path = 'a.txt'")]),
+      for table, where in [("blobs", f"digest = x'{ONE}'"), ("staged", "path = 'a.txt'"), ("fixes", "path = 'a.txt'"),
+                           ("entries", "n = 1 AND path = 'a.txt'")]),
     ("the greatest rowid in answers", f"INSERT INTO answers (rowid, words, seen, output, changes, status) VALUES ({2 ** 63 - 1}, x'{ONE}', x'{ONE}', x'{TWO}', x'{TWO}', 0)", NO_ROWID,
      "DELETE FROM answers"),
     # Here the tables' own rules are broken, which the kit's database refuses when it opens a file.

@@ -109,9 +109,9 @@ class StoppedPlay:
 
     @staticmethod
     def state_behind(words, played, before, shown, lines_on):
-        """What a store shows, and how many rows it has, that is opened after a crash behind the lines that were played, and
-        crashes again before its rows are counted; and what is answered to further lines then. Until the first crash it has
-        to show this, where one is open. Where there is no store, one is made for these lines."""
+        """What a store shows, and how many rows it has, that is opened after a crash behind the lines that were played,
+        and crashes again before its rows are counted; and what is answered to further lines then. Until the first crash
+        it has to show this, where one is open. Where there is no store, one is made for these lines."""
         lines = [*played, *(SHOWN if shown else []), "crash", "read-tables", "open", *SHOWN, "crash", "read-tables"]
         given, status, _ = run_words(words, [*lines, *lines_on])
         check(status == 0 and len(given) == len(lines + lines_on) and given[:len(played)] == before,
@@ -137,15 +137,17 @@ class StoppedPlay:
         return [model.play("create" if line == "open" and store is None else line) for line in lines]
 
     def check_lines_behind(self, place, at, lines, given, store):
-        """What stood in the store remembers what was told and nothing else, and all lines are answered as by the model."""
+        """What stood in the store remembers what was told and nothing else, and all lines are answered as by the
+        model."""
         for line, answer, right in zip(lines, given, self.answers_behind(at, lines, store)):
             check(answer == right, f"{place}: then {line!r} is answered {answer!r}, wanted {right!r}")
         check(len(given) == len(lines), f"{place}: {len(given)} of {len(lines)} lines are answered then")
         for first in (1, len(lines) - len(self.told) - 1):
             found = dict(zip(self.told, given[first + 1:]))
             kept = [line for line, answer in found.items() if answer != "ok\tnone"]
-            check(given[first] == f"ok\t{len(kept)}", f"{place}: of {given[first]!r} answers the children tell {len(kept)}")
-            check(all(found[line] in self.told[line] for line in kept), f"{place}: {found!r} aren't what the children told")
+            check(given[first] == f"ok\t{len(kept)}",
+                  f"{place}: of {given[first]!r} answers the children tell {len(kept)}")
+            check(all(found[line] in self.told[line] for line in kept), f"{place}: {found!r} isn't what the children told")
 
     def stops(self, which):
         """Where the play stops, as `run` says it, while the disk stops at each of its operations on a file in turn."""
@@ -154,7 +156,7 @@ class StoppedPlay:
             while None not in stops:
                 stops += pool.map(lambda number: self.run(which, number), range(len(stops), len(stops) + 64))
         ended = stops.index(None)
-        check(stops[ended:].count(None) == len(stops) - ended, f"stopped at more operations on the {which}, a play ended")
+        check(stops[ended:].count(None) == len(stops) - ended, f"stopped later on the {which}, a play didn't end")
         return stops[:ended]
 
     def writes(self):
@@ -228,4 +230,5 @@ def is_whole_between_new_ticks_and_a_use(_folder):
 
 CASES = [is_left_before_or_after_a_call_by_a_stop, is_left_before_or_after_a_command_by_a_stop,
          is_left_before_or_after_a_run_by_a_stop, is_left_before_or_after_a_use_by_a_stop,
-         is_of_one_version_behind_a_stop, is_left_before_or_after_new_ticks_by_a_stop, is_whole_between_new_ticks_and_a_use]
+         is_of_one_version_behind_a_stop, is_left_before_or_after_new_ticks_by_a_stop,
+         is_whole_between_new_ticks_and_a_use]
