@@ -42,7 +42,7 @@ def run(path, lines, env=None):
 
 def run_words(words, lines, program=PROGRAM, **how):
     text = "".join(line + "\n" for line in lines)
-    done = subprocess.run([program, *words], input=text.encode(), capture_output=True, timeout=300, **how)
+    done = subprocess.run([program, *words], input=text.encode(), capture_output=True, timeout=1200, **how)
     # Contents may have ends of lines of another kind.
     given = done.stdout.decode("utf-8", "surrogateescape").split("\n")
     return given[:-1] if not given[-1] else given, done.returncode, done.stderr.decode()
