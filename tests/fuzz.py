@@ -1,5 +1,5 @@
 #!/usr/bin/env python3
-"""Plays hostile inputs with the built program: configurations, files of stores, messages, paths, and hooks.
+"""Plays hostile inputs with the built program: configurations, files of stores, messages, paths, hooks, and limits of what is remembered.
 
 Usage: tests/fuzz.py [--seconds N] [--seed N] [--case N] [--program FILE] [--trial FILE]
        (default: 60 seconds, seed 1, all cases that there is time for, and the built programs)
@@ -36,6 +36,7 @@ sys.argv[1:] = ["", WORDS.program] if WORDS.program else []
 import fuzz_configurations
 from fuzz_configurations import plays_configurations
 from fuzz_hooks import plays_hooks
+from fuzz_limits import plays_limits
 from fuzz_messages import plays_messages
 from fuzz_paths import plays_paths
 from fuzz_play import Case
@@ -48,7 +49,7 @@ if WORDS.trial:
 IN_MEMORY, ROOM = "/dev/shm", 1 << 30
 # Cases that fail are told up to here: more tell no more.
 MOST_TOLD = 10
-KINDS = [plays_configurations, plays_stores, plays_messages, plays_paths, plays_hooks]
+KINDS = [plays_configurations, plays_stores, plays_messages, plays_paths, plays_hooks, plays_limits]
 
 
 class Bases:

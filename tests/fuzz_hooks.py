@@ -114,6 +114,9 @@ def plays_hooks(case, bases):
         check(first == wanted, f"a run says {text_of(first)} in place of {text_of(wanted)}")
     fixes = case.does("fixes")
     for words in (["run", "--all-files"], ["run", "--all-files", "--fresh"]):
+        if case.chance.random() < 0.3:
+            # What goes is asked for again, and answers as before.
+            case.does("memory", f"--limit={case.chance.choice([1, 1, 2, 3, 100])}")
         again = case.run(*words)
         check(again == first, f"{words!r} says {text_of(again)}, and the first run said {text_of(first)}")
         check(case.does("fixes") == fixes, "another run leaves other fixes")

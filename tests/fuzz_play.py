@@ -13,7 +13,7 @@ NO_TEXT = Answer(2, b"", b"error: a word is not UTF-8\n")
 # A command that takes longer hangs: the slowest here takes a few seconds on a machine that does other work too.
 LIMIT = 30
 SHOWING = ["status", "log", "fixes", "memory"]
-# The commands that change nothing.
+# The commands that change nothing, but for `memory` with a limit.
 LOOKING = (*SHOWING, "cat", "show", "check", "explain")
 # How often what the repository shows is looked at behind a change, to be compared behind the refusals that follow.
 LOOKS = 0.3
@@ -73,6 +73,12 @@ def text_of(held):
     return repr(held) if len(repr(held)) <= SHOWN_BYTES else f"{repr(held)[:SHOWN_BYTES]}.. ({len(held)} bytes or words)"
 
 
+def is_looking(words):
+    """Whether a command of these words changes nothing."""
+    command = command_of(words)
+    return command in LOOKING and (command != "memory" or len(words) == 1)
+
+
 def remembered(answer):
     return int(answer.out.split()[1]) if answer.status == 0 else None
 
@@ -104,8 +110,8 @@ class Case:
 
     def run(self, *words, given=b"", env=None):
         """What a command answers, which has to be an answer, and to leave all as it was where it is a refusal."""
-        command = command_of(words)
-        if command not in LOOKING:
+        command, looks = command_of(words), is_looking(words)
+        if not looks:
             self.ends()
         if self.entries is None:
             # A look takes four commands, so that not each change is followed by one.
@@ -120,7 +126,7 @@ class Case:
         check(not wrong, f"{wrong}: {text_of(answer)}")
         if answer.status in (2, 3):
             self.is_left(command, answer)
-        elif command not in LOOKING:
+        elif not looks:
             self.entries = self.shown = None
         return answer
 

@@ -18,6 +18,7 @@ from collections import namedtuple
 from contextlib import suppress
 
 from host_program import IGNORE_FILE, LOCK, STORE, Wrong, check, write
+from stops_books import CHANGE_IN_LOG, TO_LAST_TICK, TO_VERSION_1, book_by, execute, execute_in_log, steps_between
 
 CONFIGURATION, LOG, SCRATCH = ".pre-commit-config.yaml", STORE + "-wal", ".hookhost/scratch"
 # Where nothing has to reach a disk, a repository is copied and waited for in no time.
@@ -49,12 +50,22 @@ ROWS = (
     "SELECT n, message FROM commits ORDER BY n",
     "SELECT n, path, mode, digest FROM entries ORDER BY n, path",
 )
-ANSWERS = "SELECT words, seen, output, changes, status FROM answers ORDER BY words, seen"
 
 # How a command ended, and what it printed on both outputs.
 Told = namedtuple("Told", "status out err")
-# The rows of the repository, and those of what is remembered. Both are None where there is no store.
-Left = namedtuple("Left", "repository answers")
+
+
+class Left(namedtuple("Left", "repository book")):
+    """The rows of a repository, and what it remembers. Both are None where there is no store."""
+
+    @property
+    def answers(self):
+        """The rows of what is remembered, in their order."""
+        return self.book.answers if self.book else ()
+
+    def migrated(self):
+        """What the next command makes of it first."""
+        return self._replace(book=self.book.migrated())
 
 
 # ---- the program
@@ -119,7 +130,7 @@ def left_at(path):
         check(broken == (("ok",),), f"SQLite finds the store broken: {broken!r:.500}")
         mistaken = [digest.hex() for digest, held in ask("SELECT digest, bytes FROM blobs") if hashlib.sha256(held).digest() != digest]
         check(mistaken == [], f"these contents stand under another digest: {mistaken!r:.500}")
-        return Left(tuple(ask(text) for text in ROWS), ask(ANSWERS))
+        return Left(tuple(ask(text) for text in ROWS), book_by(ask))
     except sqlite3.DatabaseError as error:
         raise Wrong(f"SQLite refuses the store: {error}") from error
     finally:
@@ -139,15 +150,17 @@ def faults_in(found):
 
 class Scene:
     """A command on copies of a repository, and what it says and leaves where nothing stops it: the first time, and when it's asked for
-    once more."""
+    once more. It uses and puts so many answers, and the last of them, so many, behind what it does to the repository; or, where `uses`
+    is none, it changes what is remembered at once."""
 
-    def __init__(self, program, folder, name, base, words):
-        self.program, self.name, self.base, self.words = program, name, base, words
+    def __init__(self, program, folder, name, base, words, uses=0, behind=0):
+        self.program, self.name, self.base, self.words, self.behind = program, name, base, words, behind
         self.copies, self.by_faults, self.shown = os.path.join(folder, f"model-{name}"), {}, {}
         os.mkdir(self.copies)
         self.before = left_in(base)
         work = self.copy(self.copies)
         self.told, self.after = self.run(work), left_in(work)
+        self.books = steps_between(self.before.book, self.after.book, uses)
         check(self.told.err == b"" and self.told.status in (0, 1), f"{name}: {words!r} says {self.told!r}")
         self.note(work, self.after)
         self.told_again, self.after_again = self.run(work), left_in(work)
@@ -182,9 +195,9 @@ class Scene:
         check(again == wanted, f"after {told!r:.300}, which left what was {place}, the same command says {again!r:.300}, wanted {wanted!r:.300}")
         found = left_in(work)
         # A command that is refused remembers nothing more.
-        answers = left.answers if wanted.status == 3 else then.answers
-        check(found == Left(then.repository, answers), f"after {told!r:.300}, which left what was {place}, the same command leaves {len(found.answers)} "
-              f"answers, wanted {len(answers)}, and a repository that is {'' if found.repository == then.repository else 'not '}the wanted one")
+        book = left.book.migrated() if wanted.status == 3 else then.book
+        check(found == Left(then.repository, book), f"after {told!r:.300}, which left what was {place}, the same command leaves {found.book!r:.900}, "
+              f"wanted {book!r:.900}, and a repository that is {'' if found.repository == then.repository else 'not '}the wanted one")
         self.check_folder(work)
         return place
 
@@ -193,12 +206,13 @@ class Scene:
         self.check_answers(left)
         if faults_in(sections(told.out)):
             return self.place_of_faults(left, told)
-        if self.is_stopped_behind(told):
-            check(left.repository == self.after.repository, f"it says {told!r:.300} and leaves what was before")
-            return "after, and stopped behind it", self.told_again, self.after_again
-        self.check_told(told)
         is_after = left.repository == self.after.repository
         check(is_after or left.repository == self.before.repository, f"it says {told!r:.500} and leaves what was neither before nor after: {left!r:.600}")
+        self.check_book(left, told)
+        if self.is_stopped_behind(told):
+            check(is_after, f"it says {told!r:.300} and leaves what was before")
+            return "after, and stopped behind it", self.told_again, self.after_again
+        self.check_told(told)
         if told.status == self.told.status:
             check(told.out == self.told.out and left == self.after, f"it says {told!r:.500} and leaves {left!r:.1500}")
         check(is_after or told.out == b"" and b"was made" not in told.err, f"it says {told!r:.500} and leaves what was before")
@@ -215,15 +229,27 @@ class Scene:
         return self.name == "commit" and told.status == 0 and is_there and REFUSED.fullmatch(told.err) is not None
 
     def place_where_nothing_changes(self, left, told):
-        """A command that changes nothing but what is remembered does so in one piece."""
-        is_after = left.answers == self.after.answers
-        check(is_after or left.answers == self.before.answers and told.out == b"", f"it says {told!r:.500} and leaves {left!r:.1500}")
-        return ("after", self.told_again, self.after_again) if is_after else ("before", self.told, self.after)
+        """A command that changes nothing but what is remembered has printed nothing until that is done."""
+        is_after = left.book == self.after.book
+        check(is_after or told.out == b"", f"it says {told!r:.500} and leaves {left!r:.1500}")
+        place = "after" if is_after else "before" if left.book == self.before.book else "between two transactions"
+        return (place, self.told_again, self.after_again) if is_after else (place, self.told, self.after)
 
     def check_answers(self, left):
-        """Each answer that is remembered is one that a child told: it was there before, or the whole command leaves it."""
-        known = set(self.before.answers or ()) | set(self.after.answers)
-        check(set(left.answers or ()) <= known, f"an answer is remembered that no child told: {left.answers!r:.1500}")
+        """Each answer that is remembered is one that a child told: it was there before, or it comes to be there while nothing stops the
+        command."""
+        known = {row for book in self.books if book for row in book.answers}
+        check(set(left.answers) <= known, f"an answer is remembered that no child told: {left.answers!r:.1500}")
+
+    def check_book(self, left, told):
+        """What is remembered stands behind one of the transactions that the command makes, and before or behind that of the repository as
+        this does."""
+        places, change = [at for at, book in enumerate(self.books) if book == left.book], len(self.books) - 1 - self.behind
+        check(places, f"it says {told!r:.500} and what is remembered is behind none of its transactions: {left.book!r:.1500}")
+        if self.before.repository != self.after.repository:
+            is_after = left.repository == self.after.repository
+            is_there = places[-1] >= change if is_after else places[0] <= change
+            check(is_there, f"it says {told!r:.500} and leaves a repository {'after' if is_after else 'before'} it with a book of the steps {places!r}")
 
     def check_told(self, told):
         """A command is done, or killed, or refused by a line that says so, and what it printed is a beginning of what it prints."""
@@ -245,7 +271,7 @@ class Scene:
         without = self.without(faulted, told)
         check(left.repository == without.repository, f"with faults of {faulted!r} it leaves {left.repository!r:.900}, wanted {without.repository!r:.900}")
         # What met a fault isn't remembered. Before a commit hooks of several stages have answered.
-        check(self.words[0] == "commit" or left.answers == without.answers, f"with faults of {faulted!r} {len(left.answers)} answers are remembered")
+        check(self.words[0] == "commit" or left.book == without.book, f"with faults of {faulted!r} it leaves {left.book!r:.900}, wanted {without.book!r:.900}")
         is_after = left.repository == self.after.repository and self.words[0] == "commit"
         return ("after a fault", self.told_again, self.after_again) if is_after else ("a fault", self.told, self.after)
 
@@ -275,12 +301,14 @@ class Scene:
         return self.by_faults[key]
 
     def check_shown(self, work, left):
-        """The program shows what SQLite read, and leaves it."""
+        """The program shows what SQLite read, and leaves it. A store of version 1 is shown in a copy, since it becomes another by that."""
+        if left.book.version == 1:
+            work = shutil.copytree(work, tempfile.mkdtemp(dir=os.path.dirname(work)), dirs_exist_ok=True, symlinks=True)
         looks = tuple(told_by([self.program, *words], work) for words in LOOKS)
         check(looks == self.shown[left.repository], f"it shows {looks!r:.1500}, wanted {self.shown[left.repository]!r:.1500}")
         memory = told_by([self.program, "memory"], work)
-        check(memory == (0, b"remembered: %d\n" % len(left.answers), b""), f"of {len(left.answers)} answers memory says {memory!r}")
-        check(left_alone(work) == left, "the file of the database alone isn't the repository behind the next command")
+        check(memory == (0, b"remembered: %d\n" % len(left.migrated().answers), b""), f"of {len(left.answers)} answers memory says {memory!r}")
+        check(left_alone(work) == left.migrated(), "the file of the database alone isn't the repository behind the next command")
 
     def check_folder(self, work):
         """What is left beside the store behind the command that was asked for again. A run that was stopped leaves its mark, which the next
@@ -335,9 +363,20 @@ def scenes_of(program, folder, only, hooks=HOOKS):
     to_run = changed("to_run", ("add", "b"), (*RUN, "mend"), ("forget",), files=[("b", b"x other\n")])
     to_commit = changed("to_commit", ("forget",))
     to_refuse = changed("to_refuse", ("add", "bad"), (*RUN, "mend"), ("forget",), files=[("bad", b"x\n")])
+    # What the stage `manual` answers is remembered, and no hook of it is told for the last time by the one that is asked first.
+    to_use = changed("to_use", ("add", "new"))
+    to_number = execute(changed("to_number", ("add", "new")), TO_LAST_TICK)
+    # As many answers as may be, all of another stage.
+    to_drop = changed("to_drop", ("forget",), ("memory", "--limit=3"), *(("run-files", *names) for names in (["b"], ["e"], ["b", "e"])))
+    to_commit_anew = changed("to_commit_anew", ("run",), RUN)
+    first = execute(changed("first"), TO_VERSION_1)
+    first_in_log = execute_in_log(shutil.copytree(first, os.path.join(folder, "first_in_log")), CHANGE_IN_LOG)
     scenes = [
         ("init", empty, ["init"]), ("add", base, ["add", "new"]), ("add several", base, ["add", "new", "many", "b"]), ("rm", base, ["rm", "e", "d"]),
-        ("run", to_run, list(RUN)), ("accept", base, ["accept"]), ("commit", to_commit, ["commit", "-m", "second"]),
-        ("refused commit", to_refuse, ["commit", "-m", "refused"]), ("forget", base, ["forget"]), ("status", base, ["status"]),
+        ("run", to_run, list(RUN), 3), ("accept", base, ["accept"]), ("commit", to_commit, ["commit", "-m", "second"], 3, 1),
+        ("refused commit", to_refuse, ["commit", "-m", "refused"], 2), ("forget", base, ["forget"], None), ("status", base, ["status"]),
+        ("run that uses", to_use, list(RUN), 3), ("run that drops", to_drop, list(RUN), 3), ("run that numbers anew", to_number, list(RUN), 3),
+        ("commit that uses", to_commit_anew, ["commit", "-m", "second"], 3, 1), ("limit", base, ["memory", "--limit=2"], None),
+        ("status of version 1", first, ["status"]), ("run of version 1", first, list(RUN), 3), ("status over a log of version 1", first_in_log, ["status"]),
     ]
     return [Scene(program, folder, *scene) for scene in scenes if only in scene[0]]
