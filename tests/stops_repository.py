@@ -154,7 +154,7 @@ class Scene:
     is none, it changes what is remembered at once."""
 
     def __init__(self, program, folder, name, base, words, uses=0, behind=0):
-        self.program, self.name, self.base, self.words, self.behind = program, name, base, words, behind
+        self.program, self.name, self.base, self.words, self.uses, self.behind = program, name, base, words, uses, behind
         self.copies, self.by_faults, self.shown = os.path.join(folder, f"model-{name}"), {}, {}
         os.mkdir(self.copies)
         self.before = left_in(base)
@@ -370,6 +370,8 @@ def scenes_of(program, folder, only, hooks=HOOKS):
     to_drop = changed("to_drop", ("forget",), ("memory", "--limit=3"), *(("run-files", *names) for names in (["b"], ["e"], ["b", "e"])))
     to_commit_anew = changed("to_commit_anew", ("run",), RUN)
     first = execute(changed("first"), TO_VERSION_1)
+    # Of three hooks two are answered, and the last one's file is another.
+    first_to_run = execute(changed("first_to_run", ("add", "a"), files=[("a", b"two\n")]), TO_VERSION_1)
     first_in_log = execute_in_log(shutil.copytree(first, os.path.join(folder, "first_in_log")), CHANGE_IN_LOG)
     scenes = [
         ("init", empty, ["init"]), ("add", base, ["add", "new"]), ("add several", base, ["add", "new", "many", "b"]), ("rm", base, ["rm", "e", "d"]),
@@ -377,6 +379,6 @@ def scenes_of(program, folder, only, hooks=HOOKS):
         ("refused commit", to_refuse, ["commit", "-m", "refused"], 2), ("forget", base, ["forget"], None), ("status", base, ["status"]),
         ("run that uses", to_use, list(RUN), 3), ("run that drops", to_drop, list(RUN), 3), ("run that numbers anew", to_number, list(RUN), 3),
         ("commit that uses", to_commit_anew, ["commit", "-m", "second"], 3, 1), ("limit", base, ["memory", "--limit=2"], None),
-        ("status of version 1", first, ["status"]), ("run of version 1", first, list(RUN), 3), ("status over a log of version 1", first_in_log, ["status"]),
+        ("status of version 1", first, ["status"]), ("run of version 1", first_to_run, list(RUN), 3), ("status over a log of version 1", first_in_log, ["status"]),
     ]
     return [Scene(program, folder, *scene) for scene in scenes if only in scene[0]]
