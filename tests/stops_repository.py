@@ -220,20 +220,23 @@ class Scene:
             return self.place_where_nothing_changes(left, told)
         # The disk may refuse a wait behind the last write of a change.
         place = "after, and was refused" if told.status == 3 and b"taken" not in told.err else "after"
-        return (place, self.told_again, self.after_again) if is_after else ("before", self.told, self.after)
+        return (place, self.told_again, self.after_again) if is_after else (self.place_before(left), self.told, self.after)
+
+    def place_before(self, left):
+        """Where a command left what is remembered that didn't come to its end."""
+        return "before" if left.book == self.before.book else "between two transactions"
 
     def is_stopped_behind(self, told):
         """Whether a commit says that it is made, and of a hook behind it that this was stopped."""
         whole = sections(self.told.out)
         is_there = told.out == b"".join(section for name, section in whole.items() if name != "Behind") + whole.get("Behind", b"")[-len(b"commit N\n"):]
-        return self.name == "commit" and told.status == 0 and is_there and REFUSED.fullmatch(told.err) is not None
+        return self.behind > 0 and told.status == 0 and is_there and REFUSED.fullmatch(told.err) is not None
 
     def place_where_nothing_changes(self, left, told):
         """A command that changes nothing but what is remembered has printed nothing until that is done."""
         is_after = left.book == self.after.book
         check(is_after or told.out == b"", f"it says {told!r:.500} and leaves {left!r:.1500}")
-        place = "after" if is_after else "before" if left.book == self.before.book else "between two transactions"
-        return (place, self.told_again, self.after_again) if is_after else (place, self.told, self.after)
+        return ("after", self.told_again, self.after_again) if is_after else (self.place_before(left), self.told, self.after)
 
     def check_answers(self, left):
         """Each answer that is remembered is one that a child told: it was there before, or it comes to be there while nothing stops the
