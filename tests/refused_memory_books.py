@@ -250,5 +250,5 @@ def str_or_bytes(word):
 def wrong_limits(came):
     """What memory was never refused to, of what has to be refused it."""
     kinds = {LIMITED[place[1] - 1][0] if place[0] == "command" else place[0] if place[0] == "find" else place[1] for place in came - {None}}
-    missing = {"add", "limit", "run", "find", "put"} - kinds
+    missing = {"add", "limit", "find", "put"} - kinds
     return f"memory was never refused to {missing}" if missing else None
