@@ -1,5 +1,5 @@
-"""Runs of a program of which one allocation is refused, for tests/refused_memory.py and the modules of its plays. The allocator is
-stood in for by tests/refuse_allocation.c."""
+"""Runs of a program of which one allocation is refused, for tests/refused_memory.py and the modules of its plays. The
+allocator is stood in for by tests/refuse_allocation.c."""
 import itertools
 import os
 import subprocess
@@ -12,17 +12,18 @@ WORDS = [word for word in sys.argv[1:] if word != "--each"]
 
 
 def program(at, name):
-    """The program of this name, or the one that is the word at this place."""
+    """The program that is the word at this place, or the built one of this name."""
     return os.path.abspath(WORDS[at] if len(WORDS) > at else os.path.join(CRATES, name, "out", name))
 
 
-PROGRAM, STORE_TRIAL, HOOK_TRIAL, SELECTION_TRIAL = map(program, range(4), ["hookhost", "store_trial", "hook_trial", "selection_trial"])
+PROGRAM, STORE_TRIAL = program(0, "hookhost"), program(1, "store_trial")
+HOOK_TRIAL, SELECTION_TRIAL = program(2, "hook_trial"), program(3, "selection_trial")
 
 
 def make_allocator(folder):
     """Makes what stands in for the allocator."""
-    words = ["-shared", "-fPIC", "-O1", "-o", os.path.join(folder, "refuse.so"), os.path.join(HERE, "refuse_allocation.c"), "-ldl"]
-    subprocess.run(["cc", *words], check=True)
+    made, source = os.path.join(folder, "refuse.so"), os.path.join(HERE, "refuse_allocation.c")
+    subprocess.run(["cc", "-shared", "-fPIC", "-O1", "-o", made, source, "-ldl"], check=True)
 
 
 def end_with_refusal(words, refused, shared, folder, work, given):
@@ -30,8 +31,8 @@ def end_with_refusal(words, refused, shared, folder, work, given):
     mark = os.path.join(folder, "refused")
     if os.path.exists(mark):
         os.remove(mark)
-    env = dict(os.environ, LD_PRELOAD=os.path.join(shared, "refuse.so"), REFUSE_ALLOCATION=str(refused), REFUSED_FILE=mark)
-    return end_of(words, work, given, env), os.path.exists(mark)
+    refusing = {"LD_PRELOAD": os.path.join(shared, "refuse.so"), "REFUSE_ALLOCATION": str(refused), "REFUSED_FILE": mark}
+    return end_of(words, work, given, os.environ | refusing), os.path.exists(mark)
 
 
 def end_of(words, work, given=b"", env=None):
@@ -52,11 +53,13 @@ def count_allocations(is_refused):
 
 
 def some_of(count, at_ends, between):
-    """Of the numbers from 1 on, without an end, so many first and last ones of the count, and of those between one in so many."""
+    """Of the numbers from 1 on, without an end, so many first and last ones of the count, and of those between one in so
+    many."""
     step = max(1, (count - 2 * at_ends) // between)
     return (at for at in itertools.count(1) if at <= at_ends or at > count - at_ends or at % step == 0)
 
 
 def line_of(call, words):
     """The line by which a program for tests plays a call."""
-    return " ".join([call, *((word.encode() if isinstance(word, str) else word).hex() or "-" for word in words)]).encode() + b"\n"
+    held = (word.encode() if isinstance(word, str) else word for word in words)
+    return " ".join([call, *(word.hex() or "-" for word in held)]).encode() + b"\n"

@@ -79,25 +79,34 @@ def with_front(book, at, limit):
 
 
 def steps_of(book, table, limit):
-    """What a run of all hooks comes to behind each of its look-ups, starts and puts: how many children were started, how many of them
-    failed, and the book."""
-    calls, faults, steps = 0, 0, [(0, 0, book)]
+    """What a run of all hooks comes to behind each of its look-ups, starts and puts: how many children were started, the hooks whose
+    children failed, and the book."""
+    calls, failed, steps = 0, (), [(0, (), book)]
     for at in range(len(BOOK_ROWS)):
-        calls, faults = calls + (at not in book), faults + (at not in book and at not in table)
-        steps.append((calls, faults, book))
-        book = with_front(book, at, limit) if at in book or at in table else book
-        steps.append((calls, faults, book))
+        has_failed = at not in book and at not in table
+        calls, failed = calls + (at not in book), failed + (at,) * has_failed
+        steps.append((calls, failed, book))
+        book = book if has_failed else with_front(book, at, limit)
+        steps.append((calls, failed, book))
     return steps
 
 
-def books_behind(run, books, table, limit):
+def report_of(failed, plain):
+    """What a run reports in which these hooks have no answer: of the runs with nothing refused all have one in the second, and in the
+    first the last one has none."""
+    (*_, unanswered), answered = (re.split(r"^(?=H\d\.)", run.report, flags=re.MULTILINE)[1:] for run in plain[:2])
+    return "".join(unanswered.replace("H3", f"H{at}").replace("h3", f"h{at}") if at in failed else text for at, text in enumerate(answered))
+
+
+def books_behind(run, books, table, limit, plain):
     """The books that there may be behind a run that told this, of those that there may have been before. That tells which rows are held,
     which uses them in the order of the table."""
     found = set()
     for steps in (steps_of(book, table, limit) for book in books):
-        for calls, faults, after in steps if run.refused else steps[-1:]:
+        for calls, failed, after in steps if run.refused else steps[-1:]:
             held = [at for at in table if at in after]
-            if (run.calls, run.faults, run.held) == (calls, faults, set(held)):
+            told = calls, len(failed), "" if run.refused else report_of(failed, plain), set(held)
+            if (run.calls, run.faults, run.report, run.held) == told:
                 for at in held:
                     after = with_front(after, at, limit)
                 found.add(after)
@@ -136,8 +145,8 @@ def wrong_runs(play, ended, runs, plain):
         return "ended otherwise"
     books = {()}
     for at, (run, table) in enumerate(zip(runs, play.tables)):
-        books = books_behind(run, books, table, play.limit)
-        if not books or run.report != ("" if run.refused else plain[at].report):
+        books = books_behind(run, books, table, play.limit, plain)
+        if not books:
             return f"run {at} {'tells something else' if run.refused else 'is not the run from scratch'}"
     return None
 
