@@ -13,22 +13,23 @@ Where a play starts children, these have all their memory, so that whatever is r
 it; nor may a file of the folder change. The folder in which they run is made anew for each run, or left as the run before
 it left it, one that gave up among them.
 
-A command on a repository is played on a new copy of one each time, which may be one of version 1. After a refusal it has to show
-what it showed before, and else what it shows after the command with ample memory, as SQLite reads it in a copy of its store. What is
-remembered is what was before, of version 1 or 2, or where hooks run that behind some of their uses and puts, in its order; `memory` says
-how many answers these are. Then the command is played again with ample memory, and has to print and leave what it does where nothing was refused. Where a
-refusal leaves each byte of the folder as an earlier one did, that has been played.
+A command on a repository is played on a new copy of one each time, which may be one of version 1. After a refusal it has
+to show what it showed before, and else what it shows after the command with ample memory, as SQLite reads it in a copy of
+its store. What is remembered is what was before, in version 1 or 2, or where hooks run that behind some of their uses and
+puts, in its order; `memory` says how many answers these are. Then the command is played again with ample memory, and has to
+print and leave what it does where nothing was refused. Where a refusal leaves each byte of the folder as an earlier one did,
+that has been played.
 
 Neither may leave an empty folder in which what doesn't belong to the children's folder was to be gathered.
 
-Of runs over one book, half of whose answers are remembered when the second begins, each allocation is refused too, by the program
-hook_trial, and of runs over a book of fewer answers than hooks. What was used and put by then stays in its order and is told, no
-child is started for it again, and the same run, which the next is, reports what it does from scratch.
+Of runs over one book, half of whose answers are remembered when the second begins, each allocation is refused too, by the
+program hook_trial, and of runs over a book of fewer answers than hooks. What was used and put by then stays in its order and
+is told, no child is started for it again, and the next run reports what it does from scratch.
 
 Of the lists of commands that a host plays (tests/host_plays.py), in which all but what stages a file is made twice, each allocation
 is refused too, by the same program. What it answers has to be what tests/host_model.py does, of which one command or the hooks
-behind one commit are refused memory, after some of the children or before any: all that stands behind that is from scratch. So it is
-with commands of which some limit what is remembered, where memory is refused to a look-up too, which leaves the order.
+behind one commit are refused memory, after some of the children or before any: all that stands behind that is from scratch.
+So it is with commands of which some limit what is remembered, where memory is refused to a look-up too: that leaves the order.
 
 Of the calls on tags that are kept while files change each allocation is refused, by the program selection_trial: it answers as with
 ample memory, or says that it has none. What was refused is called again there, on tags that have to be as they were.
@@ -52,8 +53,8 @@ from dataclasses import dataclass, field
 
 from host_plays import PLAYS as HOST_PLAYS
 from host_program import Wrong
-from refused_allocation import (CRATES, EACH, PROGRAM, SELECTION_TRIAL, STORE_TRIAL, count_allocations, end_of, end_with_refusal, make_allocator,
-                                some_of)
+from refused_allocation import (CRATES, EACH, PROGRAM, SELECTION_TRIAL, STORE_TRIAL, count_allocations, end_of, end_with_refusal,
+                                make_allocator, some_of)
 from refused_memory_books import BOOK_PLAYS, refuse_among_remembered, refuse_host_play, refuse_limits
 from refused_memory_plays import FILES, OF_CHECK, OF_CHILDREN, OF_STORE, PLAYS, STAGED_HOOKS, USING_HOOKS, Play
 from stops_books import TO_VERSION_1, Book, execute, steps_between
@@ -81,8 +82,8 @@ class Bench:
 
 @dataclass
 class Answer:
-    """How a run ended: its status and outputs, whether an allocation was refused, what the folder then shows, and what is remembered
-    in its repository, if it has one."""
+    """How a run ended: its status and outputs, whether an allocation was refused, what the folder then shows, and what is
+    remembered in its repository, if it has one."""
     said: tuple
     refused: bool
     shown: tuple = None
@@ -119,8 +120,8 @@ def shown_before(play, bench):
 
 
 def shown_after(play, bench):
-    """What the folder of a play shows: what its repository does, or the files that the children got copies of. And what is
-    remembered."""
+    """What the folder of a play shows: what its repository does, or the files that the children got copies of. And what
+    is remembered."""
     if not play.repository and not play.children:
         return (None, empty_in(bench.work)), None
     bench.lies = state_of(bench.work)
@@ -212,7 +213,8 @@ def refuse_each(play, bench):
         if answer.shown != (plain if number is None else before).shown:
             return count, gave_up, f"left {answer.shown} where allocation {allocation} was refused, and said {answer.said}"
         if answer.said == plain.said and answer.book != plain.book:
-            return count, gave_up, f"left {answer.book!r:.900} where allocation {allocation} was refused, wanted {plain.book!r:.900}"
+            wrong = f"left {answer.book!r:.900}, wanted {plain.book!r:.900}"
+            return count, gave_up, f"{wrong} where allocation {allocation} was refused"
         wrong = wrong_behind(play, answer, before, plain, bench) if number is not None and (play.repository or play.children) else None
         if wrong:
             return count, gave_up, f"{wrong} where allocation {allocation} was refused"
@@ -231,7 +233,8 @@ def wrong_behind(play, answer, before, plain, bench):
 
 
 def wrong_book(play, answer, before, plain, bench):
-    """What is wrong with what is remembered, if anything: it is that before the command, or that behind some of its uses and puts."""
+    """What is wrong with what is remembered, if anything: it is that before the command, or that behind some of its uses and
+    puts."""
     if answer.book is None:
         return None
     steps = steps_between(before.book, plain.book, play.uses)
@@ -287,7 +290,9 @@ def make_repositories(shared):
 def do_all(folder, *steps):
     """Does commands, each told by its words, and lines of store_trial, which are bytes."""
     for step in steps:
-        told = end_of([STORE_TRIAL, ".hookhost/store.db"], folder, b"open\n" + step + b"close\n") if isinstance(step, bytes) else end_of([PROGRAM, *step], folder)
+        is_lines = isinstance(step, bytes)
+        words, given = ([STORE_TRIAL, ".hookhost/store.db"], b"open\n" + step + b"close\n") if is_lines else ([PROGRAM, *step], b"")
+        told = end_of(words, folder, given)
         if told[0]:
             sys.exit(f"refused_memory: no repository is made, {step!r} says {told!r}")
 
@@ -295,16 +300,15 @@ def do_all(folder, *steps):
 def make_repository(folder):
     """Makes a repository with a commit, whose files are those of the plays, hooks that are staged, and a fix."""
     lay_files(folder, STAGED_HOOKS)
-    do_all(folder, ["init"], ["add", "a.txt"], ["add", "b.txt"], b"stage plain old/x 1\nstage plain old/dir/y 2\ncommit first\\n\\nbody\n",
-           ["rm", "b.txt"], ["add", ".pre-commit-config.yaml"],
+    do_all(folder, ["init"], ["add", "a.txt"], ["add", "b.txt"],
+           b"stage plain old/x 1\nstage plain old/dir/y 2\ncommit first\\n\\nbody\n", ["rm", "b.txt"], ["add", ".pre-commit-config.yaml"],
            b"fix a.txt 2\nset\nremember c a.txt | a.txt=1 | a.txt=2 | 0 | said\nremember d | | | 1\n")
 
 
 def make_using(folder):
-    """Makes a repository of whose staged files two are answered and one isn't, and one more answer is remembered than stays then."""
+    """Makes a repository with as many answers as its limit allows, for two of three staged files and for none of them."""
     lay_files(folder, USING_HOOKS)
-    do_all(folder, ["init"], ["add", "--", ".pre-commit-config.yaml", *(name for name, _ in FILES)], b"remember d | | | 1\n",
-           ["run-files", "a.txt"], ["run-files", "b.txt"], ["memory", "--limit=3"])
+    do_all(folder, ["init"], ["add", ".pre-commit-config.yaml", *(name for name, _ in FILES)], b"remember d | | | 1\n", ["run-files", "a.txt"], ["run-files", "b.txt"], ["memory", "--limit=3"])
 
 
 def kept_tags_run(line, refused, shared, folder):
@@ -332,12 +336,14 @@ def refuse_kept_tags(shared):
 
 
 def play_all(plays, shared):
-    """What each play and each list of commands of a host comes to, and the runs over books and the kept tags, side by side."""
+    """What each play and each list of commands of a host comes to, and the runs over books and the kept tags, side by
+    side."""
     with ProcessPoolExecutor(os.cpu_count(), multiprocessing.get_context("fork")) as pool:
         answers = [pool.submit(play_alone, play, shared) for play in plays]
-        of_hosts = [*(pool.submit(refuse_host_play, *play, shared) for play in HOST_PLAYS), pool.submit(refuse_limits, shared)]
-        of_books, of_kept_tags = [pool.submit(refuse_among_remembered, play, shared) for play in BOOK_PLAYS], pool.submit(refuse_kept_tags, shared)
-        return [[each.result() for each in part] for part in (answers, of_hosts, of_books, [of_kept_tags])]
+        of_hosts = [pool.submit(refuse_host_play, *play, shared) for play in HOST_PLAYS] + [pool.submit(refuse_limits, shared)]
+        of_books = [pool.submit(refuse_among_remembered, play, shared) for play in BOOK_PLAYS]
+        parts = answers, of_hosts, of_books, [pool.submit(refuse_kept_tags, shared)]
+        return [[each.result() for each in part] for part in parts]
 
 
 def main():

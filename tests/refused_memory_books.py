@@ -1,43 +1,48 @@
-"""What tests/refused_memory.py plays of books and of hosts, each allocation of which is refused, by the program hook_trial."""
+"""What tests/refused_memory.py plays of books and of hosts, of which each allocation is refused, by the program hook_trial.
+"""
 import itertools
 import re
 import tempfile
 from dataclasses import dataclass
 
-from host_model import CONFIGURATION, OUT_OF_MEMORY, Answer, FixedTable, Hook, Machine, Memory, call_of, configuration_text, played, words_of_rows
+from host_model import (CONFIGURATION, OUT_OF_MEMORY, Answer, FixedTable, Hook, Machine, Memory, call_of,
+                        configuration_text, played, words_of_rows)
 from host_plays import TXT, add, commands_of, host_of, plain as plain_file, words_of
 from refused_allocation import EACH, HOOK_TRIAL, count_allocations, end_with_refusal, line_of, some_of
 
-# How many allocations at the beginning and the end are refused, and how many between, of the lists of commands that a host plays, and of
-# the one with limits.
+# How many allocations at the beginning and the end are refused, and how many between, of the lists of commands that a host
+# plays, and of the one with limits.
 OF_HOST, OF_LIMITS = (200, 800), (100, 500)
 
 # ---- runs over one book
 
 # Hooks of one child each, and the rows by which children answer.
-BOOK_HOOKS = "repos:\n- repo: local\n  hooks:\n" + "".join(f"  - {{id: h{at}, name: H{at}, language: system, entry: c{at}}}\n" for at in range(4))
+BOOK_HOOKS = "repos:\n- repo: local\n  hooks:\n" + "".join(
+    f"  - {{id: h{at}, name: H{at}, language: system, entry: c{at}}}\n" for at in range(4)
+)
 BOOK_ROWS = [f"answer {at}\nc{at}\ta.txt\na.txt=x\n{'a.txt=x' if at == 1 else ''}\nsaid {at}\n" for at in range(4)]
 BOOK_RUN = ["run", "plain", "0", "0", "signal", "0", "memory"]
-# What a run is answered by: its verdict or its refusal, how many children were started, how many of them failed, what is reported,
-# and which rows of the table are remembered.
-BOOK_ANSWER = re.compile(r"(passed|failed|1 OutOfMemory: out of memory), (\d) calls, (\d) faults\n((?:.*\n)*?)(\d) remembered:((?: held| lacking)*)\n")
+# What a run is answered by: its verdict or its refusal, how many children were started, how many of them failed, what is
+# reported, and which rows of the table are remembered.
+BOOK_ANSWER = re.compile(r"(passed|failed|1 OutOfMemory: out of memory), (\d) calls, (\d) faults\n((?:.*\n)*?)"
+                         r"(\d) remembered:((?: held| lacking)*)\n")
 
 
 @dataclass
 class BookPlay:
-    """Runs of all hooks over a book of a limit. Each is told with the rows of the table at that time, and how many children it
-    starts."""
+    """Runs of all hooks over a book of a limit. Each is told with the rows of the table at that time, and how many children
+    it starts."""
     name: str
     limit: int
     tables: list
     calls: list
 
     def words(self):
-        words, before = [BOOK_HOOKS, "file", "plain", "a.txt", "x\n", *(["limit", str(self.limit)] if self.limit < 10_000 else [])], []
+        words, before = [BOOK_HOOKS, "file", "plain", "a.txt", "x\n", "limit", str(self.limit)], []
         for table in self.tables:
-            is_more = table[:len(before)] == before
-            words += [] if is_more else ["others"]
-            words += [word for at in (table[len(before):] if is_more else table) for word in ("child", BOOK_ROWS[at])] + BOOK_RUN
+            if table[:len(before)] != before:
+                words, before = [*words, "others"], []
+            words += [word for at in table[len(before):] for word in ("child", BOOK_ROWS[at])] + BOOK_RUN
             before = table
         return words
 
@@ -45,9 +50,9 @@ class BookPlay:
 BOOK_PLAYS = [
     # In the first run children answer for the first two hooks alone.
     BookPlay("runs over one book", 10_000, [[0, 1], *[[0, 1, 2, 3]] * 3], [4, 2, 0, 0]),
-    # With one hook more than answers each run starts all. Then the order shows, in which the run before used them: one goes for the
-    # answer of the first hook.
-    BookPlay("runs over a book of three answers", 3, [[0, 1], *[[0, 1, 2, 3]] * 2, [3], *[[3, 0]] * 2], [4, 2, 4, 1, 2, 1]),
+    # With one hook more than answers each run starts all. Then the order shows in which the run before used them: one goes
+    # for the answer of the first hook.
+    BookPlay("runs over a book of three answers", 3, [[0, 1], *[[0, 1, 2, 3]] * 2, [3], [3, 0], [3, 0]], [4, 2, 4, 1, 2, 1]),
 ]
 
 
@@ -62,15 +67,18 @@ class BookRun:
 
 
 def book_runs(play, refused, shared, folder):
-    """How the program ended, what it answered, whether the allocation of this number (0: none) was refused, and the runs, if they
-    were told."""
-    (status, out, err), was_refused = end_with_refusal([HOOK_TRIAL], refused, shared, folder, folder, line_of("play_book", play.words()))
+    """How the program ended, what it answered, whether the allocation of this number (0: none) was refused, and the runs, if
+    they were told."""
+    line = line_of("play_book", play.words())
+    (status, out, err), was_refused = end_with_refusal([HOOK_TRIAL], refused, shared, folder, folder, line)
     text = bytes.fromhex(out.decode().strip()).decode()
-    runs = [
-        BookRun(verdict[0] == "1", int(calls), int(faults), report, {at for at, word in zip(table, rows.split()) if word == "held"})
-        for table, (verdict, calls, faults, report, _, rows) in zip(play.tables, BOOK_ANSWER.findall(text))
-    ]
+    runs = [book_run(table, *told) for table, told in zip(play.tables, BOOK_ANSWER.findall(text))]
     return (status, text, err), was_refused, runs
+
+
+def book_run(table, verdict, calls, faults, report, _, rows):
+    held = {at for at, word in zip(table, rows.split()) if word == "held"}
+    return BookRun(verdict[0] == "1", int(calls), int(faults), report, held)
 
 
 def with_front(book, at, limit):
@@ -79,8 +87,8 @@ def with_front(book, at, limit):
 
 
 def steps_of(book, table, limit):
-    """What a run of all hooks comes to behind each of its look-ups, starts and puts: how many children were started, the hooks whose
-    children failed, and the book."""
+    """What a run of all hooks comes to behind each of its look-ups, starts and puts: how many children were started, the
+    hooks whose children failed, and the book."""
     calls, failed, steps = 0, (), [(0, (), book)]
     for at in range(len(BOOK_ROWS)):
         has_failed = at not in book and at not in table
@@ -92,15 +100,16 @@ def steps_of(book, table, limit):
 
 
 def report_of(failed, plain):
-    """What a run reports in which these hooks have no answer: of the runs with nothing refused all have one in the second, and in the
-    first the last one has none."""
+    """What a run reports in which these hooks have no answer. Of the runs with nothing refused all have one in the second,
+    and in the first the last one has none."""
     (*_, unanswered), answered = (re.split(r"^(?=H\d\.)", run.report, flags=re.MULTILINE)[1:] for run in plain[:2])
-    return "".join(unanswered.replace("H3", f"H{at}").replace("h3", f"h{at}") if at in failed else text for at, text in enumerate(answered))
+    without = (unanswered.replace("H3", f"H{at}").replace("h3", f"h{at}") for at in range(len(answered)))
+    return "".join(told[at in failed] for at, told in enumerate(zip(answered, without)))
 
 
 def books_behind(run, books, table, limit, plain):
-    """The books that there may be behind a run that told this, of those that there may have been before. That tells which rows are held,
-    which uses them in the order of the table."""
+    """The books that there may be behind a run that told this, of those that there may have been before. To tell which rows
+    are held uses them, in the order of the table."""
     found = set()
     for steps in (steps_of(book, table, limit) for book in books):
         for calls, failed, after in steps if run.refused else steps[-1:]:
@@ -122,15 +131,14 @@ def refuse_among_remembered(play, shared):
     """How many allocations were refused in turn, how many runs were, and what was wrong, if anything."""
     with tempfile.TemporaryDirectory() as folder:
         well, _, plain = book_runs(play, 0, shared, folder)
-        is_well = (well[0], well[2]) == (0, b"") and [run.calls for run in plain] == play.calls and not any(run.refused for run in plain)
-        if not is_well or wrong_runs(play, well, plain, plain):
+        if well[0] or [run.calls for run in plain] != play.calls or wrong_runs(play, well, plain, plain):
             return 0, 0, f"ended with {well} with nothing refused"
         refused = [0] * len(plain)
         for allocation in itertools.count(1):
             ended, was_refused, runs = book_runs(play, allocation, shared, folder)
             if not was_refused:
                 is_well = all(refused[:3]) and ended == well
-                return allocation - 1, sum(refused), None if is_well else f"ended with {ended}, and {refused} runs were refused"
+                return allocation - 1, sum(refused), None if is_well else f"ended with {ended}, and {refused} were refused"
             wrong = wrong_runs(play, ended, runs, plain)
             if wrong:
                 return allocation, sum(refused), f"{wrong} where allocation {allocation} was refused: {ended}"
@@ -179,8 +187,8 @@ def told_where_refused(hooks, commands):
 def refuse_host_play(hooks, commands, shared):
     """How many allocations were refused in turn, where the host said so, and what was wrong, if anything."""
     commands = twice(commands_of(hooks, commands))
-    line = line_of("play", words_of(commands))
-    return refuse_line(line, told_where_refused(hooks, commands), OF_HOST, shared, lambda came: wrong_places(came, commands))
+    line, told = line_of("play", words_of(commands)), told_where_refused(hooks, commands)
+    return refuse_line(line, told, OF_HOST, shared, lambda came: wrong_places(came, commands))
 
 
 def refuse_line(line, told, numbers, shared, wrong_among):
@@ -188,11 +196,12 @@ def refuse_line(line, told, numbers, shared, wrong_among):
     with tempfile.TemporaryDirectory() as folder:
         play = lambda number: end_with_refusal([HOOK_TRIAL], number, shared, folder, folder, line)
         count, came = 0, set()
-        for number in itertools.count(1) if EACH else some_of(count_allocations(lambda number: play(number)[1]), *numbers):
+        some = itertools.count(1) if EACH else some_of(count_allocations(lambda number: play(number)[1]), *numbers)
+        for number in some:
             (status, out, err), was_refused = play(number)
             if not was_refused:
-                wrong = None if told.get(bytes.fromhex(out.decode()), 0) is None else f"answered {out} with nothing refused"
-                return count, came, wrong or wrong_among(came)
+                is_well = told.get(bytes.fromhex(out.decode()), 0) is None
+                return count, came, wrong_among(came) if is_well else f"answered {out} with nothing refused"
             count += 1
             if (status, out, err) == (3, b"", b"out of memory\n"):
                 continue
@@ -215,15 +224,22 @@ def wrong_places(came, commands):
 LOOKING = [Hook("look", "Look", entry="look", files=TXT, stages=["pre-commit"], x_per_file=True)]
 FILES = ["a.txt", "b.txt", "c.txt"]
 LOOKING_TABLE = FixedTable([(["look", path], plain_file(path, b"x\n"), Answer(0, b"", {})) for path in FILES])
+
+
+def runs_on(*files):
+    """A run on each of these."""
+    return [("run", "pre-commit", each, "", "remembering", "") for each in files]
+
+
 LIMITED = [
-    *(add(path, contents) for path, contents in ((CONFIGURATION, configuration_text(LOOKING)), *((path, b"x\n") for path in FILES))),
-    *twice([("limit", 2), *(("run", "pre-commit", files, "", "remembering", "") for files in ("all", "c.txt", "b.txt", "a.txt", "b.txt")),
-            ("limit", 1), *(("run", "pre-commit", files, "", "remembering", "") for files in ("b.txt", "a.txt", "all"))]),
+    add(CONFIGURATION, configuration_text(LOOKING)), *(add(path, b"x\n") for path in FILES),
+    *twice([("limit", 2), *runs_on("all", "c.txt", "b.txt", "a.txt", "b.txt")]),
+    *twice([("limit", 1), *runs_on("b.txt", "a.txt", "all")]),
 ]
 
 
 class LookingMemory(Memory):
-    """A memory that may be refused to a look-up too, where `want` is ("find", its number): the book is then as it was."""
+    """A memory that may be refused to a look-up too, where `want` is ("find", its number). The book is then as it was."""
 
     def __init__(self, table, want=None):
         super().__init__(table, want=want)
@@ -247,17 +263,14 @@ def refuse_limits(shared):
     well, host = limited()
     places = [*places_of(host.memory, LIMITED), *(("find", number) for number in range(1, host.memory.looked + 1))]
     told = {limited(want)[0]: want for want in places} | {well: None}
-    steps = [word for command in LIMITED for word in ("line", "all", "all", *map(str_or_bytes, command))]
-    line = line_of("command_over", [*words_of_rows(LOOKING_TABLE.rows), *steps, "store", "counts"])
-    return refuse_line(line, told, OF_LIMITS, shared, wrong_limits)
-
-
-def str_or_bytes(word):
-    return str(word) if isinstance(word, int) else word
+    steps = [word for command in LIMITED for word in ("line", "all", "all", *command)]
+    words = [str(word) if isinstance(word, int) else word for word in [*words_of_rows(LOOKING_TABLE.rows), *steps]]
+    return refuse_line(line_of("command_over", [*words, "store", "counts"]), told, OF_LIMITS, shared, wrong_limits)
 
 
 def wrong_limits(came):
     """What memory was never refused to, of what has to be refused it."""
-    kinds = {LIMITED[place[1] - 1][0] if place[0] == "command" else place[0] if place[0] == "find" else place[1] for place in came - {None}}
+    words = {word for place in came - {None} for word in place}
+    kinds = words | {LIMITED[number - 1][0] for word, number in came - {None} if word == "command"}
     missing = {"add", "limit", "find", "put"} - kinds
     return f"memory was never refused to {missing}" if missing else None
