@@ -1,5 +1,6 @@
 #!/usr/bin/env python3
-"""Plays hostile inputs with the built program: configurations, files of stores, messages, paths, hooks, and limits of what is remembered.
+"""Plays hostile inputs with the built program: configurations, files of stores, messages, paths, hooks, and limits of what
+is remembered.
 
 Usage: tests/fuzz.py [--seconds N] [--seed N] [--case N] [--program FILE] [--trial FILE]
        (default: 60 seconds, seed 1, all cases that there is time for, and the built programs)

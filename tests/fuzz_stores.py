@@ -11,8 +11,8 @@ from stops_books import TO_LAST_TICK, TO_VERSION_1
 
 # What a row may hold in place of what it holds.
 VALUES = [
-    None, -1, 0, 1, 2, 7, 256, 100_000, 100_001, 2 ** 32, 2 ** 62, 2 ** 62 + 1, 2 ** 63 - 1, -2 ** 63, 0.5, float("inf"), "", "a", "a/b", "../x", ".git/x", ".git/COMMIT_EDITMSG",
-    "a\nb", "/a", "a//b", "\ud7ff", "x" * 5000, b"", b"\0", b"\0" * 31, b"\0" * 32, b"\xff" * 32, b"\0\0\0\1\0\0\0\1c", b"\xff\xff\xff\xff",
+    None, -1, 0, 1, 2, 7, 256, 100_000, 100_001, 2 ** 32, 2 ** 62, 2 ** 62 + 1, 2 ** 63 - 1, -2 ** 63, 0.5, float("inf"),
+    "", "a", "a/b", "../x", ".git/x", ".git/COMMIT_EDITMSG", "a\nb", "/a", "a//b", "\ud7ff", "x" * 5000, b"", b"\0", b"\0" * 31, b"\0" * 32, b"\xff" * 32, b"\0\0\0\1\0\0\0\1c", b"\xff\xff\xff\xff",
     b"a" * 100_000,
 ]
 SCHEMAS = [
@@ -26,12 +26,15 @@ SCHEMAS = [
     "PRAGMA user_version = 7", "PRAGMA application_id = 7", "PRAGMA journal_mode = DELETE",
     "PRAGMA page_size = 512; PRAGMA journal_mode = DELETE; VACUUM", "PRAGMA auto_vacuum = 1; VACUUM", "VACUUM",
     "PRAGMA journal_mode = DELETE; PRAGMA page_size = 65536; VACUUM", "DELETE FROM meta", "INSERT INTO meta VALUES ('more', 1)",
-    "UPDATE meta SET value = 2", "UPDATE meta SET value = 3 WHERE name = 'version'", "UPDATE meta SET value = 1 WHERE name = 'version'",
-    "DELETE FROM meta WHERE name = 'limit'", "UPDATE meta SET value = 3 WHERE name = 'limit'", "DELETE FROM uses", "DROP TABLE uses",
-    "UPDATE uses SET tick = -tick", "UPDATE uses SET tick = tick * 1000", "DELETE FROM answers", "CREATE INDEX more ON uses (seen)",
-    "INSERT INTO uses SELECT digest, digest, 99 FROM blobs LIMIT 1", "DELETE FROM uses WHERE tick = (SELECT max(tick) FROM uses)",
-    TO_LAST_TICK, TO_LAST_TICK, TO_VERSION_1, TO_VERSION_1, f"{TO_VERSION_1}; UPDATE answers SET rowid = 9223372036854775807 WHERE rowid = 1",
-    f"{TO_VERSION_1}; UPDATE meta SET rowid = 9223372036854775807", f"{TO_VERSION_1}; DELETE FROM blobs WHERE rowid = 3", "DELETE FROM blobs", "DELETE FROM staged", "DELETE FROM commits",
+    "UPDATE meta SET value = 2", "UPDATE meta SET value = 3 WHERE name = 'version'",
+    "UPDATE meta SET value = 1 WHERE name = 'version'", "UPDATE meta SET value = 3 WHERE name = 'limit'",
+    "DELETE FROM meta WHERE name = 'limit'", "DELETE FROM answers", "DELETE FROM uses", "DROP TABLE uses",
+    "DELETE FROM uses WHERE tick = (SELECT max(tick) FROM uses)", "UPDATE uses SET tick = -tick",
+    "UPDATE uses SET tick = tick * 1000", "INSERT INTO uses SELECT digest, digest, 99 FROM blobs LIMIT 1",
+    "CREATE INDEX more ON uses (seen)", TO_LAST_TICK, TO_LAST_TICK, TO_VERSION_1, TO_VERSION_1,
+    f"{TO_VERSION_1}; UPDATE answers SET rowid = 9223372036854775807 WHERE rowid = 1",
+    f"{TO_VERSION_1}; UPDATE meta SET rowid = 9223372036854775807", f"{TO_VERSION_1}; DELETE FROM blobs WHERE rowid = 3",
+    "DELETE FROM blobs", "DELETE FROM staged", "DELETE FROM commits",
     "PRAGMA writable_schema = 1; UPDATE sqlite_schema SET sql = 'CREATE TABLE fixes (path)' WHERE name = 'fixes'",
     "PRAGMA writable_schema = 1; UPDATE sqlite_schema SET rootpage = 3 WHERE name = 'answers'",
     "PRAGMA writable_schema = 1; UPDATE sqlite_schema SET rootpage = 99999 WHERE name = 'staged'",
@@ -166,7 +169,7 @@ def asked_of_a_store(chance):
              ["fixes"], ["memory"]]
     changes = [["run"], ["run", "--all-files"], ["run", "--fresh"], ["run-files", "a.txt"], ["commit", "-m", "more"],
                ["commit", "--no-verify", "-m", "more"], ["accept"], ["forget"], ["add", "a.txt"], ["rm", "a.txt"], ["init"],
-               ["memory", "--limit=2"], ["run", "--all-files"]]
+               ["memory", "--limit=2"]]
     chance.shuffle(looks)
     chance.shuffle(changes)
     return looks + changes

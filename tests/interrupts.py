@@ -7,9 +7,9 @@ While a child waits that says when it has begun, SIGINT, SIGTERM and SIGHUP come
 them for its keys and where it is closed, and to the program alone, as `kill` does. In the middle of its work, between two children and
 within a call of the store, they come to the program alone, and so does SIGPIPE, before a call that strace counts.
 
-However it ends, the next command isn't refused, the repository is the one before the command or the one after it, what is remembered is
-that behind one of its transactions, and standard output has nothing or the whole report. On a terminal no child outlives the program; without one it may, and the next run is what it is
-without it. Where nobody reads standard output the change stands all the same. Where who starts the program has it ignore SIGCHLD, no
+However it ends, the next command isn't refused, the repository is the one before the command or the one after it, what is
+remembered is that behind one of its transactions, and standard output has nothing or the whole report. On a terminal no child
+outlives the program; without one it may, and the next run is what it is without it. Where nobody reads standard output the change stands all the same. Where who starts the program has it ignore SIGCHLD, no
 child can be waited for: each is a fault of its hook, and nothing of it is remembered.
 
 Without --all one in several calls of those that strace counts is played, always the same ones.
@@ -142,7 +142,8 @@ def interrupted(name, way):
             # The next commands work beside it, and find nothing of it.
             try:
                 left = left_in(work)
-                check(left.repository == scene.before.repository and left.book in scene.books, f"it leaves {left!r:.1000}")
+                is_before = left.repository == scene.before.repository and left.book in scene.books
+                check(is_before, f"it leaves {left!r:.1000}")
                 status = told_by([PROGRAM, "status"], work)
                 check((status.status, status.err) == (0, b""), f"beside the child that outlives it status says {status!r}")
                 again = scene.run(work)
@@ -212,7 +213,8 @@ def unwaited(name):
 # ---- all of it
 
 def cases():
-    yield from ((interrupted, name, way) for name in ("run", "commit", "run of version 1") if name in SCENES for way in WAYS)
+    running = [name for name in ("run", "commit", "run of version 1") if name in SCENES]
+    yield from ((interrupted, name, way) for name in running for way in WAYS)
     yield from ((look, name) for look in (unread, unwaited) for name in SCENES)
     for name, scene in SCENES.items():
         for call, at in calls_of(scene):

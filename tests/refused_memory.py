@@ -290,8 +290,9 @@ def make_repositories(shared):
 def do_all(folder, *steps):
     """Does commands, each told by its words, and lines of store_trial, which are bytes."""
     for step in steps:
-        is_lines = isinstance(step, bytes)
-        words, given = ([STORE_TRIAL, ".hookhost/store.db"], b"open\n" + step + b"close\n") if is_lines else ([PROGRAM, *step], b"")
+        words, given = [PROGRAM, *step], b""
+        if isinstance(step, bytes):
+            words, given = [STORE_TRIAL, ".hookhost/store.db"], b"open\n" + step + b"close\n"
         told = end_of(words, folder, given)
         if told[0]:
             sys.exit(f"refused_memory: no repository is made, {step!r} says {told!r}")
@@ -301,14 +302,16 @@ def make_repository(folder):
     """Makes a repository with a commit, whose files are those of the plays, hooks that are staged, and a fix."""
     lay_files(folder, STAGED_HOOKS)
     do_all(folder, ["init"], ["add", "a.txt"], ["add", "b.txt"],
-           b"stage plain old/x 1\nstage plain old/dir/y 2\ncommit first\\n\\nbody\n", ["rm", "b.txt"], ["add", ".pre-commit-config.yaml"],
+           b"stage plain old/x 1\nstage plain old/dir/y 2\ncommit first\\n\\nbody\n",
+           ["rm", "b.txt"], ["add", ".pre-commit-config.yaml"],
            b"fix a.txt 2\nset\nremember c a.txt | a.txt=1 | a.txt=2 | 0 | said\nremember d | | | 1\n")
 
 
 def make_using(folder):
     """Makes a repository with as many answers as its limit allows, for two of three staged files and for none of them."""
     lay_files(folder, USING_HOOKS)
-    do_all(folder, ["init"], ["add", ".pre-commit-config.yaml", *(name for name, _ in FILES)], b"remember d | | | 1\n", ["run-files", "a.txt"], ["run-files", "b.txt"], ["memory", "--limit=3"])
+    do_all(folder, ["init"], ["add", ".pre-commit-config.yaml", *(name for name, _ in FILES)], b"remember d | | | 1\n",
+           ["run-files", "a.txt"], ["run-files", "b.txt"], ["memory", "--limit=3"])
 
 
 def kept_tags_run(line, refused, shared, folder):

@@ -115,8 +115,9 @@ OF_STORE, OF_CHILDREN = (150, 300), (40, 160)
 @dataclass
 class Play:
     """The words and the standard input of a run, the numbers of its want of memory, its configuration, the status that
-    it has to end with (None: any), the repository that it is on, if any: a new one is `made`, or a copy of one of those by these
-    names (refused_memory.py); how many answers it uses and puts, or none where it changes them at once; and the folder of its children, if any: new for each run, or left."""
+    it has to end with (None: any), the repository that it is on, if any: a new one is `made`, or a copy of one of those by
+    these names (refused_memory.py); how many answers it uses and puts, or none where it changes them at once; and the folder
+    of its children, if any: new for each run, or left."""
     name: str
     words: list
     numbers: tuple = OF_RUN

@@ -11,14 +11,15 @@ which strace counts by their names, each in turn is
   ENOSPC+ refused, and so is each later call that takes room on the disk
   half    handed half of the bytes that it asks for, by tests/stops_short.c, alone or all of them
 
-What is left has to be the repository before the command or the one after it, to SQLite and to the program, and what is remembered is
-that behind one of its transactions: each use and each put is one, and so is the migration of a store of version 1, which leaves version
-1 or version 2 with all that was there. A reply that tells of a commit, or of anything that was done, tells of what is there. Each answer
-that is remembered is one that a child told. The same command asked for once more, with nothing in its way, does what it does where
-nothing ever stopped it.
+What is left has to be the repository before the command or the one after it, to SQLite and to the program, and what is
+remembered is that behind one of its transactions: each use and each put is one, and so is the migration of a store of version
+1, which leaves version 1 or version 2 with all that was there. A reply that tells of a commit, or of anything that was done,
+tells of what is there. Each answer that is remembered is one that a child told. The same command asked for once more, with
+nothing in its way, does what it does where nothing ever stopped it.
 
-Without --all it plays each call that changes something of `commit` and `accept`, of a run that uses answers, of a limit and of a
-migration, and of the others one in several, always the same ones. The log of a killed command holds a change that isn't in the database yet: there the next commands are stopped as well.
+Without --all it plays each call that changes something of `commit` and `accept`, of a run that uses answers, of a limit and
+of a migration, and of the others one in several, always the same ones. The log of a killed command holds a change that isn't
+in the database yet: there the next commands are stopped as well.
 """
 import collections
 import itertools
@@ -84,10 +85,11 @@ def stops_of(scene):
 
 
 def is_played(stop):
-    """Whether a stop is played: all of them, or those of calls that change something in chosen commands, each kill and each short
-    transfer of a migration, and of the others some."""
+    """Whether a stop is played: all of them, or those of calls that change something in chosen commands, each kill and each
+    short transfer of a migration, and of the others some."""
     is_chosen = stop.scene in CHOSEN and stop.call in CHANGING and stop.kind in ("kill", "EIO", "ENOSPC")
-    return ALL or is_chosen or stop.scene == MIGRATING and stop.kind in ("kill", "half") or zlib.crc32(" ".join(map(str, stop)).encode()) % ONE_IN == 0
+    is_of_migration = stop.scene == MIGRATING and stop.kind in ("kill", "half")
+    return ALL or is_chosen or is_of_migration or zlib.crc32(" ".join(map(str, stop)).encode()) % ONE_IN == 0
 
 
 def played(scene, stop, work, short):

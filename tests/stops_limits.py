@@ -7,11 +7,11 @@ What runs out, each from nothing up to where the command works: pages of a full 
 file may have, where that is a signal and where it is an error; memory that may be mapped; files that may be open; processes of a
 user. And what may not be written: the folder, its files, and a disk that is read alone, by a user whom permissions hold back.
 
-What is left is judged as behind a kill (tests/stops_repository.py): the repository before the command or the one after it, what is
-remembered behind one of its transactions, a refusal that is told, and the same command, with nothing in its way, works. A program whose
-stack can't grow is ended by the system at any moment, and so is killed. A limit holds for the children of a run too, which may then tell
-something else than they do without it; there only what the command is asked for once more is compared, once it was forgotten what
-they told. What needs root, a disk of its own and another user, is told where it can't be played.
+What is left is judged as behind a kill (tests/stops_repository.py): the repository before the command or the one after it,
+what is remembered behind one of its transactions, a refusal that is told, and the same command, with nothing in its way,
+works. A program whose stack can't grow is ended by the system at any moment, and so is killed. A limit holds for the children
+of a run too, which may then tell something else than they do without it; there only what the command is asked for once more
+is compared, once it was forgotten what they told. What needs root, a disk of its own and another user, is told where it can't be played.
 
 Without --all it plays of bytes and memory one in several limits, always the same ones.
 """
@@ -147,14 +147,14 @@ def judged_softly(scene, work, told):
     check((staged, *history) in ((befores[0], *befores[2:]), (afters[0], *afters[2:])), f"it says {told!r:.500} and leaves {left!r:.1000}")
     is_made = b"\ncommit " in told.out
     check(is_made or (staged, *history) == (befores[0], *befores[2:]), f"it says {told!r:.500} and leaves {left!r:.1000}")
-    forgets = told_by([scene.program, "forget"], work)
-    check(forgets == (0, b"forgotten: %d\n" % len(left.migrated().answers), b""), f"after {told!r:.500} forget says {forgets!r}")
+    forgets, count = told_by([scene.program, "forget"], work), len(left.migrated().answers)
+    check(forgets == (0, b"forgotten: %d\n" % count, b""), f"after {told!r:.500} forget says {forgets!r}")
     again, found = scene.run(work), left_in(work)
     if is_made:
         check(again == scene.told_again and found.repository == afters, f"after {told!r:.500} the same command says {again!r:.500}")
     else:
-        wanted = scene.told, afters, scene.after.answers[:scene.uses]
-        check((again, *found[:1], found.answers) == wanted, f"after {told!r:.500} the same command says {again!r:.500} and leaves {found!r:.1000}")
+        is_same = (again, found.repository, found.answers) == (scene.told, afters, scene.after.answers[:scene.uses])
+        check(is_same, f"after {told!r:.500} the same command says {again!r:.500} and leaves {found!r:.1000}")
     return "other answers"
 
 
@@ -171,7 +171,8 @@ def judged(scene, limit, work):
 
 
 def told_within(run, how):
-    """What a command says, or None where the system had no room for the program itself: it can't be started, or the loader says so."""
+    """What a command says, or None where the system had no room for the program itself: it can't be started, or the loader
+    says so."""
     try:
         told = run(**how)
     except (OSError, subprocess.SubprocessError) as error:
@@ -201,7 +202,8 @@ FILES, PAGES = range(0, 24), range(0, 28)
 def least_memory(program, folder):
     """The KiB of memory within which the program is just loaded, in steps."""
     for amount in range(1024, 1_000_000, MEMORY_STEP):
-        told = told_within(lambda **how: told_by([program, "--version"], folder, **how), {"preexec_fn": Resource("KiB of memory", amount).begin})
+        how = {"preexec_fn": Resource("KiB of memory", amount).begin}
+        told = told_within(lambda **how: told_by([program, "--version"], folder, **how), how)
         if told is not None and told.status == 0:
             return amount
     raise Wrong("the program isn't loaded, whatever memory there is")
