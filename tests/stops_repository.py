@@ -149,12 +149,13 @@ def faults_in(found):
 
 
 class Scene:
-    """A command on copies of a repository, and what it says and leaves where nothing stops it: the first time, and when it's asked for
-    once more. It uses and puts so many answers, and the last of them, so many, behind what it does to the repository; or, where `uses`
-    is none, it changes what is remembered at once."""
+    """A command on copies of a repository, and what it says and leaves where nothing stops it: the first time, and when it's
+    asked for once more. It uses and puts so many answers, and the last of them, so many, behind what it does to the repository;
+    or, where `uses` is none, it changes what is remembered at once."""
 
     def __init__(self, program, folder, name, base, words, uses=0, behind=0):
-        self.program, self.name, self.base, self.words, self.uses, self.behind = program, name, base, words, uses, behind
+        self.program, self.name, self.base, self.words = program, name, base, words
+        self.uses, self.behind = uses, behind
         self.copies, self.by_faults, self.shown = os.path.join(folder, f"model-{name}"), {}, {}
         os.mkdir(self.copies)
         self.before = left_in(base)
@@ -196,8 +197,9 @@ class Scene:
         found = left_in(work)
         # A command that is refused remembers nothing more.
         book = left.book.migrated() if wanted.status == 3 else then.book
-        check(found == Left(then.repository, book), f"after {told!r:.300}, which left what was {place}, the same command leaves {found.book!r:.900}, "
-              f"wanted {book!r:.900}, and a repository that is {'' if found.repository == then.repository else 'not '}the wanted one")
+        is_it = "" if found.repository == then.repository else "not "
+        check(found == Left(then.repository, book), f"after {told!r:.300}, which left what was {place}, the same command leaves "
+              f"{found.book!r:.900}, wanted {book!r:.900}, and a repository that is {is_it}the wanted one")
         self.check_folder(work)
         return place
 
@@ -207,7 +209,8 @@ class Scene:
         if faults_in(sections(told.out)):
             return self.place_of_faults(left, told)
         is_after = left.repository == self.after.repository
-        check(is_after or left.repository == self.before.repository, f"it says {told!r:.500} and leaves what was neither before nor after: {left!r:.600}")
+        is_known = is_after or left.repository == self.before.repository
+        check(is_known, f"it says {told!r:.500} and leaves what was neither before nor after: {left!r:.600}")
         self.check_book(left, told)
         if self.is_stopped_behind(told):
             check(is_after, f"it says {told!r:.300} and leaves what was before")
@@ -239,20 +242,20 @@ class Scene:
         return ("after", self.told_again, self.after_again) if is_after else (self.place_before(left), self.told, self.after)
 
     def check_answers(self, left):
-        """Each answer that is remembered is one that a child told: it was there before, or it comes to be there while nothing stops the
-        command."""
+        """Each answer that is remembered is one that a child told: it was there before, or it comes to be there while nothing
+        stops the command."""
         known = {row for book in self.books if book for row in book.answers}
         check(set(left.answers) <= known, f"an answer is remembered that no child told: {left.answers!r:.1500}")
 
     def check_book(self, left, told):
-        """What is remembered stands behind one of the transactions that the command makes, and before or behind that of the repository as
-        this does."""
-        places, change = [at for at, book in enumerate(self.books) if book == left.book], len(self.books) - 1 - self.behind
-        check(places, f"it says {told!r:.500} and what is remembered is behind none of its transactions: {left.book!r:.1500}")
+        """What is remembered is that behind one of the transactions that the command makes, and is before or behind that of the
+        repository as this is."""
+        steps, change = [at for at, book in enumerate(self.books) if book == left.book], len(self.books) - 1 - self.behind
+        check(steps, f"it says {told!r:.500} and remembers what is behind none of its transactions: {left.book!r:.1500}")
+        is_after = left.repository == self.after.repository
         if self.before.repository != self.after.repository:
-            is_after = left.repository == self.after.repository
-            is_there = places[-1] >= change if is_after else places[0] <= change
-            check(is_there, f"it says {told!r:.500} and leaves a repository {'after' if is_after else 'before'} it with a book of the steps {places!r}")
+            is_there = steps[-1] >= change if is_after else steps[0] <= change
+            check(is_there, f"it says {told!r:.500} and remembers what is {'' if is_after else 'not '}behind the steps {steps!r}")
 
     def check_told(self, told):
         """A command is done, or killed, or refused by a line that says so, and what it printed is a beginning of what it prints."""
@@ -274,7 +277,8 @@ class Scene:
         without = self.without(faulted, told)
         check(left.repository == without.repository, f"with faults of {faulted!r} it leaves {left.repository!r:.900}, wanted {without.repository!r:.900}")
         # What met a fault isn't remembered. Before a commit hooks of several stages have answered.
-        check(self.words[0] == "commit" or left.book == without.book, f"with faults of {faulted!r} it leaves {left.book!r:.900}, wanted {without.book!r:.900}")
+        is_same = self.words[0] == "commit" or left.book == without.book
+        check(is_same, f"with faults of {faulted!r} it leaves {left.book!r:.900}, wanted {without.book!r:.900}")
         is_after = left.repository == self.after.repository and self.words[0] == "commit"
         return ("after a fault", self.told_again, self.after_again) if is_after else ("a fault", self.told, self.after)
 
@@ -304,14 +308,16 @@ class Scene:
         return self.by_faults[key]
 
     def check_shown(self, work, left):
-        """The program shows what SQLite read, and leaves it. A store of version 1 is shown in a copy, since it becomes another by that."""
+        """The program shows what SQLite read, and leaves it. A store of version 1 is shown in a copy, since it becomes another
+        by that."""
         if left.book.version == 1:
             work = shutil.copytree(work, tempfile.mkdtemp(dir=os.path.dirname(work)), dirs_exist_ok=True, symlinks=True)
         looks = tuple(told_by([self.program, *words], work) for words in LOOKS)
         check(looks == self.shown[left.repository], f"it shows {looks!r:.1500}, wanted {self.shown[left.repository]!r:.1500}")
-        memory = told_by([self.program, "memory"], work)
-        check(memory == (0, b"remembered: %d\n" % len(left.migrated().answers), b""), f"of {len(left.answers)} answers memory says {memory!r}")
-        check(left_alone(work) == left.migrated(), "the file of the database alone isn't the repository behind the next command")
+        memory, then = told_by([self.program, "memory"], work), left.migrated()
+        wanted = 0, b"remembered: %d\n" % len(then.answers), b""
+        check(memory == wanted, f"of {len(then.answers)} answers memory says {memory!r}")
+        check(left_alone(work) == then, "the file of the database alone isn't the repository behind the next command")
 
     def check_folder(self, work):
         """What is left beside the store behind the command that was asked for again. A run that was stopped leaves its mark, which the next
@@ -366,22 +372,27 @@ def scenes_of(program, folder, only, hooks=HOOKS):
     to_run = changed("to_run", ("add", "b"), (*RUN, "mend"), ("forget",), files=[("b", b"x other\n")])
     to_commit = changed("to_commit", ("forget",))
     to_refuse = changed("to_refuse", ("add", "bad"), (*RUN, "mend"), ("forget",), files=[("bad", b"x\n")])
-    # What the stage `manual` answers is remembered, and no hook of it is told for the last time by the one that is asked first.
+    # All hooks of the stage `manual` are answered, and the first of them isn't the one that was used last.
     to_use = changed("to_use", ("add", "new"))
     to_number = execute(changed("to_number", ("add", "new")), TO_LAST_TICK)
     # As many answers as may be, all of another stage.
-    to_drop = changed("to_drop", ("forget",), ("memory", "--limit=3"), *(("run-files", *names) for names in (["b"], ["e"], ["b", "e"])))
+    to_drop = changed("to_drop", ("forget",), ("memory", "--limit=3"), ("run-files", "b"), ("run-files", "e"), ("run-files", "b", "e"))
     to_commit_anew = changed("to_commit_anew", ("run",), RUN)
     first = execute(changed("first"), TO_VERSION_1)
     # Of three hooks two are answered, and the last one's file is another.
     first_to_run = execute(changed("first_to_run", ("add", "a"), files=[("a", b"two\n")]), TO_VERSION_1)
     first_in_log = execute_in_log(shutil.copytree(first, os.path.join(folder, "first_in_log")), CHANGE_IN_LOG)
     scenes = [
-        ("init", empty, ["init"]), ("add", base, ["add", "new"]), ("add several", base, ["add", "new", "many", "b"]), ("rm", base, ["rm", "e", "d"]),
-        ("run", to_run, list(RUN), 3), ("accept", base, ["accept"]), ("commit", to_commit, ["commit", "-m", "second"], 3, 1),
-        ("refused commit", to_refuse, ["commit", "-m", "refused"], 2), ("forget", base, ["forget"], None), ("status", base, ["status"]),
-        ("run that uses", to_use, list(RUN), 3), ("run that drops", to_drop, list(RUN), 3), ("run that numbers anew", to_number, list(RUN), 3),
-        ("commit that uses", to_commit_anew, ["commit", "-m", "second"], 3, 1), ("limit", base, ["memory", "--limit=2"], None),
-        ("status of version 1", first, ["status"]), ("run of version 1", first_to_run, list(RUN), 3), ("status over a log of version 1", first_in_log, ["status"]),
+        ("init", empty, ["init"]), ("add", base, ["add", "new"]), ("add several", base, ["add", "new", "many", "b"]),
+        ("rm", base, ["rm", "e", "d"]), ("run", to_run, list(RUN), 3), ("accept", base, ["accept"]),
+        ("commit", to_commit, ["commit", "-m", "second"], 3, 1), ("refused commit", to_refuse, ["commit", "-m", "refused"], 2),
+        ("forget", base, ["forget"], None), ("status", base, ["status"]),
+        # What is used, numbered anew and dropped, and how many may be.
+        ("run that uses", to_use, list(RUN), 3), ("run that numbers anew", to_number, list(RUN), 3),
+        ("run that drops", to_drop, list(RUN), 3), ("commit that uses", to_commit_anew, ["commit", "-m", "second"], 3, 1),
+        ("limit", base, ["memory", "--limit=2"], None),
+        # Stores that become others first.
+        ("status of version 1", first, ["status"]), ("run of version 1", first_to_run, list(RUN), 3),
+        ("status over a log of version 1", first_in_log, ["status"]),
     ]
     return [Scene(program, folder, *scene) for scene in scenes if only in scene[0]]
