@@ -6,7 +6,7 @@ import tempfile
 from dataclasses import dataclass
 
 from host_model import (CONFIGURATION, OUT_OF_MEMORY, Answer, FixedTable, Hook, Machine, Memory, call_of,
-                        configuration_text, played, words_of_rows)
+                        configuration_text, ended, played, words_of_rows)
 from host_plays import TXT, add, commands_of, host_of, plain as plain_file, words_of
 from refused_allocation import EACH, HOOK_TRIAL, count_allocations, end_with_refusal, line_of, some_of
 
@@ -122,9 +122,9 @@ def books_behind(run, books, table, limit, plain):
     return found
 
 
-def gave_up(ended):
+def gave_up(end):
     """Whether the program itself was refused memory, or read no configuration for want of it."""
-    return ended == (3, "", b"out of memory\n") or ended[0] == 0 and ended[1].startswith("12 OutOfMemory at ")
+    return end == (3, "", b"out of memory\n") or end[0] == 0 and end[1].startswith("12 OutOfMemory at ")
 
 
 def refuse_among_remembered(play, shared):
@@ -135,21 +135,21 @@ def refuse_among_remembered(play, shared):
             return 0, 0, f"ended with {well} with nothing refused"
         refused = [0] * len(plain)
         for allocation in itertools.count(1):
-            ended, was_refused, runs = book_runs(play, allocation, shared, folder)
+            end, was_refused, runs = book_runs(play, allocation, shared, folder)
             if not was_refused:
-                is_well = all(refused[:3]) and ended == well
-                return allocation - 1, sum(refused), None if is_well else f"ended with {ended}, and {refused} were refused"
-            wrong = wrong_runs(play, ended, runs, plain)
+                is_well = all(refused[:3]) and end == well
+                return allocation - 1, sum(refused), None if is_well else f"ended with {end}, and {refused} were refused"
+            wrong = wrong_runs(play, end, runs, plain)
             if wrong:
-                return allocation, sum(refused), f"{wrong} where allocation {allocation} was refused: {ended}"
+                return allocation, sum(refused), f"{wrong} where allocation {allocation} was refused: {end}"
             refused = [count + run.refused for count, run in zip(refused, runs)] if runs else refused
 
 
-def wrong_runs(play, ended, runs, plain):
+def wrong_runs(play, end, runs, plain):
     """What is wrong with the runs of a program in which an allocation was refused, if anything."""
-    if gave_up(ended):
+    if gave_up(end):
         return None
-    if (ended[0], ended[2]) != (0, b"") or len(runs) != len(plain) or sum(run.refused for run in runs) > 1:
+    if (end[0], end[2]) != (0, b"") or len(runs) != len(plain) or sum(run.refused for run in runs) > 1:
         return "ended otherwise"
     books = {()}
     for at, (run, table) in enumerate(zip(runs, play.tables)):
@@ -252,17 +252,26 @@ class LookingMemory(Memory):
 
 
 def limited(want=None):
-    """What hook_trial answers to the commands with limits, where memory is refused so, and the host."""
+    """What hook_trial answers to each of the commands with limits, and what it tells then, where memory is refused so."""
     host = Machine(LookingMemory(LOOKING_TABLE, want), {configuration_text(LOOKING): (LOOKING, False)})
-    replies = b"".join(host.reply(call_of(command)).printed() for command in LIMITED)
-    return replies + host.shown() + host.memory.counts() + host.memory.take_rows(), host
+    replies = [host.reply(call_of(command)).printed() for command in LIMITED]
+    return [*replies, host.shown() + host.memory.counts() + host.memory.take_rows()], host.memory
+
+
+def untaken(replies):
+    """The same where standard output, which is kept in memory, takes but a beginning of what one command prints, and where."""
+    for at, reply in enumerate(replies[:-1]):
+        out = reply.partition(b"\n")[2]
+        for taken in range(len(out)):
+            cut = ended(3, out[:taken], b"hookhost: standard output was not taken\n")
+            yield b"".join([*replies[:at], cut, *replies[at + 1:]]), ("out", at + 1)
 
 
 def refuse_limits(shared):
     """How many allocations were refused in turn, where the host said so, and what was wrong, if anything."""
-    well, host = limited()
-    places = [*places_of(host.memory, LIMITED), *(("find", number) for number in range(1, host.memory.looked + 1))]
-    told = {limited(want)[0]: want for want in places} | {well: None}
+    well, memory = limited()
+    places = [*places_of(memory, LIMITED), *(("find", number) for number in range(1, memory.looked + 1))]
+    told = dict(untaken(well)) | {b"".join(limited(want)[0]): want for want in places} | {b"".join(well): None}
     steps = [word for command in LIMITED for word in ("line", "all", "all", *command)]
     words = [str(word) if isinstance(word, int) else word for word in [*words_of_rows(LOOKING_TABLE.rows), *steps]]
     return refuse_line(line_of("command_over", [*words, "store", "counts"]), told, OF_LIMITS, shared, wrong_limits)
