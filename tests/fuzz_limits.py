@@ -6,8 +6,8 @@ import fuzz_inputs
 from fuzz_answers import Answer, is_no_text
 from fuzz_play import NO_TEXT, remembered, text_of
 from host_program import check
+from stops_books import FIRST_LIMIT, MOST_ANSWERS
 
-MOST_ANSWERS = 100_000
 # Values that look like a number, of which some are one.
 VALUES = [
     "0", "1", "1", "2", "2", "3", "5", "100000", "100001", "+1", "+3", "00002", "0" * 40 + "3", "+0", "-0", "-1", "++1",
@@ -48,7 +48,7 @@ def plays_limits(case, bases):
     """Values of `--limit` of any kind, on a repository that remembers answers."""
     shutil.rmtree(case.folder)
     shutil.copytree(bases.told, case.folder)
-    limit, first = 10_000, {tuple(words): case.run(*words) for words in RUNS}
+    limit, first = FIRST_LIMIT, {tuple(words): case.run(*words) for words in RUNS}
     for _ in range(8):
         count = remembered(case.run("memory"))
         check(count <= limit, f"{count} answers are remembered with a limit of {limit}")
