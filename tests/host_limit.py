@@ -5,7 +5,7 @@ import os
 from concurrent.futures import ThreadPoolExecutor
 
 from host_books import Book, book_of, model_of
-from host_program import LOCK, STORE, check, do, rows, run, write
+from host_program import LOCK, check, do, rows, run, write
 from host_state import book_in, kept_contents, state
 from kept_answers import GREATEST_TICK, KeptAnswer, contents_of, use_of
 from list_book import ListBook
@@ -196,10 +196,9 @@ def renumbers_uses_where_no_greater_number_is_left(folder):
 
 
 def keeps_one_limit_of_programs_at_once(folder):
-    """Beside one another programs set limits, run hooks, forget and look. Each is done alone, and refused while another
-    is. One that ends may have left the lock already, and not yet the file of the store."""
+    """Beside one another programs set limits, run hooks, forget and look. Each is done alone, and refused while another is."""
     limited = Limited(folder, "abcdefgh")
-    numbers, refused = (1, 2, 3, 5), [(3, b"", f"hookhost: cannot use {name}\n".encode()) for name in (LOCK, STORE)]
+    numbers, refused = (1, 2, 3, 5), (3, b"", f"hookhost: cannot use {LOCK}\n".encode())
 
     def work(at):
         """How often one of them is refused, each of whose commands is asked for until it is done."""
@@ -209,7 +208,7 @@ def keeps_one_limit_of_programs_at_once(folder):
             commands = (["memory", f"--limit={numbers[at]}"], ["run-files", path], ["memory"],
                         ["run-files", path, "a.txt"], ["forget"])
             words = commands[(at + step) % len(commands)]
-            while (answer := run(folder, *words)) in refused:
+            while (answer := run(folder, *words)) == refused:
                 count += 1
             check(answer[0] == 0 and answer[2] == b"", f"{words!r} beside others ends with {answer!r}")
         return count

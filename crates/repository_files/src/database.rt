@@ -12,7 +12,7 @@ use repo_store::{Store, StoreFault};
 use sqlite::{Alter, Connection, FileStore};
 use sqlite_disk::Disk;
 use std::rt::Files;
-use std::{fs, io, mem};
+use std::{fs, io};
 
 /// The log that the library writes beside the database.
 pub(crate) const LOG: &str = ".hookhost/store.db-wal";
@@ -101,23 +101,23 @@ pub fn open_store<S: Alter + Drop>(
             if !bare_log::may_hold_change(rt, LOG) {
                 before.put_back(rt);
             }
-            mem::forget(conn);
+            drop(conn);
             Err(RepositoryFault::NoStore(fault))
         }
     }
 }
 
 /// Leaves the database, over files of any kind: what is said of those that the program has takes the checker minutes. Where
-/// its log may hold what the database lacks, be it of this command or of one that was
-/// killed, that is copied into the database, which is all of the repository then; else the log is as before, and the disk isn't
-/// waited for. Where the copying fails, the log keeps its changes, and nothing is lost.
+/// its log may hold what the database lacks, be it of this command or of one that was killed, that is copied into the
+/// database, which is all of the repository then; else the log is as before, and the disk isn't waited for. Where the copying
+/// fails, the log keeps its changes, and nothing is lost. Either way the files are closed, and with them go the locks that the
+/// library has on them: whoever gets the repository's lock next finds them free.
 pub fn leave_database<R: Files, D: Disk + Drop>(rt: &R, before: &Before, conn: DatabaseOver<D>) {
     if bare_log::may_hold_change(rt, LOG) {
         let _copied = close_database(rt, LOG, conn);
     } else {
         before.put_back(rt);
-        // The process ends next: its files and memory go with it.
-        mem::forget(conn);
+        drop(conn);
     }
 }
 
@@ -136,9 +136,6 @@ pub(crate) fn close_database<R: Files, D: Disk + Drop>(
             bare_log::leave(&mut files.log, bytes_at(rt, log));
             Ok(())
         }
-        Err((error, store)) => {
-            mem::forget(store);
-            Err(RepositoryFault::of_database(error))
-        }
+        Err((error, _store)) => Err(RepositoryFault::of_database(error)),
     }
 }

@@ -1,10 +1,10 @@
 //! The files of a repository: its folder, the lock that keeps other commands out, and the database of its store with the log
 //! beside it.
 //!
-//! [`init`] makes a repository, and [`have_git_ignore`] has Git ignore its folder. A command looks for one by [`look_at_store`], takes the lock by [`take_lock`], opens the
-//! database by [`open_database`] and the store in it by [`open_store`], and leaves it by [`leave_database`]. What a file holds no
-//! contract can say: the clauses tell errors apart, by `specs/RepositoryFaults.antt`, and that a log which is emptied held no
-//! change.
+//! [`init`] makes a repository, and [`have_git_ignore`] has Git ignore its folder. A command looks for one by [`look_at_store`],
+//! takes the lock by [`take_lock`], opens the database by [`open_database`] and the store in it by [`open_store`], and leaves it
+//! by [`leave_database`]. What a file holds no contract can say: the clauses tell errors apart, by
+//! `specs/RepositoryFaults.antt`, and that a log which is emptied held no change.
 #![tactic(auto)]
 
 mod bare_log;

@@ -20,7 +20,7 @@ use sqlite::{Alter, Connection};
 use sqlite_disk::Disk;
 use std::fs::OpenFile;
 use std::rt::Files;
-use std::{fs, io, mem};
+use std::{fs, io};
 
 // The database while it is made. No other command knows the name, and what lies there a killed `init` has left.
 const NEW_STORE: &str = ".hookhost/new.db";
@@ -28,10 +28,10 @@ const NEW_STORE: &str = ".hookhost/new.db";
 // The log that the library writes beside it.
 const NEW_LOG: &str = ".hookhost/new.db-wal";
 
-/// Makes an empty repository, whose folder Git ignores. The errors are, in this order: `CannotUseStore` where anything stands at the store's name, or
-/// the folder can't be made, `CannotUseLock`, `CannotUseStore` where another `init` has made a store since, and then
-/// `CannotUseStore` and `NoStore` where the database can't be made or put in place. An error leaves the folder as it was, but
-/// for its lock if the folder was there, and what a killed `init` left.
+/// Makes an empty repository, whose folder Git ignores. The errors are, in this order: `CannotUseStore` where anything stands at
+/// the store's name, or the folder can't be made, `CannotUseLock`, `CannotUseStore` where another `init` has made a store since,
+/// and then `CannotUseStore` and `NoStore` where the database can't be made or put in place. An error leaves the folder as it
+/// was, but for its lock if the folder was there, and what a killed `init` left.
 pub fn init(rt: &HostRuntime) -> Result<(), RepositoryFault> {
     look_for_no_store(rt)?;
     let folder = make_folder(rt)?;
@@ -144,10 +144,7 @@ fn make_store<S: Alter + Drop>(
 {
     match Store::create(rt.alloc(), conn) {
         Ok(store) => Ok(store.into_connection()),
-        Err((fault, conn)) => {
-            mem::forget(conn);
-            Err(RepositoryFault::NoStore(fault))
-        }
+        Err((fault, _conn)) => Err(RepositoryFault::NoStore(fault)),
     }
 }
 
