@@ -7,7 +7,7 @@ import sqlite3
 from fuzz_answers import CONFIGURATION, REFUSALS_OF_OPENING, Answer
 from fuzz_play import Case
 from host_program import STORE, check
-from stops_books import TO_LAST_TICK, TO_VERSION_1
+from stops_books import TO_LAST_TICK, TO_SMALL_VERSION_1
 
 # What a row may hold in place of what it holds.
 VALUES = [
@@ -31,9 +31,10 @@ SCHEMAS = [
     "DELETE FROM meta WHERE name = 'limit'", "DELETE FROM answers", "DELETE FROM uses", "DROP TABLE uses",
     "DELETE FROM uses WHERE tick = (SELECT max(tick) FROM uses)", "UPDATE uses SET tick = -tick",
     "UPDATE uses SET tick = tick * 1000", "INSERT INTO uses SELECT digest, digest, 99 FROM blobs LIMIT 1",
-    "CREATE INDEX more ON uses (seen)", TO_LAST_TICK, TO_LAST_TICK, TO_VERSION_1, TO_VERSION_1,
-    f"{TO_VERSION_1}; UPDATE answers SET rowid = 9223372036854775807 WHERE rowid = 1",
-    f"{TO_VERSION_1}; UPDATE meta SET rowid = 9223372036854775807", f"{TO_VERSION_1}; DELETE FROM blobs WHERE rowid = 3",
+    "CREATE INDEX more ON uses (seen)", TO_LAST_TICK, TO_LAST_TICK, TO_SMALL_VERSION_1, TO_SMALL_VERSION_1,
+    f"{TO_SMALL_VERSION_1}; UPDATE answers SET rowid = 9223372036854775807 WHERE rowid = 1",
+    f"{TO_SMALL_VERSION_1}; UPDATE meta SET rowid = 9223372036854775807",
+    f"{TO_SMALL_VERSION_1}; DELETE FROM blobs WHERE rowid = 3",
     "DELETE FROM blobs", "DELETE FROM staged", "DELETE FROM commits",
     "PRAGMA writable_schema = 1; UPDATE sqlite_schema SET sql = 'CREATE TABLE fixes (path)' WHERE name = 'fixes'",
     "PRAGMA writable_schema = 1; UPDATE sqlite_schema SET rootpage = 3 WHERE name = 'answers'",

@@ -7,8 +7,8 @@ from pathlib import Path
 
 from host_program import STORE, check, do, play, rows, run, staged_rows, write
 from host_runs import line
-from host_state import TO_VERSION_1, book_in
-from kept_answers import SELECT_ROWS, KeptAnswer, digest, planting_all, row_of, use_of
+from host_state import book_in
+from kept_answers import SELECT_ROWS, TO_VERSION_1, KeptAnswer, digest, planting_all, row_of, use_of
 
 # How many answers are planted into the file of a store: as many as a store may have. And how many a new one remembers.
 MANY, TAKEN_OVER = 100_000, 10_000

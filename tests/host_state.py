@@ -23,8 +23,6 @@ BOOK = """SELECT 'meta', name, value FROM meta ORDER BY name;
 SELECT 'answer', lower(hex(words)), lower(hex(seen)) FROM answers;
 SELECT 'use', lower(hex(words)), lower(hex(seen)), tick FROM uses ORDER BY tick DESC;
 SELECT 'table', name FROM sqlite_schema WHERE type = 'table'"""
-# What makes a store of version 2 one of version 1.
-TO_VERSION_1 = "DROP TABLE uses; DELETE FROM meta WHERE name = 'limit'; UPDATE meta SET value = 1"
 TABLES = ["answers", "blobs", "commits", "entries", "fixes", "meta", "staged", "uses"]
 
 

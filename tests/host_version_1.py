@@ -11,8 +11,8 @@ import host_files
 from host_books import Book
 from host_kills import Killed
 from host_program import PROGRAM, STORE, check, do, rows, run, write
-from host_state import TO_VERSION_1, book_in, found_first, state, state_of_rows
-from kept_answers import SELECT_ROWS, KeptAnswer, planting_all, row_of, use_of
+from host_state import book_in, found_first, state, state_of_rows
+from kept_answers import SELECT_ROWS, TO_VERSION_1, KeptAnswer, planting_all, row_of, use_of
 from version_1 import stores
 
 VERSION = "SELECT name, value FROM meta ORDER BY name; SELECT name FROM sqlite_schema WHERE name = 'uses'"

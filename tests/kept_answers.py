@@ -57,6 +57,8 @@ def contents_of(answer):
 
 # Version 2 of a store keeps these beside the answers, and the greatest of them in front.
 GREATEST_TICK = 2 ** 62
+# SQL that makes a store of version 1 of one of version 2.
+TO_VERSION_1 = "DELETE FROM meta WHERE name = 'limit'; UPDATE meta SET value = 1 WHERE name = 'version'; DROP TABLE uses"
 # All rows, as `row_of` writes each, and the uses from the front on, as `use_of` does.
 SELECT_ROWS = ("SELECT lower(hex(words)), lower(hex(seen)), lower(hex(output)), lower(hex(changes)), status FROM answers "
                "ORDER BY words, seen")

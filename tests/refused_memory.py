@@ -57,7 +57,7 @@ from refused_allocation import (CRATES, EACH, PROGRAM, SELECTION_TRIAL, STORE_TR
                                 make_allocator, some_of)
 from refused_memory_books import BOOK_PLAYS, refuse_among_remembered, refuse_host_play, refuse_limits
 from refused_memory_plays import FILES, OF_CHECK, OF_CHILDREN, OF_STORE, PLAYS, STAGED_HOOKS, USING_HOOKS, Play
-from stops_books import TO_VERSION_1, Book, execute, steps_between
+from stops_books import TO_SMALL_VERSION_1, Book, execute, steps_between
 from stops_repository import left_in
 from yaml_texts import read_rows, refused_rows
 
@@ -284,7 +284,7 @@ def make_repositories(shared):
     make_repository(there)
     make_using(using)
     shutil.copytree(using, first)
-    execute(first, TO_VERSION_1)
+    execute(first, TO_SMALL_VERSION_1)
 
 
 def do_all(folder, *steps):

@@ -9,16 +9,15 @@ from collections import namedtuple
 from contextlib import closing
 
 from host_program import STORE, check
-from kept_answers import GREATEST_TICK
+from kept_answers import GREATEST_TICK, TO_VERSION_1
 
 FIRST_LIMIT, MOST_ANSWERS = 10_000, 100_000
 COLUMNS = "words, seen, output, changes, status"
 FIRST_ANSWERS = f"SELECT {COLUMNS} FROM answers ORDER BY words DESC, seen DESC"
 USED_ANSWERS = f"SELECT {COLUMNS} FROM answers JOIN uses USING (words, seen) ORDER BY tick DESC"
 COUNTS = "SELECT (SELECT count(*) FROM answers), count(*), min(tick), max(tick) FROM uses"
-TO_VERSION_1 = (
-    "DROP TABLE uses; DELETE FROM meta WHERE name = 'limit'; UPDATE meta SET value = 1 WHERE name = 'version'; VACUUM"
-)
+# A store of version 1 in as few pages as it takes.
+TO_SMALL_VERSION_1 = f"{TO_VERSION_1}; VACUUM"
 # With one tick left the first use has the greatest, and before the next one all are numbered anew.
 TO_LAST_TICK = f"UPDATE uses SET tick = tick + {GREATEST_TICK} - 1 - (SELECT max(tick) FROM uses)"
 # A change that a killed program may have left in the log.

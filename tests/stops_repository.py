@@ -18,7 +18,7 @@ from collections import namedtuple
 from contextlib import suppress
 
 from host_program import IGNORE_FILE, LOCK, STORE, Wrong, check, write
-from stops_books import CHANGE_IN_LOG, TO_LAST_TICK, TO_VERSION_1, book_by, execute, execute_in_log, steps_between
+from stops_books import CHANGE_IN_LOG, TO_LAST_TICK, TO_SMALL_VERSION_1, book_by, execute, execute_in_log, steps_between
 
 CONFIGURATION, LOG, SCRATCH = ".pre-commit-config.yaml", STORE + "-wal", ".hookhost/scratch"
 # Where nothing has to reach a disk, a repository is copied and waited for in no time.
@@ -378,9 +378,9 @@ def scenes_of(program, folder, only, hooks=HOOKS):
     # As many answers as may be, all of another stage.
     to_drop = changed("to_drop", ("forget",), ("memory", "--limit=3"), ("run-files", "b"), ("run-files", "e"), ("run-files", "b", "e"))
     to_commit_anew = changed("to_commit_anew", ("run",), RUN)
-    first = execute(changed("first"), TO_VERSION_1)
+    first = execute(changed("first"), TO_SMALL_VERSION_1)
     # Of three hooks two are answered, and the last one's file is another.
-    first_to_run = execute(changed("first_to_run", ("add", "a"), files=[("a", b"two\n")]), TO_VERSION_1)
+    first_to_run = execute(changed("first_to_run", ("add", "a"), files=[("a", b"two\n")]), TO_SMALL_VERSION_1)
     first_in_log = execute_in_log(shutil.copytree(first, os.path.join(folder, "first_in_log")), CHANGE_IN_LOG)
     scenes = [
         ("init", empty, ["init"]), ("add", base, ["add", "new"]), ("add several", base, ["add", "new", "many", "b"]),

@@ -6,8 +6,8 @@ import shutil
 from kept_answers import planting
 from store_cases import DAMAGED, FILLING, NOT_A_STORE, ONE, SHOWN, SQL, THREE_RECALLS
 from store_model import model_of, model_over
-from store_plants import (FIRST_META_PLANTS, HARMLESS_PLANTS, LARGE_PLANTS, META_PLANTS, OTHER_FIRST_TABLES,
-                          OTHER_SCHEMAS, OTHER_TABLES, PLANTS, REFUSED_ROWS, SECOND_STORE, TO_VERSION_1, USE_PLANTS,
+from store_plants import (AT_ONCE_TO_VERSION_1, FIRST_META_PLANTS, HARMLESS_PLANTS, LARGE_PLANTS, META_PLANTS,
+                          OTHER_FIRST_TABLES, OTHER_SCHEMAS, OTHER_TABLES, PLANTS, REFUSED_ROWS, SECOND_STORE, USE_PLANTS,
                           damaged_answers, planting_store)
 from store_program import answers, ask, change, check, check_file, check_rows, rows_of, run_words, shown
 
@@ -19,7 +19,7 @@ def filled(folder, version=2):
     before = model_of(FILLING).shown()
     check(shown(path) == before, f"opened again it shows {shown(path)!r}, wanted {before!r}")
     if version == 1:
-        ask(path, TO_VERSION_1)
+        ask(path, AT_ONCE_TO_VERSION_1)
     return path, before
 
 

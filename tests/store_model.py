@@ -6,7 +6,7 @@ from kept_answers import KeptAnswer, contents_of, digest, records_of
 from list_book import ListBook
 from store_cases import (CHILDREN, CONFIG, CONFIG_PATH, HOOKS, MESSAGE, MODES, NOT_A_STORE, OTHER_PATHS, SHOWN, SQL,
                          unescaped)
-from store_plants import PLANTED_STORES, TO_VERSION_1, contents_in
+from store_plants import AT_ONCE_TO_VERSION_1, PLANTED_STORES, contents_in
 
 NO_CONFIG, NOTHING_STAGED = "refused\t7\tNoConfig\tnone", "refused\t10\tNothingStaged\tnone"
 NO_TABLE = SQL + "no such table"
@@ -119,7 +119,7 @@ class Model:
     def execute(self, text):
         """Makes one of the planted stores in an empty database, and opens it not; or one of version 1 of that which is
         there."""
-        if text == TO_VERSION_1:
+        if text == AT_ONCE_TO_VERSION_1:
             if self.store is None:
                 return NO_TABLE
             self.store |= {"version": 1}
@@ -561,7 +561,7 @@ def random_play(seed, length):
             limit = chance.choice([1, 2, 2, 3, 3, 3, 10_000])
             lines.append(chance.choice(["limit", "answer-limit", f"set-limit {limit}", f"limit-answers {limit}"]))
         elif kind == 23:
-            lines += ["close", *[f"execute {TO_VERSION_1}"][chance.randrange(2):], "open"]
+            lines += ["close", *[f"execute {AT_ONCE_TO_VERSION_1}"][chance.randrange(2):], "open"]
         else:
             lines.append(f"{chance.choice(['commit-verified', 'commit-unverified'])} {chance.choice(['m', 'm', content])}")
     return lines

@@ -3,8 +3,8 @@ change, and how the program refuses these then."""
 import collections
 import hashlib
 
-from kept_answers import (GREATEST_TICK, KeptAnswer, b, changed_item, changes_record, contents_of, digest, listed, n4,
-                          records_of, seen_item, statements_of, use_of)
+from kept_answers import (GREATEST_TICK, TO_VERSION_1, KeptAnswer, b, changed_item, changes_record, contents_of, digest,
+                          listed, n4, records_of, seen_item, statements_of, use_of)
 from store_cases import (DAMAGED, FIRST_TABLES, LAST, MESSAGE, MIDDLE, MODES, NOT_A_STORE, ONE, SQL, TABLES, TWO,
                          unescaped)
 
@@ -273,9 +273,8 @@ SECOND_STORE = PlantedStore(2, *REPOSITORY, THREE_ANSWERS)
 # The last of its answers has the greatest tick.
 LAST_TICKS = PlantedStore(2, *REPOSITORY, THREE_ANSWERS, GREATEST_TICK - len(THREE_ANSWERS) + 1)
 PLANTED_STORES = {planting_store(planted): planted for planted in (FIRST_STORE, SECOND_STORE, LAST_TICKS)}
-# SQL that makes a store of version 1 of one of version 2.
-TO_VERSION_1 = ("BEGIN; DELETE FROM meta WHERE name = 'limit'; UPDATE meta SET value = 1 WHERE name = 'version'; "
-                "DROP TABLE uses; COMMIT")
+# A store of version 1 by one transaction.
+AT_ONCE_TO_VERSION_1 = f"BEGIN; {TO_VERSION_1}; COMMIT"
 # Plays in which a disk stops, of a store of version 1 that is opened, and of one whose last tick is the greatest.
 STOPPED_MIGRATION = [f"execute {planting_store(FIRST_STORE)}", "open", MIDDLE, "stage plain b.txt 2", "set-limit 2"]
 STOPPED_TICKS = [f"execute {planting_store(LAST_TICKS)}", "open", LAST, MIDDLE, "remember e | | | 0"]
