@@ -1,11 +1,12 @@
 #!/usr/bin/env python3
 """Runs real children by the built program child_trial: hostile ones, and what they leave for the next.
 
-Usage: tests/children.py [-v] [--settled] [--in FOLDER] [PROGRAM]   (default: crates/child_trial/out/child_trial)
+Usage: tests/children.py [-v] [--settled | --reads] [--in FOLDER] [PROGRAM]   (default: crates/child_trial/out/child_trial)
 
   -v            the seconds of each case
   --settled     only the cases of files that nobody has changed for as long as the system takes to write them to the disk,
                 which take that long: some minutes
+  --reads       only the cases of what is read
   --in FOLDER   plays below this folder, as on another file system
 
 Each case has a folder of its own, in which the children's folder is h/scratch. As root, what hangs on modes is played as
@@ -35,7 +36,7 @@ PLACE = WORDS[WORDS.index("--in") + 1] if "--in" in WORDS else None
 BASE = tempfile.mkdtemp(prefix="children-", dir=PLACE)
 os.chmod(BASE, 0o777)
 atexit.register(shutil.rmtree, BASE, True)
-GIVEN = [word for word in sys.argv[1:] if word not in ("-v", "--settled", "--in", PLACE)]
+GIVEN = [word for word in sys.argv[1:] if word not in ("-v", "--settled", "--reads", "--in", PLACE)]
 PROGRAM = shutil.copy(GIVEN[0] if GIVEN else HERE.parent / "crates/child_trial/out/child_trial", Path(BASE, "child_trial"))
 os.chmod(PROGRAM, 0o755)
 # The signals whose default is to end a process.
@@ -658,7 +659,8 @@ def refused_memory_is_told_as_such():
 
 # Files that are known once a child has run: behind them others are written, so that the clock of the file system goes on
 # before the first child.
-FILLED = TREE | {f"z/{i}": b"z" * 400 for i in range(300)}
+KNOWN = 300
+FILLED = TREE | {f"z/{i}": b"z" * 400 for i in range(KNOWN)}
 
 # A process that writes through memory, which the system calls a shared mapping of the file. It reads there first. `end`:
 # it writes one letter and ends. `stay`: another process has the file mapped and goes on when this one ends: it has written
@@ -776,28 +778,33 @@ def takes(trial, outcome):
         trial.file(path, data)
 
 
-# What a child does to a.txt, by which its bytes get others of the same length, and what it leaves there: b'two\n' each.
+TWO, LETTER, ZEROS = b"two\n", b"tne\n", b"\0\0\0\0"
+
+# What a child does to a.txt, by which its bytes get others of the same length, and what it leaves there.
 QUIET_WRITES = {
-    "the same length": ["sh", "-c", "printf 'two\n' > a.txt"],
-    "in place": ["sh", "-c", "printf tw | dd of=a.txt conv=notrunc 2> /dev/null; printf 'two\n' 1<> a.txt"],
-    "its time set back": ["python3", "-c", "import os\ns = os.stat('a.txt')\nopen('a.txt', 'w').write('two\\n')\nos.utime('a.txt', ns=(s.st_atime_ns, s.st_mtime_ns))"],
-    "renamed over, its time set back": ["python3", "-c", "import os\ns = os.stat('a.txt')\nopen('new', 'w').write('two\\n')\nos.utime('new', ns=(s.st_atime_ns, s.st_mtime_ns))\nos.rename('new', 'a.txt')"],
-    "removed and made": ["sh", "-c", "rm a.txt; printf 'two\n' > a.txt"],
-    "copied with its times": ["sh", "-c", "printf 'two\n' > new; touch -r a.txt new; cp -p new a.txt; rm new"],
-    "by another name": ["python3", "-c", "import os\ns = os.stat('a.txt')\nos.link('a.txt', '../../other')\nopen('../../other', 'w').write('two\\n')\nos.unlink('../../other')\nos.utime('a.txt', ns=(s.st_atime_ns, s.st_mtime_ns))"],
-    "through memory": ["MAPS", "end", "a.txt", "t"],
-    "through memory, its time set back": ["sh", "-c", "touch -r a.txt ../../time; MAPS end a.txt t; touch -r ../../time a.txt"],
-    "a folder of the same names": ["sh", "-c", "mkdir -p ../../e; printf 'two\n' > ../../e/a.txt; mv ../../e/a.txt ."],
+    "the same length": (["sh", "-c", "printf 'two\n' > a.txt"], TWO),
+    "in place": (["sh", "-c", "printf tw | dd of=a.txt conv=notrunc 2> /dev/null; printf 'two\n' 1<> a.txt"], TWO),
+    "its time set back": (["python3", "-c", "import os\ns = os.stat('a.txt')\nopen('a.txt', 'w').write('two\\n')\nos.utime('a.txt', ns=(s.st_atime_ns, s.st_mtime_ns))"], TWO),
+    "its times set to the first second of all": (["sh", "-c", "printf 'two\n' 1<> a.txt; touch -d @0 a.txt"], TWO),
+    "renamed over, its time set back": (["python3", "-c", "import os\ns = os.stat('a.txt')\nopen('new', 'w').write('two\\n')\nos.utime('new', ns=(s.st_atime_ns, s.st_mtime_ns))\nos.rename('new', 'a.txt')"], TWO),
+    "removed and made": (["sh", "-c", "rm a.txt; printf 'two\n' > a.txt"], TWO),
+    "copied with its times": (["sh", "-c", "printf 'two\n' > new; touch -r a.txt new; cp -p new a.txt; rm new"], TWO),
+    "by another name": (["python3", "-c", "import os\ns = os.stat('a.txt')\nos.link('a.txt', '../../other')\nopen('../../other', 'w').write('two\\n')\nos.unlink('../../other')\nos.utime('a.txt', ns=(s.st_atime_ns, s.st_mtime_ns))"], TWO),
+    "through memory": (["MAPS", "end", "a.txt", "t"], LETTER),
+    "through memory, its time set back": (["sh", "-c", "touch -r a.txt ../../time; MAPS end a.txt t; touch -r ../../time a.txt"], LETTER),
+    "a folder of the same names": (["sh", "-c", "mkdir -p ../../e; printf 'two\n' > ../../e/a.txt; mv ../../e/a.txt ."], TWO),
+    "cut and grown again": (["sh", "-c", "truncate -s 0 a.txt; truncate -s 4 a.txt"], ZEROS),
+    "a hole punched": (["sh", "-c", "touch -r a.txt ../../time; fallocate --punch-hole --offset 0 --length 4096 a.txt; touch -r ../../time a.txt"], ZEROS),
+    "written behind a hole": (["python3", "-c", "file = open('a.txt', 'wb')\nfile.seek(3)\nfile.write(b'!')"], b"\0\0\0!"),
 }
 
 
 def a_quiet_write_is_read_back():
     maps = built("maps", MAPS)
     for user in users():
-        for name, words in QUIET_WRITES.items():
+        for name, (words, wanted) in QUIET_WRITES.items():
             trial = known_trial(user=user)
             words = [word.replace("MAPS", maps) for word in words]
-            wanted = b"tne\n" if "memory" in name else b"two\n"
             equal(trial.run(*words), (0, b"", {"a.txt": wanted}), f"{name} as {user}")
             trial.sees_the_tree(name)
             equal(trial.run(*words), (0, b"", {"a.txt": wanted}), f"{name}, again, as {user}")
@@ -908,51 +915,86 @@ def a_process_left_behind_that_writes_is_seen():
         trial.sees_the_tree("a late write between two children")
 
 
-def tries():
-    """How often a race is played."""
-    return 2_000 if Trial.reads == {} else 200
+def tries(most):
+    """How often a race is played: less where all is read, so that nothing hangs on a moment."""
+    return most if TELLING and Trial.reads == {} else most // 20
 
 
 def a_rewrite_right_behind_a_look_is_seen():
-    trial = known_trial()
-    place = Path(trial.top, "h/scratch/a.txt")
-    times = place.stat()
-    for turn in range(tries()):
+    for turn in range(tries(7_000)):
+        if turn % KNOWN == 0:
+            trial = known_trial()
+        path = f"z/{turn % KNOWN}"
+        place = Path(trial.top, "h/scratch", path)
+        times = place.stat()
         # Between two children, as soon as the first is told, with its old time of writing.
         with open(place, "r+b") as file:
-            file.write(b"two\n" if turn % 2 else b"eno\n")
+            file.write(b"y")
         os.utime(place, ns=(times.st_atime_ns, times.st_mtime_ns))
-        equal(trial.run("cat", "a.txt"), (0, b"one\n", {}), f"the child behind rewrite {turn}")
+        equal(trial.run("head", "-c", "1", path), (0, b"z", {}), f"the child behind rewrite {turn}")
         # By a child, over what the look before it saw.
         if turn % 4 == 0:
-            equal(trial.sh("printf 'two\n' 1<> a.txt"), (0, b"", {"a.txt": b"two\n"}), f"rewrite {turn} by a child")
+            equal(trial.sh(f"printf y 1<> {path}"), (0, b"", {path: b"y" + b"z" * 399}), f"rewrite {turn} by a child")
+        if turn % KNOWN == KNOWN - 1:
+            trial.end()
+
+
+def race(trial, path, within, told):
+    """A child that writes a file twice at once, and leaves a process that writes it once more within so many microseconds. The
+    next child sees what was told of it. Notes whether the last write was."""
+    busy = f"{trial.top}/busy"
+    letters = "".join(random.sample("abcdefgh", 3))
+    outcome = trial.outcome(built("races", RACES), path, letters, str(random.randrange(0, within)), busy)
+    check(outcome[0] == 0, f"a race is told as {outcome!r}")
+    takes(trial, outcome)
+    told[outcome[2].get(path, b"-")[:1] == letters[2].encode()] = True
+    while os.path.exists(busy):
+        pass
+    equal(trial.outcome("cat", path), (0, trial.tree[path], {}), f"the child behind the race of {letters}")
 
 
 def a_rewrite_around_a_look_is_seen():
-    races = built("races", RACES)
     random.seed(1)
-    trial = known_trial()
-    busy = f"{trial.top}/busy"
     told = {}
-    for turn in range(tries()):
-        letters = "".join(random.sample("abcdefgh", 3))
-        outcome = trial.outcome(races, "a.txt", letters, str(random.randrange(0, 3_000)), busy)
-        check(outcome[0] == 0, f"race {turn} is told as {outcome!r}")
-        takes(trial, outcome)
-        told[outcome[2].get("a.txt", b"-")[:1] == letters[2].encode()] = True
-        while os.path.exists(busy):
-            pass
-        equal(trial.outcome("cat", "a.txt"), (0, trial.tree["a.txt"], {}), f"the child behind race {turn}")
+    for turn in range(tries(2_000)):
+        if turn % KNOWN == 0:
+            trial = known_trial()
+        race(trial, f"z/{turn % KNOWN}", 3_000, told)
+        if turn % KNOWN == KNOWN - 1:
+            trial.end()
     check(len(told) == 2, f"the third write always comes on one side of the look: {told}")
 
 
-def times_tell(trial):
-    """Whether times of files tell anything where the trial plays."""
-    found = os.stat(trial.top)
-    device = found.st_dev
+def a_rewrite_in_the_tick_in_which_files_were_laid_is_seen():
+    random.seed(2)
+    told = {}
+    for _ in range(tries(1_000)):
+        trial = Trial(TREE)
+        race(trial, "a.txt", 3_000, told)
+        trial.end()
+        shutil.rmtree(trial.top)
+    check(len(told) == 2, f"the third write always comes on one side of the look: {told}")
+
+
+def kind_of(place):
+    """The kind of the file system that a place lies on."""
+    device = os.stat(place).st_dev
     wanted = f"{os.major(device)}:{os.minor(device)}"
     kinds = [line.split(" - ")[1].split()[0] for line in Path("/proc/self/mountinfo").read_text().splitlines() if line.split()[2] == wanted]
-    return kinds[:1] == ["ext4"] and found.st_ctime_ns % 1_000_000 != 0 and Trial.reads == {}
+    return kinds[0] if kinds else "one that isn't listed"
+
+
+def are_fine(place):
+    """Whether times of files are told finer than in thousandths of a second. One alone may be a whole number of these."""
+    made = [Path(place, f"fine-{number}") for number in range(3)]
+    for path in made:
+        path.touch()
+        time.sleep(0.02)
+    return any(path.stat().st_ctime_ns % 1_000_000 for path in made)
+
+
+# Whether times of files tell what was changed, where all is played.
+TELLING = kind_of(BASE) == "ext4" and are_fine(BASE)
 
 
 def what_no_child_can_have_changed_is_not_read():
@@ -962,7 +1004,7 @@ def what_no_child_can_have_changed_is_not_read():
     check(trial.reads_of("true") >= all_bytes, "a first child reads back what it was given")
     for words in (["true"], ["touch", "n1/new"], ["sh", "-c", "echo y >> n1/f1"], ["sh", "-c", "rm -r n2; echo > n3/f3"], ["true"]):
         read = trial.reads_of(*words)
-        if times_tell(trial):
+        if TELLING and Trial.reads == {}:
             check(read < all_bytes / 3, f"{read} bytes are read of {words!r}")
         else:
             check(read >= all_bytes, f"only {read} bytes are read of {words!r}")
@@ -972,6 +1014,31 @@ def what_no_child_can_have_changed_is_not_read():
     trial = Trial(tree, keep=trial.top)
     for _ in range(2):
         check(trial.reads_of("true") >= 2 * all_bytes, "files that were changed just before the program are read at each look")
+
+
+def whole_seconds_tell_nothing():
+    """On a file system whose times are whole seconds, where one can be made."""
+    if os.getuid() != 0:
+        return
+    image = Path(BASE, "image")
+    with open(image, "wb") as file:
+        file.truncate(16 * MIB)
+    # An inode of 128 bytes has no room for parts of a second.
+    subprocess.run(["mkfs.ext4", "-q", "-F", "-I", "128", image], check=True, capture_output=True)
+    place = tempfile.mkdtemp(prefix="children-", dir=BASE)
+    if subprocess.run(["mount", "-o", "loop", image, place], capture_output=True).returncode != 0:
+        print("children: nothing can be mounted, so no whole seconds were played")
+        return
+    try:
+        equal((kind_of(place), are_fine(place)), ("ext4", False), "what was mounted")
+        trial = Trial({f"n{i % 7}/f{i}": b"x" * 10_000 for i in range(50)}, keep=place)
+        for words in (["true"], ["true"], ["sh", "-c", "printf y 1<> n1/f1"], ["true"]):
+            read = trial.reads_of(*words)
+            check(read >= 500_000, f"only {read} bytes are read of {words!r}")
+        trial.sees_the_tree("whole seconds")
+        trial.end()
+    finally:
+        subprocess.run(["umount", place], check=True)
 
 
 def hundredths(name):
@@ -990,12 +1057,12 @@ def files_that_have_settled_are_read_once():
     time.sleep(seconds if Trial.reads == {} else 0.1)
     trial = Trial(tree, keep=top)
     read = trial.reads_of("true")
-    if times_tell(trial):
+    if TELLING and Trial.reads == {}:
         check(all_bytes <= read < all_bytes * 4 / 3, f"{read} bytes are read of a first child")
     else:
         check(read >= 2 * all_bytes, f"{read} bytes are read of a first child")
     read = trial.reads_of("true")
-    check(read < all_bytes / 10 if times_tell(trial) else read >= 2 * all_bytes, f"{read} bytes are read of a second child")
+    check(read < all_bytes / 10 if TELLING and Trial.reads == {} else read >= 2 * all_bytes, f"{read} bytes are read of a second child")
     changed = trial.sh(f"touch {top}/go.1; until [ -e {top}/done.1 ]; do sleep 0.001; done")
     equal(changed, (0, b"", {"a.txt": b"xne\n"}), "a write through a mapping of an ended program")
     Path(top, "go.2").touch()
@@ -1318,6 +1385,26 @@ CASES = [case for name, case in list(globals().items()) if callable(case) and ge
 # What hangs on when a process is at work, or on how much is read.
 UNLIKE = [a_killed_program_leaves_no_harm, a_rewrite_right_behind_a_look_is_seen, a_rewrite_around_a_look_is_seen, a_signal_to_the_group_ends_a_child_too]
 SETTLED = [files_that_have_settled_are_read_once]
+READING = [
+    a_quiet_write_is_read_back,
+    a_file_is_known_by_more_than_its_bytes,
+    folders_that_change_places_are_seen,
+    a_tree_that_changes_is_known_by_its_bytes,
+    a_process_left_behind_with_a_mapping_is_seen,
+    a_mapping_that_an_ended_program_left_is_seen,
+    a_process_left_behind_that_writes_is_seen,
+    a_rewrite_right_behind_a_look_is_seen,
+    a_rewrite_around_a_look_is_seen,
+    a_rewrite_in_the_tick_in_which_files_were_laid_is_seen,
+    what_no_child_can_have_changed_is_not_read,
+]
+
+
+def chosen():
+    """The cases that are asked for."""
+    if "--settled" in WORDS:
+        return SETTLED
+    return READING if "--reads" in WORDS else [case for case in CASES if case not in SETTLED]
 
 
 def played(case, reads):
@@ -1331,13 +1418,14 @@ def played(case, reads):
     finally:
         if "-v" in WORDS:
             print(f"children: {case.__name__}, reading {reads}: {time.monotonic() - start:.1f} s", flush=True)
+        for folder in Path(BASE).glob("children-*"):
+            shutil.rmtree(folder, ignore_errors=True)
     named = re.compile(re.escape(BASE) + r"/[a-z]+-[a-z0-9_]+|CHILD_TRIAL_READS=everything\\n")
     return [named.sub("", repr(each)) for each in Trial.told]
 
 
 if __name__ == "__main__":
-    failed = 0
-    cases = SETTLED if "--settled" in WORDS else [case for case in CASES if case not in SETTLED]
+    failed, cases = 0, chosen()
     for case in cases:
         try:
             told = [played(case, reads) for reads in READS]
@@ -1346,5 +1434,5 @@ if __name__ == "__main__":
         except Wrong as wrong:
             failed += 1
             print(f"children: {case.__name__}: {wrong}")
-    print(f"children: {len(cases) - failed} passed, {failed} failed")
+    print(f"children: {len(cases) - failed} passed, {failed} failed, on {kind_of(BASE)}, whose times tell {'what changed' if TELLING else 'nothing'}")
     sys.exit(1 if failed else 0)
