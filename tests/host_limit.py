@@ -2,6 +2,7 @@
 front on, beside the model of tests/list_book.py.
 """
 import os
+import re
 from concurrent.futures import ThreadPoolExecutor
 
 from host_books import Book, book_of, model_of
@@ -19,6 +20,7 @@ PER_FILE = b"""repos:
 """
 PASSED = b"T" + b"." * 72 + b"Passed\n"
 LETTERS = "abc"
+HERE = os.path.dirname(os.path.abspath(__file__))
 
 
 def answer_of(letter):
@@ -158,6 +160,24 @@ def refuses_what_is_no_limit(folder):
     limited.check_book()
 
 
+def query_of_the_reference():
+    """The SQL by which docs/REFERENCE.md finds the keys of the remembered answers."""
+    with open(os.path.join(HERE, "..", "docs", "REFERENCE.md"), encoding="utf-8") as file:
+        found = re.findall(r"^sqlite3 [.]hookhost/store[.]db '(SELECT hex\(words\).*)'$", file.read(), re.MULTILINE)
+    check(len(found) == 1, f"the reference has the queries {found!r}")
+    return found[0]
+
+
+def is_read_as_the_reference_says(folder):
+    """The keys and the status of each answer, the most recently used first."""
+    limited, query = Limited(folder), query_of_the_reference()
+    for letters in ("abc", "b", "a", "ca"):
+        limited.run(letters)
+        found = [line.rsplit("|", 1) for line in rows(folder, query)]
+        keys, statuses = [limited.known.get(key.lower(), "?") for key, _ in found], {status for _, status in found}
+        check((keys, statuses) == (book_of(limited.book).keys, {"0"}), f"behind a run of {letters!r} it finds {keys!r} and {statuses!r}")
+
+
 def ticks_in(folder, known):
     """The number by which sqlite3 finds each answer used, by the letter of its file."""
     found = (line.rsplit("|", 1) for line in rows(folder, "SELECT lower(hex(words)), lower(hex(seen)), tick FROM uses"))
@@ -225,5 +245,5 @@ def keeps_one_limit_of_programs_at_once(folder):
 
 
 CASES = [remembers_the_answers_that_were_used_last, drops_answers_once_a_limit_is_set, keeps_its_limit,
-         counts_what_a_fresh_run_and_a_commit_use, refuses_what_is_no_limit,
+         counts_what_a_fresh_run_and_a_commit_use, refuses_what_is_no_limit, is_read_as_the_reference_says,
          renumbers_uses_where_no_greater_number_is_left, keeps_one_limit_of_programs_at_once]

@@ -43,7 +43,7 @@ CONTENTS = [b"x\n"] * 8 + [b"y\n"] * 6 + [b"1\n\n2\n", b"#!/bin/sh -e\n", b"no e
 STAGES = ["pre-commit", "prepare-commit-msg", "commit-msg", "post-commit", "manual"]
 PATTERNS = ["", "", r"\.txt$", "^a", "^dir/"]
 # The patterns of further files that children see.
-FURTHER = [NO_PATH] * 6 + ["^b", r"\.txt$", "^dir/", "^[.]pre"]
+FURTHER = [NO_PATH] * 6 + ["^b", r"\.txt$", "^dir/", "^[.]pre", "^[.]git/"]
 MESSAGES = [b"", b"\n", b" \t\n\n", b"first", b"first", b"first\n", b"first\n", b"  first \n\n\n\nbody\t\n\n", b"# kept\r\n\nbody"]
 CHILDREN_WRITE = [b"x\n", b"y\n", b"z \n", b"\n", b"one\n\n\ntwo \n"]
 OUTPUTS = [b"", b"", b"said\n", b" \n\tsaid twice\n\nso\n\n"]

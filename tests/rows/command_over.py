@@ -800,6 +800,8 @@ NOTE, TELL = hook("Note", "note", "", ", stages: [commit-msg]"), hook("Tell", "t
 BEFORE_T = T.replace("$'", "$', stages: [pre-commit]")
 WITH_STAGES = (*with_hooks(BEFORE_T, NOTE, TELL), *add("a.txt", "x\n"))
 NOTED = child("note\t.git/COMMIT_EDITMSG", ".git/COMMIT_EDITMSG=m")
+# A hook that reads the message and isn't handed it.
+READING = hook("Note", "note", "^$", ", stages: [commit-msg], always_run: true, x_reads: 'EDITMSG$'")
 COMMITTED = [
     (
         *GOOD, *NOTED, *child("tell"), *child("c\ta.txt", "a.txt=y"), *WITH_STAGES, *run(), *COUNTS, *commit("verified"), *COUNTS,
@@ -816,6 +818,13 @@ COMMITTED = [
     (
         *GOOD, *child("note\t.git/COMMIT_EDITMSG", ".git/COMMIT_EDITMSG=m", ".git/COMMIT_EDITMSG="), *WITH_STAGES, *commit("verified"), *commit("verified"), *COUNTS,
         done() * 2 + refused("12 EmptyMessage") * 2 + counted(2, 0, 2, 0, 1),
+    ),
+    # Their message is a further file of a hook: what becomes of it is remembered by it, and it is the commit's then.
+    (
+        *GOOD, *child("c\ta.txt", "a.txt=y"), *child("note", ".git/COMMIT_EDITMSG=m", ".git/COMMIT_EDITMSG=n"), *with_hooks(BEFORE_T, READING), *add("a.txt", "x\n"),
+        *commit("verified"), *COUNTS, *add("a.txt", "y\n"), *commit("verified"), *COUNTS, *line("log"),
+        done() * 2 + done(GOOD_T + passed("Note") + "commit 1\n") + counted(2, 0, 2, 0, 2)
+        + done() + done(GOOD_T + passed("Note") + "commit 2\n") + counted(3, 0, 3, 1) + done("2 n\n1 n\n"),
     ),
 ]
 

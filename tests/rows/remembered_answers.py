@@ -289,6 +289,16 @@ LIMITS = [
         hooks(T), *A, *PASS, *child("c", "a.txt", seen=["a.txt=y"]), "limit", "1", *run(), *file("a.txt", "y\n"), *run(), "others", *child("c", "a.txt", status=1, output="x\n"), *A, *run("fresh"),
         told("passed", 1, 0, PASSED, held=["held", "lacking"]) + told("passed", 1, 0, PASSED, held=["lacking", "held"]) + told("failed", 1, 0, X_FAILED, held=["held"]),
     ),
+    # An answer is that of what a child reads besides its file too: it is found again once that is as it was, where there is room
+    # for it beside the other one.
+    *(
+        (
+            hooks(hook("T", "c", r"files: ^a, x_reads: '^lint\.cfg$'")), *A, *file("lint.cfg", "1\n"), *(word for text in "12" for word in child("c", "a.txt", seen=["a.txt=x", f"lint.cfg={text}"])),
+            "limit", limit, *run(), *file("lint.cfg", "2\n"), *run(), *file("lint.cfg", "1\n"), *run(),
+            told("passed", 1, 0, PASSED, held=["held", "lacking"]) + told("passed", 1, 0, PASSED, held=[other, "held"]) + told("passed", calls, 0, PASSED, held=["held", other]),
+        )
+        for limit, other, calls in [("1", "lacking", 1), ("10000", "held", 0)]
+    ),
     # A book keeps its limit once all is forgotten.
     (
         PER_FILE, *(word for letter in LETTERS for word in file(f"{letter}.txt")), *PASS_EACH, "limit", "2", *run(), "forget", *run(),
