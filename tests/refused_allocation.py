@@ -17,7 +17,7 @@ def program(at, name):
 
 
 PROGRAM, STORE_TRIAL = program(0, "hookhost"), program(1, "store_trial")
-HOOK_TRIAL, SELECTION_TRIAL = program(2, "hook_trial"), program(3, "selection_trial")
+HOOK_TRIAL, SELECTION_TRIAL, YAML_TRIAL = program(2, "hook_trial"), program(3, "selection_trial"), program(4, "yaml_trial")
 
 
 def make_allocator(folder):

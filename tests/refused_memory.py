@@ -1,7 +1,7 @@
 #!/usr/bin/env python3
 """Runs the built program with each of its allocations refused in turn, until a run ends with none refused.
 
-Usage: tests/refused_memory.py [--each] [PROGRAM [STORE_TRIAL [HOOK_TRIAL [SELECTION_TRIAL]]]]   (default: the built programs)
+Usage: tests/refused_memory.py [--each] [PROGRAM [STORE_TRIAL [HOOK_TRIAL [SELECTION_TRIAL [YAML_TRIAL]]]]]   (default: the built programs)
 
 Each refused run has to say `hookhost: refused: NUMBER OutOfMemory`, write nothing to standard output and end with
 status 3, or else to answer just as with ample memory (a growth that was refused may be tried again with less). Each play
@@ -53,8 +53,8 @@ from dataclasses import dataclass, field
 
 from host_plays import PLAYS as HOST_PLAYS
 from host_program import Wrong
-from refused_allocation import (CRATES, EACH, PROGRAM, SELECTION_TRIAL, STORE_TRIAL, count_allocations, end_of, end_with_refusal,
-                                make_allocator, some_of)
+from refused_allocation import (CRATES, EACH, PROGRAM, SELECTION_TRIAL, STORE_TRIAL, YAML_TRIAL, count_allocations, end_of,
+                                end_with_refusal, line_of, make_allocator, some_of)
 from refused_memory_books import BOOK_PLAYS, refuse_among_remembered, refuse_host_play, refuse_limits
 from refused_memory_plays import FILES, OF_CHECK, OF_CHILDREN, OF_STORE, PLAYS, STAGED_HOOKS, USING_HOOKS, Play
 from stops_books import TO_SMALL_VERSION_1, Book, execute, steps_between
@@ -314,38 +314,44 @@ def make_using(folder):
            ["run-files", "a.txt"], ["run-files", "b.txt"], ["memory", "--limit=3"])
 
 
-def kept_tags_run(line, refused, shared, folder):
-    """How the program ended on a line, and whether the allocation of this number (0: none) was refused."""
-    return end_with_refusal([SELECTION_TRIAL], refused, shared, folder, folder, line)
-
-
-def refuse_kept_tags(shared):
-    """How many allocations were refused in the lines on kept tags, how often the program gave up, and what went wrong."""
-    with open(os.path.join(CRATES, "selection_trial/stdin"), "rb") as file:
-        lines = [line for line in file if line.startswith((b"follow ", b"select_kept "))]
+def refuse_lines(program, lines, shared):
+    """How many allocations were refused in the lines of a program for tests, how often it gave up, and what went wrong."""
     count = gave_up_times = 0
     with tempfile.TemporaryDirectory() as folder:
         for line in lines:
-            plain, _ = kept_tags_run(line, 0, shared, folder)
+            plain, _ = end_with_refusal([program], 0, shared, folder, folder, line)
             for refused in itertools.count(1):
-                ended, is_refused = kept_tags_run(line, refused, shared, folder)
+                ended, is_refused = end_with_refusal([program], refused, shared, folder, folder, line)
                 if not is_refused:
                     break
                 count += 1
                 gave_up_times += ended != plain
                 if ended != plain and (ended[0] != 3 or b"out of memory" not in ended[2]):
                     return count, gave_up_times, f"{line!r}, allocation {refused}: {ended}"
-    return count, gave_up_times, None if count else "no line on kept tags"
+    return count, gave_up_times, None if count else "no line"
+
+
+def lines_on_kept_tags():
+    with open(os.path.join(CRATES, "selection_trial/stdin"), "rb") as file:
+        return [line for line in file if line.startswith((b"follow ", b"select_kept "))]
+
+
+# What the programs for tests are asked for, of which each allocation is refused.
+LINES = {
+    "tags that are kept": (SELECTION_TRIAL, lines_on_kept_tags()),
+    "trees that share rows": (YAML_TRIAL, [line_of("tree_plays", [seed, "100"]) for seed in "123"]),
+}
 
 
 def play_all(plays, shared):
-    """What each play and each list of commands of a host comes to, and the runs over books and the kept tags, side by
-    side."""
+    """What each play and each list of commands of a host comes to, and the runs over books and the lines of programs for
+    tests, side by side."""
     with ProcessPoolExecutor(os.cpu_count(), multiprocessing.get_context("fork")) as pool:
         answers = [pool.submit(play_alone, play, shared) for play in plays]
         of_hosts = [pool.submit(refuse_host_play, *play, shared) for play in HOST_PLAYS] + [pool.submit(refuse_limits, shared)]
         of_books = [pool.submit(refuse_among_remembered, play, shared) for play in BOOK_PLAYS]
-        parts = answers, of_hosts, of_books, [pool.submit(refuse_kept_tags, shared)]
+        of_lines = [pool.submit(refuse_lines, *asked, shared) for asked in LINES.values()]
+        parts = answers, of_hosts, of_books, of_lines
         return [[each.result() for each in part] for part in parts]
 
 
@@ -355,11 +361,11 @@ def main():
     with tempfile.TemporaryDirectory() as folder:
         make_allocator(folder)
         make_repositories(folder)
-        answers, of_hosts, of_books, (of_kept_tags,) = play_all(PLAYS + checks, folder)
+        answers, of_hosts, of_books, of_lines = play_all(PLAYS + checks, folder)
     failures = [(play.name, wrong) for play, (_, _, wrong) in zip(PLAYS + checks, answers) if wrong]
     failures += [("commands of a host", wrong) for _, _, wrong in of_hosts if wrong]
     failures += [(play.name, wrong) for play, (_, _, wrong) in zip(BOOK_PLAYS, of_books) if wrong]
-    failures += [("tags that are kept", of_kept_tags[2])] if of_kept_tags[2] else []
+    failures += [(name, wrong) for name, (_, _, wrong) in zip(LINES, of_lines) if wrong]
     for play, (count, gave_up, wrong) in zip(PLAYS, answers):
         print(f"{play.name}: {count} allocations refused in turn, {gave_up} times the program gave up")
     of_texts = answers[len(PLAYS):]
@@ -369,10 +375,11 @@ def main():
         print(f"commands of a host: {count} allocations refused in turn, which it said at {len(came - {None})} places")
     for play, (count, refused, _) in zip(BOOK_PLAYS, of_books):
         print(f"{play.name}: {count} allocations refused in turn, {refused} times a run was refused")
-    print(f"tags that are kept: {of_kept_tags[0]} allocations refused in turn, {of_kept_tags[1]} times the program gave up")
+    for name, (count, gave_up, _) in zip(LINES, of_lines):
+        print(f"{name}: {count} allocations refused in turn, {gave_up} times the program gave up")
     for name, wrong in failures:
         print(f"FAILED {name}: {wrong}")
-    print(f"memory: {len(answers) + len(of_hosts) + len(of_books) + 1 - len(failures)} passed, {len(failures)} failed")
+    print(f"memory: {len(answers) + len(of_hosts) + len(of_books) + len(of_lines) - len(failures)} passed, {len(failures)} failed")
     sys.exit(1 if failures or not checks else 0)
 
 

@@ -1,4 +1,5 @@
-//! A tree beside a plain one: each call is made on both, and what they answer is compared.
+//! A tree beside a plain one: each call is made on both, and what they answer is compared. One that is refused memory has to
+//! leave the tree as it was.
 
 use crate::plain_tree::PlainTree;
 use hook_base::{Change, File, FileEntry, OutOfMemory, RepoPath, SharedFile, Tree};
@@ -40,32 +41,50 @@ impl TreePair {
         true
     }
 
-    pub(crate) fn put(&mut self, path: RepoPath, entry: FileEntry) -> Result<(), OutOfMemory> {
+    pub(crate) fn put(&mut self, path: RepoPath, entry: FileEntry) -> Result<bool, OutOfMemory> {
         let file = File {
             path: path.clone()?,
             entry: entry.clone()?,
         };
+        if let Err(refused) = self.tree.put(path, entry) {
+            return self.left_by(refused);
+        }
         self.plain.put(SharedFile::of(self.alloc, file)?)?;
-        self.tree.put(path, entry)
+        Ok(true)
     }
 
     pub(crate) fn put_from(
         &mut self,
         other: &TreePair,
         path: &RepoPath,
-    ) -> Result<(), OutOfMemory> {
+    ) -> Result<bool, OutOfMemory> {
+        if let Err(refused) = self.tree.put_from(&other.tree, path) {
+            return self.left_by(refused);
+        }
         self.plain.put_from(&other.plain, path)?;
-        self.tree.put_from(&other.tree, path)
+        Ok(true)
     }
 
     /// Takes the file that the other has at an index.
-    pub(crate) fn share(&mut self, other: &TreePair, index: usize) -> Result<(), OutOfMemory> {
+    pub(crate) fn share(&mut self, other: &TreePair, index: usize) -> Result<bool, OutOfMemory> {
         if index < other.tree.len() {
             let file = other.tree.shared(index).clone()?;
-            self.plain.put(file.clone()?)?;
-            self.tree.put_shared(file)?;
+            if let Err(refused) = self.tree.put_shared(file.clone()?) {
+                return self.left_by(refused);
+            }
+            self.plain.put(file)?;
         }
-        Ok(())
+        Ok(true)
+    }
+
+    /// What a call comes to of which the tree was refused memory, and which the plain one wasn't asked for: the refusal where
+    /// both are still alike, and `false` where the tree was changed.
+    fn left_by(&self, refused: OutOfMemory) -> Result<bool, OutOfMemory> {
+        if self.is_same() {
+            Err(refused)
+        } else {
+            Ok(false)
+        }
     }
 
     /// Whether both say the same of what was removed.
@@ -90,14 +109,21 @@ impl TreePair {
         })
     }
 
-    pub(crate) fn apply(&mut self, changes: &[Change]) -> Result<(), OutOfMemory> {
+    pub(crate) fn apply(&mut self, changes: &[Change]) -> Result<bool, OutOfMemory> {
+        if let Err(refused) = self.tree.apply(changes) {
+            return self.left_by(refused);
+        }
         self.plain.apply(changes)?;
-        self.tree.apply(changes)
+        Ok(true)
     }
 
-    pub(crate) fn absorb(&mut self, changes: Vec<Change>) -> Result<(), OutOfMemory> {
-        self.plain.apply(changes.as_slice())?;
-        self.tree.absorb(changes)
+    pub(crate) fn absorb(&mut self, changes: Vec<Change>) -> Result<bool, OutOfMemory> {
+        let the_same = changes.clone()?;
+        if let Err(refused) = self.tree.absorb(changes) {
+            return self.left_by(refused);
+        }
+        self.plain.apply(the_same.as_slice())?;
+        Ok(true)
     }
 
     /// Whether both say the same of what became of their files, and of whether they are equal.

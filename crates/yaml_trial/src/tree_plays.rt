@@ -112,8 +112,7 @@ impl Play {
         } else {
             Mode::Executable
         };
-        self.one.put(path, FileEntry { mode, bytes })?;
-        Ok(true)
+        Ok(self.one.put(path, FileEntry { mode, bytes })?)
     }
 
     fn remove(&mut self) -> Result<bool, Stop> {
@@ -143,27 +142,23 @@ impl Play {
 
     fn take(&mut self) -> Result<bool, Stop> {
         let path = self.path()?;
-        self.one.put_from(&self.other, &path)?;
-        Ok(true)
+        Ok(self.one.put_from(&self.other, &path)?)
     }
 
     fn share(&mut self) -> Result<bool, Stop> {
         let count = self.other.len() as u64;
         let index = self.below(count);
-        self.one.share(&self.other, index as usize)?;
-        Ok(true)
+        Ok(self.one.share(&self.other, index as usize)?)
     }
 
     fn apply(&mut self) -> Result<bool, Stop> {
         let changes = self.changes()?;
-        self.one.apply(changes.as_slice())?;
-        Ok(true)
+        Ok(self.one.apply(changes.as_slice())?)
     }
 
     fn absorb(&mut self) -> Result<bool, Stop> {
         let changes = self.changes()?;
-        self.one.absorb(changes)?;
-        Ok(true)
+        Ok(self.one.absorb(changes)?)
     }
 
     fn compare(&mut self) -> Result<bool, Stop> {
