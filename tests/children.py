@@ -939,12 +939,12 @@ def a_rewrite_right_behind_a_look_is_seen():
             trial.end()
 
 
-def race(trial, path, within, told):
-    """A child that writes a file twice at once, and leaves a process that writes it once more within so many microseconds. The
-    next child sees what was told of it. Notes whether the last write was."""
+def race(trial, path, told):
+    """A child that writes a file twice at once, and leaves a process that writes it once more within three milliseconds. The next
+    child sees what was told of it. Notes whether the last write was."""
     busy = f"{trial.top}/busy"
     letters = "".join(random.sample("abcdefgh", 3))
-    outcome = trial.outcome(built("races", RACES), path, letters, str(random.randrange(0, within)), busy)
+    outcome = trial.outcome(built("races", RACES), path, letters, str(random.randrange(0, 3_000)), busy)
     check(outcome[0] == 0, f"a race is told as {outcome!r}")
     takes(trial, outcome)
     told[outcome[2].get(path, b"-")[:1] == letters[2].encode()] = True
@@ -959,7 +959,7 @@ def a_rewrite_around_a_look_is_seen():
     for turn in range(tries(2_000)):
         if turn % KNOWN == 0:
             trial = known_trial()
-        race(trial, f"z/{turn % KNOWN}", 3_000, told)
+        race(trial, f"z/{turn % KNOWN}", told)
         if turn % KNOWN == KNOWN - 1:
             trial.end()
     check(len(told) == 2, f"the third write always comes on one side of the look: {told}")
@@ -970,7 +970,7 @@ def a_rewrite_in_the_tick_in_which_files_were_laid_is_seen():
     told = {}
     for _ in range(tries(1_000)):
         trial = Trial(TREE)
-        race(trial, "a.txt", 3_000, told)
+        race(trial, "a.txt", told)
         trial.end()
         shutil.rmtree(trial.top)
     check(len(told) == 2, f"the third write always comes on one side of the look: {told}")
@@ -1019,6 +1019,7 @@ def what_no_child_can_have_changed_is_not_read():
 def whole_seconds_tell_nothing():
     """On a file system whose times are whole seconds, where one can be made."""
     if os.getuid() != 0:
+        print("children: only root can mount a file system, so no whole seconds were played")
         return
     image = Path(BASE, "image")
     with open(image, "wb") as file:
