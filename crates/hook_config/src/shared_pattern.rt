@@ -32,7 +32,7 @@ impl SharedPattern {
     /// Builds the pattern of the text. `BadPattern` where `regex` doesn't take the text, `OutOfMemory` where memory is
     /// refused.
     #[tactic(auto, unfolding(crate::specs::Patterns::pattern_of_text))]
-    pub(crate) fn build(alloc: Global, text: &str) -> Result<Self, ConfigKind>
+    pub fn build(alloc: Global, text: &str) -> Result<Self, ConfigKind>
         requires { IsShort text.now }
         ensures pattern { GivesValue (λ shared. shared) result (pattern_of_text text.now) }
         ensures same { IfOk result (λ shared. shared ≡ text.now) }
