@@ -1,0 +1,5 @@
+pub mod Cautious
+pub mod Harmless
+pub mod Options
+pub mod TableRules
+pub mod Tools
