@@ -110,7 +110,6 @@ impl<S: Alter> Host<S> {
                     report,
                     changes,
                     unsteady,
-                    reused: _,
                 },
             ) => Reply::Ran {
                 passed,

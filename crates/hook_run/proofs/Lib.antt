@@ -12,7 +12,6 @@ pub mod NextLemmas
 pub mod PartLemmas
 pub mod PlanLemmas
 pub mod ReplayLemmas
-pub mod ReusedLemmas
 pub mod RowLemmas
 pub mod RunLemmas
 pub mod SomeRunLemmas

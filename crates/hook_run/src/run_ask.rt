@@ -1,6 +1,5 @@
 //! What is asked of a run.
 
-use crate::Reuse;
 use hook_base::{Items, RepoPath, Text};
 use hook_config::Stage;
 
@@ -15,6 +14,6 @@ pub struct RunAsk {
     pub only: Option<Text>,
     /// The ids and aliases of hooks that are skipped. The empty text is no alias.
     pub skip: Items<Text>,
-    /// Which remembered answers serve it.
-    pub reuse: Reuse,
+    /// Whether every child is to be started, also where its answer is remembered.
+    pub fresh: bool,
 }

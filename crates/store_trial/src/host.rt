@@ -11,7 +11,6 @@ use commit_flow::{
 };
 use hook_base::{Items, Text};
 use hook_config::Stage;
-use run_options::RunOptions;
 use sqlite::Alter;
 use std::alloc::Global;
 use std::fmt::Display;
@@ -135,10 +134,6 @@ fn read_ask(alloc: Global, which: &str) -> Result<HostAsk, Stop> {
         stage: AskStage::PreCommit,
         skip: Items::new(alloc),
         fresh: false,
-        options: RunOptions {
-            cautious: false,
-            verbose: false,
-        },
     })
 }
 
