@@ -3,11 +3,10 @@
 
 Usage: bench/git.py [PROGRAM [FILES..]]   (default: the built program, and 10, 1,000 and 10,000 files)
 
-A repository holds so many files of 400 bytes. Ten hooks are commands that sleep 50 ms, of which the last then fails, so that the
-commit is refused and can be tried again as it is. Before each first try one file gets other bytes and is staged. Each time is wall
-time in milliseconds, the least of several. What is left without the hooks' own sleep is shown too, and how long the first run of
-all took, in which hookhost-git stages each file; with a program that takes no lists of names, which stages one file a call, larger
-repositories are left out.
+A repository holds so many files of 400 bytes. Ten hooks are commands that sleep 50 ms. Before each first try one file gets other
+bytes and is staged. Once it is committed the commit is taken back, and made again as it was: a second try, in which hookhost-git
+starts no command. Each time is wall time in milliseconds, the least of several. What is left without the hooks' own sleep is shown
+too, and how long the first run of all took, in which it stages each file.
 """
 import os
 import shutil
@@ -23,12 +22,10 @@ BRIDGE = os.path.join(HERE, "..", "git/hookhost-git")
 COUNTS = [int(word) for word in sys.argv[2:]] or [10, 1000, 10_000]
 CONFIGURATION, CHANGED = ".pre-commit-config.yaml", "many/000003"
 SIZE, RUNS, HOOKS, SLEEP = 400, 3, 10, 50
-# The most files that are staged by a call for each.
-MOST_BY_CALLS = 1000
 
 
 def configuration():
-    entry = lambda at: f'sh -c "sleep 0.0{SLEEP}{"; exit 1" if at == HOOKS - 1 else ""}" hook{at}'
+    entry = lambda at: f'sh -c "sleep 0.0{SLEEP}" hook{at}'
     return "repos:\n- repo: local\n  hooks:\n" + "".join(f"  - {{id: hook{at}, name: Hook {at}, language: system, entry: '{entry(at)}', require_serial: true}}\n" for at in range(HOOKS))
 
 
@@ -61,9 +58,11 @@ def time_tries():
     for at in range(RUNS + 1):
         write(CHANGED, f"changed {at}\n")
         do("git", "add", CHANGED)
-        times.append((once(commit), once(commit)))
-    if "Hook 9" not in subprocess.run(commit, stdout=subprocess.PIPE, stderr=subprocess.STDOUT, text=True).stdout:
-        sys.exit("bench/git.py: a commit isn't refused by its last hook")
+        first = once(commit)
+        do("git", "reset", "--quiet", "--soft", "HEAD~1")
+        times.append((first, once(commit)))
+        if do("git", "show", "--format=", "--name-only", "HEAD") != CHANGED + "\n":
+            sys.exit("bench/git.py: a commit isn't made")
     return [min(column) for column in zip(*times[1:])], times[0][0]
 
 
@@ -74,12 +73,8 @@ def show(files, what, ours, theirs):
 def main():
     who = {f"GIT_{role}_{what}": "bench@localhost" for role in ("AUTHOR", "COMMITTER") for what in ("NAME", "EMAIL")}
     os.environ.update(who, HOOKHOST=PROGRAM, GIT_CONFIG_GLOBAL="/dev/null")
-    takes_lists = "--paths-from" in subprocess.run([PROGRAM, "add", "--help"], stdout=subprocess.PIPE, stderr=subprocess.STDOUT, text=True).stdout
-    print(f"ten hooks that sleep {SLEEP} ms; the program {'takes' if takes_lists else 'takes no'} lists of names")
+    print(f"ten hooks that sleep {SLEEP} ms")
     for files in COUNTS:
-        if files > MOST_BY_CALLS and not takes_lists:
-            print(f"{files:7} files: left out, since each would be staged by a call of its own")
-            continue
         folder = tempfile.mkdtemp()
         os.environ["PRE_COMMIT_HOME"] = os.path.join(folder, "pre-commit")
         found = {}
@@ -92,6 +87,7 @@ def main():
         show(files, "first try", ours[0], theirs[0])
         show(files, "first try but the sleep", ours[0] - HOOKS * SLEEP, theirs[0] - HOOKS * SLEEP)
         show(files, "second try", ours[1], theirs[1])
+        show(files, "second try but the sleep", ours[1], theirs[1] - HOOKS * SLEEP)
         print(f"{files:7} files, {'the first run of all':24} {first:9.1f} ms")
         os.chdir("/")
         shutil.rmtree(folder)

@@ -39,8 +39,8 @@ _hookhost_command() {
     rm) options=(--paths-from= -h --help) valued=(--paths-from) filed=(--paths-from) most=any ;;
     status) options=(-h --help) valued=() filed=() most=0 ;;
     cat) options=(--fixed --commit= -h --help) valued=(--commit) filed=() most=1 ;;
-    run) options=(--all-files --hook-stage= --fresh -h --help) valued=(--hook-stage) filed=() most=0 ;;
-    run-files) options=(--hook-stage= --fresh --paths-from= -h --help) valued=(--hook-stage --paths-from) filed=(--paths-from) most=any ;;
+    run) options=(--all-files --hook-stage= --fresh --cautious --verbose -h --help) valued=(--hook-stage) filed=() most=0 ;;
+    run-files) options=(--only= --hook-stage= --fresh --cautious --verbose --paths-from= -h --help) valued=(--only --hook-stage --paths-from) filed=(--paths-from) most=any ;;
     fixes) options=(-h --help) valued=() filed=() most=0 ;;
     accept) options=(-h --help) valued=() filed=() most=0 ;;
     commit) options=(--no-verify -m -h --help) valued=(-m) filed=() most=0 ;;

@@ -21,7 +21,7 @@ function __hookhost_takes
             set given (math $given + 1)
         else if test $word = --
             set is_ended 1
-        else if contains -- $word --chmod --paths-from --commit --hook-stage -m --limit
+        else if contains -- $word --chmod --paths-from --commit --hook-stage --only -m --limit
             set is_pending 1
         end
     end
@@ -69,9 +69,14 @@ complete -c hookhost -n '__hookhost_takes cat 1' -F
 complete -c hookhost -n '__hookhost_is run; and not __fish_contains_opt all-files' -l all-files -d 'Takes all staged files, not only those that differ from the last commit'
 complete -c hookhost -n '__hookhost_is run' -l hook-stage -x -a 'pre-commit manual' -d 'The stage whose hooks are run, pre-commit or manual; without it pre-commit'
 complete -c hookhost -n '__hookhost_is run; and not __fish_contains_opt fresh' -l fresh -d 'Starts every command, also where its answer is remembered'
+complete -c hookhost -n '__hookhost_is run; and not __fish_contains_opt cautious' -l cautious -d 'Counts every file as seen by a hook that doesn\'t say which, and takes no failure from the cache'
+complete -c hookhost -n '__hookhost_is run; and not __fish_contains_opt verbose' -l verbose -d 'Prints the output of every hook, and how many answers came from the cache'
 complete -c hookhost -n '__hookhost_is run; and not __fish_contains_opt -s h help' -s h -l help -d 'Print help'
+complete -c hookhost -n '__hookhost_is run-files' -l only -x -d 'The id or alias of the hooks to run; without it all of the stage'
 complete -c hookhost -n '__hookhost_is run-files' -l hook-stage -x -a 'pre-commit manual' -d 'The stage whose hooks are run, pre-commit or manual; without it pre-commit'
 complete -c hookhost -n '__hookhost_is run-files; and not __fish_contains_opt fresh' -l fresh -d 'Starts every command, also where its answer is remembered'
+complete -c hookhost -n '__hookhost_is run-files; and not __fish_contains_opt cautious' -l cautious -d 'Counts every file as seen by a hook that doesn\'t say which, and takes no failure from the cache'
+complete -c hookhost -n '__hookhost_is run-files; and not __fish_contains_opt verbose' -l verbose -d 'Prints the output of every hook, and how many answers came from the cache'
 complete -c hookhost -n '__hookhost_is run-files' -l paths-from -r -F -d 'A file of paths, each ended by a NUL byte; - is standard input'
 complete -c hookhost -n '__hookhost_is run-files; and not __fish_contains_opt -s h help' -s h -l help -d 'Print help'
 complete -c hookhost -n '__hookhost_takes run-files any' -F

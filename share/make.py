@@ -19,7 +19,7 @@ from dataclasses import dataclass
 HERE = os.path.dirname(os.path.abspath(__file__))
 TOP = os.path.dirname(HERE)
 # The day on which the page's own texts were last looked over.
-DATE = "2026-11-28"
+DATE = "2026-11-29"
 # The arguments and the values that name files of the folder; for every other one nothing can be proposed.
 PATHS = ["CONFIG", "PATH", "FILE"]
 # What the page says of files and of the environment: how the sentences begin that say it, or words of its own.
@@ -29,8 +29,9 @@ run, run-files and commit read the staged one."),
     (".hookhost/store.db", ["The commands on a repository keep it ", "`store.db` is a store or ", "What a killed `init` "]),
     (".hookhost/store.db-wal", ["SQLite's log lies beside it, "]),
     (".hookhost/lock", ["'hookhost: cannot use .hookhost/lock' says "]),
-    (".hookhost/.gitignore", ["Git ignores all of "]),
-    (".hookhost/scratch", ["Each command runs in ", "None of the copies is ", "The folder is made for the first command"]),
+    (".git/info/exclude", "In a checkout of Git the line .hookhost/ of this file keeps the repository out of Git. init adds it, and so does a later \
+command that changes something, where it is missing. A .hookhost/.gitignore that an earlier hookhost wrote is removed then."),
+    (".hookhost/scratch", ["Each command runs in ", "A copy is executable ", "The folder is made for the first command"]),
     (".hookhost/scratch.run", ["While a run has commands under way, "]),
     (".hookhost/scratch.1", ["A run that finds it in use, "]),
     (".hookhost/scratch.old", ["A run that a signal ended leaves its mark, "]),
@@ -41,8 +42,12 @@ ENVIRONMENT = [
     ("COLUMNS", "Where standard error is a terminal, it shows a line for the command of a hook that is running, cut to so many \
 columns, else to 80."),
     ("TERM", ["With `TERM=dumb`, "]),
+    ("HOOKHOST_TOP", "hookhost-git sets it to the top of the working tree, for hooks. Where it is set, no hint is given."),
+    ("HOOKHOST_SCRATCH", "hookhost-git sets it to the folder in which the commands of hooks run, in place of .hookhost/scratch."),
+    ("HOOKHOST_GIT_CALLS", "hookhost-git sets it to a file in which its own git notes calls that found no repository. A command that made one has \
+given no answer: it is told as a fault, and never remembered."),
 ]
-SEE_ALSO = ["git(1)", "sqlite3(1)", "githooks(5)"]
+SEE_ALSO = ["git(1)", "githooks(5)", "hookhost-git(1)", "sqlite3(1)"]
 FURTHER = "https://pre-commit.com describes the configuration. What hookhost takes, prints and refuses stands, to the byte, in \
 docs/REFERENCE.md of its repository."
 
@@ -519,7 +524,7 @@ def page_of(program, commands):
         ".SH EXIT STATUS", *statuses(ends.splitlines()[1:]),
         ".SH FILES", *told_of(texts, FILES),
         ".SH ENVIRONMENT", *told_of(texts, ENVIRONMENT),
-        ".SH SEE ALSO", ", ".join(f"\\fB{name[:-3]}\\fR{name[-3:]}" for name in SEE_ALSO), *paragraph(FURTHER),
+        ".SH SEE ALSO", ", ".join("\\fB" + name[:-3].replace("-", "\\-") + f"\\fR{name[-3:]}" for name in SEE_ALSO), *paragraph(FURTHER),
     ]) + "\n"
 
 

@@ -136,6 +136,11 @@ def command_of(words):
     return word if isinstance(word, str) else word.decode(errors="replace")
 
 
+# What stands behind a report of which a hook's command met a fault: what was in the way of files, and what could not be started.
+TROUBLES = rb"(?:hookhost: (?!refused|cannot )[^\n]+: [^\n]+\n)?(?:hookhost: cannot start [^\n]*: [^\n]+\n)?"
+RUNNING = ("", "try", "run", "run-files", "commit")
+
+
 def wrong_answer(words, answer):
     """How an answer is none that the reference says of these words, or None."""
     command = command_of(words)
@@ -149,4 +154,6 @@ def wrong_answer(words, answer):
     if shape is None or not re.fullmatch(shape, answer.out, re.DOTALL):
         return f"with {answer.status} it prints other lines"
     allowed = STOPPED_BEHIND_A_COMMIT if command == "commit" else rb""
+    if command in RUNNING and b"\n- fault: " in answer.out:
+        allowed += TROUBLES
     return None if re.fullmatch(allowed, answer.err) else f"with {answer.status} it says something on standard error"

@@ -4,20 +4,24 @@
 Usage: tests/git_bridge.py [PROGRAM [PART [PLAYS [FIRST]]]]   (default: crates/hookhost/out/hookhost, all parts, 200 plays from 1 on)
 
 PART is `plays`, `kills`, or a part of a case's name.
-First what docs/GIT.md promises, case by case (tests/git_bridge_cases.py), and what README.md shows (tests/git_bridge_readme.py). Then random repositories beside copies of them in
-which pre-commit is the hook (tests/git_bridge_plays.py), and kills (tests/git_bridge_kills.py).
+First what docs/GIT.md promises, case by case (tests/git_bridge_cases.py, .._fixes.py, .._runs.py, .._calls.py and .._share.py), and what
+README.md shows (tests/git_bridge_readme.py). Then random repositories beside copies of them in which pre-commit is the hook
+(tests/git_bridge_plays.py), and kills (tests/git_bridge_kills.py).
 """
 import os
-import subprocess
 import sys
 import tempfile
 import time
 
+from git_bridge_calls import CASES as CALLS
 from git_bridge_cases import CASES
+from git_bridge_fixes import CASES as FIXES
 from git_bridge_kills import KILLS
 from git_bridge_plays import REASONS, Reasons, play, templates
 from git_bridge_readme import readme_session
-from git_bridge_repository import PROGRAM, Wrong, environment
+from git_bridge_repository import Wrong, environment
+from git_bridge_runs import CASES as RUNS
+from git_bridge_share import CASES as SHARED
 
 PART = sys.argv[2] if len(sys.argv) > 2 else ""
 PLAYS, FIRST = int(sys.argv[3]) if len(sys.argv) > 3 else 200, int(sys.argv[4]) if len(sys.argv) > 4 else 1
@@ -43,7 +47,7 @@ def in_folder(action):
 
 def run_cases():
     """How many cases there were, and how many failed."""
-    chosen = [case for case in (*CASES, readme_session) if PART in case.__name__]
+    chosen = [case for case in (*CASES, *FIXES, *RUNS, *CALLS, *SHARED, readme_session) if PART in case.__name__]
     failed = [case.__name__ for case in chosen if in_folder(case)]
     for name in failed:
         print(f"git_bridge: FAILED: case {name}")
@@ -53,16 +57,15 @@ def run_cases():
 def run_plays():
     """What the plays needed, and how many failed."""
     reasons, failed = Reasons(), 0
-    takes_lists = b"--paths-from" in subprocess.run([PROGRAM, "add", "--help"], stdout=subprocess.PIPE, stderr=subprocess.STDOUT, timeout=60).stdout
     with tempfile.TemporaryDirectory(dir="/dev/shm" if os.path.isdir("/dev/shm") else None) as top:
         template = templates(top, environment(top))
         for seed in range(FIRST, FIRST + PLAYS):
             def one(folder, env, seed=seed):
-                play(folder, env, seed, template, reasons, takes_lists)
+                play(folder, env, seed, template, reasons)
             failed += in_folder(one)
     for name, count in sorted(reasons.needed.items()):
         print(f"{count:5} {name}: {REASONS[name]}")
-    unneeded = [name for name in REASONS if name not in reasons.needed and not (name == "no file" and takes_lists)]
+    unneeded = [name for name in REASONS if name not in reasons.needed]
     if PLAYS >= 200:
         for name in unneeded:
             print(f"git_bridge: no play needed the reason: {name}")

@@ -4,41 +4,11 @@ import os
 import shutil
 import subprocess
 
-from git_bridge_repository import BLANKS, BRIDGE, CONFIGURATION, PROGRAM, WORDS, Repository, check, content, names_hook, names_in, quoted, same, shell
+from git_bridge_repository import (BLANKS, BRIDGE, CONFIGURATION, MOST_BYTES, PROGRAM, WORDS, Repository, check, content, holds_index, made, names_hook, names_in,
+                                   not_made, quoted, refused, repository, same, shell)
 
-MOST_BYTES = 16 * 1024 * 1024
+LEFT_OUT = "refused: these files can't be checked; git config hookhost.allowLeftOut true lets such files pass unchecked"
 MARK = "# The hook pre-commit of hookhost-git: 'hookhost-git uninstall' takes it away."
-
-
-def repository(top, env, *hooks, name="git", options=()):
-    """A repository with the hook and these hooks' configuration, which is committed."""
-    made = Repository.made(os.path.join(top, name), env, *options)
-    made.configure(*(hooks or (BLANKS, WORDS)))
-    made.git("commit", "--quiet", "-m", "The configuration")
-    return made.installed()
-
-
-def refused(answer, *parts, status=3):
-    same("status", answer.status, status)
-    for part in parts:
-        check(part in answer.err, f"{part!r} isn't in {answer!r}")
-
-
-def made(answer):
-    check(answer.is_made, f"the commit isn't made: {answer!r}")
-
-
-def not_made(answer, *parts):
-    check(not answer.is_made, f"the commit is made: {answer!r}")
-    for part in parts:
-        check(part in answer.text, f"{part!r} isn't in {answer!r}")
-
-
-def holds_index(git):
-    """That the store holds the plain files of the index, as Git writes them."""
-    rows = [row.partition("\t") for row in git.git("ls-files", "--stage", "-z").split("\0")[:-1]]
-    wanted = {path: git.git("cat-file", "--filters", f":{path}") for head, _, path in rows if head.startswith("100")}
-    same("the store", git.store_holds(), wanted)
 
 
 # ---- the hook's file
@@ -91,7 +61,7 @@ def the_hook_lies_where_git_looks(top, env):
         git.configure(BLANKS, WORDS)
         git.write("sub/a.txt", "BAD\n")
         answer = git.bridge("install", cwd="sub")
-        same("install", (answer.status, answer.out), (0, f"installed: {os.path.join(git.folder, path)}/pre-commit\n"))
+        same("install", (answer.status, answer.out), (0, f"installed: {os.path.join(git.folder, path)}/pre-commit\nruns: pre-commit (2 hooks)\n"))
         git.git("add", "sub")
         not_made(git.commit(cwd="sub"), "sub/a.txt:1:BAD")
         same("uninstall", git.bridge("uninstall").status, 0)
@@ -128,8 +98,15 @@ def the_program_is_looked_for(top, env):
 
 def the_words(top, env):
     git = Repository.made(os.path.join(top, "git"), env)
-    for words in ([], ["--help"], ["run", "--all"], ["hook", "commit-msg"], ["hook", "pre-commit", "more"]):
+    wrong = (["nope"], ["install", "now"], ["run", "--all"], ["run", "a", "b"], ["run", ""], ["run", "--files"], ["run", "--files", "--fresh"], ["run", "--from-ref", "a"],
+             ["run", "--to-ref=a"], ["run", "--from-ref", "a", "--to-ref"], ["run", "--all-files", "--files", "a"], ["run", "--files", "a", "--from-ref=a", "--to-ref=b"],
+             ["hook", "commit-msg"], ["hook", "pre-commit", "more"], ["--version", "more"])
+    for words in ([], *wrong):
         refused(git.bridge(*words), "Usage: hookhost-git install", status=2)
+    for words in (["--help"], ["-h"], ["run", "--help"], ["run", "--files", "a", "-h"], ["install", "--help"], ["uninstall", "-h"], ["remove", "--help"]):
+        answer = git.bridge(*words)
+        same(f"{words!r}", (answer.status, answer.out[:27], answer.err), (0, "Usage: hookhost-git install", ""))
+    same("--version", git.bridge("--version").out, "hookhost-git, over " + git.run(PROGRAM, "--version").out)
     refused(git.bridge("run", cwd=".git"), "there is no working tree of Git here")
     refused(Repository(top, env).bridge("run"), "there is no working tree of Git here")
 
@@ -166,7 +143,7 @@ def run_prints_the_report(top, env):
 
 def a_second_try_starts_no_child(top, env):
     log = os.path.join(top, "started")
-    git = repository(top, env, "id: log, name: Log, language: system, " + shell(f"echo started >> {quoted(log)}; exit 1"))
+    git = repository(top, env, "id: log, name: Log, language: system, " + shell(f"echo started >> {quoted(log)}"), "id: no, name: No, language: fail, entry: No., files: '^a'")
     git.add("a.txt", "a\n")
     for _ in range(2):
         not_made(git.commit(), "- exit code: 1")
@@ -193,7 +170,7 @@ def which_files(top, env):
     same("the commit", names_in(git.commit()), ["a.txt", "d.txt"])
     git.git("rm", "--quiet", "d.txt")
     answer = git.commit()
-    check(names_in(answer) in ([""], [CONFIGURATION]), f"a commit that takes a file out hands names to hooks: {answer!r}")
+    same("the names of a commit that takes a file out", names_in(answer), [""])
     made(answer)
     made(git.commit("--amend", "-m", "another message"))
     holds_index(git)
@@ -247,75 +224,6 @@ def working_trees_of_hard_names(top, env):
     same("what the line says", git.run("sh", "-c", answer.lines()[1].partition("; fixed it is: ")[2]).out, "y\n")
     git.git("add", "a.txt", "b.txt")
     made(git.commit())
-
-
-def no_git_for_hooks(top, env):
-    words = 'git rev-parse --git-dir && exit 1; env | grep -e "^GIT_DIR=" -e ^GIT_INDEX -e ^GIT_PREFIX -e ^GIT_WORK && exit 1; git init --quiet "$HOME/new" && git -C "$HOME/new" rev-parse --git-dir'
-    git = repository(top, env, "id: git, name: Git, language: system, " + shell(words))
-    git.add("a.txt", "a\n")
-    made(git.commit())
-    # A colon parts the folders of the variable that keeps Git from looking further.
-    git = repository(top, env, "id: git, name: Git, language: system, " + shell("git rev-parse --git-dir && ! git status"), name="a:b")
-    git.add("a.txt", "a\n")
-    made(git.commit())
-
-
-# ---- what hooks fixed
-
-
-def fixes_are_written(top, env):
-    git = repository(top, env)
-    modes = {"plain.txt": 0o644, "private.txt": 0o600, "run.txt": 0o755, "read only.txt": 0o444, "sub/-dash.txt": 0o640}
-    for path, mode in modes.items():
-        git.add(path, "x \n", mode)
-    answer = git.commit()
-    not_made(answer)
-    same("the lines", answer.lines(), [f"fixed: {path}" for path in sorted(modes)])
-    same("the files", {path: held for path, held in git.working_files().items() if path != CONFIGURATION}, {path: (mode, b"x\n") for path, mode in modes.items()})
-    git.git("add", "--all")
-    made(git.commit())
-    holds_index(git)
-
-
-def unstaged_changes_stay(top, env):
-    git = repository(top, env)
-    for path in ("a's.txt", "b.txt", "gone.txt", "in/c.txt", "linked.txt"):
-        git.add(path, "x \n")
-    git.write("a's.txt", "x \nmore \n")
-    os.remove(os.path.join(git.folder, "gone.txt"))
-    # A folder that is a link now leads to the same bytes, and so does a file.
-    git.write("out/c.txt", "x \n")
-    shutil.rmtree(os.path.join(git.folder, "in"))
-    os.symlink("out", os.path.join(git.folder, "in"))
-    os.remove(os.path.join(git.folder, "linked.txt"))
-    os.symlink("out/c.txt", os.path.join(git.folder, "linked.txt"))
-    before = git.working_files()
-    answer = git.commit()
-    not_made(answer)
-    same("the files", git.working_files(), before | {"b.txt": (0o644, b"x\n")})
-    lines = answer.lines()
-    same("the lines", [line.partition(", which")[0] for line in lines], ["left as it is: a's.txt", "fixed: b.txt"] + [f"left as it is: {path}" for path in ("gone.txt", "in/c.txt", "linked.txt")])
-    words = lines[0].partition("; fixed it is: ")[2]
-    same("what the line says", git.run("sh", "-c", words, cwd="out").out, "x\n")
-
-
-def a_hook_removes_files(top, env):
-    git = repository(top, env, "id: tidy, name: Tidy, language: system, entry: rm -f --, files: 'tmp$'")
-    for path in ("a.tmp", "b.tmp", "c.tmp"):
-        git.add(path, "x\n")
-    git.write("b.tmp", "y\n")
-    os.remove(os.path.join(git.folder, "c.tmp"))
-    answer = git.commit()
-    not_made(answer)
-    same("the lines", [line.partition(", which")[0] for line in answer.lines()], ["removed: a.tmp", "left as it is: b.tmp", "removed already, and not staged: c.tmp"])
-    same("the files", sorted(git.working_files()), [CONFIGURATION, "b.tmp"])
-
-
-def new_files_are_dropped(top, env):
-    git = repository(top, env, "id: new, name: New, language: system, entry: touch made.txt, pass_filenames: false")
-    git.add("a.txt", "x\n")
-    made(git.commit())
-    same("the files", sorted(git.working_files()), [CONFIGURATION, "a.txt"])
 
 
 # ---- what the index holds
@@ -380,12 +288,19 @@ def hard_names(top, env):
         with open(where, "wb") as file:
             file.write(b"x \n")
     git.git("add", "--all")
+    # Nothing is checked as long as nobody has said that such files may pass.
+    lines = [f"left out: {name} has a name that hookhost doesn't take" for name in BAD_NAMES.values()]
+    answer = git.commit()
+    not_made(answer)
+    same("what is told", sorted(answer.lines()), sorted([*lines, LEFT_OUT]))
+    same("without a report", answer.out + answer.err.replace("hookhost-git: ", ""), "\n".join(answer.lines()) + "\n")
+    git.git("config", "hookhost.allowLeftOut", "true")
     answer = git.commit()
     not_made(answer)
     by_bytes = sorted(HARD_NAMES, key=str.encode)
     same("names", names_in(answer), by_bytes)
     told = sorted(line for line in answer.lines() if line.startswith("left out"))
-    same("what is told", told, sorted(f"left out: {name} has a name that hookhost doesn't take" for name in BAD_NAMES.values()))
+    same("what is told then", told, sorted(lines))
     same("what is fixed", [line for line in answer.lines() if line.startswith("fixed")], [f"fixed: {path}" for path in by_bytes])
     for path in HARD_NAMES:
         same(path, git.read(path), b"x\n")
@@ -417,6 +332,9 @@ def large_files(top, env):
     git.add("at the limit", b"\0" * MOST_BYTES)
     git.add("z", "z\n")
     told = [f"left out: large has more than {MOST_BYTES} bytes"]
+    refused(git.bridge("run"), *told, LEFT_OUT)
+    not_made(git.commit(), *told, LEFT_OUT)
+    git.git("config", "hookhost.allowLeftOut", "true")
     answer = git.bridge("run")
     same("a large file", (names_in(answer), answer.lines()), (["at the limit", "z"], told))
     git.git("rm", "--quiet", "--cached", "at the limit")
@@ -425,15 +343,34 @@ def large_files(top, env):
         same("again", (answer.status, names_in(answer), answer.lines()), (0, ["z"], told))
     git.add("z", "other\n")
     same("beside another change", git.bridge("run").lines(), told)
+    git.git("config", "hookhost.allowLeftOut", "false")
     git.add("large", "small\n")
     answer = git.bridge("run")
     same("a small one", (names_in(answer), answer.lines()), (["large", "z"], []))
     git.add("large", b"\1" * (MOST_BYTES + 1))
+    refused(git.bridge("run"), *told, LEFT_OUT)
+    same("a large one again", sorted(git.store_holds()), [CONFIGURATION, "z"])
+    # One that is committed, and that this commit doesn't change, is told where all files are looked at.
+    git.git("commit", "--quiet", "--no-verify", "-m", "m")
+    answer = git.bridge("run", "--all-files")
+    same("a committed one", (answer.status, names_in(answer), answer.lines()), (0, [CONFIGURATION, "z"], told))
+    git.add("z", "again\n")
     answer = git.bridge("run")
-    same("a large one again", (names_in(answer), answer.lines(), sorted(git.store_holds())), (["z"], told, [CONFIGURATION, "z"]))
+    same("beside a committed one", (answer.status, names_in(answer), answer.lines()), (0, ["z"], []))
+    refused(git.bridge("run", "--files", "large", "z"), *told, LEFT_OUT)
     git.git("rm", "--quiet", "--cached", "large")
     answer = git.bridge("run", "--all-files")
     same("and none", (answer.status, names_in(answer), answer.lines()), (0, [CONFIGURATION, "z"], []))
+
+
+def many_names_are_left_out(top, env):
+    git = repository(top, env, names_hook())
+    for number in range(12):
+        git.add(f"bell \a {number:02}", "x\n")
+    answer = git.bridge("run")
+    lines = [f'left out: "bell \\a {number:02}" has a name that hookhost doesn\'t take' for number in range(10)]
+    refused(answer)
+    same("what is told", answer.lines(), [*lines, "left out: and 2 more, of which each has a name that hookhost doesn't take", LEFT_OUT])
 
 
 def files_have_their_working_form(top, env):
@@ -560,7 +497,7 @@ def working_trees(top, env):
     made(other.commit())
     holds_index(git)
     holds_index(other)
-    same("install in the other", other.bridge("install").out, f"installed: {git.folder}/.git/hooks/pre-commit\n")
+    same("install in the other", other.bridge("install").out.splitlines()[0], f"installed: {git.folder}/.git/hooks/pre-commit")
     # A submodule names its working tree in its configuration.
     git.git("-c", "protocol.file.allow=always", "submodule", "--quiet", "add", git.folder, "inner")
     inner = Repository(os.path.join(git.folder, "inner"), env).installed()
@@ -695,25 +632,31 @@ def other_shells(top, env):
     for words in (["bash", "--posix"], ["busybox", "sh"], ["ksh"], ["zsh", "--emulate", "sh"]):
         if not shutil.which(words[0]):
             continue
-        git = repository(top, env, BLANKS, names_hook(), name=words[0])
+        git = repository(top, env, BLANKS, names_hook().replace("id: names", "id: 'the names'"), "id: tidy, name: Tidy, language: system, entry: rm --, files: 'tmp$'", name=words[0])
         git.add("é \\.txt", "x \n")
-        answer = git.run(*words, BRIDGE, "run")
-        same(words[0], (answer.status, names_in(answer), answer.lines()), (1, ["é \\.txt"], ["fixed: é \\.txt"]))
+        git.add("\\n.tmp", "x \n")
+        answer = git.run(*words, BRIDGE, "run", "the names", "--files", "é \\.txt", "--", "\\n.tmp")
+        same(f"{words[0]}, some files", (answer.status, sorted(names_in(answer))), (0, ["\\n.tmp", "é \\.txt"]))
+        answer = git.run(*words, BRIDGE, "run", "--show-diff-on-failure")
+        same(words[0], (answer.status, sorted(names_in(answer)), answer.lines()), (1, ["\\n.tmp", "é \\.txt"], ["removed: \\n.tmp", "fixed: é \\.txt"]))
+        same(f"{words[0]}, the diff", [line for line in answer.out.split("\n") if line[:1] in ("-", "+") and line[1:2] == "x"], ["-x ", "-x ", "+x"])
+        same(f"{words[0]}, install", git.run(*words, BRIDGE, "install").out.splitlines()[1:], ["runs: pre-commit (3 hooks)"])
 
 
 def shellcheck(top, env):
     done = subprocess.run(["shellcheck", "--shell=sh", BRIDGE], capture_output=True, env=env, timeout=60)
     same("shellcheck", (done.returncode, done.stdout), (0, b""))
-    git = Repository.made(os.path.join(top, "git"), env).installed()
-    done = subprocess.run(["shellcheck", os.path.join(git.folder, ".git/hooks/pre-commit")], capture_output=True, env=env, timeout=60)
-    same("shellcheck of the hook", (done.returncode, done.stdout), (0, b""))
+    git = repository(top, env)
+    same("run", git.bridge("run").status, 0)
+    for path in (".git/hooks/pre-commit", ".git/hookhost/bin/git", ".git/hookhost/bin/git-grep"):
+        done = subprocess.run(["shellcheck", os.path.join(git.folder, path)], capture_output=True, env=env, timeout=60)
+        same(f"shellcheck of {path}", (done.returncode, done.stdout), (0, b""))
 
 
 CASES = [
     install_and_uninstall, hooks_of_others_stay, the_hook_lies_where_git_looks, the_script_lies_anywhere, the_program_is_looked_for, the_words,
-    a_day, run_prints_the_report, a_second_try_starts_no_child, which_files, the_first_commit, no_configuration, skipped_hooks, working_trees_of_hard_names, no_git_for_hooks,
-    fixes_are_written, unstaged_changes_stay, a_hook_removes_files, new_files_are_dropped,
-    modes_follow_the_index, links_and_submodules, hard_names, paths_change_places, large_files, files_have_their_working_form,
+    a_day, run_prints_the_report, a_second_try_starts_no_child, which_files, the_first_commit, no_configuration, skipped_hooks, working_trees_of_hard_names,
+    modes_follow_the_index, links_and_submodules, hard_names, paths_change_places, large_files, many_names_are_left_out, files_have_their_working_form,
     fixes_of_filtered_files, other_objects_and_indexes, the_index_that_git_hands_in, working_trees, a_bare_repository_with_a_working_tree, a_merge,
     another_at_work, a_program_that_ends_otherwise, what_was_synced_is_looked_at, a_broken_store, other_shells, shellcheck,
 ]

@@ -13,11 +13,14 @@ import time
 from git_bridge_repository import BLANKS, BRIDGE, Repository, Wrong, check, content, names_hook, same
 
 # What the script starts. Each is found in a folder of its own first, where a script stands that counts.
-COMMANDS = ["awk", "cat", "chmod", "cmp", "cp", "find", "flock", "git", "grep", "ln", "mkdir", "mv", "rm", "sed", "tr", "hookhost"]
+COMMANDS = ["awk", "cat", "chmod", "cmp", "cp", "find", "flock", "git", "ln", "mkdir", "mv", "rm", "sed", "tr", "wc", "hookhost"]
 COUNTING = """#!/bin/sh
 echo x >> "$KILL_COUNT"
 [ "$({wc} -l < "$KILL_COUNT")" -lt "$KILL_AT" ] || kill -9 "-$KILL_GROUP"
-[ "{name}" != ln ] || [ -z "$NO_LINKS" ] || exit 1
+if [ "{name}:$NO_LINKS" = ln:none ]; then
+  for last; do :; done
+  case $last in [!/]*) exit 1 ;; esac
+fi
 exec {command} "$@"
 """
 STRAY = ".hookhost-git."
@@ -28,9 +31,9 @@ MOST_TRIES = 200
 
 
 def make(folder, env, rng):
-    """A repository that was synced, with further changes that are staged, some of which hooks fix."""
+    """A repository that was synced, with further changes that are staged: some files hooks fix, and one they remove."""
     git = Repository.made(folder, env, "--template=")
-    git.configure(BLANKS, names_hook("types: [executable]"))
+    git.configure(BLANKS, names_hook("types: [executable]"), "id: tidy, name: Tidy, language: system, entry: rm -f --, files: 'tmp$'")
     for path in ("a.txt", "b.txt", "d/c.txt", "d/run.sh", "e"):
         git.add(path, f"{path}\n", rng.choice([0o644, 0o755]))
     same("the first run", git.bridge("run").status, 0)
@@ -38,7 +41,8 @@ def make(folder, env, rng):
     change(git, rng)
     git.write("b.txt", "not staged\n")
     git.write("new \\.txt", "x \n", 0o640)
-    git.git("add", "new \\.txt")
+    git.write("d/-gone.tmp", "x\n")
+    git.git("add", "new \\.txt", "d/-gone.tmp")
     return git
 
 

@@ -44,7 +44,6 @@ REASONS = {
     "conflict not staged": "in a merge pre-commit hands over files of the working tree that Git named as in conflict, staged or not; here those that are staged",
     "new files": "a file that a hook makes stays in the working tree of pre-commit; here it is dropped",
     "a removed file": "pre-commit hands a file that a hook has removed to the hooks behind it; here they get what is there",
-    "no file": "an older hookhost runs on one file at least, which is the configuration",
 }
 
 
@@ -216,8 +215,8 @@ class Maker:
 class Pair:
     """A repository with hookhost-git, and its copy with pre-commit."""
 
-    def __init__(self, ours, theirs, reasons, takes_lists):
-        self.ours, self.theirs, self.reasons, self.takes_lists = ours, theirs, reasons, takes_lists
+    def __init__(self, ours, theirs, reasons):
+        self.ours, self.theirs, self.reasons = ours, theirs, reasons
 
     def attempt(self, words, env):
         """Tries the commit in both, and answers whether it was made in both, or none where they differ for a reason."""
@@ -233,10 +232,6 @@ class Pair:
                             ("what is staged", lambda git, answer: git.git("ls-files", "--stage")), ("the report", lambda git, answer: results(answer))):
             if what == "the report" and differs_behind_removal(results(ours), results(theirs)):
                 self.reasons.needed["a removed file"] += 1
-                return None
-            if what == "the report" and not self.takes_lists and "(no files to check)" in theirs.text and results(ours) != results(theirs):
-                same("what is run on", names_of_commit(self.theirs), [])
-                self.reasons.needed["no file"] += 1
                 return None
             same(what, found(self.ours, ours), found(self.theirs, theirs))
         self.reasons.made += ours.is_made
@@ -319,11 +314,6 @@ def differs_behind_removal(ours, theirs):
         here == there or "(no files to check)" in here for here, there in zip(ours[at + 1:], theirs[at + 1:]))
 
 
-def names_of_commit(git):
-    """The files that a plain commit changes and doesn't take out."""
-    return [path for path in git.git("diff", "--cached", "--name-only", "-z", "--diff-filter=d").split("\0")[:-1] if path]
-
-
 def merged(fixed, staged, changed):
     """The fixed bytes with the changes that lead from the staged bytes to others."""
     folder = "/dev/shm" if os.path.isdir("/dev/shm") else "/tmp"
@@ -337,7 +327,7 @@ def merged(fixed, staged, changed):
     return done.stdout
 
 
-def play(top, env, seed, template, reasons, takes_lists):
+def play(top, env, seed, template, reasons):
     """Plays one repository."""
     rng = random.Random(seed)
     ours = Repository(os.path.join(top, "ours"), env)
@@ -349,7 +339,7 @@ def play(top, env, seed, template, reasons, takes_lists):
     shutil.copytree(ours.folder, theirs.folder, symlinks=True)
     for side, hook in ((ours, "hookhost-git"), (theirs, "pre-commit")):
         shutil.copy(template[hook], os.path.join(side.folder, ".git/hooks/pre-commit"))
-    pair = Pair(ours, theirs, reasons, takes_lists)
+    pair = Pair(ours, theirs, reasons)
     try:
         if pair.attempt(words, skip) is False:
             for side in (ours, theirs):

@@ -37,5 +37,5 @@ def readme_session(top, env):
         if reads:
             continue
         if command == "hookhost-git install":
-            shown = f"installed: {os.path.join(folder, '.git/hooks/pre-commit')}\n"
+            shown = f"installed: {os.path.join(folder, '.git/hooks/pre-commit')}\n" + shown.partition("\n")[2]
         same(command, done.stdout.decode(), shown)

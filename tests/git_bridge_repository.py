@@ -10,6 +10,9 @@ TOP = os.path.dirname(HERE)
 PROGRAM = os.path.abspath(sys.argv[1] if len(sys.argv) > 1 else os.path.join(TOP, "crates/hookhost/out/hookhost"))
 BRIDGE = os.path.join(TOP, "git/hookhost-git")
 CONFIGURATION = ".pre-commit-config.yaml"
+# A command of many hooks takes minutes on a machine that does much else.
+LIMIT = 900
+MOST_BYTES = 16 * 1024 * 1024
 
 
 class Wrong(Exception):
@@ -28,7 +31,7 @@ def same(what, found, wanted):
 def environment(home):
     """An environment in which Git and pre-commit know nothing of this machine's user, and each commit has the same time."""
     env = {key: value for key, value in os.environ.items() if not key.startswith(("GIT_", "PRE_COMMIT")) and key not in ("SKIP", "HOOKHOST", "XDG_CONFIG_HOME")}
-    env |= {"HOME": home, "PRE_COMMIT_HOME": os.path.join(home, "pre-commit"), "GIT_CONFIG_NOSYSTEM": "1", "HOOKHOST": PROGRAM}
+    env |= {"HOME": home, "PRE_COMMIT_HOME": os.path.join(home, "pre-commit"), "GIT_CONFIG_NOSYSTEM": "1", "HOOKHOST": PROGRAM, "HOOKHOST_TMP": home}
     env |= {"GIT_AUTHOR_DATE": "2026-11-27 08:00:00 +0000", "GIT_COMMITTER_DATE": "2026-11-27 08:00:00 +0000"}
     for who in ("AUTHOR", "COMMITTER"):
         env |= {f"GIT_{who}_NAME": "A Tester", f"GIT_{who}_EMAIL": "tester@example.invalid"}
@@ -64,7 +67,7 @@ class Repository:
         return repository
 
     def run(self, *words, env=None, cwd=None, given=b""):
-        done = subprocess.run(words, cwd=os.path.join(self.folder, cwd or ""), env=self.env | (env or {}), input=given, capture_output=True, timeout=120)
+        done = subprocess.run(words, cwd=os.path.join(self.folder, cwd or ""), env=self.env | (env or {}), input=given, capture_output=True, timeout=LIMIT)
         return Answer(done)
 
     def git(self, *words, **how):
@@ -131,6 +134,11 @@ class Repository:
         """The folder that the bridge has for itself."""
         return os.path.join(self.git("rev-parse", "--absolute-git-dir").rstrip("\n"), "hookhost")
 
+    def scratch(self):
+        """The folder in which hooks run."""
+        number = self.run("git", "hash-object", "--stdin", given=(self.home() + "\n").encode()).out[:16]
+        return os.path.join(self.env["HOOKHOST_TMP"], f"hookhost-{os.getuid()}", number, "scratch")
+
     def store(self, *words):
         """What the program answers in the folder of the store."""
         return Answer(subprocess.run([PROGRAM, *words], cwd=os.path.join(self.home(), "files"), env=self.env, input=b"", capture_output=True, timeout=60))
@@ -181,3 +189,37 @@ def names_hook(keys=""):
 def names_in(answer):
     """The names that such a hook has printed, of which the first is none."""
     return [line[1:-1] for line in answer.text.split("\n") if line.startswith("<") and line.endswith(">")]
+
+
+# ---- what cases begin with, and look at
+
+
+def repository(top, env, *hooks, name="git", options=()):
+    """A repository with the hook and these hooks' configuration, which is committed."""
+    made = Repository.made(os.path.join(top, name), env, *options)
+    made.configure(*(hooks or (BLANKS, WORDS)))
+    made.git("commit", "--quiet", "-m", "The configuration")
+    return made.installed()
+
+
+def refused(answer, *parts, status=3):
+    same("status", answer.status, status)
+    for part in parts:
+        check(part in answer.err, f"{part!r} isn't in {answer!r}")
+
+
+def made(answer):
+    check(answer.is_made, f"the commit isn't made: {answer!r}")
+
+
+def not_made(answer, *parts):
+    check(not answer.is_made, f"the commit is made: {answer!r}")
+    for part in parts:
+        check(part in answer.text, f"{part!r} isn't in {answer!r}")
+
+
+def holds_index(git):
+    """That the store holds the plain files of the index, as Git writes them."""
+    rows = [row.partition("\t") for row in git.git("ls-files", "--stage", "-z").split("\0")[:-1]]
+    wanted = {path: git.git("cat-file", "--filters", f":{path}") for head, _, path in rows if head.startswith("100")}
+    same("the store", git.store_holds(), wanted)

@@ -15,6 +15,8 @@ import tempfile
 
 import host_answers
 import host_at_once
+import host_calls
+import host_checkout
 import host_files
 import host_folder
 import host_kills
@@ -27,7 +29,7 @@ import host_unusable
 import host_version_1
 from host_program import Wrong
 
-TOPICS = [host_names, host_unusable, host_folder, host_at_once, host_kills, host_put_kills, host_log, host_files,
+TOPICS = [host_names, host_unusable, host_folder, host_checkout, host_calls, host_at_once, host_kills, host_put_kills, host_log, host_files,
           host_runs, host_answers, host_limit, host_version_1]
 
 

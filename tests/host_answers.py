@@ -115,6 +115,8 @@ FAULTS = {
     "Louder": b"- fault: output is longer than 1048576 bytes\n",
     "Grown": b"- fault: files could not be written or read back\n",
 }
+# What is said of the first file that is too large.
+TOO_LARGE = b"hookhost: .hookhost/scratch/a: the file is too large\n"
 LARGEST = bytes(16777216)
 
 
@@ -140,7 +142,7 @@ def remembers_the_largest_answers_and_no_larger_ones(folder):
     files, wanted = staged_rows(folder), sorted(map(row_of, large_answers()))
     for count in (1, 2):
         said = run(folder, "run", "--all-files")
-        check(said == (1, b"".join(large_report()), b""), f"with large answers a run says {said!r:.2000}")
+        check(said == (1, b"".join(large_report()), TOO_LARGE), f"with large answers a run says {said!r:.2000}")
         starts = starts_of(folder, LARGE)
         check(starts == {name: count if name in FAULTS else 1 for name in LARGE}, f"large answers come of {starts!r} starts")
         check(rows(folder, SELECT_ROWS) == wanted, "of large answers others are kept")

@@ -4,7 +4,7 @@ import random
 import subprocess
 from concurrent.futures import ThreadPoolExecutor
 
-from host_program import IGNORE_FILE, LOCK, PROGRAM, STORE, Wrong, check, do, paths_in, run, staged_rows, write
+from host_program import LOCK, PROGRAM, STORE, Wrong, check, do, paths_in, run, staged_rows, write
 
 
 
@@ -18,7 +18,7 @@ def lets_one_init_make_the_store(folder):
             ends = list(pool.map(lambda _: run(work, "init"), range(4)))
         others = [end for end in ends if end != (0, b"", b"")]
         check(len(others) == 3 and all((status, out) == (3, b"") and err in refused for status, out, err in others), f"four inits at once end with {ends!r}")
-        check(paths_in(work) == [".hookhost", IGNORE_FILE, LOCK, STORE, STORE + "-wal"] and do(work, "status") == b"", f"four inits at once leave {paths_in(work)!r}")
+        check(paths_in(work) == [".hookhost", LOCK, STORE, STORE + "-wal"] and do(work, "status") == b"", f"four inits at once leave {paths_in(work)!r}")
 
 
 def with_added(text, name):

@@ -194,7 +194,7 @@ def ends_where_nobody_reads_its_output(folder):
 # ---- modes and names
 
 def makes_files_of_the_modes_that_the_mask_says(folder):
-    """Each file and folder that the program makes, while a hook runs and behind it."""
+    """Each file and folder that the program makes, while a hook runs and behind it. Who may read an executable file may run it."""
     held = b"repos:\n- repo: local\n  hooks:\n  - {id: s, name: S, language: script, entry: see.sh, pass_filenames: false}\n"
     script = b"cd $TOP && find .hookhost -printf '%m %y .%P\\n' | LC_ALL=C sort -k3 > $TOP/seen\n"
     for mask, plain, open_folder in ((0o022, "644", "755"), (0o077, "600", "700")):
@@ -205,12 +205,12 @@ def makes_files_of_the_modes_that_the_mask_says(folder):
         how = {"preexec_fn": lambda: os.umask(mask), "env": {**os.environ, "TOP": work}}
         for words in (["init"], ["add", "--chmod=+x", "see.sh"], ["add", "."], ["run", "--all-files"]):
             check((done := run(work, *words, **how))[0] == 0, f"{words!r} says {done!r}")
-        scratch = [("f", f"scratch/{path}") for path in (CONFIGURATION, "dir/sub/a", "see.sh")] + [("d", f"scratch/{path}".rstrip("/")) for path in ("", "dir", "dir/sub")]
-        left = [("d", ""), ("f", ".gitignore"), ("f", "lock"), ("f", "store.db"), ("f", "store.db-wal"), *scratch]
+        scratch = [("f", f"scratch/{path}") for path in (CONFIGURATION, "dir/sub/a", "see.sh")] + [("d", f"scratch/{path}".rstrip("/")) for path in ("", ".git", "dir", "dir/sub")]
+        left = [("d", ""), ("f", "lock"), ("f", "store.db"), ("f", "store.db-wal"), *scratch]
         # The log has the mode of the store's file, and the mark of a run is nobody else's.
         while_it_runs = [*left, ("f", "scratch.run")]
         for found, wanted in ((Path(work, "seen").read_text(), while_it_runs), (listed(work), left)):
-            lines = sorted((f"{open_folder if kind == 'd' else plain} {kind} .{path}" for kind, path in wanted), key=lambda line: line.split(" ", 2)[2])
+            lines = sorted((f"{open_folder if kind == 'd' or path == 'scratch/see.sh' else plain} {kind} .{path}" for kind, path in wanted), key=lambda line: line.split(" ", 2)[2])
             check(found.splitlines() == lines, f"with the mask {mask:o} there are {found!r} in place of {lines!r}")
 
 

@@ -1,12 +1,10 @@
 """Cases of tests/host.py: what a change leaves in the folder, where the disk is full, or nobody takes what it says."""
 import os
 import subprocess
-from pathlib import Path
 
 import host_files
-from host_program import IGNORE_FILE, PROGRAM, check, do, paths_in, run, write
+from host_program import PROGRAM, check, do, paths_in, run, write
 from host_state import HOOKS, shown, shown_alone
-
 
 
 def leaves_nothing_of_an_init_that_fails(folder):
@@ -53,25 +51,4 @@ def keeps_a_change_whose_text_was_not_taken(folder):
     check(do(folder, "log") == b"2 second\n1 first\n", "there are other commits")
 
 
-def has_git_ignore_its_folder(folder):
-    """A new repository does, and one without the file as soon as a command changes it. Who takes the file's name keeps it."""
-    path = os.path.join(folder, IGNORE_FILE)
-    write(folder, "a", b"1")
-    do(folder, "init")
-    check(Path(path).read_bytes() == b"*\n", "init writes another file")
-    os.remove(path)
-    do(folder, "status")
-    check(not os.path.exists(path), "status writes the file")
-    check(run(folder, "rm", "a")[0] == 3 and not os.path.exists(path), "a refused command writes the file")
-    do(folder, "add", "a")
-    check(Path(path).read_bytes() == b"*\n", "add writes another file")
-    Path(path).write_bytes(b"own\n")
-    do(folder, "rm", "a")
-    check(Path(path).read_bytes() == b"own\n", "rm overwrites the file")
-    os.remove(path)
-    os.mkdir(path)
-    do(folder, "add", ".")
-    check(os.listdir(path) == [] and do(folder, "status") == b"A a\n", "a folder at the file's name is in the way")
-
-
-CASES = [leaves_nothing_of_an_init_that_fails, keeps_a_change_whose_text_was_not_taken, has_git_ignore_its_folder]
+CASES = [leaves_nothing_of_an_init_that_fails, keeps_a_change_whose_text_was_not_taken]

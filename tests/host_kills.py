@@ -8,7 +8,7 @@ import subprocess
 import sys
 import time
 
-from host_program import IGNORE_FILE, LOCK, PROGRAM, STORE, STORE_TRIAL, check, do, paths_in, play, refuses, run, write
+from host_program import LOCK, PROGRAM, STORE, STORE_TRIAL, check, do, paths_in, play, refuses, run, write
 from host_state import HOOKS, book_in, filled, found_alone, found_first, state
 
 KILLS = int(sys.argv[1]) if len(sys.argv) > 1 else 30
@@ -97,7 +97,7 @@ def is_left_whole_by_kills_of_init(folder):
         else:
             refuses(work, ["status"], f"cannot use {STORE}")
             do(work, "init")
-            check(paths_in(work) == [".hookhost", IGNORE_FILE, LOCK, STORE, STORE + "-wal"], f"an init behind a killed one leaves {paths_in(work)!r}")
+            check(paths_in(work) == [".hookhost", LOCK, STORE, STORE + "-wal"], f"an init behind a killed one leaves {paths_in(work)!r}")
         check(do(work, "status") == b"" and book_in(work) == (10_000, []), "it is no new store")
     check(found[False] > 0, "no kill came before the store was there")
 

@@ -12,7 +12,7 @@ from concurrent.futures import ThreadPoolExecutor
 from contextlib import suppress
 from pathlib import Path
 
-from host_program import IGNORE_FILE, LOCK, PROGRAM, STORE, Wrong, check, do, paths_in, run, write
+from host_program import LOCK, PROGRAM, STORE, Wrong, check, do, paths_in, run, write
 
 MARK = "scratch.run"
 
@@ -99,14 +99,15 @@ def end(child):
 
 def scratch_names(work):
     """What lies in the repository's folder beside its own files."""
-    return sorted(set(os.listdir(os.path.join(work, ".hookhost"))) - {os.path.basename(name) for name in (STORE, STORE + "-wal", LOCK, IGNORE_FILE)})
+    return sorted(set(os.listdir(os.path.join(work, ".hookhost"))) - {os.path.basename(name) for name in (STORE, STORE + "-wal", LOCK)})
 
 
-def says(work, words, wanted, text, left=("scratch",)):
-    """That a run of the hooks prints this, and what it leaves."""
+def says(work, words, wanted, text, left=None):
+    """That a run of the hooks prints this, and what it leaves: without more said a run its folder, and a try nothing."""
     done = run(work, *words, env=top(work))
+    left = left if left is not None else [] if words == TRY else ["scratch"]
     check(done == (wanted[0], wanted[1], b""), f"{text}: {words!r} says {done!r}, wanted {wanted!r}")
-    check(scratch_names(work) == list(left), f"{text}: {words!r} leaves {scratch_names(work)!r}")
+    check(scratch_names(work) == left, f"{text}: {words!r} leaves {scratch_names(work)!r}")
 
 
 def undisturbed(folder):
@@ -124,7 +125,7 @@ def tells_nothing_of_a_child_that_outlived_its_run(folder):
     the folder is gone in which the old one is at work. The one behind it takes the last of that away."""
     wanted = undisturbed(folder)
     for number in ENDING:
-        for words, later, hook, left in ((RUN, RUN, LATE, [MARK]), (COMMIT, RUN, LATE, [MARK]), (TRY, RUN, UNKNOWN, ["scratch"]), (RUN, TRY, UNKNOWN, ["scratch"]), (TRY, TRY, LATE, [MARK])):
+        for words, later, hook, left in ((RUN, RUN, LATE, [MARK]), (COMMIT, RUN, LATE, [MARK]), (TRY, RUN, UNKNOWN, ["scratch"]), (RUN, TRY, UNKNOWN, []), (TRY, TRY, LATE, [MARK])):
             text = f"after signal {number} to {words[0]}"
             work = told(folder, f"{number}-{words[0]}-{later[0]}")
             child = outlived(work, words, number, hook)
@@ -182,7 +183,7 @@ def lets_a_try_have_a_folder_of_its_own(folder):
         tell(work, TRIES % place)
         says(work, RUN, wanted["run"], f"with a try in {place}")
         found = Path(work, "said").read_bytes()
-        check(b"\n.\n./b\n" in found and b"files were modified" in found and b"./a" not in found, f"a try in {place} of a hook says {found!r}")
+        check(b"\n.\n./.git\n./b\n" in found and b"files were modified" in found and b"./a" not in found, f"a try in {place} of a hook says {found!r}")
 
 
 def lets_runs_go_side_by_side(folder):

@@ -37,7 +37,7 @@ sys.argv[1:] = []
 
 import process_plays  # noqa: E402
 from host_books import book_of, children_in, model_of  # noqa: E402
-from host_program import CRATES, IGNORE_FILE, LOCK, STORE, Wrong, check, paths_in, write  # noqa: E402
+from host_program import CRATES, LOCK, STORE, Wrong, check, paths_in, write  # noqa: E402
 from process_plays import RUNNING, Command, Play, line_of  # noqa: E402
 from stops_repository import LOG, QUICK, adopt_orphans, left_in, wait_for_orphans  # noqa: E402
 
@@ -213,7 +213,7 @@ def check_growth(folder, play):
     # The next run takes away what a killed one has left.
     for command in (Command(("add", process_plays.CONFIGURATION), LAST_HOOKS), Command(("run", "--all-files", "--fresh"))):
         Play.step(play, command)
-    left = {os.path.basename(name) for name in (STORE, LOG, LOCK, IGNORE_FILE)}
+    left = {os.path.basename(name) for name in (STORE, LOG, LOCK)}
     found = set(os.listdir(os.path.join(work, ".hookhost")))
     check(left <= found <= left | {"scratch"}, f"in its folder lie {sorted(found)!r}")
     scratch = os.path.join(work, ".hookhost", "scratch")

@@ -181,6 +181,13 @@ def is_stopped_behind(said, plain):
     return told != plain[1] and said == (plain[0], told, b"hookhost: refused: 1 OutOfMemory\n")
 
 
+def is_less_told(said, plain):
+    """Whether a run told all that it does with ample memory but for what was in a child's way: memory was refused for such a line."""
+    lines = [line for line in plain[2].splitlines(keepends=True) if line.startswith(b"hookhost: ")]
+    fewer = {b"".join(some) for count in range(len(lines)) for some in itertools.combinations(lines, count)}
+    return said[:2] == plain[:2] and b"".join(lines) == plain[2] and said[2] in fewer
+
+
 def allocations(play, bench):
     """The numbers of the allocations that are refused in turn, without an end. A run with children makes a few more or
     fewer from time to time, as their outputs come in one piece or in more."""
@@ -208,7 +215,7 @@ def refuse_each(play, bench):
         if number is not None:
             gave_up += 1
             came += [number] if came[-1:] != [number] else []
-        elif answer.said != plain.said and not is_stopped_behind(answer.said, plain.said):
+        elif answer.said != plain.said and not is_stopped_behind(answer.said, plain.said) and not is_less_told(answer.said, plain.said):
             return count, gave_up, f"answered {answer.said} where allocation {allocation} was refused"
         if answer.shown != (plain if number is None else before).shown:
             return count, gave_up, f"left {answer.shown} where allocation {allocation} was refused, and said {answer.said}"

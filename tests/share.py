@@ -72,7 +72,9 @@ BASH_CASES = [
     ("hookhost cat README.md ", ["--commit=", "--fixed", "--help", "-h"]),
     ("hookhost add --paths-from=R", ["--paths-from=README.md"]),
     ("hookhost run-files --paths-from=src/", ["--paths-from=src/main.c"]),
-    ("hookhost run --fresh ", ["--all-files", "--help", "--hook-stage=", "-h"]),
+    ("hookhost run --fresh ", ["--all-files", "--cautious", "--help", "--hook-stage=", "--verbose", "-h"]),
+    ("hookhost run --cautious --v", ["--verbose"]),
+    ("hookhost run-files --o", ["--only="]),
     ("hookhost run --hook-stage=manual --h", ["--help"]),
     ("hookhost run --hook-stage manual --h", ["--help"]),
 ]

@@ -17,7 +17,7 @@ import time
 from collections import namedtuple
 from contextlib import suppress
 
-from host_program import IGNORE_FILE, LOCK, STORE, Wrong, check, write
+from host_program import LOCK, STORE, Wrong, check, write
 from stops_books import CHANGE_IN_LOG, TO_LAST_TICK, TO_SMALL_VERSION_1, book_by, execute, execute_in_log, steps_between
 
 CONFIGURATION, LOG, SCRATCH = ".pre-commit-config.yaml", STORE + "-wal", ".hookhost/scratch"
@@ -43,6 +43,8 @@ REFUSED = re.compile(rb"(hookhost: (refused: \d+ \w+(?: \d+)?|cannot use [\x20-\
                      rb"(hookhost: (at [\x20-\x7e]+|commit \d+ was made)\n)*")
 REPORT = re.compile(rb"^(\w+)\.+(?:\(no files to check\))?(?:Passed|Failed|Skipped)$", re.MULTILINE)
 FAULT = b"\n- fault: "
+# What it says of a fault behind its report: what was in the way of files, and what could not be started.
+TROUBLES = re.compile(rb"(hookhost: (?!refused|cannot )[^\n]+: [^\n]+\n)?(hookhost: cannot start [^\n]*: [^\n]+\n)?")
 
 ROWS = (
     "SELECT path, mode, digest FROM staged ORDER BY path",
@@ -270,7 +272,8 @@ class Scene:
         """Where a hook's command met a fault the report says so, and the rest is what it is where that hook is skipped."""
         found, wanted = sections(told.out), sections(self.told.out)
         faulted = faults_in(found)
-        check((told.status, told.err) == (1, b"") or re.search(rb"^commit \d+$", told.out, re.MULTILINE), f"with a fault it ends with {told!r:.500}")
+        is_told = told.status == 1 and TROUBLES.fullmatch(told.err)
+        check(is_told or re.search(rb"^commit \d+$", told.out, re.MULTILINE), f"with a fault it ends with {told!r:.500}")
         for name, section in found.items():
             is_same = section == wanted[name].split(b"commit ")[0] or section == wanted[name]
             check(is_same or name in faulted, f"beside a fault it says {section!r}, wanted {wanted[name]!r}")
@@ -322,7 +325,7 @@ class Scene:
     def check_folder(self, work):
         """What is left beside the store behind the command that was asked for again. A run that was stopped leaves its mark, which the next
         one takes away that starts a child."""
-        known = {os.path.basename(name) for name in (STORE, LOG, LOCK, IGNORE_FILE, SCRATCH)} | {"scratch.run", "scratch.old"}
+        known = {os.path.basename(name) for name in (STORE, LOG, LOCK, SCRATCH)} | {"scratch.run", "scratch.old"}
         found = set(os.listdir(os.path.join(work, ".hookhost")))
         check(found <= known, f"in its folder it leaves {sorted(found)!r}")
 

@@ -25,6 +25,7 @@ PROGRAM = os.path.abspath(sys.argv[1] if len(sys.argv) > 1 else HERE.parent / "c
 LIMIT = 60
 # What is said on a terminal behind a run that left fixes.
 FIXES = "hint: hookhost fixes lists what hooks changed, hookhost accept stages it"
+NO_FIXES = "hint: there are no fixes: hookhost run makes them, where a hook changes files"
 
 
 class Wrong(Exception):
@@ -187,14 +188,14 @@ def line(name, word):
     return name + "." * (79 - len(name) - len(word)) + word
 
 
-def shows(hooks, files, shown, status=0, **how):
-    """The lines that are shown are these, and the screen is left empty."""
+def shows(hooks, files, shown, status=0, left=(), **how):
+    """The lines that are shown are these, and of what stands on the screen only these lines are left."""
     folder, words = folder_of(hooks, files)
     played = Played(folder, words, **how)
     equal(played.wait(), status, "the exit status")
     equal(played.screen.shown, shown, "the lines that were shown")
-    equal(played.screen.all(), [""], "what is left on the screen")
-    equal((played.screen.at, played.screen.wraps), ([0, 0], True), "where the cursor is left, and whether lines wrap")
+    equal(played.screen.all(), [*left, ""], "what is left on the screen")
+    equal((played.screen.at, played.screen.wraps), ([len(left), 0], True), "where the cursor is left, and whether lines wrap")
     return played
 
 
@@ -202,7 +203,8 @@ def shows(hooks, files, shown, status=0, **how):
 
 def shows_each_child_and_how_many_came_before():
     played = shows([hook("true", "A"), hook("no-such-program", "B"), hook("false", "C", always_run="true", pass_filenames="false"), hook("true again", "D")], ["a.txt", "b.txt"], [
-        "[0] 1/4 A: true a.txt b.txt", "[1] 2/4 B: no-such-program a.txt b.txt", "[2] 3/4 C: false", "[3] 4/4 D: true again a.txt b.txt"], status=1)
+        "[0] 1/4 A: true a.txt b.txt", "[1] 2/4 B: no-such-program a.txt b.txt", "[2] 3/4 C: false", "[3] 4/4 D: true again a.txt b.txt"], status=1,
+        left=["hookhost: cannot start no-such-program: No such file or directory (os error 2)"])
     equal([it.split(".")[0] for it in played.printed().splitlines() if it.startswith(tuple("ABCD"))], ["A", "B", "C", "D"], "the report")
 
 
@@ -372,18 +374,76 @@ def a_hint_says_what_to_do_next():
     os.rename(Path(folder, "c.yaml"), Path(folder, ".pre-commit-config.yaml"))
     steps = [
         (["status"], 3, ["hookhost: cannot use .hookhost/store.db", "hint: hookhost init makes a repository here"]),
+        (["accept"], 3, ["hookhost: cannot use .hookhost/store.db", "hint: hookhost init makes a repository here"]),
         (["init"], 0, []),
         (["init"], 3, ["hookhost: cannot use .hookhost/store.db", "hint: a repository is here already: go on with it, as by hookhost status"]),
         (["add", "nowhere"], 3, ["hookhost: cannot use nowhere"]),
+        (["accept"], 3, ["hookhost: refused: 11 NoFixes", NO_FIXES]),
+        (["run"], 3, ["hookhost: refused: 7 NoConfig", "hint: hookhost add .pre-commit-config.yaml stages the configuration of this folder"]),
         (["add", "a.txt", ".pre-commit-config.yaml"], 0, []),
         (["run"], 1, [FIXES]),
         (["commit", "-m", "first"], 1, [FIXES]),
         (["accept"], 0, []),
         (["run"], 0, []),
+        (["accept"], 3, ["hookhost: refused: 11 NoFixes", NO_FIXES]),
+        (["run", "nothing"], 3, ["hookhost: refused: 9 NoSuchHook"]),
         (["rm", "a.txt", "b.txt"], 3, ["hookhost: refused: 4 NotStaged", "hookhost: at b.txt"]),
     ]
     for words, status, lines in steps:
         says(folder, words, status, lines)
+
+
+def a_hint_names_the_folder_of_the_repository():
+    """It is in one of the folders above, up to 40."""
+    folder, _ = folder_of([hook("true")], ["a.txt"])
+    says(folder, ["init"], 0, [])
+    unused, here = "hookhost: cannot use .hookhost/store.db", "hint: hookhost init makes a repository here"
+    for depth in (1, 2, 40, 41):
+        inner = Path(folder, *["b"] * depth)
+        inner.mkdir(parents=True, exist_ok=True)
+        above = "/".join([".."] * depth)
+        says(folder, ["status"], 3, [unused, f"hint: the repository is in {above}: cd {above}" if depth < 41 else here], within=inner.relative_to(folder))
+    Path(folder, "b/.hookhost").mkdir()
+    Path(folder, "b/.hookhost/store.db").mkdir()
+    says(folder, ["status"], 3, [unused], within="b")
+    says(folder, ["status"], 3, [unused, "hint: the repository is in ../..: cd ../.."], within="b/b")
+
+
+def a_hint_says_where_a_configuration_is_explained():
+    """Where one is refused; that of a repository by what is staged, which may be another than the folder's."""
+    folder, _ = folder_of([hook("true", stages="[pre-commit]")], ["a.txt"])
+    bad = Path(folder, "c.yaml").read_text().replace("language: system", "language: python")
+    no_config = ["hookhost: refused: 7 NoConfig", "hint: write .pre-commit-config.yaml, then hookhost add .pre-commit-config.yaml"]
+    none_here = "hint: there is no .pre-commit-config.yaml in this folder: write one first"
+    explain = "hint: hookhost explain says what is wrong and where"
+    staged = "hint: hookhost cat .pre-commit-config.yaml | hookhost explain /dev/stdin says what is wrong and where"
+    for words in (["check"], ["explain"], ["try", ".pre-commit-config.yaml", "a.txt"]):
+        says(folder, words, 3, ["hookhost: cannot use .pre-commit-config.yaml", none_here])
+    says(folder, ["explain", "nothing.yaml"], 3, ["hookhost: cannot use nothing.yaml"])
+    says(folder, ["init"], 0, [])
+    says(folder, ["run"], 3, no_config)
+    says(folder, ["commit", "-m", "first"], 3, ["hookhost: refused: 10 NothingStaged", no_config[1]])
+    for name, word in (("bad.yaml", "bad.yaml"), ("a-bad.yaml", "a-bad.yaml"), ("a bad.yaml", "CONFIG"), (".pre-commit-config.yaml", "")):
+        Path(folder, name).write_text(bad)
+        says(folder, ["try", name, "a.txt"], 3, ["hookhost: refused: 2 Config", f"hint: hookhost explain {word} says what is wrong and where".replace("  ", " ")])
+    says(folder, ["check"], 3, ["hookhost: refused: 5 BadLanguage", explain])
+    says(folder, ["add", ".pre-commit-config.yaml", "a.txt"], 0, [])
+    for words in (["run"], ["run-files", "a.txt"], ["commit", "-m", "first"]):
+        says(folder, words, 3, ["hookhost: refused: 8 BadConfig 5", explain])
+    shutil.copy(Path(folder, "c.yaml"), Path(folder, ".pre-commit-config.yaml"))
+    says(folder, ["run"], 3, ["hookhost: refused: 8 BadConfig 5", staged])
+    os.remove(Path(folder, ".pre-commit-config.yaml"))
+    says(folder, ["run"], 3, ["hookhost: refused: 8 BadConfig 5", staged])
+
+
+def no_hint_is_given_in_git_hooks():
+    """There what comes next is said by the script, in the words of Git."""
+    folder, _ = folder_of([hook("sed -i s/x/y/", "A", files="^a", stages="[pre-commit]")], ["a.txt"])
+    steps = [(["status"], 3, ["hookhost: cannot use .hookhost/store.db"]), (["init"], 0, []), (["run"], 3, ["hookhost: refused: 7 NoConfig"]),
+             (["add", "."], 0, []), (["run"], 1, []), (["accept"], 0, []), (["accept"], 3, ["hookhost: refused: 11 NoFixes"])]
+    os.rename(Path(folder, "c.yaml"), Path(folder, ".pre-commit-config.yaml"))
+    for words, status, lines in steps:
+        says(folder, words, status, lines, HOOKHOST_TOP=folder)
 
 
 def a_hint_says_that_a_fix_is_undone():
@@ -414,7 +474,7 @@ def a_hint_says_that_a_fix_is_undone():
 
 
 def what_is_in_the_way_of_files_is_told():
-    """Behind the report, and of a run the first alone; without a terminal it isn't told."""
+    """Behind the report, and of a run the first alone; without a terminal too."""
     spoils = "sh -c 'rm -- \"$1\"; mkdir -- \"$1\"' --"
     folder, words = folder_of([hook("true", "A"), hook(spoils, "B", files="^a"), hook(spoils, "C", files="^b")], ["a.txt", 'b".txt'])
     shutil.copy(Path(folder, "c.yaml"), Path(folder, ".pre-commit-config.yaml"))
@@ -423,7 +483,7 @@ def what_is_in_the_way_of_files_is_told():
     quoted = '".hookhost/scratch/b\\".txt"'
     for words, place in ((words, ".hookhost/scratch/a.txt"), (["try", "c.yaml", 'b".txt'], quoted), (["run"], ".hookhost/scratch/a.txt"), (["run", "c"], quoted), (["commit", "-m", "first"], ".hookhost/scratch/a.txt")):
         alone = subprocess.run([PROGRAM, *words], cwd=folder, stdin=subprocess.DEVNULL, capture_output=True, timeout=LIMIT)
-        equal((alone.returncode, alone.stderr), (1, b""), f"{words!r} without a terminal")
+        equal((alone.returncode, alone.stderr.decode()), (1, f"hookhost: {place}: no file stands there\n"), f"{words!r} without a terminal")
         check(b"- fault: files could not be written or read back\n" in alone.stdout, f"{words!r} reports no fault")
         played = Played(folder, words)
         equal(played.wait(), 1, f"the exit status of {words!r}")
@@ -431,13 +491,28 @@ def what_is_in_the_way_of_files_is_told():
         equal(played.printed(), alone.stdout.decode(), f"the report of {words!r}")
 
 
-def says(folder, words, status, lines):
+def what_cannot_be_started_is_told():
+    """Behind the report, and of a run the first alone."""
+    folder, words = folder_of([hook("true", "A"), hook("nowhere", "B", files="^a"), hook("./b.txt/no-where", "C", files="^b")], ["a.txt", "b.txt"])
+    line_of_b, line_of_c = "hookhost: cannot start nowhere: No such file or directory (os error 2)", "hookhost: cannot start ./b.txt/no-where: Not a directory (os error 20)"
+    says(folder, words, 1, [line_of_b])
+    says(folder, ["try", "c.yaml", "b.txt"], 1, [line_of_c])
+    os.rename(Path(folder, "c.yaml"), Path(folder, ".pre-commit-config.yaml"))
+    for setting in (["init"], ["add", "."]):
+        says(folder, setting, 0, [])
+    for words in (["run"], ["commit", "-m", "first"], ["run"]):
+        says(folder, words, 1, [line_of_b])
+    says(folder, ["run", "c"], 1, [line_of_c])
+
+
+def says(folder, words, status, lines, within=".", **variables):
     """What the command says on a terminal are these lines, and without one those of them that are no hint."""
     copy = shutil.copytree(folder, tempfile.mkdtemp(dir=BASE), dirs_exist_ok=True)
-    done = subprocess.run([PROGRAM, *words], cwd=copy, stdin=subprocess.DEVNULL, capture_output=True, timeout=LIMIT)
+    environment = {**os.environ, **variables}
+    done = subprocess.run([PROGRAM, *words], cwd=Path(copy, within), stdin=subprocess.DEVNULL, capture_output=True, timeout=LIMIT, env=environment)
     told = "".join(text + "\n" for text in lines if not text.startswith("hint: "))
     equal((done.returncode, done.stderr.decode()), (status, told), f"{words!r} without a terminal")
-    played = Played(folder, words, columns=200)
+    played = Played(Path(folder, within), words, columns=400, **variables)
     equal(played.wait(), status, f"the exit status of {words!r}")
     equal([text for text in played.screen.all() if text], lines, f"what {words!r} says")
 
@@ -490,7 +565,8 @@ CASES = [
     what_columns_says_amiss_is_80, wide_characters_take_two_columns, control_characters_are_shown_as_question_marks, long_commands_are_one_line,
     parts_are_shown_one_by_one, what_a_child_prints_stays_off_the_terminal, a_report_on_the_same_terminal_stands_alone, nothing_is_shown_without_a_terminal,
     nothing_is_shown_on_a_dumb_terminal, nothing_is_shown_of_hooks_without_children, a_terminal_that_goes_away_changes_nothing,
-    a_hint_says_what_to_do_next, a_hint_says_that_a_fix_is_undone, what_is_in_the_way_of_files_is_told, a_killed_program_leaves_a_terminal_that_wraps, want_of_memory_for_the_line_loses_no_child,
+    a_hint_says_what_to_do_next, a_hint_names_the_folder_of_the_repository, a_hint_says_where_a_configuration_is_explained,
+    no_hint_is_given_in_git_hooks, a_hint_says_that_a_fix_is_undone, what_is_in_the_way_of_files_is_told, what_cannot_be_started_is_told, a_killed_program_leaves_a_terminal_that_wraps, want_of_memory_for_the_line_loses_no_child,
 ]
 
 

@@ -979,4 +979,90 @@ LIMITED = [
     *((*OF_THREE, *ALL_FILES, *limit(2, err=habit), *line("memory"), ADDED_FOUR + THREE_RAN + done(REMEMBERS(2)) * 2) for habit in HABITS),
 ]
 
-ROWS = [("command_over", *row) for row in [*LIMITED, *RUNS, *COMMITS, *REMEMBERED, *STEADY, *COMMITTED, *MEMORY, *EMPTY, *ADDED, *REMOVED, *BAD_PATHS, *GOOD_PATHS, *CLASHES, *TOO_LARGE, *SEVERAL, *FIXES, *STATUS, *CAT, *VERSIONS, *LOG, *SHOW, *WRITERS]]
+# Cautious runs, and runs that print each hook's details and how many commands were answered from what is remembered. A cautious
+# run lets a command that no table knows see every file, unless its hook says which ones it reads.
+CAUTIOUS, VERBOSE = run(how="cautious"), run(how="verbose")
+T_FILE = ".pre-commit-config.yaml=" + text_of(T)[:-1].replace("\n", "\1")
+SEES_RULES = [child("c\ta.txt", f"{T_FILE}\ta.txt=x\trules={number}", status=status, output=output) for number, status, output in [(1, 0, ""), (2, 1, "x\n")]]
+# A hook whose command sees every file in any run.
+READING_ALL = hook("T", more=", x_reads: ''")
+READING_ALL_SEES = ".pre-commit-config.yaml=" + text_of(READING_ALL)[:-1].replace("\n", "\1") + "\ta.txt=x"
+OF_ALL = ("c\ta.txt", READING_ALL_SEES)
+WITH_READING_ALL = (*with_hooks(READING_ALL), *add("a.txt", "x\n"))
+# A command that is known to read the files that it is handed alone.
+KNOWN = hook("T", "'true'")
+DETAILS = "- hook id: t\n"
+
+
+def from_cache(number):
+    return f"answered from the cache: {number}\n"
+
+
+CHOSEN = [
+    # A file that the command reads unasked is made stricter: a plain run answers as before, and a cautious one starts the command.
+    (
+        *GOOD, *SEES_RULES[0], *SEES_RULES[1], *with_hooks(T), *add("a.txt", "x\n"), *add("rules", "1\n"), *run(), *run(), *COUNTS, *CAUTIOUS, *CAUTIOUS, *COUNTS,
+        *add("rules", "2\n"), *run(), *COUNTS, *CAUTIOUS, *COUNTS, *CAUTIOUS, *COUNTS,
+        ADDED_THREE + done(GOOD_T) * 2 + counted(1, 0, 1, 0) + done(GOOD_T) * 2 + counted(2, 0, 2, 1)
+        + done() + done(GOOD_T) + counted(2, 0, 2) + ended(1, out=BAD_T) + counted(3, 0, 3, 2) + ended(1, out=BAD_T) + counted(4, 0, 3, 2),
+    ),
+    # A remembered failure serves a plain run. A cautious one starts the command again, and its answer takes the place of the failure.
+    (
+        *child(*OF_ALL, status=1, output="x\n"), *child(*OF_ALL), *WITH_READING_ALL, *run(), *run(), *COUNTS, *CAUTIOUS, *COUNTS, *CAUTIOUS, *run(), *COUNTS,
+        done() * 2 + ended(1, out=BAD_T) * 2 + counted(1, 0, 1, 0) + done(GOOD_T + UNSTEADY) + counted(2, 0, 1, 1) + done(GOOD_T) * 2 + counted(2, 0, 1),
+    ),
+    # The same failure again is no other answer.
+    (
+        *child(*OF_ALL, status=1, output="x\n"), *WITH_READING_ALL, *run(), *CAUTIOUS, *COUNTS,
+        done() * 2 + ended(1, out=BAD_T) * 2 + counted(2, 0, 1, 0, 0),
+    ),
+    # An answer that changes files is a failure too, whatever its status.
+    (
+        *child(*OF_ALL, changes="a.txt=z"), *WITH_READING_ALL, *run(), *run(), *COUNTS, *CAUTIOUS, *COUNTS,
+        done() * 2 + ended(1, out=STRAY_T) * 2 + counted(1, 0, 1, 0) + ended(1, out=STRAY_T) + counted(2, 0, 1, 0),
+    ),
+    # A pass that is remembered serves each run but a fresh one.
+    (
+        *child(*OF_ALL), *WITH_READING_ALL, *run(), *CAUTIOUS, *run(), *COUNTS, *run(how="fresh cautious"), *COUNTS,
+        done() * 2 + done(GOOD_T) * 3 + counted(1, 0, 1, 0) + done(GOOD_T) + counted(2, 0, 1, 0),
+    ),
+    # A known tool sees in both what it is known to read, here nothing besides the files that it is handed.
+    (
+        *child("true\ta.txt", "a.txt=x"), *with_hooks(KNOWN), *add("a.txt", "x\n"), *add("rules", "1\n"), *run(), *CAUTIOUS, *add("rules", "2\n"), *CAUTIOUS, *COUNTS,
+        ADDED_THREE + done(GOOD_T) * 2 + done() + done(GOOD_T) + counted(1, 0, 1, 0),
+    ),
+    # A verbose run shows each hook's details, and says at its end what came from the cache: nothing at first, and then all of it.
+    (
+        *GOOD, *ONE_HOOK, *VERBOSE, *VERBOSE, *run(), *run(how="fresh verbose"), *COUNTS,
+        ADDED_THREE + done(GOOD_T + DETAILS + from_cache(0)) + done(GOOD_T + DETAILS + from_cache(1)) + done(GOOD_T) + done(GOOD_T + DETAILS + from_cache(0))
+        + counted(2, 0, 1, 0, 0),
+    ),
+    # A command is counted for each hook that it answers, and for each part of a hook's files.
+    (
+        *GOOD, *with_hooks(T, U), *add("a.txt", "x\n"), *VERBOSE, *VERBOSE, *COUNTS,
+        done() * 2 + done(GOOD_T + DETAILS + passed("U") + "- hook id: u\n" + from_cache(1)) + done(GOOD_T + DETAILS + passed("U") + "- hook id: u\n" + from_cache(2))
+        + counted(1, 0, 1, 0),
+    ),
+    (
+        *OF_THREE, *run("a.txt"), *VERBOSE, *VERBOSE,
+        ADDED_FOUR + done(GOOD_T) + done(GOOD_T + DETAILS + from_cache(1)) + done(GOOD_T + DETAILS + from_cache(3)),
+    ),
+    # The line stands behind those of unsteady hooks, also of a run that failed.
+    (
+        *GOOD, *BAD_ONE, *ONE_HOOK, *run(), *run(how="fresh verbose"), *VERBOSE,
+        ADDED_THREE + done(GOOD_T) + ended(1, out=BAD_T + UNSTEADY + from_cache(0)) + ended(1, out=BAD_T + from_cache(1)),
+    ),
+    # No hook has files, and none is answered.
+    (*with_hooks(T), *VERBOSE, *run(how="cautious verbose"), done() + done(f"T{'.' * 52}(no files to check)Skipped\n{DETAILS}" + from_cache(0)) * 2),
+    # A run that is refused says nothing of the cache.
+    (*VERBOSE, refused("7 NoConfig")),
+    (*ONE_HOOK, *run(only="u", how="cautious verbose"), ADDED_THREE + refused("9 NoSuchHook")),
+    # A writer that doesn't take the line.
+    *(
+        (*GOOD, *ONE_HOOK, *run(how="verbose", out=str(count)), ADDED_THREE + cut_off((GOOD_T + DETAILS + from_cache(0))[:count]))
+        for count in [0, len(GOOD_T), len(GOOD_T + DETAILS), len(GOOD_T + DETAILS) + 1, len(GOOD_T + DETAILS + from_cache(0)) - 1]
+    ),
+    *((*GOOD, *ONE_HOOK, *run(how="verbose", out=habit), ADDED_THREE + done(GOOD_T + DETAILS + from_cache(0))) for habit in PATIENT),
+]
+
+ROWS = [("command_over", *row) for row in [*LIMITED, *RUNS, *COMMITS, *REMEMBERED, *STEADY, *CHOSEN, *COMMITTED, *MEMORY, *EMPTY, *ADDED, *REMOVED, *BAD_PATHS, *GOOD_PATHS, *CLASHES, *TOO_LARGE, *SEVERAL, *FIXES, *STATUS, *CAT, *VERSIONS, *LOG, *SHOW, *WRITERS]]

@@ -77,6 +77,9 @@ NO_MORE = line("Trim", "Failed") + "- hook id: trim\n- exit code: 3\n\nno more\n
 NOT_STARTED = line("Tell", "Failed") + "- hook id: tell\n- fault: could not be started\n"
 
 RUN = ("run", "pre-commit", "changed", "", "remembering", "")
+CAUTIOUS = ("run", "pre-commit", "changed", "", "cautious", "")
+# The same in a cautious run, in which no table knows `trim`, so that it sees every file.
+TRIM_SEES_ALL = child(3, "trim\ta.txt", f".pre-commit-config.yaml={CONFIGURATION[:-1]}\ta.txt=x".replace("\n", "\1"), output="no more\n")
 CONFIGURATION_FILE = ("plain", ".pre-commit-config.yaml", CONFIGURATION)
 A = ("plain", "a.txt", "x\n")
 
@@ -117,6 +120,12 @@ PLAYS = [
         "added\nadded\n" + ("ran, passed, 0 unsteady\n" + told("report", TRIM_PASSED)) * 2 + "ran, failed, 1 unsteady\n" + told("report", NO_MORE)
         + "ran, failed, 0 unsteady\n" + told("report", NO_MORE) + "forgot 1\nran, passed, 0 unsteady\n" + told("report", TRIM_PASSED) + ended(3, remembered=1)
         + files("staged", CONFIGURATION_FILE, A),
+    ),
+    # A cautious run starts a command although it was answered for fewer files, and again as long as it fails; a plain run doesn't.
+    (
+        *TRIMMED, *TRIM_SEES_ALL, *CONFIGURED, "add", "none", "a.txt", "x\n", *RUN, *CAUTIOUS, *CAUTIOUS, *RUN,
+        "added\nadded\nran, passed, 0 unsteady\n" + told("report", TRIM_PASSED) + ("ran, failed, 0 unsteady\n" + told("report", NO_MORE)) * 2
+        + "ran, passed, 0 unsteady\n" + told("report", TRIM_PASSED) + ended(3, remembered=2) + files("staged", CONFIGURATION_FILE, A),
     ),
     # Hooks that are skipped aren't asked, by a commit and by a run.
     (

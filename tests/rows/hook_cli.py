@@ -260,7 +260,8 @@ LINES = [
         "Without words, the configuration is read from standard input, and its hooks are\n"
         "run on no files. What that refuses, hookhost try --help explains.\n\n"
         "A repository lies in .hookhost of the current folder: init makes it, and all\n"
-        "commands but try, check and explain work on it.\n\n"
+        "commands but try, check and explain work on it. In a repository of Git the script\n"
+        "hookhost-git runs the hooks before each commit: hookhost-git --help says how.\n\n"
         "Examples:\n"
         "  hookhost try .pre-commit-config.yaml README.md src/main.c\n"
         "  hookhost init\n"
@@ -284,7 +285,7 @@ USAGES = {
     "status": "status",
     "fixes": "fixes",
     "accept": "accept",
-    "run-files": "run-files [--hook-stage=<STAGE>] [--fresh] (<PATH>... | --paths-from=<FILE>)",
+    "run-files": "run-files [--only=<ID>] [--hook-stage=<STAGE>] [--fresh] [--cautious] [--verbose] (<PATH>... | --paths-from=<FILE>)",
     "cat": "cat [--fixed | --commit=<N>] <PATH>",
     "log": "log",
     "show": "show <N>",
@@ -514,6 +515,12 @@ RUN_LINES = [
     (("run-files", "a"), "run pre-commit named\na\n"),
     (("run-files", "--paths-from=list", "--fresh"), "run pre-commit listed fresh\nlist\n"),
     (("run-files", "--fresh", "b", "a", "--hook-stage=manual", "a"), "run manual named fresh\nb\na\na\n"),
+    (("run", "--cautious"), "run pre-commit changed cautious\n"),
+    (("run", "--verbose", "names", "--fresh", "--cautious"), "run pre-commit changed fresh cautious verbose\nnames\n"),
+    (("run", "--all-files", "--verbose"), "run pre-commit all verbose\n"),
+    (("run-files", "--verbose", "a"), "run pre-commit named verbose\na\n"),
+    (("run-files", "--only=names", "b", "a"), "run pre-commit named\nnames\nb\na\n"),
+    (("run-files", "--only", "names", "--cautious", "--paths-from=list"), "run pre-commit listed cautious\nnames\nlist\n"),
 ]
 
 WIDE = "日" * 60

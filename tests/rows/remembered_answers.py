@@ -79,6 +79,7 @@ TWO_PARTS = (
 BOTH = details("T", "exit code: 3", output="one\ntwo\n")
 LAST = details("T", "exit code: 3", "fault: ended by a signal", output="two\n")
 THIRD_PARTS = (*TWO_PARTS[-4:-2], *child("c", LONG[31], seen=[f"{LONG[31]}=x"], status=3, output="three\n"))
+FAIL = child("c", "a.txt", status=1, output="x\n")
 X_FAILED = details("T", "exit code: 1", output="x\n")
 STRAYS = child("c", "a.txt", changes="b.txt=z")
 
@@ -150,6 +151,38 @@ RUNS = [
     (
         hooks(hook("T", "c"), hook("T", "d")), *A, *PASS, *child("d", "a.txt"), *run(), "others", *child("c", "a.txt", output="1"), *child("d", "a.txt", output="2"), *run("fresh"),
         told("passed", 2, 0, PASSED * 2, held=["held", "held"]) + told("passed", 2, 0, "unsteady: t\n" * 2, PASSED * 2, held=["held", "held"]),
+    ),
+    # Where only what passed serves, a remembered failure is asked again. Its new answer takes its place, and serves from then on.
+    (
+        hooks(T), *A, *FAIL, *run(), *run("passed"), "others", *PASS, *run("passed"), *run("passed"), *run(),
+        told("failed", 1, 0, X_FAILED, held=["held"]) * 2 + told("passed", 1, 0, "unsteady: t\n", PASSED, held=["held"]) + told("passed", 0, 0, PASSED, held=["held"]) * 2,
+    ),
+    # A remembered pass serves, whatever its child would answer by now.
+    (
+        hooks(T), *A, *PASS, *run("passed"), "others", *FAIL, *run("passed"), *run("fresh"), *run("passed"),
+        told("passed", 1, 0, PASSED, held=["held"]) + told("passed", 0, 0, PASSED, held=["other"]) + told("failed", 1, 0, "unsteady: t\n", X_FAILED, held=["held"])
+        + told("failed", 1, 0, X_FAILED, held=["held"]),
+    ),
+    # An answer with changes is asked again, though its status is 0.
+    (
+        hooks(hook("Trim", "trim"), hook("Look", "look")), *file("a.txt", "x \n"), *TRIM, *LOOK, *run("passed"), *run("passed"), *file("a.txt"), *TRIMMED, *run("passed"), *run("passed"),
+        told("failed", 2, 0, *TRIMS, held=["held"] * 2) + told("failed", 1, 0, *TRIMS, held=["held"] * 2)
+        + told("passed", 1, 0, *LOOKS, held=["held"] * 3) + told("passed", 0, 0, *LOOKS, held=["held"] * 3),
+    ),
+    # Of two parts the one that failed is asked again, and the other serves.
+    (hooks(T), *TWO_PARTS, *run("passed"), *run("passed"), told("failed", 2, 0, BOTH, held=["held", "held"]) + told("failed", 1, 0, BOTH, held=["held", "held"])),
+    # A fault in place of a remembered failure leaves that remembered.
+    (
+        hooks(T), *A, *FAIL, *run(), *run("passed", kth=1), *run(),
+        told("failed", 1, 0, X_FAILED, held=["held"]) + told("failed", 1, 1, details("T", "fault: ended by a signal"), held=["held"]) + told("failed", 0, 0, X_FAILED, held=["held"]),
+    ),
+    # Where no more children can be counted, a remembered pass serves, and a remembered failure doesn't.
+    *(
+        (hooks(T), *A, *children, *run(), *run("passed", calls="all"), told(verdict, 1, 0, lines, held=["held"]) + again)
+        for children, verdict, lines, again in [
+            (PASS, "passed", PASSED, told("passed", 0, 0, PASSED, held=["held"])),
+            (FAIL, "failed", X_FAILED, told("4 Spent: no more children can be counted", 0, 0, held=["held"])),
+        ]
     ),
     # A fault in a fresh run makes nothing unsteady, and what was remembered stays.
     (
@@ -231,7 +264,7 @@ def run_over(book, letters, how, kth):
     """How many children a run on these files starts over a book, and how many of them fail."""
     calls = faults = 0
     for letter in letters:
-        if book.find(letter) and how == "plain":
+        if book.find(letter) and how != "fresh":
             continue
         calls += 1
         if calls == kth:
@@ -269,7 +302,7 @@ LIMITS = [
     limited(2, only("ab"), only("ab"), only("c"), only("b"), only("a"), only("c")),
     limited(1, only("a"), only("a"), only("b"), only("a"), only("a", "fresh"), only("a")),
     # A child that fails takes no place. Where a fresh run starts it, what is remembered of it was looked up, and stays.
-    *(limited(limit, *(all_three(how, kth) for kth in [1, 2, 3]), all_three(), all_three()) for limit in [1, 2, 3] for how in ["plain", "fresh"]),
+    *(limited(limit, *(all_three(how, kth) for kth in [1, 2, 3]), all_three(), all_three()) for limit in [1, 2, 3] for how in ["plain", "passed", "fresh"]),
     limited(2, only("ab"), only("a", "fresh", 1), only("c"), only("ab")),
     # Two hooks with one child have one place in a book.
     (
@@ -323,6 +356,8 @@ TABLE = [
     *child("look", "a.txt"),
 ]
 PARTS = [(0, True), (1, True), (2, True), (3, False), (None, False), (4, True)]
+# The rows whose answers passed: with status 0 and without changes.
+PASSING = {1, 4}
 # The look-ups and puts of a run that starts all of them.
 BOOK_CALLS = 10
 OVER_REFUSING = (REFUSING, *file("a.txt", "x \n"), *file("b.txt", "y\n"), *TABLE)
@@ -337,7 +372,12 @@ REFUSALS = {
 }
 
 
-def counted(book, is_fresh, refused):
+def serves(how, row):
+    """Whether the answer of the row serves a run that is made so, where it is remembered."""
+    return how == "plain" or (how == "passed" and row in PASSING)
+
+
+def counted(book, how, refused):
     """Whether a run is refused whose look-up or put of this number is (0: none), and how many children it starts and faults it has.
     What it uses before that is used, and what it puts is put."""
     asked = calls = faults = 0
@@ -345,7 +385,7 @@ def counted(book, is_fresh, refused):
         asked += 1
         if asked == refused:
             return True, calls, faults
-        if book.find(row) and not is_fresh:
+        if book.find(row) and serves(how, row):
             continue
         calls += 1
         faults += row is None
@@ -358,7 +398,7 @@ def counted(book, is_fresh, refused):
 
 
 def refusing(*runs, limit=10_000):
-    """Runs over one book, each by whether it is fresh, the call of the book that is refused, and by what; or None, where what is
+    """Runs over one book, each by what serves it, the call of the book that is refused, and by what; or None, where what is
     remembered is forgotten. A row."""
     book, steps, answer = ListBook(limit), [], ""
     for each in runs:
@@ -368,7 +408,7 @@ def refusing(*runs, limit=10_000):
             continue
         how, refused, refusal = each
         steps += run(how, book=refused, refusal=refusal)
-        is_refused, calls, faults = counted(book, how == "fresh", refused)
+        is_refused, calls, faults = counted(book, how, refused)
         words = ["held" if book.find(row) else "lacking" for row in range(5)]
         answer += told(REFUSALS[refusal], calls, faults, held=words) if is_refused else told("failed", calls, faults, *GIVEN, held=words)
     return (*OVER_REFUSING, "limit", str(limit), *steps, answer)
@@ -376,17 +416,18 @@ def refusing(*runs, limit=10_000):
 
 ALL, ALL_FRESH = ("plain", 0, "damaged"), ("fresh", 0, "damaged")
 BOOKS = [
-    # Nothing is refused: the stray and the one that can't be started are started each time, and in a fresh run all.
-    refusing(ALL, ALL, ALL_FRESH),
+    # Nothing is refused: the stray and the one that can't be started are started each time, where only what passed serves those that
+    # didn't pass too, and in a fresh run all.
+    refusing(ALL, ALL, ("passed", 0, "damaged"), ALL_FRESH),
     # Each look-up and each put is refused in turn: what was put before stays, and the next run starts the others alone.
     *(refusing(*(each for call in range(1, BOOK_CALLS + 1) for each in [("plain", call, refusal), ALL, None])) for refusal in REFUSALS),
-    # The same where half of them are remembered, and in a fresh run where all are.
+    # The same where half of them are remembered, and where all are, in a run that only what passed serves and in a fresh one.
     refusing(*(each for call in range(1, BOOK_CALLS + 1) for each in [("plain", 5, "collision"), ("plain", call, "damaged"), ALL, None])),
-    refusing(ALL, *(each for call in range(1, BOOK_CALLS + 1) for each in [("fresh", call, "damaged"), ALL])),
+    *(refusing(ALL, *(each for call in range(1, BOOK_CALLS + 1) for each in [(how, call, "damaged"), ALL])) for how in ["passed", "fresh"]),
     refusing(*(("plain", call, "damaged") for call in range(1, BOOK_CALLS + 1)), ALL),
     # The same where fewer have room than a run puts: what was used and put before a refused call is used and put.
     *(
-        refusing(*(each for call in range(1, BOOK_CALLS + 1) for how in ["plain", "fresh"] for each in [(how, call, refusal), ALL]), limit=limit)
+        refusing(*(each for call in range(1, BOOK_CALLS + 1) for how in ["plain", "passed", "fresh"] for each in [(how, call, refusal), ALL]), limit=limit)
         for limit in [1, 2, 3]
         for refusal in REFUSALS
     ),

@@ -6,7 +6,7 @@ use child_port::{Children, Outcome};
 use hook_base::{Bytes, Content, FileEntry, Mode, OutOfMemory, RepoPath, Text, Tree};
 use hook_config::{Config, read_config};
 use hook_run::run_hooks;
-use process_children::ProcessChildren;
+use process_children::{ProcessChildren, Trouble};
 use repo_store::FIRST_LIMIT;
 use result_book::{Book, ListBook};
 use std::alloc::Global;
@@ -36,25 +36,27 @@ impl Play {
     pub(crate) fn answer_of(&mut self, row: &Row) -> Result<Vec<u8>, Stop> {
         let arguments = row.arguments.as_slice();
         match row.call.as_str() {
-            "file" => self.file(arguments),
+            "file" => self.file(arguments, Mode::Plain),
+            "program" => self.file(arguments, Mode::Executable),
             "letters" => self.letters(arguments),
             "remove" => self.remove(arguments),
             "run" => self.run(arguments),
             "measure" => self.measure(arguments),
             "hooks" => self.hooks(arguments),
             "counts" => self.counts(),
-            "trouble" => self.trouble(),
+            "trouble" => self.told(self.children.trouble()),
+            "unstarted" => self.told(self.children.unstarted()),
             _ => Err(Stop::NoCall),
         }
     }
 
     // A file of these bytes.
-    fn file(&mut self, arguments: &[Vec<u8>]) -> Result<Vec<u8>, Stop> {
+    fn file(&mut self, arguments: &[Vec<u8>], mode: Mode) -> Result<Vec<u8>, Stop> {
         let [path, bytes] = arguments else {
             return Err(Stop::BadLine);
         };
         let bytes = Content::copy_of(self.alloc, bytes.as_slice())?;
-        self.put(path.as_slice(), bytes)
+        self.put(path.as_slice(), mode, bytes)
     }
 
     // A file of so many letters x.
@@ -65,20 +67,28 @@ impl Play {
         let count = number_of(count.as_slice())? as usize;
         let letters = vec![in self.alloc; b'x'; count]?;
         let bytes = Content::new(self.alloc, Bytes::from(letters))?;
-        self.put(path.as_slice(), bytes)
+        self.put(path.as_slice(), Mode::Plain, bytes)
     }
 
-    fn put(&mut self, path: &[u8], bytes: Content) -> Result<Vec<u8>, Stop> {
-        let path = RepoPath::read(self.alloc, text_of(path)?)?;
-        let mode = Mode::Plain;
+    fn put(&mut self, path: &[u8], mode: Mode, bytes: Content) -> Result<Vec<u8>, Stop> {
+        let path = self.path_of(path)?;
         self.tree.put(path, FileEntry { mode, bytes })?;
         Ok(Vec::new(self.alloc))
     }
 
     fn remove(&mut self, arguments: &[Vec<u8>]) -> Result<Vec<u8>, Stop> {
-        let path = RepoPath::read(self.alloc, text_of(only(arguments)?)?)?;
+        let path = self.path_of(only(arguments)?)?;
         let _found = self.tree.remove(&path);
         Ok(Vec::new(self.alloc))
+    }
+
+    // The path of a commit's message is the one that no text names.
+    fn path_of(&self, path: &[u8]) -> Result<RepoPath, Stop> {
+        let message = RepoPath::message(self.alloc)?;
+        if path == message.as_str().as_bytes() {
+            return Ok(message);
+        }
+        Ok(RepoPath::read(self.alloc, text_of(path)?)?)
     }
 
     // A child of these words.
@@ -119,9 +129,9 @@ impl Play {
         Ok(text.as_str().as_bytes().to_vec(self.alloc)?)
     }
 
-    // What kept a child's files from being laid or read back first, as its place and the error there. Empty where nothing did.
-    fn trouble(&self) -> Result<Vec<u8>, Stop> {
-        let Some(trouble) = self.children.trouble() else {
+    // What was in the way of a child, as its place and the error there. Empty where nothing was.
+    fn told(&self, trouble: Option<&Trouble>) -> Result<Vec<u8>, Stop> {
+        let Some(trouble) = trouble else {
             return Ok(Vec::new(self.alloc));
         };
         let text = format!(in self.alloc; "{}: {}", trouble.place(), trouble.error())?;

@@ -2,7 +2,8 @@
 //! each as a line of standard input says, and answers each by a line. `tests/children.py` drives it.
 //!
 //! How a line is written says the crate `trial_rows`. At a line that is no call the program ends with the exit status 2.
-//! Where the variable `CHILD_TRIAL_READS` is `everything`, no file is taken for unchanged by its times.
+//! Where the variable `CHILD_TRIAL_READS` is `everything`, no file is taken for unchanged by its times; where `CHILD_TRIAL_AT_END`
+//! is `removed`, the folder is removed at the end; else each child is watched by the file that `CHILD_TRIAL_CALLS` names.
 #![tactic(auto)]
 
 mod calls;
@@ -17,8 +18,12 @@ use std::process::ExitCode;
 use std::{env, io};
 use trial_rows::{Row, Stop, answer_line};
 
-// The variable that says how much is read.
+// The variables that say how much is read, which file each child is watched by, and what becomes of the folder.
 const READS: &str = "CHILD_TRIAL_READS";
+
+const CALLS: &str = "CHILD_TRIAL_CALLS";
+
+const AT_END: &str = "CHILD_TRIAL_AT_END";
 
 fn main(rt: HostRuntime) -> ExitCode {
     match play(&rt) {
@@ -30,18 +35,24 @@ fn main(rt: HostRuntime) -> ExitCode {
     }
 }
 
-// Children, of which each costs a reading of all files where the environment says so.
+// Children as the environment says.
 fn children_of(
     rt: &HostRuntime,
     folder: String,
 ) -> Result<ProcessChildren<HostRuntime>, AllocError> {
-    let runtime = rt.clone()?;
-    match env::var(rt, READS) {
-        Ok(reads) if reads.as_str() == "everything" => {
-            Ok(ProcessChildren::reading_everything(runtime, folder))
-        }
-        _ => Ok(ProcessChildren::new(runtime, folder)),
+    let mut children = if is_set(rt, AT_END, "removed") {
+        ProcessChildren::removed_at_end(rt.clone()?, folder)
+    } else {
+        ProcessChildren::watching(rt.clone()?, folder, env::var(rt, CALLS).ok())
+    };
+    if is_set(rt, READS, "everything") {
+        children.read_everything();
     }
+    Ok(children)
+}
+
+fn is_set(rt: &HostRuntime, name: &str, wanted: &str) -> bool {
+    env::var(rt, name).is_ok_and(|value| value.as_str() == wanted)
 }
 
 fn play(rt: &HostRuntime) -> Result<(), Stop> {

@@ -2,7 +2,7 @@
 
 use hook_base::{Items, Tree};
 use hook_config::Stage;
-use hook_run::{RunAsk, RunOut, RunRefusal};
+use hook_run::{HooksRun, Reuse, RunAsk, RunOut, RunRefusal};
 use std::alloc::Global;
 use trial_rows::Stop;
 
@@ -17,22 +17,23 @@ pub(crate) fn ask_of(alloc: Global, tree: &Tree, how: &[u8]) -> Result<RunAsk, S
         candidates: Items::from(candidates),
         only: None,
         skip: Items::new(alloc),
-        fresh: is_fresh(how)?,
+        reuse: reuse_of(how)?,
     })
 }
 
-fn is_fresh(how: &[u8]) -> Result<bool, Stop> {
+fn reuse_of(how: &[u8]) -> Result<Reuse, Stop> {
     match how {
-        b"plain" => Ok(false),
-        b"fresh" => Ok(true),
+        b"plain" => Ok(Reuse::All),
+        b"passed" => Ok(Reuse::Passed),
+        b"fresh" => Ok(Reuse::Nothing),
         _ => Err(Stop::BadLine),
     }
 }
 
 /// Whether all hooks passed, a line for each unsteady one, and the report; or the refusal.
-pub(crate) fn run_text(alloc: Global, ran: &Result<RunOut, RunRefusal>) -> Result<Vec<u8>, Stop> {
+pub(crate) fn run_text(alloc: Global, ran: &Result<HooksRun, RunRefusal>) -> Result<Vec<u8>, Stop> {
     match ran {
-        Ok(out) => out_text(alloc, out),
+        Ok(ran) => out_text(alloc, &ran.out),
         Err(refused) => {
             let text = format!(in alloc; "refused: {refused}\n")?;
             Ok(text.as_str().as_bytes().to_vec(alloc)?)

@@ -1,12 +1,16 @@
 -- The commands of the program, as `clap` finds them.
-use Rattle.std.proofs.Common.{◌≡◌, ap₂, inl, inr, refl, subst, sym, true, List, [], ◌∷◌, Option, None, Some, Ok, Err, Result, Bor, IfOk, IsErrAnd, option_map}
+use Rattle.std.proofs.Common.{◌≡◌, ◌∙◌, ap, ap₂, inl, inr, refl, subst, sym, ◌||◌, Bool, false, true, List, [], ◌∷◌, Option, None, Some, Ok, Err, Result, Bor, IfOk, IsErrAnd, option_map}
 use Rattle.std.specs.Prelude.{Box}
 use Rattle.std.specs.Box.{box_value}
+use Rattle.clap.specs.Built.{AddsArg}
 use Rattle.clap.specs.Faults.{fault_of, is_simple_and_free}
 use Rattle.clap.specs.Kinds.{FailsBy, HasKind, Kinds, or_else}
 use Rattle.clap.specs.Matches.{found_of}
 use Rattle.clap.specs.Simple.{App, HasMatchesOf, is_simple, subcommand_of, subcommand_rows, subcommand_rows_of}
 use Rattle.clap.specs.Walk.{Row, Text, rows_of}
+use Rattle.clap.specs.declared.builder.arg.Arg.{Arg}
+use Rattle.clap.specs.declared.builder.command.Command.{Command}
+use Rattle.clap.specs.declared.builder.command.Command.TheViews.{out-Command}
 use Rattle.clap.specs.declared.error.Error.{Error}
 use Rattle.clap.specs.declared.parser.matches.ArgMatches.{ArgMatches}
 use Rattle.clap.specs.declared.parser.matches.ArgMatches.TheViews.{out-SubCommand}
@@ -49,6 +53,21 @@ module _ {Z : Type 0} where
   command-met None (Some b) name rows = cc
   command-met (Some p) None name rows = cc
   command-met (Some p) (Some b) name rows = ap₂ (λ (n : Text) (r : List Row). Some (n, r)) (some-is _ _ name) (some-is _ _ rows)
+
+-- ---- two values more
+
+or-false : (b : Bool) → (b || false) ≡ b
+or-false true = refl
+or-false false = refl
+
+-- values that no command below takes too change nothing of whether there are such
+pub still-local : {E : Type 0} (old between : Command) (first second : Arg) (result : Result Command E) → AddsArg old first between
+    → first.global ≡ false → IfOk result (λ made. AddsArg between second made) → second.global ≡ false
+    → IfOk result (λ made. (out-Command made).has_globals ≡ (out-Command old).has_globals)
+still-local old between first second (Err error) adds local also locally = tt
+still-local old between first second (Ok made) adds local also locally =
+    also.globals ∙ ap (λ (g : Bool). (out-Command between).has_globals || g) locally ∙ or-false _
+    ∙ adds.globals ∙ ap (λ (g : Bool). (out-Command old).has_globals || g) local ∙ or-false _
 
 -- ---- the refusals
 

@@ -22,6 +22,7 @@ use Rattle.command_line.specs.declared.line.FileVersion.TheVariants.{Staged, Fix
 use Rattle.command_line.specs.declared.line.Line.{Line}
 use Rattle.command_line.specs.declared.line.PathSource.{PathSource}
 use Rattle.command_line.specs.declared.line.PathSource.TheVariants.{Words, Listed}
+use Rattle.command_line.specs.declared.line.RunChoice.{RunChoice}
 use Rattle.command_line.specs.declared.line.StageChoice.{StageChoice}
 use Rattle.command_line.specs.declared.line.StageChoice.TheVariants.{PreCommit, Manual}
 use Rattle.command_line.specs.declared.line.Line.TheVariants as line
@@ -63,6 +64,10 @@ flag_rule name = record (new_rule name) { long = Some name; action = Some SetTru
 abbrev pub stage_rule : Rule
 stage_rule = record (new_rule (codes "hook-stage")) { long = Some (codes "hook-stage"); value_names = 1 }
 
+-- `--only=ID`, which may be left out
+abbrev pub only_rule : Rule
+only_rule = record (new_rule (codes "only")) { long = Some (codes "only"); value_names = 1 }
+
 -- `--commit=N`, which may be left out
 abbrev pub commit_rule : Rule
 commit_rule = record (new_rule (codes "commit")) { long = Some (codes "commit"); value_names = 1 }
@@ -100,23 +105,27 @@ remove_app = with_rule (with_rule (new_app (codes "rm")) paths_from_rule) (optio
 abbrev pub status_app : App
 status_app = new_app (codes "status")
 
--- `run [--all-files] [--hook-stage=STAGE] [--fresh]`
+-- behind the options of a run `[--cautious] [--verbose]`
+abbrev pub with_choice : App → App
+with_choice app = with_rule (with_rule app (flag_rule (codes "cautious"))) (flag_rule (codes "verbose"))
+
+-- `run [--all-files] [--hook-stage=STAGE] [--fresh] [--cautious] [--verbose]`
 abbrev pub run_with_options_app : App
 run_with_options_app =
-    with_rule (with_rule (with_rule (new_app (codes "run")) (flag_rule (codes "all-files"))) stage_rule) (flag_rule (codes "fresh"))
+    with_choice (with_rule (with_rule (with_rule (new_app (codes "run")) (flag_rule (codes "all-files"))) stage_rule) (flag_rule (codes "fresh")))
 
 -- behind them `[ID]`
 abbrev pub run_app : App
 run_app = with_rule run_with_options_app (new_rule (codes "ID"))
 
--- `run-files [--hook-stage=STAGE] [--fresh] [--paths-from=FILE]`
+-- `run-files [--only=ID] [--hook-stage=STAGE] [--fresh] [--cautious] [--verbose]`
 abbrev pub run_files_with_options_app : App
 run_files_with_options_app =
-    with_rule (with_rule (with_rule (new_app (codes "run-files")) stage_rule) (flag_rule (codes "fresh"))) paths_from_rule
+    with_choice (with_rule (with_rule (with_rule (new_app (codes "run-files")) only_rule) stage_rule) (flag_rule (codes "fresh")))
 
--- behind them `[PATH..]`
+-- behind them `[--paths-from=FILE] [PATH..]`
 abbrev pub run_files_app : App
-run_files_app = with_rule run_files_with_options_app (optional_words_rule (codes "PATH"))
+run_files_app = with_rule (with_rule run_files_with_options_app paths_from_rule) (optional_words_rule (codes "PATH"))
 
 abbrev pub fixes_app : App
 fixes_app = new_app (codes "fixes")
@@ -247,9 +256,14 @@ add_line rows =
 abbrev pub remove_line : List Row → Option Line
 remove_line rows = option_map (λ (paths : PathSource). line.Update (Remove paths)) (paths_in rows)
 
+-- what `--cautious` and `--verbose` ask of a run
+abbrev pub choice_in : List Row → RunChoice
+choice_in rows = record { cautious = flag_in (codes "cautious") rows; verbose = flag_in (codes "verbose") rows }
+
 abbrev pub run_line : List Row → Option Line
 run_line rows =
-    option_map (λ (stage : StageChoice). line.Update (Run (files_in rows) (first_of (codes "ID") rows) stage (flag_in (codes "fresh") rows)))
+    option_map
+    (λ (stage : StageChoice). line.Update (Run (files_in rows) (first_of (codes "ID") rows) stage (flag_in (codes "fresh") rows) (choice_in rows)))
     (stage_in (first_of (codes "hook-stage") rows))
 
 -- the files that are named, in words or in a file
@@ -259,7 +273,9 @@ named_in (Listed from) = ListedFiles from
 
 abbrev pub run_files_line : List Row → Option Line
 run_files_line rows =
-    option_and_then (λ (paths : PathSource). option_map (λ (stage : StageChoice). line.Update (Run (named_in paths) None stage (flag_in (codes "fresh") rows)))
+    option_and_then
+    (λ (paths : PathSource). option_map
+    (λ (stage : StageChoice). line.Update (Run (named_in paths) (first_of (codes "only") rows) stage (flag_in (codes "fresh") rows) (choice_in rows)))
     (stage_in (first_of (codes "hook-stage") rows))) (paths_in rows)
 
 abbrev pub commit_line : List Row → Line

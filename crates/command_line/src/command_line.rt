@@ -4,7 +4,7 @@
 
 ghost use Rattle.std.specs.Prelude.{◌≡◌, IfOk, Some, is_some, map, option_map, true};
 ghost use Rattle.clap.specs.Words.{FailsBy, fault_of, found_of, rows_of, subcommand_of, subcommand_rows_of};
-ghost use Rattle.command_line.specs.CommandLine.{IsValueOf, add_line, cat_line, commit_line, explain_line, files_in, hookhost_app, is_command, line_asked, line_by, line_fault, line_fault_of, line_in, memory_line, named_in, remove_line, run_files_line, run_line, show_line, try_line};
+ghost use Rattle.command_line.specs.CommandLine.{IsValueOf, add_line, cat_line, choice_in, commit_line, explain_line, files_in, hookhost_app, is_command, line_asked, line_by, line_fault, line_fault_of, line_in, memory_line, named_in, remove_line, run_files_line, run_line, show_line, try_line};
 
 use crate::commands::hookhost;
 use crate::help_length::help_asked;
@@ -13,7 +13,7 @@ use crate::paths::paths_of;
 use crate::values::{
     flag_of, limit_of, maybe_text_of, mode_of, number_of, stage_of, text_of, texts_of, version_of,
 };
-use crate::{FileChoice, Line, LookUp, PathSource, Standalone, Update};
+use crate::{FileChoice, Line, LookUp, PathSource, RunChoice, Standalone, Update};
 use clap::{ArgMatches, Error};
 use std::alloc::{AllocError, Global};
 
@@ -136,7 +136,17 @@ fn run_line(alloc: Global, values: &ArgMatches<'_>) -> Result<Line, Error>
         only: maybe_text_of(alloc, values, "ID")?,
         stage,
         fresh: flag_of(values, "fresh"),
+        options: choice_of(values),
     }))
+}
+
+fn choice_of(values: &ArgMatches<'_>) -> RunChoice
+    ensures { result ≡ choice_in (rows_of (found_of values.now)) }
+{
+    RunChoice {
+        cautious: flag_of(values, "cautious"),
+        verbose: flag_of(values, "verbose"),
+    }
 }
 
 fn files_of(values: &ArgMatches<'_>) -> FileChoice
@@ -156,9 +166,10 @@ fn run_files_line(alloc: Global, values: &ArgMatches<'_>) -> Result<Line, Error>
     let stage = stage_of(alloc, "run-files", values)?;
     Ok(Line::Update(Update::Run {
         files: named_by(paths),
-        only: None,
+        only: maybe_text_of(alloc, values, "only")?,
         stage,
         fresh: flag_of(values, "fresh"),
+        options: choice_of(values),
     }))
 }
 

@@ -2,10 +2,10 @@
 //!
 //! The contracts cite `specs/CommandLine.antt`.
 
-ghost use Rattle.std.specs.Prelude.{◌≡◌, ◌∷◌, IfOk, [], false};
+ghost use Rattle.std.specs.Prelude.{◌≡◌, ◌∷◌, IfOk, [], codes, false};
 ghost use Rattle.clap.specs.Words.{app_of, new_rule, rule_of};
 ghost use Rattle.clap.specs.declared.builder.Command.TheViews.{out-Command as fields_of};
-ghost use Rattle.command_line.specs.CommandLine.{accept_app, add_app, cat_app, check_app, chmod_rule, commit_app, commit_rule, explain_app, fixes_app, flag_rule, forget_app, hookhost_app, hookhost_base, init_app, limit_rule, log_app, memory_app, message_rule, optional_words_rule, paths_from_rule, remove_app, run_app, run_files_app, run_files_with_options_app, run_with_options_app, show_app, stage_rule, status_app, try_app, with_commands, word_rule, words_rule};
+ghost use Rattle.command_line.specs.CommandLine.{accept_app, add_app, cat_app, check_app, chmod_rule, commit_app, commit_rule, explain_app, fixes_app, flag_rule, forget_app, hookhost_app, hookhost_base, init_app, limit_rule, log_app, memory_app, message_rule, only_rule, optional_words_rule, paths_from_rule, remove_app, run_app, run_files_app, run_files_with_options_app, run_with_options_app, show_app, stage_rule, status_app, try_app, with_choice, with_commands, word_rule, words_rule};
 
 use crate::help::{CHECK_HELP, EXPLAIN_HELP, PROGRAM_HELP, TRY_HELP};
 use crate::help_length::HelpLength;
@@ -17,8 +17,14 @@ use crate::version::VERSION;
 use clap::{Arg, ArgAction, Command};
 use std::alloc::{AllocError, Global};
 
+const RUN_USAGE: &str =
+    "hookhost run [--all-files] [--hook-stage=<STAGE>] [--fresh] [--cautious] [--verbose] [ID]";
+
 const RUN_FILES_USAGE: &str =
-    "hookhost run-files [--hook-stage=<STAGE>] [--fresh] (<PATH>... | --paths-from=<FILE>)";
+    "hookhost run-files [--only=<ID>] [--hook-stage=<STAGE>] [--fresh] [--cautious] [--verbose] (<PATH>... | --paths-from=<FILE>)";
+
+const CAUTIOUS_HELP: &str =
+    "Counts every file as seen by a hook that doesn't say which, and takes no failure from the cache";
 
 /// The program without its name, with all its commands.
 pub(crate) fn hookhost<'a>(alloc: Global, help: HelpLength) -> Result<Command<'a>, AllocError>
@@ -239,7 +245,7 @@ fn status_command<'a>(alloc: Global, help: HelpLength) -> Command<'a>
         .after_help(help.of(STATUS_HELP))
 }
 
-/// `run [--all-files] [--hook-stage=STAGE] [--fresh] [ID]`.
+/// `run [--all-files] [--hook-stage=STAGE] [--fresh] [--cautious] [--verbose] [ID]`.
 pub(crate) fn run_command<'a>(alloc: Global, help: HelpLength) -> Result<Command<'a>, AllocError>
     ensures app { IfOk result (λ command. app_of command ≡ run_app) }
     ensures local { IfOk result (λ command. (fields_of command).has_globals ≡ false) }
@@ -256,9 +262,9 @@ fn run_with_options<'a>(alloc: Global, help: HelpLength) -> Result<Command<'a>, 
     ensures app { IfOk result (λ command. app_of command ≡ run_with_options_app) }
     ensures local { IfOk result (λ command. (fields_of command).has_globals ≡ false) }
 {
-    Command::new(alloc, "run")
+    let command = Command::new(alloc, "run")
         .about("Runs the hooks of the staged configuration on staged files, and prints the report")
-        .override_usage("hookhost run [--all-files] [--hook-stage=<STAGE>] [--fresh] [ID]")
+        .override_usage(RUN_USAGE)
         .after_help(help.of(RUN_HELP))
         .arg(flag(
             alloc,
@@ -266,14 +272,25 @@ fn run_with_options<'a>(alloc: Global, help: HelpLength) -> Result<Command<'a>, 
             "Takes all staged files, not only those that differ from the last commit",
         ))?
         .arg(stage(alloc))?
+        .arg(fresh(alloc))?;
+    with_choice(alloc, command)
+}
+
+// A command with the options that say what else is asked of a run.
+fn with_choice<'a>(alloc: Global, command: Command<'a>) -> Result<Command<'a>, AllocError>
+    ensures app { IfOk result (λ made. app_of made ≡ with_choice (app_of command.entry)) }
+    ensures local { IfOk result (λ made. (fields_of made).has_globals ≡ (fields_of command.entry).has_globals) }
+{
+    command
+        .arg(flag(alloc, "cautious", CAUTIOUS_HELP))?
         .arg(flag(
             alloc,
-            "fresh",
-            "Starts every command, also where its answer is remembered",
+            "verbose",
+            "Prints the output of every hook, and how many answers came from the cache",
         ))
 }
 
-/// `run-files [--hook-stage=STAGE] [--fresh] [--paths-from=FILE] [PATH..]`.
+/// `run-files [--only=ID] [--hook-stage=STAGE] [--fresh] [--cautious] [--verbose] [--paths-from=FILE] [PATH..]`.
 pub(crate) fn run_files_command<'a>(
     alloc: Global,
     help: HelpLength,
@@ -281,11 +298,9 @@ pub(crate) fn run_files_command<'a>(
     ensures app { IfOk result (λ command. app_of command ≡ run_files_app) }
     ensures local { IfOk result (λ command. (fields_of command).has_globals ≡ false) }
 {
-    run_files_with_options(alloc, help)?.arg(optional_words(
-        alloc,
-        "PATH",
-        "The staged files to run the hooks on",
-    ))
+    run_files_with_options(alloc, help)?
+        .arg(paths_from(alloc))?
+        .arg(optional_words(alloc, "PATH", "The staged files to run the hooks on"))
 }
 
 // `run-files` with its options alone.
@@ -293,17 +308,14 @@ fn run_files_with_options<'a>(alloc: Global, help: HelpLength) -> Result<Command
     ensures app { IfOk result (λ command. app_of command ≡ run_files_with_options_app) }
     ensures local { IfOk result (λ command. (fields_of command).has_globals ≡ false) }
 {
-    Command::new(alloc, "run-files")
+    let command = Command::new(alloc, "run-files")
         .about("Runs the hooks of the staged configuration on the named staged files")
         .override_usage(RUN_FILES_USAGE)
         .after_help(help.of(RUN_FILES_HELP))
+        .arg(only(alloc))?
         .arg(stage(alloc))?
-        .arg(flag(
-            alloc,
-            "fresh",
-            "Starts every command, also where its answer is remembered",
-        ))?
-        .arg(paths_from(alloc))
+        .arg(fresh(alloc))?;
+    with_choice(alloc, command)
 }
 
 fn fixes_command<'a>(alloc: Global, help: HelpLength) -> Command<'a>
@@ -485,6 +497,17 @@ fn flag<'a>(alloc: Global, id: &'a str, help: &'a str) -> Arg<'a>
         .help(help)
 }
 
+fn fresh<'a>(alloc: Global) -> Arg<'a>
+    ensures rule { rule_of result ≡ flag_rule (codes "fresh") }
+    ensures local { result.global ≡ false }
+{
+    flag(
+        alloc,
+        "fresh",
+        "Starts every command, also where its answer is remembered",
+    )
+}
+
 fn stage<'a>(alloc: Global) -> Arg<'a>
     ensures rule { rule_of result ≡ stage_rule }
     ensures local { result.global ≡ false }
@@ -493,6 +516,15 @@ fn stage<'a>(alloc: Global) -> Arg<'a>
         .long("hook-stage")
         .value_name("STAGE")
         .help("The stage whose hooks are run, pre-commit or manual; without it pre-commit")
+}
+
+fn only<'a>(alloc: Global) -> Arg<'a>
+    ensures rule { rule_of result ≡ only_rule }
+    ensures local { result.global ≡ false }
+{
+    Arg::new(alloc, "only").long("only").value_name("ID").help(
+        "The id or alias of the hooks to run; without it all of the stage",
+    )
 }
 
 fn message<'a>(alloc: Global) -> Arg<'a>

@@ -8,7 +8,8 @@ Without words, the configuration is read from standard input, and its hooks are
 run on no files. What that refuses, hookhost try --help explains.
 
 A repository lies in .hookhost of the current folder: init makes it, and all
-commands but try, check and explain work on it.
+commands but try, check and explain work on it. In a repository of Git the script
+hookhost-git runs the hooks before each commit: hookhost-git --help says how.
 
 Examples:
   hookhost try .pre-commit-config.yaml README.md src/main.c
@@ -28,8 +29,8 @@ hookhost COMMAND --help explains what that command refuses.";
 pub(crate) const TRY_HELP: &str = "\
 Hooks of the stage pre-commit are run on the files that each selects, one after
 another. The commands of system and script hooks run in .hookhost/scratch of the
-current folder, each over copies of all named files: no other file is written. The
-report goes to standard output.
+current folder, each over copies of all named files: no other file is written, and
+at the end that folder is removed. The report goes to standard output.
 
 Example:
   hookhost try .pre-commit-config.yaml README.md src/main.c
@@ -47,7 +48,7 @@ parts and . or .., and not below .git. Everything else is told as
    1 Read         standard input, read where there are no words, gave an error
                   try again
    2 Config       the text is no configuration, or has more than 1 MiB
-                  mend it: as .pre-commit-config.yaml, hookhost check tells why
+                  mend it: hookhost explain CONFIG says what is wrong
    3 Write        standard output took no more
                   see what reads it; a part of the report may have gone out
    4 OutOfMemory  memory was refused

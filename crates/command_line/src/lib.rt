@@ -19,5 +19,5 @@ mod version;
 pub use answer_limit::AnswerLimit;
 pub use command_line::line_of;
 pub use line::{
-    FileChoice, FileVersion, Line, LookUp, PathSource, StageChoice, Standalone, Update,
+    FileChoice, FileVersion, Line, LookUp, PathSource, RunChoice, StageChoice, Standalone, Update,
 };

@@ -85,6 +85,8 @@ pub enum Update {
         stage: StageChoice,
         /// Whether every child is to be started, also where its answer is remembered.
         fresh: bool,
+        /// What else is asked of the run.
+        options: RunChoice,
     },
     /// The fixes are applied to the staged files.
     Accept,
@@ -132,6 +134,16 @@ pub enum FileVersion {
     Fixed,
     /// Those of the commit with this number.
     Committed(u32),
+}
+
+/// What a run is asked for besides its files, its hooks and whether each child is started.
+#[derive(Clone, Copy, Debug, PartialEq, Eq)]
+pub struct RunChoice {
+    /// Whether a hook sees every file of the tree, unless it says which files its command reads or the command is a known tool's,
+    /// and no failure is taken from the cache.
+    pub cautious: bool,
+    /// Whether the output of each hook is printed, and how many answers came from the cache.
+    pub verbose: bool,
 }
 
 /// A stage that a line may ask for.

@@ -153,8 +153,15 @@ and no commit starts it again on the same files. With --fresh each is started, a
 unsteady: ID tells of each hook that answers otherwise than is remembered. hookhost
 memory --help says when that is of use, and how long an answer is remembered.
 
+With --cautious a hook counts as seeing every file of the tree, unless it says by
+x_reads which files its command reads, or the command is a known tool's: a change of
+any file starts it again. No failure is taken from the cache then. With --verbose
+the output of every hook is printed, and behind the report 'answered from the
+cache: N', how many commands weren't started for that.
+
 Examples:
   hookhost run
+  hookhost run --cautious --verbose
   SKIP=slow,names hookhost run --all-files
   hookhost run names --hook-stage=manual",
     "   0  every hook passed or was skipped
@@ -163,7 +170,7 @@ Examples:
    7 NoConfig     no .pre-commit-config.yaml is staged
                   stage one, by hookhost add
    8 BadConfig N  the staged configuration can't be read, for the cause N
-                  mend and stage it: hookhost check --help has the causes
+                  mend and stage it: hookhost explain says what is wrong
    9 NoSuchHook   no hook of the stage has the id or alias ID
                   name one of the staged configuration
   13 Collision    other contents are kept under the same digest
@@ -176,7 +183,8 @@ Examples:
 pub(crate) const RUN_FILES_HELP: &str = opening_help!(
     "\
 As hookhost run, whose help tells more, but on the named files alone. Each has to be
-staged; that it differs from the last commit isn't asked.
+staged; that it differs from the last commit isn't asked. With --only=ID just the
+hooks of this id or alias are run.
 
 With --paths-from the paths are read from a file, or with - from standard input,
 each ended by a NUL byte, as git diff --name-only -z writes them.
@@ -194,7 +202,9 @@ Examples:
    7 NoConfig     no .pre-commit-config.yaml is staged
                   stage one, by hookhost add
    8 BadConfig N  the staged configuration can't be read, for the cause N
-                  mend and stage it: hookhost check --help has the causes
+                  mend and stage it: hookhost explain says what is wrong
+   9 NoSuchHook   no hook of the stage has the id or alias ID
+                  name one of the staged configuration
   13 Collision    other contents are kept under the same digest
                   this store can't keep these contents
   14 Spent        no more children can be counted
@@ -260,7 +270,7 @@ Example:
    7 NoConfig     no .pre-commit-config.yaml is staged
                   stage one, by hookhost add
    8 BadConfig N  the staged configuration can't be read, for the cause N
-                  mend and stage it: hookhost check --help has the causes
+                  mend and stage it: hookhost explain says what is wrong
   10 NothingStaged the staged files are those of the last commit
                   stage a change, by hookhost add
   12 EmptyMessage the message is empty, once hooks and blanks are done with

@@ -1,5 +1,5 @@
 -- The ends of a commit whose stages were run: what each is as a step, and as a change of the store.
-use Rattle.std.proofs.Common.{◌≡◌, ◌∙◌, sym, subst, refl, ap, ℕ, ◌+◌, Bool, false, List, [], ◌∷◌, ◌++◌, length, Err}
+use Rattle.std.proofs.Common.{◌≡◌, ◌∙◌, sym, subst, refl, ap, ℕ, ◌+◌, Bool, List, [], ◌∷◌, ◌++◌, length, Err}
 use Rattle.sqlite_trees.specs.declared.store.Store.{Ghosts}
 use Rattle.sqlite_trees.specs.Tree.{Trees}
 use Rattle.hook_base.specs.declared.file.File.{File}
@@ -7,6 +7,7 @@ use Rattle.hook_base.specs.Trees.{changes_between}
 use Rattle.child_port.specs.declared.answer.Outcome.{Outcome}
 use Rattle.child_port.specs.Telling.{SameTells}
 use Rattle.hook_config.specs.declared.stage.Stage.{Stage}
+use Rattle.hook_run.specs.declared.reuse.Reuse.TheVariants as reuse
 use Rattle.hook_run.specs.AnswerLemmas.{answered-adds}
 use Rattle.hook_run.specs.Moments.{Moment}
 use Rattle.hook_run.specs.Parts.{Part}
@@ -70,7 +71,7 @@ module _ (tells : List (List ℕ) → List File → Outcome → Type 0) (from to
     failed_parts = parts_of over_failed.told
 
     pub failed_adds : AddsTold tells from.remembered to.remembered
-    failed_adds = answered-adds tells false from to (parts_of over_failed.told) over_failed.answered
+    failed_adds = answered-adds tells reuse.All from to (parts_of over_failed.told) over_failed.answered
 
     pub unfixed_step : (refusal : HostRefusal) → IsUnfixed kept.contents (changes_between kept.repo.staged left.tree) refusal
         → IsEnded tells from to before message no_verify skip (Refused refusal) kept failed_parts
@@ -111,7 +112,7 @@ module _ (tells : List (List ℕ) → List File → Outcome → Type 0) (from to
     passed_parts = parts_of over_passed.told
 
     pub passed_adds : AddsTold tells from.remembered to.remembered
-    passed_adds = answered-adds tells false from to (parts_of over_passed.told) over_passed.answered
+    passed_adds = answered-adds tells reuse.All from to (parts_of over_passed.told) over_passed.answered
 
     pub uncommitted_step : (refusal : HostRefusal) (last : List ℕ) → last ≡ left.message → IsUncommitted kept.repo (cleaned_message last) refusal
         → IsEnded tells from to before message no_verify skip (Refused refusal) kept passed_parts

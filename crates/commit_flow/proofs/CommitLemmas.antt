@@ -1,5 +1,5 @@
 -- A commit as a step between two moments: one lemma for each of its ends.
-use Rattle.std.proofs.Common.{◌≡◌, ◌∙◌, ap, append_assoc, inl, inr, sym, subst, refl, ℕ, ◌+◌, ◌-◌, ◌^◌, Bool, false, List, [], ◌++◌, length}
+use Rattle.std.proofs.Common.{◌≡◌, ◌∙◌, ap, append_assoc, inl, inr, sym, subst, refl, ℕ, ◌+◌, ◌-◌, ◌^◌, Bool, List, [], ◌++◌, length}
 use Rattle.std.proofs.lemmas.List.{append-nil}
 use Rattle.hook_base.specs.declared.change.Change.{Change}
 use Rattle.hook_base.specs.declared.file.File.{File}
@@ -9,6 +9,7 @@ use Rattle.child_port.specs.Telling.{SameTells}
 use Rattle.hook_config.specs.declared.configuration.Config.{Config}
 use Rattle.hook_config.specs.declared.stage.Stage.{Stage}
 use Rattle.result_book.specs.StoreBooks.{RefusesAnswers}
+use Rattle.hook_run.specs.declared.reuse.Reuse.TheVariants as reuse
 use Rattle.hook_run.specs.declared.run_refusal.RunRefusal.{RunRefusal}
 use Rattle.hook_run.specs.declared.run_refusal.RunRefusal.TheVariants as run
 use Rattle.hook_run.specs.Answers.{AreAnswered, AreAnsweredSoFar}
@@ -150,48 +151,48 @@ pub record IsFront (front all : List Part) : Type 0 where
 module _ (tells : List (List ℕ) → List File → Outcome → Type 0) (from to : Moment) (before : Repository) (message : List ℕ) (no_verify : Bool) (skip : List (List ℕ)) where
   -- the reply stands on all that was answered
   step_on_all : (reply : Reply) (after : Kept) (parts : List Part) → Step before (Commit message no_verify skip) reply parts after.repo → AreLeftOut tells to to before message no_verify skip [] after.contents reply
-      → (SaysSpent reply → ⊥) → AreAnswered tells false from to parts → IsCommitStep tells from to before message no_verify skip reply after
+      → (SaysSpent reply → ⊥) → AreAnswered tells reuse.All from to parts → IsCommitStep tells from to before message no_verify skip reply after
   step_on_all reply after parts step why not_spent answered = record {
     parts = parts;
     left_out = [];
     between = to;
     step = step;
     answered = answered;
-    answered_then = so-far tells false to to [] (answered-none tells false to);
+    answered_then = so-far tells reuse.All to to [] (answered-none tells reuse.All to);
     why = why;
-    told = λ book. subst (AllTold tells) (sym (append-nil parts)) (answered-told tells false from to parts answered book);
-    adds = answered-adds tells false from to parts answered;
+    told = λ book. subst (AllTold tells) (sym (append-nil parts)) (answered-told tells reuse.All from to parts answered book);
+    adds = answered-adds tells reuse.All from to parts answered;
     put = λ says. absurd (not_spent says);
     spent = λ says. absurd (not_spent says);
   }
 
   -- the reply stands on none of what was answered
   step_on_none : (reply : Reply) (after : Kept) (parts : List Part) → Step before (Commit message no_verify skip) reply [] after.repo → AreLeftOut tells from to before message no_verify skip parts after.contents reply
-      → (answered : AreAnsweredSoFar tells false from to parts) → (SaysSpent reply → answered.last ≡ []) → (SaysSpent reply → to.calls ≡ 2 ^ 64 - 1) → IsCommitStep tells from to before message no_verify skip reply after
+      → (answered : AreAnsweredSoFar tells reuse.All from to parts) → (SaysSpent reply → answered.last ≡ []) → (SaysSpent reply → to.calls ≡ 2 ^ 64 - 1) → IsCommitStep tells from to before message no_verify skip reply after
   step_on_none reply after parts step why answered put spent = record {
     parts = [];
     left_out = parts;
     between = from;
     step = step;
-    answered = answered-none tells false from;
+    answered = answered-none tells reuse.All from;
     answered_then = answered;
     why = why;
-    told = so-far-told tells false from to parts answered;
-    adds = so-far-adds tells false from to parts answered;
+    told = so-far-told tells reuse.All from to parts answered;
+    adds = so-far-adds tells reuse.All from to parts answered;
     put = put;
     spent = spent;
   }
 
   -- the store refused what the stages had done
   step_unstored : (reply : Reply) (after : Kept) (parts : List Part) → Step before (Commit message no_verify skip) reply [] after.repo → AreLeftOut tells from to before message no_verify skip parts after.contents reply
-      → (SaysSpent reply → ⊥) → AreAnswered tells false from to parts → IsCommitStep tells from to before message no_verify skip reply after
+      → (SaysSpent reply → ⊥) → AreAnswered tells reuse.All from to parts → IsCommitStep tells from to before message no_verify skip reply after
   step_unstored reply after parts step why not_spent answered =
-      step_on_none reply after parts step why (so-far tells false from to parts answered) (λ says. absurd (not_spent says)) (λ says. absurd (not_spent says))
+      step_on_none reply after parts step why (so-far tells reuse.All from to parts answered) (λ says. absurd (not_spent says)) (λ says. absurd (not_spent says))
 
 module _ (tells : List (List ℕ) → List File → Outcome → Type 0) (before : Repository) (message : List ℕ) (no_verify : Bool) (skip : List (List ℕ)) where
   step_unbegun : (at : Moment) (refusal : HostRefusal) (after : Kept) → after.repo ≡ before → IsUnbegun before message refusal → IsCommitStep tells at at before message no_verify skip (Refused refusal) after
   step_unbegun at refusal after left why = step_on_all tells at at before message no_verify skip (Refused refusal) after [] (unbegun_refusal before message no_verify skip refusal why, left)
-      (unbegun_out tells before message no_verify skip after.contents at refusal why) (λ says. subst (IsUnbegun before message) (says_spent refusal says) why) (answered-none tells false at)
+      (unbegun_out tells before message no_verify skip after.contents at refusal why) (λ says. subst (IsUnbegun before message) (says_spent refusal says) why) (answered-none tells reuse.All at)
 
   module _ (from to : Moment) where
     step_not_begun : (refusal : HostRefusal) (after : Kept) → after.repo ≡ before → IsNotBegun from to before message refusal → IsCommitStep tells from to before message no_verify skip (Refused refusal) after
@@ -217,7 +218,7 @@ module _ (tells : List (List ℕ) → List File → Outcome → Type 0) (before 
 
     module _ (committable : IsCommittable before message) (config : Config) (configured : IsConfigured before config) where
       -- memory is refused behind the stages
-      step_lost : (after : Kept) → after.repo ≡ before → (parts : List Part) → HaveBegun config (changed_paths before) skip (stages_before_commit no_verify) (course_of before message) parts → AreAnswered tells false from to parts
+      step_lost : (after : Kept) → after.repo ≡ before → (parts : List Part) → HaveBegun config (changed_paths before) skip (stages_before_commit no_verify) (course_of before message) parts → AreAnswered tells reuse.All from to parts
           → IsCommitStep tells from to before message no_verify skip (Refused OutOfMemory) after
       step_lost after left parts begun answered = step_halted OutOfMemory after left committable config configured
           (halted_for_memory RefusesAnswers tells from to (HaveBegun config (changed_paths before) skip (stages_before_commit no_verify) (course_of before message))
@@ -365,14 +366,14 @@ module _ (tells : List (List ℕ) → List File → Outcome → Type 0) (before 
               left_out = behind.parts;
               between = to;
               step = committed (Stopped refusal) [] (behind.not_named, behind.of_book, refl);
-              answered = subst (AreAnswered tells false from to) (sym (append-nil (parts_of over.told))) over.answered;
-              answered_then = so-far-back_to tells next same false to end behind.parts behind.answered;
+              answered = subst (AreAnswered tells reuse.All from to) (sym (append-nil (parts_of over.told))) over.answered;
+              answered_then = so-far-back_to tells next same reuse.All to end behind.parts behind.answered;
               why = post_out tells before message no_verify skip after.contents to end number reports behind.parts refusal (record { config = config; configured = configured; begun = behind.begun })
                   (λ is. record { config = config; configured = configured; needs = behind.needs is });
               told = λ book. subst (AllTold tells) (ap (λ (front : List Part). front ++ behind.parts) (sym (append-nil (parts_of over.told))))
-                  (so-far-told tells false from end (parts_of over.told ++ behind.parts) (answered_up_to tells next from to end (parts_of over.told) behind.parts same over.answered behind.answered) book);
-              adds = so-far-adds tells false from end (parts_of over.told ++ behind.parts) (answered_up_to tells next from to end (parts_of over.told) behind.parts same over.answered behind.answered);
-              put = λ says. so-far-back_to-last tells next same false to end behind.parts behind.answered ∙ behind.put (says_stopped number reports refusal says);
+                  (so-far-told tells reuse.All from end (parts_of over.told ++ behind.parts) (answered_up_to tells next from to end (parts_of over.told) behind.parts same over.answered behind.answered) book);
+              adds = so-far-adds tells reuse.All from end (parts_of over.told ++ behind.parts) (answered_up_to tells next from to end (parts_of over.told) behind.parts same over.answered behind.answered);
+              put = λ says. so-far-back_to-last tells next same reuse.All to end behind.parts behind.answered ∙ behind.put (says_stopped number reports refusal says);
               spent = λ says. behind.spent (says_stopped number reports refusal says);
             }
 

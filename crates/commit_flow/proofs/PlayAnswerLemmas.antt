@@ -22,7 +22,7 @@ use Rattle.commit_flow.specs.declared.reply.Reply.{Reply}
 use Rattle.commit_flow.specs.declared.reply.Reply.TheVariants.{Ran, Forgot, Refused}
 use Rattle.commit_flow.specs.MachineRuns.{IsMachineRun}
 use Rattle.commit_flow.specs.Plays.{ArePlayed, IsPlay, IsPlayed}
-use Rattle.commit_flow.specs.Runs.{run_ask_of}
+use Rattle.commit_flow.specs.Runs.{reuse_of, run_ask_of}
 use Rattle.commit_flow.specs.StepLaws.{IsDecided}
 use Rattle.commit_flow.specs.Steps.{Step}
 use Rattle.commit_flow.specs.TwoHosts.{IsSteady, IsUnhindered, IsUnhinderedPlay, IsUnhinderedRun, without_memory, without_number}
@@ -116,8 +116,8 @@ module _ (tells : List (List ℕ) → List File → Outcome → Type 0) (alone :
   steady_reply : (from to : Moment) (before after : Repository) (command : Command) (reply : Reply) → IsPlayed tells from to before command reply after → IsTold tells from.remembered → IsSteady reply
   steady_reply from to before after (Run ask) (Ran passed report changes unsteady) played book =
       let ran = played.step in
-      ran.marked ∙ none-unsteady tells alone ran.config (run_ask_of ask before) before.staged ran.trace ran.out ask.fresh from played.between book ran.run
-      (subst (AreAnswered tells ask.fresh from played.between) ran.traced played.makes)
+      ran.marked ∙ none-unsteady tells alone ran.config (run_ask_of ask before) before.staged ran.trace ran.out (reuse_of ask) from played.between book ran.run
+      (subst (AreAnswered tells (reuse_of ask) from played.between) ran.traced played.makes)
   steady_reply from to before after command (Ran passed report changes unsteady) played book = absurd played.step
   steady_reply from to before after command reply played book = tt
 

@@ -1,9 +1,10 @@
 -- What follows for a step and for a list of commands.
-use Rattle.std.proofs.Common.{◌≡◌, ◌∙◌, inl, inr, rules, sym, subst, refl, ap, arith, ℕ, zero, suc, Bool, ◌+◌, ◌-◌, ◌^◌, ◌≤◌, List, [], ◌∷◌, length}
+use Rattle.std.proofs.Common.{◌≡◌, ◌∙◌, inl, inr, rules, sym, subst, refl, ap, arith, ℕ, zero, suc, ◌+◌, ◌-◌, ◌^◌, ◌≤◌, List, [], ◌∷◌, length}
 use Rattle.std.specs.Prelude.{All, Any}
 use Rattle.std.proofs.lemmas.List.Elements.{All-head, All-tail}
 use Rattle.hook_base.specs.declared.file.File.{File}
 use Rattle.child_port.specs.declared.answer.Outcome.{Outcome}
+use Rattle.hook_run.specs.declared.reuse.Reuse.{Reuse}
 use Rattle.hook_run.specs.Answers.{AreAnswered}
 use Rattle.hook_run.specs.AnswerLemmas.{answered-faults, answered-rises, faults-append, so-far-faults, so-far-rises}
 use Rattle.hook_run.specs.Moments.{Moment}
@@ -17,7 +18,7 @@ use Rattle.commit_flow.specs.declared.reply.Reply.{Reply}
 use Rattle.commit_flow.specs.declared.reply.Reply.TheVariants.{Added, Removed, Accepted, Ran, Committed, HooksFailed, Forgot, Refused}
 use Rattle.commit_flow.specs.CommitSteps.{SaysSpent, StandsOnAll}
 use Rattle.commit_flow.specs.Messages.{cleaned_message}
-use Rattle.commit_flow.specs.Plays.{ArePlayed, HooksBegin, IsPlayed, Makes, RunsHooks, is_fresh}
+use Rattle.commit_flow.specs.Plays.{ArePlayed, HooksBegin, IsPlayed, Makes, RunsHooks, reuse_in}
 use Rattle.commit_flow.specs.PlayLaws.{HasCommitted, SaysCommitted}
 use Rattle.commit_flow.specs.RunSteps.{IsUnrun}
 use Rattle.commit_flow.specs.Steps.{Step}
@@ -86,15 +87,15 @@ module _ (tells : List (List ℕ) → List File → Outcome → Type 0) (from to
       let faulted = makes.1.faulted in
       let none = ap faults_of makes.0 in
       omega arith
-  made_faults command reply parts makes = answered-faults tells (is_fresh command) from to parts makes
+  made_faults command reply parts makes = answered-faults tells (reuse_in command) from to parts makes
 
   made_calls : (command : Command) (reply : Reply) (parts : List Part) → Makes tells from to command reply parts → from.calls ≤ to.calls
   made_calls Forget reply parts makes = let called = makes.1.called in omega arith
-  made_calls command reply parts makes = (answered-rises tells (is_fresh command) from to parts makes).calls
+  made_calls command reply parts makes = (answered-rises tells (reuse_in command) from to parts makes).calls
 
-  none_started : (fresh : Bool) (parts : List Part) → AreAnswered tells fresh from to parts → parts ≡ [] → (to.calls ≡ from.calls) × (to.faults ≡ from.faults)
-  none_started fresh parts answered no_parts =
-      let none = subst (AreAnswered tells fresh from to) no_parts answered in
+  none_started : (reuse : Reuse) (parts : List Part) → AreAnswered tells reuse from to parts → parts ≡ [] → (to.calls ≡ from.calls) × (to.faults ≡ from.faults)
+  none_started reuse parts answered no_parts =
+      let none = subst (AreAnswered tells reuse from to) no_parts answered in
       let called = none.counted.called in
       let faulted = none.counted.faulted in
       let no_calls = ap (λ (all : List Part). length all) none.starts.1 in
@@ -104,19 +105,19 @@ module _ (tells : List (List ℕ) → List File → Outcome → Type 0) (from to
   -- without parts no child is started
   made_none : (command : Command) (reply : Reply) (parts : List Part) → Makes tells from to command reply parts → parts ≡ [] → (to.calls ≡ from.calls) × (to.faults ≡ from.faults)
   made_none Forget reply parts makes no_parts = (makes.1.called, makes.1.faulted)
-  made_none command reply parts makes no_parts = none_started (is_fresh command) parts makes no_parts
+  made_none command reply parts makes no_parts = none_started (reuse_in command) parts makes no_parts
 
 module _ (tells : List (List ℕ) → List File → Outcome → Type 0) (from to : Moment) (before : Repository) (command : Command) (reply : Reply) (after : Repository) (one : IsPlayed tells from to before command reply after) where
   one_faults : to.faults ≡ from.faults + faults_of one.parts + faults_of one.left_out
   one_faults =
       let first = made_faults tells from one.between command reply one.parts one.makes in
-      let behind = so-far-faults tells (is_fresh command) one.between to one.left_out one.answered_then in
+      let behind = so-far-faults tells (reuse_in command) one.between to one.left_out one.answered_then in
       omega arith
 
   one_calls : from.calls ≤ to.calls
   one_calls =
       let first = made_calls tells from one.between command reply one.parts one.makes in
-      let behind = (so-far-rises tells (is_fresh command) one.between to one.left_out one.answered_then).calls in
+      let behind = (so-far-rises tells (reuse_in command) one.between to one.left_out one.answered_then).calls in
       omega arith
 
   pub one_unrun : (¬ RunsHooks command) → IsUnrun one.between to one.left_out

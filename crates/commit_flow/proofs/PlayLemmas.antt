@@ -12,6 +12,7 @@ use Rattle.result_book.specs.StoreBooks.{remembered_by, row_of}
 use Rattle.repo_store.specs.Answers.{KeptAnswer}
 use Rattle.result_book.specs.Told.{AddsTold, IsTold}
 use Rattle.result_book.specs.ToldLemmas.{adds-then, told-adds}
+use Rattle.hook_run.specs.declared.reuse.Reuse.{Reuse}
 use Rattle.hook_run.specs.declared.run_refusal.RunRefusal.TheVariants as run
 use Rattle.hook_run.specs.Answers.{AreAnswered}
 use Rattle.hook_run.specs.AnswerLemmas.{adds-same, answered-adds, answered-back_to, answered-none, answered-told, so-far, so-far-adds, so-far-back_to, so-far-back_to-last, told-append}
@@ -32,9 +33,9 @@ use Rattle.commit_flow.specs.CommitSteps.{AreLeftOut, HasBegunBefore, HasBegunBe
 use Rattle.commit_flow.specs.CommitStages.{HaveBegun, ask_in, course_of, parts_of, stages_before_commit}
 use Rattle.commit_flow.specs.Commits.{IsVerifiedBut}
 use Rattle.commit_flow.specs.Configured.{IsConfigured}
-use Rattle.commit_flow.specs.Plays.{ArePlayed, HasForgotten, HooksBegin, HooksNeedChild, IsPlay, IsPlayed, Makes, RunsHooks, is_fresh}
+use Rattle.commit_flow.specs.Plays.{ArePlayed, HasForgotten, HooksBegin, HooksNeedChild, IsPlay, IsPlayed, Makes, RunsHooks, reuse_in}
 use Rattle.commit_flow.specs.RunSteps.{HasBegun, HasFurther, HasRunBut, IsRunStep, IsStoppedAt, IsStoppedStep, IsUnrun, IsUnset, StoreStopsRun, reply_of_run}
-use Rattle.commit_flow.specs.Runs.{changed_paths, run_ask_of}
+use Rattle.commit_flow.specs.Runs.{changed_paths, reuse_of, run_ask_of}
 use Rattle.commit_flow.specs.Steps.{Step}
 use Rattle.commit_flow.proofs.CommitLemmas.{says_spent}
 use Rattle.commit_flow.proofs.StagesLemmas.{begun_all, begun_before, begun_failed, begun_verified, have_begun_before}
@@ -45,7 +46,7 @@ module _ (tells : List (List ℕ) → List File → Outcome → Type 0) (from to
   -- each part of a command has an outcome that the children may tell, where what is remembered before it is told
   made_told : (command : Command) (reply : Reply) (parts : List Part) → Makes tells from to command reply parts → IsTold tells from.remembered → AllTold tells parts
   made_told Forget reply parts makes book = subst (AllTold tells) (sym makes.0) tt
-  made_told command reply parts makes book = answered-told tells (is_fresh command) from to parts makes book
+  made_told command reply parts makes book = answered-told tells (reuse_in command) from to parts makes book
 
   still_adds : (reply : Reply) → HasForgotten from.remembered to.remembered reply → AddsTold tells from.remembered to.remembered
   still_adds (Forgot number) forgotten = λ words seen answer holds. absurd (have_none words seen answer to.remembered.rows forgotten.1.none holds)
@@ -54,17 +55,17 @@ module _ (tells : List (List ℕ) → List File → Outcome → Type 0) (from to
   -- each answer that is remembered behind it was so before, or was told
   made_adds : (command : Command) (reply : Reply) (parts : List Part) → Makes tells from to command reply parts → AddsTold tells from.remembered to.remembered
   made_adds Forget reply parts makes = still_adds reply makes.1.forgotten
-  made_adds command reply parts makes = answered-adds tells (is_fresh command) from to parts makes
+  made_adds command reply parts makes = answered-adds tells (reuse_in command) from to parts makes
 
-  none_answered : (fresh : Bool) (parts : List Part) → IsUnrun from to parts → AreAnswered tells fresh from to parts
-  none_answered fresh parts unrun =
-      subst (λ (at : Moment). AreAnswered tells fresh from at parts) (sym unrun.1) (subst (AreAnswered tells fresh from from) (sym unrun.0) (answered-none tells fresh from))
+  none_answered : (reuse : Reuse) (parts : List Part) → IsUnrun from to parts → AreAnswered tells reuse from to parts
+  none_answered reuse parts unrun =
+      subst (λ (at : Moment). AreAnswered tells reuse from at parts) (sym unrun.1) (subst (AreAnswered tells reuse from from) (sym unrun.0) (answered-none tells reuse from))
 
 -- by children that tell the same
 module _ (tells next : List (List ℕ) → List File → Outcome → Type 0) (same : SameTells tells next) (from to : Moment) where
   pub made_back : (command : Command) (reply : Reply) (parts : List Part) → Makes next from to command reply parts → Makes tells from to command reply parts
   made_back Forget reply parts makes = makes
-  made_back command reply parts makes = answered-back_to tells next same (is_fresh command) from to parts makes
+  made_back command reply parts makes = answered-back_to tells next same (reuse_in command) from to parts makes
 
 -- ---- a command that runs no hooks
 
@@ -89,7 +90,7 @@ runless_played tells from to before after command reply runless step makes = rec
   between = to;
   step = step;
   makes = makes;
-  answered_then = so-far tells (is_fresh command) to to [] (answered-none tells (is_fresh command) to);
+  answered_then = so-far tells (reuse_in command) to to [] (answered-none tells (reuse_in command) to);
   none = λ _. (refl, refl);
   begun = inl (refl, refl);
   put = λ says. absurd (unspent before after command reply [] step runless says);
@@ -102,9 +103,9 @@ pub same_remembered : (before after : Kept) → after.answers ≡ before.answers
 same_remembered before after same limits = ap₂ (λ (limit : ℕ) (answers : List KeptAnswer). with_rows limit (map row_of answers)) limits same
 
 -- where nothing is remembered or forgotten either, nothing happens
-pub unmade_of : (tells : List (List ℕ) → List File → Outcome → Type 0) (fresh : Bool) (calls faults : ℕ) (book book_after : Contents) → book_after ≡ book
-    → AreAnswered tells fresh (moment calls faults book) (moment calls faults book_after) []
-unmade_of tells fresh calls faults book book_after same = none_answered tells (moment calls faults book) (moment calls faults book_after) fresh [] (refl, ap (moment calls faults) same)
+pub unmade_of : (tells : List (List ℕ) → List File → Outcome → Type 0) (reuse : Reuse) (calls faults : ℕ) (book book_after : Contents) → book_after ≡ book
+    → AreAnswered tells reuse (moment calls faults book) (moment calls faults book_after) []
+unmade_of tells reuse calls faults book book_after same = none_answered tells (moment calls faults book) (moment calls faults book_after) reuse [] (refl, ap (moment calls faults) same)
 
 -- ---- a run
 
@@ -116,7 +117,7 @@ run_played tells from to before after ask ran over = record {
   between = to;
   step = over.step;
   makes = over.answered;
-  answered_then = so-far tells ask.fresh to to [] (answered-none tells ask.fresh to);
+  answered_then = so-far tells (reuse_of ask) to to [] (answered-none tells (reuse_of ask) to);
   none = λ _. (refl, refl);
   begun = inl (refl, refl);
   put = λ says. absurd says;
@@ -166,7 +167,7 @@ stopped_played tells from to before ask after refusal over = record {
   left_out = over.parts;
   between = from;
   step = over.step;
-  makes = answered-none tells ask.fresh from;
+  makes = answered-none tells (reuse_of ask) from;
   answered_then = over.answered;
   none = none_left tells from to before ask over.parts after.contents refusal over.stopped;
   begun = run_begun tells from to before ask over.parts after.contents refusal over.stopped;
@@ -262,7 +263,7 @@ module _ (tells : List (List ℕ) → List File → Outcome → Type 0) (from to
 
   pub one_adds : AddsTold tells from.remembered to.remembered
   one_adds = adds-then tells from.remembered one.between.remembered to.remembered (made_adds tells from one.between command reply one.parts one.makes)
-      (so-far-adds tells (is_fresh command) one.between to one.left_out one.answered_then)
+      (so-far-adds tells (reuse_in command) one.between to one.left_out one.answered_then)
 
 module _ (tells : List (List ℕ) → List File → Outcome → Type 0) (to : Moment) (after : Repository) where
   played_told : (from : Moment) (before : Repository) (commands : List Command) (replies : List Reply) (parts : List Part)
@@ -302,10 +303,10 @@ played_back tells next same from to before after command reply it = record {
   between = it.between;
   step = it.step;
   makes = made_back tells next same from it.between command reply it.parts it.makes;
-  answered_then = so-far-back_to tells next same (is_fresh command) it.between to it.left_out it.answered_then;
+  answered_then = so-far-back_to tells next same (reuse_in command) it.between to it.left_out it.answered_then;
   none = it.none;
   begun = it.begun;
-  put = λ says. so-far-back_to-last tells next same (is_fresh command) it.between to it.left_out it.answered_then ∙ it.put says;
+  put = λ says. so-far-back_to-last tells next same (reuse_in command) it.between to it.left_out it.answered_then ∙ it.put says;
   spent = it.spent;
   needed = it.needed;
 }

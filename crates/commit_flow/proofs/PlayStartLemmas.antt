@@ -1,10 +1,11 @@
 -- What a list of commands makes of what is remembered, and for which parts children were started.
-use Rattle.std.proofs.Common.{◌≡◌, ◌∙◌, sym, subst, refl, ap, arith, ℕ, Bool, List, [], ◌∷◌, ◌++◌, length}
+use Rattle.std.proofs.Common.{◌≡◌, ◌∙◌, sym, subst, refl, ap, arith, ℕ, List, [], ◌∷◌, ◌++◌, length}
 use Rattle.std.specs.Prelude.{All}
 use Rattle.std.proofs.lemmas.List.Elements.{All-head, All-tail}
 use Rattle.hook_base.specs.declared.file.File.{File}
 use Rattle.child_port.specs.declared.answer.Outcome.{Outcome}
 use Rattle.result_book.specs.Contents.{Contents}
+use Rattle.hook_run.specs.declared.reuse.Reuse.{Reuse}
 use Rattle.hook_run.specs.Answers.{AreAnswered, IsCounted}
 use Rattle.hook_run.specs.AnswerLemmas.{counted-none, counted-then}
 use Rattle.hook_run.specs.Moments.{Moment, moment}
@@ -14,7 +15,7 @@ use Rattle.commit_flow.specs.declared.command.Command.{Command}
 use Rattle.commit_flow.specs.declared.command.Command.TheVariants.{Run, Commit, Forget}
 use Rattle.commit_flow.specs.declared.reply.Reply.{Reply}
 use Rattle.commit_flow.specs.CommitSteps.{StandsOnAll}
-use Rattle.commit_flow.specs.Plays.{ArePlayed, IsPlayed, Makes, RunsHooks, is_fresh}
+use Rattle.commit_flow.specs.Plays.{ArePlayed, IsPlayed, Makes, RunsHooks, reuse_in}
 use Rattle.commit_flow.specs.PlayLaws.{CommandStarts, PlayStarts}
 use Rattle.commit_flow.specs.StepLaws.{IsRunless}
 use Rattle.commit_flow.proofs.PlayLawLemmas.{one_unrun, runless_parts}
@@ -30,9 +31,9 @@ runs_none (Commit message no_verify skip) runless runs = runless
 runs_none command runless runs = runs
 
 module _ (tells : List (List ℕ) → List File → Outcome → Type 0) (from to : Moment) where
-  unchanged : (fresh : Bool) (parts : List Part) → AreAnswered tells fresh from to parts → parts ≡ [] → to ≡ from
-  unchanged fresh parts answered no_parts =
-      let none = subst (AreAnswered tells fresh from to) no_parts answered in
+  unchanged : (reuse : Reuse) (parts : List Part) → AreAnswered tells reuse from to parts → parts ≡ [] → to ≡ from
+  unchanged reuse parts answered no_parts =
+      let none = subst (AreAnswered tells reuse from to) no_parts answered in
       let called = none.counted.called in
       let faulted = none.counted.faulted in
       let no_calls = ap (λ (all : List Part). length all) none.starts.1 in
@@ -45,7 +46,7 @@ module _ (tells : List (List ℕ) → List File → Outcome → Type 0) (from to
   made_unchanged (Run ask) reply parts makes runless no_parts = absurd runless
   made_unchanged (Commit message no_verify skip) reply parts makes runless no_parts = absurd runless
   made_unchanged Forget reply parts makes runless no_parts = absurd runless
-  made_unchanged command reply parts makes runless no_parts = unchanged (is_fresh command) parts makes no_parts
+  made_unchanged command reply parts makes runless no_parts = unchanged (reuse_in command) parts makes no_parts
 
 one_unchanged : (tells : List (List ℕ) → List File → Outcome → Type 0) (from to : Moment) (before : Repository) (command : Command) (reply : Reply) (after : Repository)
     → IsPlayed tells from to before command reply after → IsRunless command → to ≡ from

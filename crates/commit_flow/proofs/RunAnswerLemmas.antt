@@ -14,18 +14,19 @@ use Rattle.hook_run.specs.Parts.{Part, all_parts}
 use Rattle.hook_run.specs.RunOuts.{IsRunOut}
 use Rattle.hook_run.specs.SameRuns.{GiveSame}
 use Rattle.repo_store.specs.Repository.{Repository}
+use Rattle.run_options.specs.Options.{with_options}
 use Rattle.commit_flow.specs.declared.command.Command.TheVariants.{Run}
 use Rattle.commit_flow.specs.declared.host_ask.HostAsk.{HostAsk}
 use Rattle.commit_flow.specs.declared.host_refusal.HostRefusal.{HostRefusal}
 use Rattle.commit_flow.specs.declared.host_refusal.HostRefusal.TheVariants.{OutOfMemory, Store, BadPath, NotStaged, NoConfig, BadConfig, NoSuchHook, Collision, Spent}
 use Rattle.commit_flow.specs.declared.reply.Reply.{Reply}
 use Rattle.commit_flow.specs.declared.reply.Reply.TheVariants.{Ran, Refused}
-use Rattle.commit_flow.specs.Configured.{IsConfigured, LacksConfig}
+use Rattle.commit_flow.specs.Configured.{IsConfiguredFor, LacksConfig}
 use Rattle.commit_flow.specs.Runs.{AreStagedPaths, IsNameRefusal, IsNamesRefusal, IsStagedPath, fixing, names_in, run_ask_of}
 use Rattle.commit_flow.specs.StagedPaths.{IsLegal, IsStaged}
 use Rattle.commit_flow.specs.Steps.{Step}
 use Rattle.commit_flow.specs.TwoHosts.{IsUnhindered, without_memory}
-use Rattle.commit_flow.proofs.StageAnswerLemmas.{AreClear, clear_as, not_lacking, same_config, same_out}
+use Rattle.commit_flow.proofs.StageAnswerLemmas.{AreClear, clear_as, configured_for, not_lacking, same_config_for, same_out}
 
 -- the two are the same, but for what they say of what is remembered
 abbrev pub AreAlike : Reply → Reply → Repository → Repository → Type 0
@@ -112,7 +113,7 @@ module _ (before : Repository) (ask : HostAsk) where
 
   abbrev RunWay : Reply → List Part → Repository → Type 0
   RunWay reply parts after =
-      (LacksConfig before × IsRefusedSo before NoConfig reply after) ⊎ ((config : Config) × IsConfigured before config × NamesWay config reply parts after)
+      (LacksConfig before × IsRefusedSo before NoConfig reply after) ⊎ ((config : Config) × IsConfiguredFor ask.options before config × NamesWay config reply parts after)
 
   run_way : (reply : Reply) (parts : List Part) (after : Repository) → Step before (Run ask) reply parts after → IsUnhindered reply → RunWay reply parts after
   run_way (Ran passed report changes unsteady) parts after step unhindered = inr (
@@ -132,8 +133,8 @@ module _ (before : Repository) (ask : HostAsk) where
     ),
   )
   run_way (Refused NoConfig) parts after step unhindered = inl (step.0.0, record { is = refl; left = step.1 })
-  run_way (Refused (BadPath fault)) parts after step unhindered = inr (step.0.0.0.0, step.0.0.0.1, inl (BadPath fault, step.0.0.1, record { is = refl; left = step.1 }))
-  run_way (Refused NotStaged) parts after step unhindered = inr (step.0.0.0.0, step.0.0.0.1, inl (NotStaged, step.0.0.1, record { is = refl; left = step.1 }))
+  run_way (Refused (BadPath fault)) parts after step unhindered = inr (with_options ask.options step.0.0.0.0, configured_for ask.options before step.0.0.0.0 step.0.0.0.1, inl (BadPath fault, step.0.0.1, record { is = refl; left = step.1 }))
+  run_way (Refused NotStaged) parts after step unhindered = inr (with_options ask.options step.0.0.0.0, configured_for ask.options before step.0.0.0.0 step.0.0.0.1, inl (NotStaged, step.0.0.1, record { is = refl; left = step.1 }))
   run_way (Refused NoSuchHook) parts after step unhindered =
       let none = step.0.0 in inr (none.config, none.configured, inr (none.named, inl (none.unknown, record { is = refl; left = step.1 })))
   run_way (Refused OutOfMemory) parts after step unhindered = absurd unhindered
@@ -168,10 +169,10 @@ module _ (before : Repository) (ask : HostAsk) where
 
     same_run_way : RunWay reply parts after → RunWay second more other → AreAlike reply second after other
     same_run_way (inl p) (inl q) = refused_alike before after other NoConfig NoConfig reply second refl p.1 q.1
-    same_run_way (inl p) (inr q) = absurd (not_lacking before q.0 p.0 q.1)
-    same_run_way (inr p) (inl q) = absurd (not_lacking before p.0 q.0 p.1)
+    same_run_way (inl p) (inr q) = absurd (not_lacking before q.1.read p.0 q.1.configured)
+    same_run_way (inr p) (inl q) = absurd (not_lacking before p.1.read q.0 p.1.configured)
     same_run_way (inr p) (inr q) =
-        same_named p.0 p.2 (subst (λ (config : Config). NamesWay config second more other) (same_config before q.0 p.0 q.1 p.1) q.2)
+        same_named p.0 p.2 (subst (λ (config : Config). NamesWay config second more other) (same_config_for ask.options before q.0 p.0 q.1 p.1) q.2)
 
   pub same_run : (tells : List (List ℕ) → List File → Outcome → Type 0) (alone : OneAnswer tells) (reply second : Reply) (parts more : List Part) (after other : Repository)
       → Step before (Run ask) reply parts after → Step before (Run ask) second more other → IsUnhindered reply → IsUnhindered second

@@ -9,16 +9,18 @@ use Rattle.hook_config.specs.declared.configuration.Config.{Config}
 use Rattle.result_book.specs.declared.book_fault.BookFault.{BookFault}
 use Rattle.result_book.specs.ToldLemmas.{adds-none}
 use Rattle.result_book.specs.StoreBooks.{RefusesAnswers}
+use Rattle.hook_run.specs.declared.hooks_run.HooksRun.{HooksRun}
 use Rattle.hook_run.specs.declared.run_ask.RunAsk.{RunAsk}
 use Rattle.hook_run.specs.declared.run_out.RunOut.{RunOut}
 use Rattle.hook_run.specs.declared.run_refusal.RunRefusal.{RunRefusal}
 use Rattle.hook_run.specs.declared.run_refusal.RunRefusal.TheVariants as run
 use Rattle.hook_run.specs.Asks.{names_no_hook}
+use Rattle.hook_run.specs.Answers.{AreReused}
 use Rattle.hook_run.specs.AnswerLemmas.{answered-adds, answered-none, so-far, so-far-adds}
 use Rattle.hook_run.specs.Moments.{Moment}
 use Rattle.hook_run.specs.Parts.{Part, all_parts}
 use Rattle.hook_run.specs.Refusals.{IsOfBook}
-use Rattle.hook_run.specs.RunOuts.{IsStoppedRun}
+use Rattle.hook_run.specs.RunOuts.{IsCountedRun, IsStoppedRun}
 use Rattle.repo_store.specs.declared.fault.StoreFault.{StoreFault}
 use Rattle.repo_store.specs.declared.fault.StoreFault.TheVariants as store
 use Rattle.repo_store.specs.Faults.{IsRefusal}
@@ -31,12 +33,12 @@ use Rattle.commit_flow.specs.declared.host_refusal.HostRefusal.TheVariants.{OutO
 use Rattle.commit_flow.specs.declared.prepared.Prepared.{Prepared}
 use Rattle.commit_flow.specs.declared.staged_run.StagedRun.{StagedRun}
 use Rattle.commit_flow.specs.Configured.{HasReadableConfig}
-use Rattle.commit_flow.specs.Preparations.{HasRunOnStaged, HasRunReady, HasStoppedReady, HaveRun, HaveStopped, IsConfigRefusal, IsPrepared, IsUnprepared}
+use Rattle.commit_flow.specs.Preparations.{HasRunOnStaged, HasRunReady, HasStoppedReady, HaveRun, HaveRunCounted, HaveStopped, IsConfigRefusal, IsPrepared, IsUnprepared, staged_run_of}
 use Rattle.commit_flow.specs.Refusals.{of_run, of_store}
 use Rattle.commit_flow.specs.RunRefusals.{IsRunRefusal}
 use Rattle.commit_flow.specs.RunSteps.{HasBegun, HasRunBut, IsRunStep, IsStoppedAt, IsStoppedStep, IsUnset, StoreStopsRun, reply_of_run}
 use Rattle.commit_flow.specs.Stops.{Reaches}
-use Rattle.commit_flow.specs.Runs.{IsNameRefusal, IsNamesRefusal, IsRan, IsRunnable, fixing, names_in, run_ask_of}
+use Rattle.commit_flow.specs.Runs.{IsNameRefusal, IsNamesRefusal, IsRan, IsRunnable, fixing, names_in, reuse_of, run_ask_of}
 use Rattle.commit_flow.proofs.FixLemmas.{changes_are_staged, setting_is_fixing}
 use Rattle.commit_flow.proofs.RefusalLemmas.{by_stop, run_spent}
 use Rattle.commit_flow.proofs.StagesLemmas.{all_so_far, all_so_far-last}
@@ -104,11 +106,11 @@ unready tells at before ask after refusal left why =
     record {
       parts = [];
       step = ((p.0, refl), left);
-      answered = all_so_far tells ask.fresh at at [] (answered-none tells ask.fresh at);
+      answered = all_so_far tells (reuse_of ask) at at [] (answered-none tells (reuse_of ask) at);
       told = λ _. tt;
       adds = adds-none tells at.remembered;
       stopped = p.1;
-      put = λ _. all_so_far-last tells ask.fresh at at [] (answered-none tells ask.fresh at);
+      put = λ _. all_so_far-last tells (reuse_of ask) at at [] (answered-none tells (reuse_of ask) at);
     }
 
 -- ---- a run of hooks
@@ -117,16 +119,34 @@ never_true : (test : Bool) → (test ≢ true) → test ≡ false
 never_true true never = absurd (never refl)
 never_true false never = refl
 
-pub stopped_if : (refuses : BookFault → Type 0) (tells : List (List ℕ) → List File → Outcome → Type 0) (from to : Moment) (config : Config) (ask : RunAsk) (tree : List File) (result : Result RunOut RunRefusal)
+pub stopped_if : (refuses : BookFault → Type 0) (tells : List (List ℕ) → List File → Outcome → Type 0) (from to : Moment) (config : Config) (ask : RunAsk) (tree : List File) (result : Result HooksRun RunRefusal)
     → IfErr result (IsStoppedRun tells from to config ask tree) → ((result ≡ Err run.NoSuchHook) ↔ (names_no_hook config ask ≡ true)) → IfErr result (IsOfBook refuses)
     → IfErr result (HaveStopped refuses tells from to config ask tree)
-stopped_if refuses tells from to config ask tree (Ok out) stopped no_hook refused = tt
+stopped_if refuses tells from to config ask tree (Ok ran) stopped no_hook refused = tt
 stopped_if refuses tells from to config ask tree (Err refusal) stopped no_hook refused = record {
   unknown = λ is. no_hook.0 (ap Err is);
   known = λ isnt. never_true (names_no_hook config ask) (λ unknown. let is = no_hook.1 unknown in isnt (cc));
   of_book = refused;
   over = stopped;
 }
+
+pub counted_if : (tells : List (List ℕ) → List File → Outcome → Type 0) (from to : Moment) (config : Config) (ask : RunAsk) (tree : List File) (result : Result HooksRun RunRefusal)
+    → IfOk result (IsCountedRun tells from to config ask tree) → ((result ≡ Err run.NoSuchHook) ↔ (names_no_hook config ask ≡ true))
+    → IfOk result (HaveRunCounted tells from to config ask tree)
+counted_if tells from to config ask tree (Ok ran) counted no_hook = record {
+  run = record { known = never_true (names_no_hook config ask) (λ unknown. let is = no_hook.1 unknown in absurd (cc)); over = counted.over };
+  counted = counted.reused;
+}
+counted_if tells from to config ask tree (Err refusal) counted no_hook = tt
+
+abbrev pub with_changes : List Change → HooksRun → StagedRun
+with_changes changes ran = record { passed = ran.out.passed; report = ran.out.report; changes = changes; unsteady = ran.out.unsteady; reused = ran.reused }
+
+-- what is given of it
+pub given_so : (staged : List File) (ran : HooksRun) (changes : List Change) → changes ≡ changes_between staged ran.out.tree
+    → with_changes changes ran ≡ staged_run_of staged ran
+given_so staged ran changes same =
+    ap (λ (fixes : List Change). with_changes fixes ran) same
 
 -- it is lost where memory is refused behind it
 pub lost : (refuses : BookFault → Type 0) (tells : List (List ℕ) → List File → Outcome → Type 0) (from to : Moment) (config : Config) (ask : RunAsk) (tree : List File) (out : RunOut)
@@ -139,7 +159,7 @@ lost refuses tells from to config ask tree out have =
       of_book = tt;
       over = record {
         parts = parts;
-        answered = so-far tells ask.fresh from to parts have.over.answered;
+        answered = so-far tells ask.reuse from to parts have.over.answered;
         told = have.over.told;
         no_hook = λ is. absurd (cc);
         begins = λ _. record { trace = have.over.trace; rest = []; out = out; joined = sym (append-nil parts); run = have.over.run };
@@ -180,11 +200,11 @@ module _ (tells : List (List ℕ) → List File → Outcome → Type 0) (from to
   ran_whole : (ran : StagedRun) → HasRunReady tells from to ready ran → HasRunReady tells from to whole ran
   ran_whole ran has = subst (λ (r : Prepared). HasRunReady tells from to r ran) ready_is has
 
-  changes_of : (ran : StagedRun) (has : HasRunReady tells from to whole ran) → ran.changes ≡ changes_between before.staged has.out.tree
+  changes_of : (ran : StagedRun) (has : HasRunReady tells from to whole ran) → ran.changes ≡ changes_between before.staged has.hooks.out.tree
   changes_of ran has = ap (λ (r : StagedRun). r.changes) has.gives
 
-  staged_fixes : (ran : StagedRun) (has : HasRunReady tells from to whole ran) → staged_changes ran.changes before.staged ≡ changes_between before.staged has.out.tree
-  staged_fixes ran has = ap (λ (l : List Change). staged_changes l before.staged) (changes_of ran has) ∙ changes_are_staged before.staged has.out.tree
+  staged_fixes : (ran : StagedRun) (has : HasRunReady tells from to whole ran) → staged_changes ran.changes before.staged ≡ changes_between before.staged has.hooks.out.tree
+  staged_fixes ran has = ap (λ (l : List Change). staged_changes l before.staged) (changes_of ran has) ∙ changes_are_staged before.staged has.hooks.out.tree
 
   pub all_staged : (ran : StagedRun) → HasRunReady tells from to ready ran → staged_changes ran.changes before.staged ≡ ran.changes
   all_staged ran has = let w = ran_whole ran has in staged_fixes ran w ∙ sym (changes_of ran w)
@@ -194,7 +214,7 @@ module _ (tells : List (List ℕ) → List File → Outcome → Type 0) (from to
   is_ran ran has after made = record {
     config = ready.config;
     trace = has.run.over.trace;
-    out = has.out;
+    out = has.hooks.out;
     runnable = runnable has.run.known;
     run = has.run.over.run;
     traced = refl;
@@ -219,7 +239,8 @@ module _ (tells : List (List ℕ) → List File → Outcome → Type 0) (from to
         step = is_ran ran w (setting ran.changes between).repo (made_so ran has between same);
         answered = w.run.over.answered;
         told = w.run.over.told;
-        adds = answered-adds tells ask.fresh from to (all_parts w.run.over.trace) w.run.over.answered;
+        adds = answered-adds tells (reuse_of ask) from to (all_parts w.run.over.trace) w.run.over.answered;
+        reused = subst (AreReused (all_parts w.run.over.trace) w.run.over.answered.started) (sym (ap (λ (r : StagedRun). r.reused) w.gives)) w.counted;
       }
 
   begun_all : (ran : StagedRun) (has : HasRunReady tells from to whole ran) → HasBegun before ask (all_parts has.run.over.trace)
@@ -228,14 +249,14 @@ module _ (tells : List (List ℕ) → List File → Outcome → Type 0) (from to
       record {
         config = ready.config;
         runnable = runnable has.run.known;
-        begun = record { trace = over.trace; rest = []; out = has.out; joined = sym (append-nil (all_parts over.trace)); run = over.run };
+        begun = record { trace = over.trace; rest = []; out = has.hooks.out; joined = sym (append-nil (all_parts over.trace)); run = over.run };
       }
 
   run_but : (ran : StagedRun) (has : HasRunReady tells from to whole ran) (reason : List Change → Type 0) → reason (staged_changes ran.changes before.staged) → HasRunBut before ask (all_parts has.run.over.trace) reason
   run_but ran has reason why = record {
     config = ready.config;
     trace = has.run.over.trace;
-    out = has.out;
+    out = has.hooks.out;
     runnable = runnable has.run.known;
     run = has.run.over.run;
     traced = refl;
@@ -267,11 +288,11 @@ module _ (tells : List (List ℕ) → List File → Outcome → Type 0) (from to
         over = record {
           parts = all_parts w.run.over.trace;
           step = ((p.0, refl), left);
-          answered = all_so_far tells ask.fresh from to (all_parts w.run.over.trace) w.run.over.answered;
+          answered = all_so_far tells (reuse_of ask) from to (all_parts w.run.over.trace) w.run.over.answered;
           told = w.run.over.told;
-          adds = answered-adds tells ask.fresh from to (all_parts w.run.over.trace) w.run.over.answered;
+          adds = answered-adds tells (reuse_of ask) from to (all_parts w.run.over.trace) w.run.over.answered;
           stopped = p.1;
-          put = λ _. all_so_far-last tells ask.fresh from to (all_parts w.run.over.trace) w.run.over.answered;
+          put = λ _. all_so_far-last tells (reuse_of ask) from to (all_parts w.run.over.trace) w.run.over.answered;
         };
         reaches = record {
           first = all_parts w.run.over.trace;
@@ -313,7 +334,7 @@ module _ (tells : List (List ℕ) → List File → Outcome → Type 0) (from to
           step = ((p.0, refl), left);
           answered = over.answered;
           told = over.told;
-          adds = so-far-adds tells ask.fresh from to over.parts over.answered;
+          adds = so-far-adds tells (reuse_of ask) from to over.parts over.answered;
           stopped = p.1;
           put = λ is. over.untold (run_spent has.inner is);
         })

@@ -17,11 +17,13 @@ use Rattle.hook_run.specs.Parts.{AllTold, Part, all_parts, faults_of}
 use Rattle.hook_run.specs.RunOuts.{IsRunOut}
 use Rattle.hook_run.specs.SameRuns.{GiveSame}
 use Rattle.repo_store.specs.Repository.{Repository}
+use Rattle.run_options.specs.declared.options.RunOptions.{RunOptions}
+use Rattle.run_options.specs.Options.{with_options}
 use Rattle.commit_flow.specs.declared.course.Course.{Course}
 use Rattle.commit_flow.specs.declared.reply.PostCommit.TheVariants.{Told}
 use Rattle.commit_flow.specs.CommitStages.{FailedAt, HavePassed, IsStageTold, StageTold, ask_in, course_after, parts_of, reports_of, tree_in}
 use Rattle.commit_flow.specs.Commits.{IsPost}
-use Rattle.commit_flow.specs.Configured.{IsConfigured, LacksConfig}
+use Rattle.commit_flow.specs.Configured.{IsConfigured, IsConfiguredFor, LacksConfig}
 use Rattle.commit_flow.specs.Runs.{changed_paths}
 
 -- ---- one configuration is staged
@@ -37,6 +39,13 @@ same_config repo config other one two =
     let entries = same_some one.staged.entry two.staged.entry (sym one.staged.staged ∙ two.staged.staged) in
     let bytes = sym one.staged.are ∙ ap (λ (entry : FileEntry). entry.bytes) entries ∙ two.staged.are in
     same_some config other (sym one.meant ∙ ap configuration_of bytes ∙ two.meant)
+
+-- and the same options make one of it
+pub same_config_for : (options : RunOptions) (repo : Repository) (config other : Config) → IsConfiguredFor options repo config → IsConfiguredFor options repo other → config ≡ other
+same_config_for options repo config other one two = one.made ∙ ap (with_options options) (same_config repo one.read two.read one.configured two.configured) ∙ sym two.made
+
+pub configured_for : (options : RunOptions) (repo : Repository) (config : Config) → IsConfigured repo config → IsConfiguredFor options repo (with_options options config)
+configured_for options repo config configured = record { read = config; configured = configured; made = refl }
 
 pub not_lacking : (repo : Repository) (config : Config) → LacksConfig repo → IsConfigured repo config → ⊥
 not_lacking repo config lacks configured = none_some configured.staged.entry (sym lacks ∙ configured.staged.staged)

@@ -9,6 +9,8 @@ use Rattle.hook_config.specs.declared.stage.Stage.{Stage}
 use Rattle.hook_config.specs.declared.stage.Stage.TheVariants.{PreCommit, PrepareCommitMsg, CommitMsg}
 use Rattle.result_book.specs.declared.book_fault.BookFault.{BookFault}
 use Rattle.result_book.specs.Contents.{Contents}
+use Rattle.hook_run.specs.declared.reuse.Reuse.{Reuse}
+use Rattle.hook_run.specs.declared.reuse.Reuse.TheVariants as reuse
 use Rattle.hook_run.specs.declared.run_ask.RunAsk.{RunAsk}
 use Rattle.hook_run.specs.declared.run_out.RunOut.{RunOut}
 use Rattle.hook_run.specs.declared.run_refusal.RunRefusal.{RunRefusal}
@@ -35,26 +37,26 @@ use Rattle.commit_flow.proofs.RefusalLemmas.{run_spent}
 
 module _ (tells next : List (List ℕ) → List File → Outcome → Type 0) (from between to : Moment) (parts more : List Part) (same : SameTells tells next) where
   -- what is answered first, and then by children that tell the same
-  pub answered_then : AreAnswered tells false from between parts → AreAnswered next false between to more → AreAnswered tells false from to (parts ++ more)
-  answered_then first second = answered-append tells false from between to parts more first (answered-back_to tells next same false between to more second)
+  pub answered_then : AreAnswered tells reuse.All from between parts → AreAnswered next reuse.All between to more → AreAnswered tells reuse.All from to (parts ++ more)
+  answered_then first second = answered-append tells reuse.All from between to parts more first (answered-back_to tells next same reuse.All between to more second)
 
   -- and then by such children up to where a run is stopped
-  pub answered_up_to : AreAnswered tells false from between parts → AreAnsweredSoFar next false between to more → AreAnsweredSoFar tells false from to (parts ++ more)
-  answered_up_to first second = so-far-append tells false from between to parts more first (so-far-back_to tells next same false between to more second)
+  pub answered_up_to : AreAnswered tells reuse.All from between parts → AreAnsweredSoFar next reuse.All between to more → AreAnsweredSoFar tells reuse.All from to (parts ++ more)
+  answered_up_to first second = so-far-append tells reuse.All from between to parts more first (so-far-back_to tells next same reuse.All between to more second)
 
   -- the last of them is that of what came then
-  pub answered_up_to-last : (first : AreAnswered tells false from between parts) (second : AreAnsweredSoFar next false between to more) → (answered_up_to first second).last ≡ second.last
+  pub answered_up_to-last : (first : AreAnswered tells reuse.All from between parts) (second : AreAnsweredSoFar next reuse.All between to more) → (answered_up_to first second).last ≡ second.last
   unfolding answered_up_to
   answered_up_to-last first second =
-      so-far-last tells false from between to parts more first (so-far-back_to tells next same false between to more second) ∙ so-far-back_to-last tells next same false between to more second
+      so-far-last tells reuse.All from between to parts more first (so-far-back_to tells next same reuse.All between to more second) ∙ so-far-back_to-last tells next same reuse.All between to more second
 
 -- parts that are all answered are so as far as a run came, and its last part is among them
-pub all_so_far : (tells : List (List ℕ) → List File → Outcome → Type 0) (fresh : Bool) (from to : Moment) (parts : List Part) → AreAnswered tells fresh from to parts → AreAnsweredSoFar tells fresh from to parts
-all_so_far tells fresh from to parts answered = record { done = parts; last = []; between = to; split = sym (append-nil parts); answered = answered; stopped = inl (refl, refl) }
+pub all_so_far : (tells : List (List ℕ) → List File → Outcome → Type 0) (reuse : Reuse) (from to : Moment) (parts : List Part) → AreAnswered tells reuse from to parts → AreAnsweredSoFar tells reuse from to parts
+all_so_far tells reuse from to parts answered = record { done = parts; last = []; between = to; split = sym (append-nil parts); answered = answered; stopped = inl (refl, refl) }
 
-pub all_so_far-last : (tells : List (List ℕ) → List File → Outcome → Type 0) (fresh : Bool) (from to : Moment) (parts : List Part) (answered : AreAnswered tells fresh from to parts) → (all_so_far tells fresh from to parts answered).last ≡ []
+pub all_so_far-last : (tells : List (List ℕ) → List File → Outcome → Type 0) (reuse : Reuse) (from to : Moment) (parts : List Part) (answered : AreAnswered tells reuse from to parts) → (all_so_far tells reuse from to parts answered).last ≡ []
 unfolding all_so_far
-all_so_far-last tells fresh from to parts answered = refl
+all_so_far-last tells reuse from to parts answered = refl
 
 -- ---- how a run begins
 
@@ -140,7 +142,7 @@ module _ (config : Config) (changed skip : List (List ℕ)) where
 pub stopped_for_memory : (refuses : BookFault → Type 0) (tells : List (List ℕ) → List File → Outcome → Type 0) (at : Moment) (config : Config) (ask : RunAsk) (tree : List File) → IsRunStopped refuses tells at at config ask tree run.OutOfMemory
 stopped_for_memory refuses tells at config ask tree = record {
   parts = [];
-  answered = so-far tells false at at [] (answered-none tells false at);
+  answered = so-far tells reuse.All at at [] (answered-none tells reuse.All at);
   begun = begins-at-once config ask tree;
   not_named = λ is. cc;
   of_book = tt;
@@ -185,10 +187,10 @@ module _ (refuses : BookFault → Type 0) (tells : List (List ℕ) → List File
   }
 
   -- memory is refused behind these parts
-  unfoldable pub halted_for_memory : (begins further : List Part → Type 0) (parts : List Part) → begins parts → AreAnswered tells false from to parts → IsHalted refuses tells from to begins further OutOfMemory
+  unfoldable pub halted_for_memory : (begins further : List Part → Type 0) (parts : List Part) → begins parts → AreAnswered tells reuse.All from to parts → IsHalted refuses tells from to begins further OutOfMemory
   halted_for_memory begins further parts begun answered = record {
     parts = parts;
-    answered = so-far tells false from to parts answered;
+    answered = so-far tells reuse.All from to parts answered;
     begun = begun;
     why = record { inner = run.OutOfMemory; not_named = λ is. cc; of_book = tt; is = refl };
     needs = λ is. absurd (cc);
@@ -219,7 +221,7 @@ stage_over tells from to config changed skip stage course begun left out on same
 pub record AreSoFar (tells : List (List ℕ) → List File → Outcome → Type 0) (from to : Moment) (config : Config) (changed skip : List (List ℕ)) (stages : List Stage) (first : Course)
     (rest : List Stage) (course : Course) (reports : List (List ℕ)) : Type 0 where
   pub told : List StageTold
-  pub answered : AreAnswered tells false from to (parts_of told)
+  pub answered : AreAnswered tells reuse.All from to (parts_of told)
   pub reported : reports ≡ reports_of told
   pub pass : (more : List StageTold) (last : Course) → HavePassed config changed skip rest course more last → HavePassed config changed skip stages first (told ++ more) last
   pub begins : (more : List StageTold) (own : List Part) → HaveComeTo (IsBegun config) config changed skip rest course more own → HaveComeTo (IsBegun config) config changed skip stages first (told ++ more) own
@@ -245,7 +247,7 @@ pub none_so_far : (tells : List (List ℕ) → List File → Outcome → Type 0)
     → reports ≡ [] → AreSoFar tells at at config changed skip stages course stages course reports
 none_so_far tells at config changed skip stages course reports none = record {
   told = [];
-  answered = answered-none tells false at;
+  answered = answered-none tells reuse.All at;
   reported = none;
   pass = λ more last passed. passed;
   begins = λ more own come. come;
@@ -271,8 +273,8 @@ module _ (tells next : List (List ℕ) → List File → Outcome → Type 0) (fr
     abbrev all : List StageTold
     all = so_far.told ++ over.told ∷ []
 
-    answered_now : AreAnswered tells false from to (parts_of all)
-    answered_now = subst (AreAnswered tells false from to) (sym (parts_of-more so_far.told over.told))
+    answered_now : AreAnswered tells reuse.All from to (parts_of all)
+    answered_now = subst (AreAnswered tells reuse.All from to) (sym (parts_of-more so_far.told over.told))
         (answered_then tells next from between to (parts_of so_far.told) (all_parts over.told.trace) same so_far.answered over.answered)
 
     reported_now : reports_after ≡ reports_of all

@@ -1,5 +1,5 @@
 -- What the calls within a commit do. Serves private functions alone.
-use Rattle.std.specs.Prelude.{◌≡◌, ◌≢◌, ◌⊎◌, ◌-◌, ◌^◌, ◌≤◌, ℕ, Bool, false, List, [], length, Result, OnOk}
+use Rattle.std.specs.Prelude.{◌≡◌, ◌≢◌, ◌⊎◌, ◌-◌, ◌^◌, ◌≤◌, ℕ, Bool, List, [], length, Result, OnOk}
 use Rattle.sqlite_trees.specs.declared.store.Store.{Ghosts}
 use Rattle.sqlite.specs.Held.{state}
 use Rattle.sqlite.specs.State.{Survives}
@@ -11,6 +11,7 @@ use Rattle.hook_config.specs.declared.stage.Stage.{Stage}
 use Rattle.hook_config.specs.declared.stage.Stage.TheVariants as stage
 use Rattle.result_book.specs.declared.book_fault.BookFault.{BookFault}
 use Rattle.result_book.specs.StoreBooks.{RefusesAnswers}
+use Rattle.hook_run.specs.declared.reuse.Reuse.TheVariants as reuse
 use Rattle.hook_run.specs.declared.run_ask.RunAsk.{RunAsk}
 use Rattle.hook_run.specs.declared.run_refusal.RunRefusal.{RunRefusal}
 use Rattle.hook_run.specs.declared.run_refusal.RunRefusal.TheVariants as run
@@ -47,7 +48,7 @@ use Rattle.commit_flow.specs.CommitSteps.{IsUnkept}
 -- the hooks of a stage were stopped, over remembered answers that refuse so
 pub record IsRunStopped (refuses : BookFault → Type 0) (tells : List (List ℕ) → List File → Outcome → Type 0) (from to : Moment) (config : Config) (ask : RunAsk) (tree : List File) (refusal : RunRefusal) : Type 0 where
   pub parts : List Part
-  pub answered : AreAnsweredSoFar tells false from to parts
+  pub answered : AreAnsweredSoFar tells reuse.All from to parts
   pub begun : IsBegun config ask tree parts
   pub not_named : refusal ≢ run.NoSuchHook
   pub of_book : IsOfBook refuses refusal
@@ -68,7 +69,7 @@ pub record IsHalt (refuses : BookFault → Type 0) (refusal : HostRefusal) : Typ
 -- one
 pub record IsHalted (refuses : BookFault → Type 0) (tells : List (List ℕ) → List File → Outcome → Type 0) (from to : Moment) (begins further : List Part → Type 0) (refusal : HostRefusal) : Type 0 where
   pub parts : List Part
-  pub answered : AreAnsweredSoFar tells false from to parts
+  pub answered : AreAnsweredSoFar tells reuse.All from to parts
   pub begun : begins parts
   pub why : IsHalt refuses refusal
   pub needs : refusal ≡ Spent → further parts
@@ -80,7 +81,7 @@ pub record IsStageOver (tells : List (List ℕ) → List File → Outcome → Ty
     (config : Config) (changed skip : List (List ℕ)) (stage : Stage) (course : Course) (end : StageEnd) : Type 0 where
   pub told : StageTold
   pub run : IsStageTold config changed skip stage course told
-  pub answered : AreAnswered tells false from to (all_parts told.trace)
+  pub answered : AreAnswered tells reuse.All from to (all_parts told.trace)
   pub passed : end.passed ≡ told.out.passed
   pub reported : end.report ≡ told.out.report
   pub left : end.course ≡ course_after stage course told.out.tree
@@ -90,7 +91,7 @@ pub record AreStagesOver (tells : List (List ℕ) → List File → Outcome → 
     (reports : List (List ℕ)) (ran : List StageTold → Type 0) : Type 0 where
   pub told : List StageTold
   pub ran_so : ran told
-  pub answered : AreAnswered tells false from to (parts_of told)
+  pub answered : AreAnswered tells reuse.All from to (parts_of told)
   pub reported : reports ≡ reports_of told
 
 -- the stages were run in order, up to the first that failed
@@ -172,7 +173,7 @@ pub record IsOneChange {S A : Type 0} (g : Ghosts S) (old new : Shown S) (result
 pub record IsPostTold (tells : List (List ℕ) → List File → Outcome → Type 0) (from to : Moment) (config : Config) (staged : List File) (skip : List (List ℕ)) (report : List ℕ) : Type 0 where
   pub told : StageTold
   pub run : IsStageTold config [] skip stage.PostCommit (record { tree = staged; message = [] }) told
-  pub answered : AreAnswered tells false from to (all_parts told.trace)
+  pub answered : AreAnswered tells reuse.All from to (all_parts told.trace)
   pub reported : report ≡ told.out.report
 
 -- what became of the hooks behind a commit

@@ -10,6 +10,7 @@ use Rattle.hook_config.specs.declared.configuration.Config.{Config}
 use Rattle.hook_config.specs.declared.stage.Stage.{Stage}
 use Rattle.hook_config.specs.declared.stage.Stage.TheVariants.{PreCommit, PrepareCommitMsg, CommitMsg}
 use Rattle.result_book.specs.Contents.{Contents}
+use Rattle.hook_run.specs.declared.reuse.Reuse.TheVariants as reuse
 use Rattle.hook_run.specs.declared.run_ask.RunAsk.{RunAsk}
 use Rattle.hook_run.specs.declared.run_out.RunOut.{RunOut}
 use Rattle.hook_run.specs.Parts.{Part, all_parts}
@@ -57,7 +58,7 @@ course_after CommitMsg course tree = without_message_file tree
 course_after stage course tree = record { tree = tree; message = course.message }
 
 abbrev pub ask_in : List (List ℕ) → List (List ℕ) → Stage → RunAsk
-ask_in changed skip stage = record { stage = stage; candidates = candidates_in changed stage; only = None; skip = skip; fresh = false }
+ask_in changed skip stage = record { stage = stage; candidates = candidates_in changed stage; only = None; skip = skip; reuse = reuse.All }
 
 -- a run of a stage: the parts of each of its hooks, and what it gave
 pub record StageTold : Type 0 where

@@ -1,5 +1,5 @@
 -- How a commit stands to what its hooks were answered, and how far one came that is refused.
-use Rattle.std.specs.Prelude.{◌≡◌, ◌⊎◌, ◌-◌, ◌^◌, false, ℕ, Bool, List, [], ◌++◌}
+use Rattle.std.specs.Prelude.{◌≡◌, ◌⊎◌, ◌-◌, ◌^◌, ℕ, Bool, List, [], ◌++◌}
 use Rattle.hook_base.specs.declared.change.Change.{Change}
 use Rattle.hook_base.specs.declared.file.File.{File}
 use Rattle.hook_base.specs.Trees.{changes_between}
@@ -7,6 +7,7 @@ use Rattle.child_port.specs.declared.answer.Outcome.{Outcome}
 use Rattle.hook_config.specs.declared.configuration.Config.{Config}
 use Rattle.hook_config.specs.declared.stage.Stage.{Stage}
 use Rattle.hook_config.specs.declared.stage.Stage.TheVariants as stage
+use Rattle.hook_run.specs.declared.reuse.Reuse.TheVariants as reuse
 use Rattle.hook_run.specs.declared.run_refusal.RunRefusal.TheVariants as run
 use Rattle.result_book.specs.Contents.{Contents}
 use Rattle.result_book.specs.Told.{AddsTold, IsTold}
@@ -78,7 +79,7 @@ pub record HasFurtherBehind (before : Repository) (skip : List (List ℕ)) (reme
 -- for what these had done; or in the middle, by what is remembered of their answers.
 abbrev pub StoreStopsCommit : (List (List ℕ) → List File → Outcome → Type 0) → Moment → Moment → Repository → List ℕ → Bool → List (List ℕ) → List Part → Type 0 → Type 0
 StoreStopsCommit tells from to before message no_verify skip parts behind =
-    (behind × AreAnswered tells false from to parts) ⊎ HasBegunBefore before message no_verify skip parts
+    (behind × AreAnswered tells reuse.All from to parts) ⊎ HasBegunBefore before message no_verify skip parts
 
 -- The parts that the reply leaves out, between two moments. Where memory is refused, nothing was run, or the stages begin with
 -- them. Where children are spent, they are those before the one that is needed. Where the store refuses, the stages begin with
@@ -122,8 +123,8 @@ pub record IsCommitStep (tells : List (List ℕ) → List File → Outcome → T
   pub left_out : List Part
   pub between : Moment
   pub step : Step before (Commit message no_verify skip) reply parts after.repo
-  pub answered : AreAnswered tells false from between parts
-  pub answered_then : AreAnsweredSoFar tells false between to left_out
+  pub answered : AreAnswered tells reuse.All from between parts
+  pub answered_then : AreAnsweredSoFar tells reuse.All between to left_out
   pub why : AreLeftOut tells between to before message no_verify skip left_out after.contents reply
   pub told : IsTold tells from.remembered → AllTold tells (parts ++ left_out)
   pub adds : AddsTold tells from.remembered to.remembered

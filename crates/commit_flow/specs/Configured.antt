@@ -9,6 +9,8 @@ use Rattle.hook_config.specs.Configuration.{configuration_of}
 use Rattle.hook_config.specs.Gives.{UnlessLeftOpen}
 use Rattle.hook_config.specs.Refusals.{TellsTooLarge}
 use Rattle.repo_store.specs.Repository.{Repository}
+use Rattle.run_options.specs.declared.options.RunOptions.{RunOptions}
+use Rattle.run_options.specs.Options.{with_options}
 
 abbrev pub config_path : List ℕ
 config_path = codes ".pre-commit-config.yaml"
@@ -28,6 +30,12 @@ pub record IsConfigured (repo : Repository) (config : Config) : Type 0 where
   pub bytes : List ℕ
   pub staged : HasConfigBytes repo bytes
   pub meant : configuration_of bytes ≡ Some config
+
+-- this is what the options of a run make of the staged configuration
+pub record IsConfiguredFor (options : RunOptions) (repo : Repository) (config : Config) : Type 0 where
+  pub read : Config
+  pub configured : IsConfigured repo read
+  pub made : config ≡ with_options options read
 
 -- The staged configuration can't be read, or holds a pattern that `regex` refuses. Want of memory is the host's own refusal.
 pub record IsMisconfigured (repo : Repository) (fault : ConfigFault) : Type 0 where

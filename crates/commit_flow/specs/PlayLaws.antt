@@ -14,7 +14,7 @@ use Rattle.commit_flow.specs.declared.reply.Reply.TheVariants.{Committed}
 use Rattle.commit_flow.specs.CommitStages.{HavePassed, StageTold, course_of, stages_before_commit}
 use Rattle.commit_flow.specs.Configured.{IsConfigured}
 use Rattle.commit_flow.specs.Messages.{cleaned_message}
-use Rattle.commit_flow.specs.Plays.{HasForgotten, is_fresh}
+use Rattle.commit_flow.specs.Plays.{HasForgotten, reuse_in}
 use Rattle.commit_flow.specs.Runs.{changed_paths}
 use Rattle.commit_flow.specs.Steps.{Step}
 
@@ -44,7 +44,7 @@ HasCommitted before command after = ⊥
 -- has no parts
 abbrev pub CommandStarts : Command → Reply → Contents → Contents → List Part → List Part → Type 0
 CommandStarts Forget reply before after parts started = HasForgotten before after reply × (parts ≡ []) × (started ≡ [])
-CommandStarts command reply before after parts started = Starts (is_fresh command) before after parts started
+CommandStarts command reply before after parts started = Starts (reuse_in command) before after parts started
 
 -- A command is a step, with its own parts, which leaves a repository and what is remembered then, and more is played from there.
 pub record PlayStartsFrom (before : Repository) (remembered : Contents) (command : Command) (reply : Reply) (parts started : List Part) (more : Repository → Contents → List Part → List Part → Type 0) : Type 0 where

@@ -1,11 +1,13 @@
 -- A list of commands, made one after another by the host as a machine, and what each makes of the children's counts and of what
 -- is remembered.
-use Rattle.std.specs.Prelude.{◌≡◌, ◌⊎◌, ◌-◌, ◌^◌, ℕ, Bool, false, List, [], ◌∷◌, ◌++◌}
+use Rattle.std.specs.Prelude.{◌≡◌, ◌⊎◌, ◌-◌, ◌^◌, ℕ, List, [], ◌∷◌, ◌++◌}
 use Rattle.hook_base.specs.declared.file.File.{File}
 use Rattle.child_port.specs.declared.answer.Outcome.{Outcome}
 use Rattle.result_book.specs.Calls.{AfterForget}
 use Rattle.result_book.specs.Contents.{Contents, count_of}
 use Rattle.result_book.specs.Told.{AddsTold, IsTold}
+use Rattle.hook_run.specs.declared.reuse.Reuse.{Reuse}
+use Rattle.hook_run.specs.declared.reuse.Reuse.TheVariants as reuse
 use Rattle.hook_run.specs.Answers.{AreAnswered, AreAnsweredSoFar}
 use Rattle.hook_run.specs.Moments.{Moment}
 use Rattle.hook_run.specs.Parts.{AllTold, Part}
@@ -17,6 +19,7 @@ use Rattle.commit_flow.specs.declared.reply.Reply.{Reply}
 use Rattle.commit_flow.specs.declared.reply.Reply.TheVariants.{Committed, Forgot, Refused}
 use Rattle.commit_flow.specs.CommitSteps.{HasBegunBefore, HasBegunBehind, HasFurtherBefore, HasFurtherBehind, SaysSpent, StandsOnAll}
 use Rattle.commit_flow.specs.RunSteps.{HasBegun, HasFurther, IsUnrun}
+use Rattle.commit_flow.specs.Runs.{reuse_of}
 use Rattle.commit_flow.specs.Steps.{Step}
 
 -- the command runs hooks
@@ -25,10 +28,10 @@ RunsHooks (Run ask) = Unit {0}
 RunsHooks (Commit message no_verify skip) = Unit {0}
 RunsHooks command = ⊥
 
--- each hook of the command starts its children, also where their answers are remembered
-abbrev pub is_fresh : Command → Bool
-is_fresh (Run ask) = ask.fresh
-is_fresh command = false
+-- which remembered answers serve the hooks of the command: a run may ask for fewer, and else each serves
+abbrev pub reuse_in : Command → Reuse
+reuse_in (Run ask) = reuse_of ask
+reuse_in command = reuse.All
 
 -- The hooks that the command runs begin with these parts: those of a run and those before a commit where it is refused, and those
 -- behind a commit where it was made and they were stopped. They may be all of its parts, where memory or the store refuses behind
@@ -62,7 +65,7 @@ pub record IsForgotten (from to : Moment) (reply : Reply) : Type 0 where
 -- these parts were answered, or the answers are forgotten
 abbrev pub Makes : (List (List ℕ) → List File → Outcome → Type 0) → Moment → Moment → Command → Reply → List Part → Type 0
 Makes tells from to Forget reply parts = (parts ≡ []) × IsForgotten from to reply
-Makes tells from to command reply parts = AreAnswered tells (is_fresh command) from to parts
+Makes tells from to command reply parts = AreAnswered tells (reuse_in command) from to parts
 
 -- The command is a step of the machine between two moments: with its parts, which come to what they make, and then, from the
 -- moment between, with some that the reply leaves out. Nothing was run for these, or the hooks that were stopped begin with them.
@@ -74,7 +77,7 @@ pub record IsPlayed (tells : List (List ℕ) → List File → Outcome → Type 
   pub between : Moment
   pub step : Step before command reply parts after
   pub makes : Makes tells from between command reply parts
-  pub answered_then : AreAnsweredSoFar tells (is_fresh command) between to left_out
+  pub answered_then : AreAnsweredSoFar tells (reuse_in command) between to left_out
   pub none : StandsOnAll reply → IsUnrun between to left_out
   pub begun : IsUnrun between to left_out ⊎ HooksBegin before command reply left_out
   pub put : SaysSpent reply → answered_then.last ≡ []

@@ -9,11 +9,14 @@ use Rattle.result_book.specs.declared.book_fault.BookFault.{BookFault}
 use Rattle.result_book.specs.Contents.{Contents}
 use Rattle.result_book.specs.Told.{AddsTold}
 use Rattle.hook_run.specs.Moments.{Moment}
+use Rattle.hook_run.specs.declared.hooks_run.HooksRun.{HooksRun}
 use Rattle.hook_run.specs.declared.run_ask.RunAsk.{RunAsk}
 use Rattle.hook_run.specs.declared.run_out.RunOut.{RunOut}
 use Rattle.hook_run.specs.declared.run_refusal.RunRefusal.{RunRefusal}
 use Rattle.hook_run.specs.declared.run_refusal.RunRefusal.TheVariants as run
+use Rattle.hook_run.specs.Answers.{AreReused}
 use Rattle.hook_run.specs.Asks.{names_no_hook}
+use Rattle.hook_run.specs.Parts.{all_parts}
 use Rattle.hook_run.specs.Refusals.{IsOfBook}
 use Rattle.hook_run.specs.RunOuts.{IsRunOver, IsStoppedRun}
 use Rattle.repo_store.specs.Repository.{Repository}
@@ -22,9 +25,9 @@ use Rattle.commit_flow.specs.declared.host_refusal.HostRefusal.{HostRefusal}
 use Rattle.commit_flow.specs.declared.host_refusal.HostRefusal.TheVariants.{OutOfMemory, NoConfig, BadConfig}
 use Rattle.commit_flow.specs.declared.prepared.Prepared.{Prepared}
 use Rattle.commit_flow.specs.declared.staged_run.StagedRun.{StagedRun}
-use Rattle.commit_flow.specs.Configured.{HasReadableConfig, IsConfigured, IsMisconfigured, LacksConfig}
+use Rattle.commit_flow.specs.Configured.{HasReadableConfig, IsConfiguredFor, IsMisconfigured, LacksConfig}
 use Rattle.commit_flow.specs.Refusals.{of_run}
-use Rattle.commit_flow.specs.Runs.{AreStagedPaths, IsNameRefusal, IsNamesRefusal, names_in, run_ask_of, stage_of}
+use Rattle.commit_flow.specs.Runs.{AreStagedPaths, IsNameRefusal, IsNamesRefusal, names_in, reuse_of, run_ask_of, stage_of}
 
 -- ---- what is made ready
 
@@ -50,11 +53,11 @@ run_ask_with ask candidates = record {
   candidates = candidates;
   only = ask.only;
   skip = ask.skip;
-  fresh = ask.fresh;
+  reuse = reuse_of ask;
 }
 
 pub record IsPrepared (repo : Repository) (ask : HostAsk) (ready : Prepared) : Type 0 where
-  pub configured : IsConfigured repo ready.config
+  pub configured : IsConfiguredFor ask.options repo ready.config
   pub named : AreStagedPaths repo (names_in ask.which)
   pub asked : ready.ask ≡ run_ask_of ask repo
   pub tree : ready.tree ≡ repo.staged
@@ -75,6 +78,11 @@ pub record HaveRun (tells : List (List ℕ) → List File → Outcome → Type 0
   pub known : names_no_hook config ask ≡ false
   pub over : IsRunOver tells from to config ask tree out
 
+-- the same, with how many of their parts were answered from what was remembered
+pub record HaveRunCounted (tells : List (List ℕ) → List File → Outcome → Type 0) (from to : Moment) (config : Config) (ask : RunAsk) (tree : List File) (ran : HooksRun) : Type 0 where
+  pub run : HaveRun tells from to config ask tree ran.out
+  pub counted : AreReused (all_parts run.over.trace) run.over.answered.started ran.reused
+
 -- their run was refused, over remembered answers that refuse so
 pub record HaveStopped (refuses : BookFault → Type 0) (tells : List (List ℕ) → List File → Outcome → Type 0) (from to : Moment) (config : Config) (ask : RunAsk) (tree : List File) (refusal : RunRefusal) : Type 0 where
   pub unknown : refusal ≡ run.NoSuchHook → names_no_hook config ask ≡ true
@@ -83,14 +91,21 @@ pub record HaveStopped (refuses : BookFault → Type 0) (tells : List (List ℕ)
   pub over : IsStoppedRun tells from to config ask tree refusal
 
 -- what is given of a run on the staged files
-abbrev pub staged_run_of : List File → RunOut → StagedRun
-staged_run_of staged out = record { passed = out.passed; report = out.report; changes = changes_between staged out.tree; unsteady = out.unsteady }
+abbrev pub staged_run_of : List File → HooksRun → StagedRun
+staged_run_of staged ran = record {
+  passed = ran.out.passed;
+  report = ran.out.report;
+  changes = changes_between staged ran.out.tree;
+  unsteady = ran.out.unsteady;
+  reused = ran.reused;
+}
 
 -- the hooks that are ready were run, and this is given of it
 pub record HasRunReady (tells : List (List ℕ) → List File → Outcome → Type 0) (from to : Moment) (ready : Prepared) (ran : StagedRun) : Type 0 where
-  pub out : RunOut
-  pub run : HaveRun tells from to ready.config ready.ask ready.tree out
-  pub gives : ran ≡ staged_run_of ready.tree out
+  pub hooks : HooksRun
+  pub run : HaveRun tells from to ready.config ready.ask ready.tree hooks.out
+  pub counted : AreReused (all_parts run.over.trace) run.over.answered.started hooks.reused
+  pub gives : ran ≡ staged_run_of ready.tree hooks
 
 -- a run on the staged files was made ready, its hooks were run, and this is given of it
 pub record HasRunOnStaged (tells : List (List ℕ) → List File → Outcome → Type 0) (from to : Moment) (repo : Repository) (ask : HostAsk) (ran : StagedRun) : Type 0 where

@@ -8,7 +8,7 @@ use Rattle.hook_config.specs.declared.configuration.Config.{Config}
 use Rattle.result_book.specs.Contents.{Contents}
 use Rattle.result_book.specs.Told.{AddsTold, IsTold}
 use Rattle.hook_run.specs.declared.run_out.RunOut.{RunOut}
-use Rattle.hook_run.specs.Answers.{AreAnswered, AreAnsweredSoFar}
+use Rattle.hook_run.specs.Answers.{AreAnswered, AreAnsweredSoFar, AreReused}
 use Rattle.hook_run.specs.Moments.{Moment}
 use Rattle.hook_run.specs.Parts.{AllTold, Part, all_parts}
 use Rattle.hook_run.specs.RunOuts.{IsBegun, IsRunOut, NeedsChild}
@@ -23,7 +23,7 @@ use Rattle.commit_flow.specs.declared.host_refusal.HostRefusal.TheVariants.{OutO
 use Rattle.commit_flow.specs.declared.reply.Reply.{Reply}
 use Rattle.commit_flow.specs.declared.reply.Reply.TheVariants.{Ran, Refused}
 use Rattle.commit_flow.specs.declared.staged_run.StagedRun.{StagedRun}
-use Rattle.commit_flow.specs.Runs.{IsRunnable, run_ask_of}
+use Rattle.commit_flow.specs.Runs.{IsRunnable, reuse_of, run_ask_of}
 use Rattle.commit_flow.specs.Steps.{Step}
 
 -- the reply that this is
@@ -32,13 +32,14 @@ reply_of_run ran = Ran ran.passed ran.report ran.changes ran.unsteady
 
 -- The run is a step of the machine, over parts that were answered between two moments. Where each answer that was remembered
 -- before is one that the children may tell, so is each outcome. Each answer that is remembered afterwards was so before, or was
--- told.
+-- told. So many parts as the run says were answered from what was remembered.
 pub record IsRunStep (tells : List (List ℕ) → List File → Outcome → Type 0) (from to : Moment) (before : Repository) (ask : HostAsk) (ran : StagedRun) (after : Repository) : Type 0 where
   pub parts : List Part
   pub step : Step before (Run ask) (reply_of_run ran) parts after
-  pub answered : AreAnswered tells ask.fresh from to parts
+  pub answered : AreAnswered tells (reuse_of ask) from to parts
   pub told : IsTold tells from.remembered → AllTold tells parts
   pub adds : AddsTold tells from.remembered to.remembered
+  pub reused : AreReused parts answered.started ran.reused
 
 -- ---- a run that is refused
 
@@ -77,7 +78,7 @@ IsUnrun from to parts = (parts ≡ []) × (to ≡ from)
 -- they did to the staged files can't be the fixes for this reason; or in the middle, by what is remembered of their answers.
 abbrev pub StoreStopsRun : (List (List ℕ) → List File → Outcome → Type 0) → Moment → Moment → Repository → HostAsk → List Part → (List Change → Type 0) → Type 0
 StoreStopsRun tells from to before ask parts reason =
-    (HasRunBut before ask parts reason × AreAnswered tells ask.fresh from to parts) ⊎ HasBegun before ask parts
+    (HasRunBut before ask parts reason × AreAnswered tells (reuse_of ask) from to parts) ⊎ HasBegun before ask parts
 
 -- How far a run came that is refused so, with these parts, between two moments: it is spent where it has a further part that
 -- needs a child and no call more can be counted, and the store and want of memory may stop it anywhere. The other refusals come
@@ -94,7 +95,7 @@ IsStoppedAt tells from to before ask parts contents refusal = IsUnrun from to pa
 pub record IsStoppedStep (tells : List (List ℕ) → List File → Outcome → Type 0) (from to : Moment) (before : Repository) (ask : HostAsk) (after : Kept) (refusal : HostRefusal) : Type 0 where
   pub parts : List Part
   pub step : Step before (Run ask) (Refused refusal) [] after.repo
-  pub answered : AreAnsweredSoFar tells ask.fresh from to parts
+  pub answered : AreAnsweredSoFar tells (reuse_of ask) from to parts
   pub told : IsTold tells from.remembered → AllTold tells parts
   pub adds : AddsTold tells from.remembered to.remembered
   pub stopped : IsStoppedAt tells from to before ask parts after.contents refusal

@@ -9,10 +9,12 @@ use Rattle.hook_base.specs.declared.change.Change.{Change}
 use Rattle.hook_base.specs.Paths.{path_fault}
 use Rattle.hook_base.specs.Trees.{changes_between, entry_of}
 use Rattle.std.specs.Str.{bytes_eq}
-use Rattle.std.specs.Prelude.{◌&&◌, not}
+use Rattle.std.specs.Prelude.{◌&&◌, if◌then◌else◌, not}
 use Rattle.hook_config.specs.declared.configuration.Config.{Config}
 use Rattle.hook_config.specs.declared.stage.Stage.{Stage}
 use Rattle.hook_config.specs.declared.stage.Stage.TheVariants as stage
+use Rattle.hook_run.specs.declared.reuse.Reuse.{Reuse}
+use Rattle.hook_run.specs.declared.reuse.Reuse.TheVariants as reuse
 use Rattle.hook_run.specs.declared.run_ask.RunAsk.{RunAsk}
 use Rattle.hook_run.specs.declared.run_out.RunOut.{RunOut}
 use Rattle.hook_run.specs.Asks.{names_no_hook}
@@ -26,7 +28,7 @@ use Rattle.commit_flow.specs.declared.host_ask.Which.{Which}
 use Rattle.commit_flow.specs.declared.host_ask.Which.TheVariants.{Changed, All, Named}
 use Rattle.commit_flow.specs.declared.host_refusal.HostRefusal.{HostRefusal}
 use Rattle.commit_flow.specs.declared.host_refusal.HostRefusal.TheVariants.{BadPath, NotStaged}
-use Rattle.commit_flow.specs.Configured.{IsConfigured}
+use Rattle.commit_flow.specs.Configured.{IsConfiguredFor}
 use Rattle.commit_flow.specs.StagedPaths.{IsLegal, IsStaged}
 
 -- ---- which files hooks may get
@@ -55,13 +57,17 @@ abbrev pub stage_of : AskStage → Stage
 stage_of PreCommit = stage.PreCommit
 stage_of Manual = stage.Manual
 
+-- which remembered answers serve the run: a fresh one none, and a cautious one those that passed
+abbrev pub reuse_of : HostAsk → Reuse
+reuse_of ask = if ask.fresh then reuse.Nothing else (if ask.options.cautious then reuse.Passed else reuse.All)
+
 abbrev pub run_ask_of : HostAsk → Repository → RunAsk
 run_ask_of ask repo = record {
   stage = stage_of ask.stage;
   candidates = candidates_of ask.which repo;
   only = ask.only;
   skip = ask.skip;
-  fresh = ask.fresh;
+  reuse = reuse_of ask;
 }
 
 -- ---- names that are asked for
@@ -92,9 +98,10 @@ names_in which = []
 
 -- ---- what it answers
 
--- the staged configuration can be read, the named files are staged, and there is a hook of the name that is asked for
+-- the staged configuration can be read, the options of the run make this of it, the named files are staged, and there is a hook
+-- of the name that is asked for
 pub record IsRunnable (before : Repository) (ask : HostAsk) (config : Config) : Type 0 where
-  pub configured : IsConfigured before config
+  pub configured : IsConfiguredFor ask.options before config
   pub named : AreStagedPaths before (names_in ask.which)
   pub known : names_no_hook config (run_ask_of ask before) ≡ false
 
@@ -119,6 +126,6 @@ pub record IsRan (before : Repository) (ask : HostAsk) (passed : Bool) (report :
 -- a hook is asked for by a name that no hook of the stage has
 pub record HasNoSuchHook (before : Repository) (ask : HostAsk) : Type 0 where
   pub config : Config
-  pub configured : IsConfigured before config
+  pub configured : IsConfiguredFor ask.options before config
   pub named : AreStagedPaths before (names_in ask.which)
   pub unknown : names_no_hook config (run_ask_of ask before) ≡ true

@@ -15,7 +15,7 @@ use crate::hooks::run_with_book;
 use child_port::Children;
 use hook_base::{Bytes, Items, OutOfMemory, RepoPath, Text, Tree, copy_texts};
 use hook_config::{Config, Stage};
-use hook_run::{RunAsk, RunOut, RunRefusal};
+use hook_run::{Reuse, RunAsk, RunOut, RunRefusal};
 use result_book::Book;
 use std::alloc::Global;
 
@@ -190,7 +190,7 @@ fn ask_in(
         candidates,
         only: None,
         skip,
-        fresh: false,
+        reuse: Reuse::All,
     })
 }
 

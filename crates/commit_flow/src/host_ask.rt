@@ -1,6 +1,7 @@
 //! What is asked of a run on the staged files.
 
 use hook_base::{Items, Text};
+use run_options::RunOptions;
 
 /// What is asked of a run on the staged files.
 #[derive(Debug, Drop)]
@@ -15,6 +16,9 @@ pub struct HostAsk {
     pub skip: Items<Text>,
     /// Whether every child is to be started, also where its answer is remembered.
     pub fresh: bool,
+    /// What is made of the staged configuration. Where the run is cautious, no failure comes from what is remembered: only an answer
+    /// that passed serves.
+    pub options: RunOptions,
 }
 
 /// The staged files that the hooks of a run may get.

@@ -110,6 +110,7 @@ impl<S: Alter> Host<S> {
                     report,
                     changes,
                     unsteady,
+                    reused: _,
                 },
             ) => Reply::Ran {
                 passed,

@@ -2,22 +2,23 @@
 
 ghost use Rattle.std.specs.Prelude.{◌≡◌, IfOk, IfErr};
 ghost use Rattle.commit_flow.specs.Preparations.{IsPrepared, IsUnprepared, run_ask_with};
-ghost use Rattle.commit_flow.specs.Runs.{stage_of};
+ghost use Rattle.commit_flow.specs.Runs.{reuse_of, stage_of};
 
 use crate::candidates::candidates;
 use crate::configured::staged_config;
 use crate::{AskStage, HostAsk, HostRefusal};
 use hook_base::{Items, OutOfMemory, RepoPath, Text, Tree, copy_texts};
 use hook_config::{Config, Stage};
-use hook_run::RunAsk;
+use hook_run::{Reuse, RunAsk};
 use repo_store::Store;
+use run_options::with_options;
 use sqlite::Alter;
 use std::alloc::Global;
 
 /// What is made ready before the hooks of a run start.
 #[derive(Drop)]
 pub(crate) struct Prepared {
-    /// The staged configuration.
+    /// What the options of the run make of the staged configuration.
     pub config: Config,
     /// What is asked of the hooks.
     pub ask: RunAsk,
@@ -36,7 +37,8 @@ pub(crate) fn prepare<S: Alter>(
     ensures ready { IfOk result (IsPrepared store.now.kept.repo ask.now) }
     ensures refused { IfErr result (IsUnprepared store.now.kept.repo ask.now) }
 {
-    let config = staged_config(alloc, store)?;
+    let staged = staged_config(alloc, store)?;
+    let config = with_options(alloc, staged, ask.options)?;
     let tree = store.staged()?;
     let candidates = candidates(alloc, store, &tree, &ask.which)?;
     let ask = run_ask_with(alloc, ask, candidates)?;
@@ -58,8 +60,21 @@ fn run_ask_with(
         candidates,
         only,
         skip,
-        fresh: ask.fresh,
+        reuse: reuse_of(ask),
     })
+}
+
+// Which remembered answers serve the run: a fresh one none, and a cautious one those that passed.
+fn reuse_of(ask: &HostAsk) -> Reuse
+    ensures { result ≡ reuse_of ask.now }
+{
+    if ask.fresh {
+        Reuse::Nothing
+    } else if ask.options.cautious {
+        Reuse::Passed
+    } else {
+        Reuse::All
+    }
 }
 
 fn copy_name(name: &Option<Text>) -> Result<Option<Text>, OutOfMemory>

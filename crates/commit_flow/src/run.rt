@@ -11,11 +11,11 @@ ghost use Rattle.commit_flow.specs.Preparations.{HasRunOnStaged, HasRunReady, Ha
 ghost use Rattle.commit_flow.specs.RunSteps.{IsRunStep, IsStoppedStep, reply_of_run};
 ghost use Rattle.commit_flow.specs.Stops.{IsPlayedSafely};
 
-use crate::hooks::run_with_book;
+use crate::hooks::run_counted;
 use crate::prepared::{Prepared, prepare};
 use crate::{Host, HostAsk, HostRefusal, StagedRun};
 use child_port::Children;
-use hook_run::RunOut;
+use hook_run::{HooksRun, RunOut};
 use repo_store::Store;
 use result_book::Book;
 use sqlite::Alter;
@@ -24,7 +24,8 @@ use std::alloc::Global;
 impl<S: Alter> Host<S> {
     /// Runs hooks on the staged files, with what is remembered and the children's outcomes, as [`run_hooks`](hook_run::run_hooks)
     /// says, and sets the fixes to what they did to the staged files: where they did nothing, earlier fixes are forgotten. The
-    /// staged files stay. What the children answer is remembered, in the store, each answer as soon as it is told.
+    /// staged files stay. What the children answer is remembered, in the store, each answer as soon as it is told. The hooks are those
+    /// of what the options of the run make of the staged configuration, and `fresh` and the options say which remembered answers serve.
     ///
     /// Refused is, in this order, that no configuration is staged (`NoConfig`), that it can't be read (`BadConfig`), the first
     /// name that is no path (`BadPath`) or isn't staged (`NotStaged`), and a name that no hook of the stage has
@@ -100,8 +101,9 @@ fn run_prepared<C: Children, B: Book>(
     ensures same { SameTells (C.tells children.old) (C.tells children.new) }
 {
     let Prepared { config, ask, tree } = prepared;
-    let out = run_with_book(alloc, children, book, config, ask, tree)?;
-    let changes = tree.changes_to(&out.tree)?;
+    let ran = run_counted(alloc, children, book, config, ask, tree)?;
+    let changes = tree.changes_to(&ran.out.tree)?;
+    let HooksRun { out, reused } = ran;
     let RunOut {
         passed,
         report,
@@ -114,5 +116,6 @@ fn run_prepared<C: Children, B: Book>(
         report,
         changes,
         unsteady,
+        reused,
     })
 }

@@ -11,7 +11,10 @@ pub struct StagedRun {
     pub report: Bytes,
     /// What became of the staged files: the fixes, after the run.
     pub changes: Changes,
-    /// The ids of the hooks of a fresh run of which an answer was another than the one that was remembered at that moment, in
-    /// the order of the configuration.
+    /// The ids of the hooks for which a command was started although an answer was remembered at that moment, and that answered
+    /// otherwise, in the order of the configuration.
     pub unsteady: Items<Text>,
+    /// How many commands of hooks were answered from what is remembered, so that no child was started for them. Where they are
+    /// more than can be counted, it is 2^64 - 1.
+    pub reused: u64,
 }

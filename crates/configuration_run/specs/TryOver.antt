@@ -13,6 +13,7 @@ use Rattle.hook_config.specs.Refusals.{TellsTooLarge}
 use Rattle.repo_store.specs.Limits.{first_limit}
 use Rattle.result_book.specs.Contents.{Contents, nothing}
 use Rattle.hook_run.specs.Moments.{moment}
+use Rattle.hook_run.specs.declared.reuse.Reuse.TheVariants.{All}
 use Rattle.hook_run.specs.declared.run_ask.RunAsk.{RunAsk}
 use Rattle.hook_run.specs.declared.run_out.RunOut.{RunOut}
 use Rattle.hook_run.specs.declared.run_refusal.RunRefusal.{RunRefusal}
@@ -53,7 +54,7 @@ pub record ReadsNoConfiguration (given left : Option (List ℕ)) (fault : Config
 -- the hooks of the stage `pre-commit`, with all files of the tree as candidates: no hook is skipped and none left out
 abbrev pub ask_for_all : List File → RunAsk
 ask_for_all tree =
-    record { stage = PreCommit; candidates = map (λ row. row.path) tree; only = None; skip = []; fresh = false }
+    record { stage = PreCommit; candidates = map (λ row. row.path) tree; only = None; skip = []; reuse = All }
 
 -- a run of the hooks of this configuration on the tree gives this, between these counts. No answer is remembered before it, so
 -- that each outcome is one that the children may tell; of its own answers as many are as a new store remembers

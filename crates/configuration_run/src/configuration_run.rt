@@ -87,7 +87,7 @@ fn run_on_all<C: Children>(
     let ask = ask_for_all(alloc, tree)?;
     let mut book = ListBook::new(alloc, FIRST_LIMIT);
     match run_hooks(alloc, children, &mut book, config, &ask, tree) {
-        Ok(out) => Ok(out),
+        Ok(ran) => Ok(ran.out),
         Err(RunRefusal::OutOfMemory) => Err(TryFault::OutOfMemory),
         Err(RunRefusal::Spent) => Err(TryFault::Spent),
         // No hook is asked for by its name, and a book in memory refuses for want of memory alone.

@@ -7,7 +7,7 @@ ghost use Rattle.configuration_run.specs.TryOver.{ask_for_all};
 
 use hook_base::{Items, OutOfMemory, RepoPath, Tree};
 use hook_config::Stage;
-use hook_run::RunAsk;
+use hook_run::{Reuse, RunAsk};
 use std::alloc::Global;
 
 /// The hooks of the stage `pre-commit`, with all files of the tree as candidates: none is left out, and none skipped.
@@ -19,7 +19,7 @@ pub fn ask_for_all(alloc: Global, tree: &Tree) -> Result<RunAsk, OutOfMemory>
         candidates: Items::from(paths_of(alloc, tree)?),
         only: None,
         skip: Items::new(alloc),
-        fresh: false,
+        reuse: Reuse::All,
     })
 }
 

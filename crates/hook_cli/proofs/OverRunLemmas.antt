@@ -20,6 +20,7 @@ use Rattle.result_book.specs.StoreBooks.{MayRemember, remembered_by}
 use Rattle.result_book.specs.RestLemmas.{rests_itself}
 use Rattle.commit_flow.specs.declared.host.Host.{Host}
 use Rattle.commit_flow.specs.declared.reply.Reply.TheVariants.{Refused}
+use Rattle.commit_flow.specs.Runs.{reuse_of}
 use Rattle.commit_flow.specs.RunSteps.{IsRunStep, IsStoppedStep, reply_of_run}
 use Rattle.commit_flow.proofs.LeftLemmas.{left_same}
 use Rattle.commit_flow.proofs.SafeLemmas.{halted_safely}
@@ -36,20 +37,19 @@ pub same-tells-itself : (tells : List (List ℕ) → List File → Outcome → T
 same-tells-itself tells = record { kept = λ words seen outcome told. told; added = λ words seen outcome told. told }
 
 module _ {S : Type 0} (g : Ghosts S) (tells : List (List ℕ) → List File → Outcome → Type 0) (counts : Counts) (old new : Host S) (ask : HostAsk) (out err : Output) (ending : CommandEnding) where
-  pub run-said : (ran : StagedRun) (report : List ℕ) (unsteady : List (List ℕ)) → report ≡ ran.report → unsteady ≡ ran.unsteady
+  pub run-said : (ran : StagedRun)
       → IsRunStep tells (moment_before counts old) (moment_after counts new) old.store.kept.repo ask ran new.store.kept.repo
       → KeepsForRun old.store.kept new.store.kept (Ok ran)
       → IsPlayedSafely g tells (moment_before counts old) (moment_after counts new) old.store new.store (command.Run ask) (reply_of_run ran)
-      → IsSaid (ending_of ran.passed) out (run_text report unsteady) err untaken_line ending
+      → IsSaid (ending_of ran.passed) out (run_text ask.options.verbose ran) err untaken_line ending
       → IsRunOverHost g tells counts old new ask out err ending
-  run-said ran report unsteady reported named step change safe said = record {
+  run-said ran step change safe said = record {
     answer = Ok ran;
     step = step;
     stopped = tt;
     change = change;
     safe = safe;
-    replied = subst (λ (names : List (List ℕ)). IsSaid (ending_of ran.passed) out (run_text ran.report names) err untaken_line ending) named
-        (subst (λ (text : List ℕ). IsSaid (ending_of ran.passed) out (run_text text unsteady) err untaken_line ending) reported said);
+    said = said;
   }
 
   pub run-refused : (refusal : HostRefusal)
@@ -64,7 +64,7 @@ module _ {S : Type 0} (g : Ghosts S) (tells : List (List ℕ) → List File → 
     stopped = stopped;
     change = change;
     safe = safe;
-    replied = (silent, told);
+    said = (silent, told);
   }
 
 -- memory is refused before the host is asked
@@ -76,7 +76,7 @@ run-unasked g tells calls faults host ask out err ending told silent =
     let stopped : IsStoppedStep tells at at host.store.kept.repo ask host.store.kept OutOfMemory = record {
       parts = [];
       step = ((tt, refl), refl);
-      answered = so-far tells ask.fresh at at [] (answered-none tells ask.fresh at);
+      answered = so-far tells (reuse_of ask) at at [] (answered-none tells (reuse_of ask) at);
       told = λ _. tt;
       adds = adds-none tells (remembered_by host.store.kept);
       stopped = inl (refl, refl);
@@ -88,7 +88,7 @@ run-unasked g tells calls faults host ask out err ending told silent =
       stopped = stopped;
       change = refl;
       safe = halted_safely g tells at at host.store host.store refl refl ask OutOfMemory stopped (rests_itself g host.store) (left_same tells (remembered_by host.store.kept) (MayRemember g host.store));
-      replied = (silent, told);
+      said = (silent, told);
     }
 
 -- a commit whose answer is printed: the bytes that the host got are the message

@@ -1,4 +1,4 @@
--- Why the hooks behind a commit were stopped.
+-- Why the hooks behind a commit were stopped, and what a run says.
 use Rattle.std.proofs.Common.{◌≡◌, ◌∙◌, ap, subst, append_assoc, ℕ, List, [], ◌∷◌, ◌++◌}
 use Rattle.std.specs.Prelude.{codes}
 use Rattle.std.specs.Fmt.{decimal}
@@ -8,7 +8,7 @@ use Rattle.hook_run.specs.Refusals.{name_of, number_of}
 use Rattle.hook_cli.specs.declared.command_ending.CommandEnding.{CommandEnding}
 use Rattle.text_output.specs.Outputs.{Output}
 use Rattle.hook_cli.specs.Printing.{IsTold, untaken_line}
-use Rattle.hook_cli.specs.RunText.{made_line, stopped_text}
+use Rattle.hook_cli.specs.RunText.{made_line, reported_text, stopped_text}
 
 abbrev refusal_head : List ℕ
 refusal_head = codes "hookhost: refused: "
@@ -64,3 +64,10 @@ told-made-and-stopped wanted err ending refusal made count digits number name is
     ∙ ap (λ digits. made_text digits number name) is ∙ ap (λ number. made_text (decimal made) number name) (numbered ∙ ap decimal counted)
     ∙ ap (λ name. made_text (decimal made) (decimal (number_of refusal)) name) named)
     told
+
+-- ---- what a run says
+
+-- what is reported, as slices of what the run gave
+pub reported-as : (P : List ℕ → Type 0) (text report : List ℕ) (ids unsteady : List (List ℕ)) → text ≡ report → ids ≡ unsteady → P (reported_text text ids) → P (reported_text report unsteady)
+reported-as P text report ids unsteady same named holds =
+    subst (λ (first : List ℕ). P (reported_text first unsteady)) same (subst (λ (names : List (List ℕ)). P (reported_text text names)) named holds)

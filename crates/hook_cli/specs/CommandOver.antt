@@ -49,6 +49,7 @@ use Rattle.command_line.specs.declared.line.LookUp.{LookUp}
 use Rattle.command_line.specs.declared.line.LookUp.TheVariants.{Status, Fixes, Cat, Log, Show, Memory}
 use Rattle.command_line.specs.declared.line.PathSource.{PathSource}
 use Rattle.command_line.specs.declared.line.PathSource.TheVariants.{Words}
+use Rattle.command_line.specs.declared.line.RunChoice.{RunChoice}
 use Rattle.command_line.specs.declared.line.StageChoice.{StageChoice}
 use Rattle.command_line.specs.declared.line.StageChoice.TheVariants.{PreCommit, Manual}
 use Rattle.command_line.specs.declared.line.Update.{Update}
@@ -65,6 +66,7 @@ use Rattle.hook_cli.specs.RunText.{IsCommitSaid, failure_text, run_text}
 use Rattle.repository_text.specs.ShowText.{show_text}
 use Rattle.repository_text.specs.StatusText.{status_text}
 use Rattle.configuration_run.specs.TryOver.{NoneCalled}
+use Rattle.run_options.specs.declared.options.RunOptions.{RunOptions}
 
 -- one word names the path
 abbrev pub IsOneWord : PathSource → Type 0
@@ -80,7 +82,7 @@ IsNamed files = Unit {0}
 abbrev pub IsOneCall : Update → Type 0
 IsOneCall (Add paths mode) = IsOneWord paths
 IsOneCall (Remove paths) = IsOneWord paths
-IsOneCall (Run files only stage fresh) = IsNamed files
+IsOneCall (Run files only stage fresh choice) = IsNamed files
 IsOneCall Accept = Unit {0}
 IsOneCall (Commit message no_verify) = Unit {0}
 IsOneCall Forget = Unit {0}
@@ -94,14 +96,15 @@ IsOverHost (line.Update update) = IsOneCall update
 
 -- ---- the commands that change the repository
 
--- what each reply prints: a file that was added or removed nothing, fixes that were accepted how many there were, hooks that
--- were run what is reported of them, a commit that too, with its number where it was made, answers that were forgotten how many
--- there were, and a refusal why. Where standard output doesn't take it, standard error says so, and of a commit that it was made
+-- what each reply prints: a file that was added or removed nothing, fixes that were accepted how many there were, a commit what is
+-- reported of its hooks, with its number where it was made, answers that were forgotten how many there were, and a refusal why.
+-- Where standard output doesn't take it, standard error says so, and of a commit that it was made. A run prints more than its
+-- reply has: `IsRunSaid`.
 abbrev pub IsReplied : Output → Output → Reply → CommandEnding → Type 0
 IsReplied out err Added ending = IsSilent out × IsSilent err × (ending ≡ ends.Done)
 IsReplied out err Removed ending = IsSilent out × IsSilent err × (ending ≡ ends.Done)
 IsReplied out err (Accepted number) ending = IsSaid ends.Done out (accepted_text number) err untaken_line ending
-IsReplied out err (Ran passed report changes unsteady) ending = IsSaid (ending_of passed) out (run_text report unsteady) err untaken_line ending
+IsReplied out err (Ran passed report changes unsteady) ending = ⊥
 IsReplied out err (Committed number reports post) ending = IsCommitSaid number reports post out err ending
 IsReplied out err (HooksFailed stage reports) ending = IsSaid ends.Failed out (failure_text reports) err untaken_line ending
 IsReplied out err (Forgot number) ending = IsSaid ends.Done out (forgotten_text number) err untaken_line ending
@@ -190,9 +193,25 @@ abbrev pub stage_of : StageChoice → AskStage
 stage_of PreCommit = ask_stage.PreCommit
 stage_of Manual = ask_stage.Manual
 
+abbrev pub options_of : RunChoice → RunOptions
+options_of choice = record { cautious = choice.cautious; verbose = choice.verbose }
+
 -- what a line asks of the host, with the hooks that are skipped
-abbrev pub ask_of : FileChoice → Option (List ℕ) → StageChoice → Bool → List (List ℕ) → HostAsk
-ask_of files only stage fresh skip = record { which = which_of files; only = only; stage = stage_of stage; skip = skip; fresh = fresh }
+abbrev pub ask_of : FileChoice → Option (List ℕ) → StageChoice → Bool → RunChoice → List (List ℕ) → HostAsk
+ask_of files only stage fresh choice skip = record {
+  which = which_of files;
+  only = only;
+  stage = stage_of stage;
+  skip = skip;
+  fresh = fresh;
+  options = options_of choice;
+}
+
+-- what a run prints: what is reported of its hooks, which of them are unsteady, and in a verbose run how many commands were answered
+-- from what is remembered; or why it is refused
+abbrev pub IsRunSaid : Output → Output → Bool → Result StagedRun HostRefusal → CommandEnding → Type 0
+IsRunSaid out err verbose (Ok ran) ending = IsSaid (ending_of ran.passed) out (run_text verbose ran) err untaken_line ending
+IsRunSaid out err verbose (Err refusal) ending = IsSilent out × IsTold ends.Refused err (refusal_text refusal) ending
 
 -- Hooks are run on the staged files by one call of the host, whose answer is printed. The repository takes a step of the host's
 -- machine over the children, or stays as it is, and a writer's error undoes none of it.
@@ -202,7 +221,7 @@ pub record IsRunOverHost {S : Type 0} (g : Ghosts S) (tells : List (List ℕ) �
   pub stopped : IfErr answer (IsStoppedStep tells (moment_before counts old) (moment_after counts new) old.store.kept.repo ask new.store.kept)
   pub change : KeepsForRun old.store.kept new.store.kept answer
   pub safe : IsPlayedSafely g tells (moment_before counts old) (moment_after counts new) old.store new.store (command.Run ask) (reply_of reply_of_run answer)
-  pub replied : IsReplied out err (reply_of reply_of_run answer) ending
+  pub said : IsRunSaid out err ask.options.verbose answer ending
 
 -- The staged files are committed through their hooks by one call of the host, whose answer is printed. The repository takes a
 -- step of the host's machine over the children, or stays as it is, and a writer's error undoes none of it.
@@ -289,8 +308,8 @@ word_of paths = []
 abbrev pub IsUpdated : {S : Type 0} → Ghosts S → (List (List ℕ) → List File → Outcome → Type 0) → Counts → Host S → Host S → Update → List ℕ → List (List ℕ) → Output → Output → CommandEnding → Type 0
 IsUpdated g tells counts old new (Add paths mode) bytes skip out err ending = IsAddOver g old new (word_of paths) bytes mode out err ending
 IsUpdated g tells counts old new (Remove paths) bytes skip out err ending = IsRemoveOver g old new (word_of paths) out err ending
-IsUpdated g tells counts old new (Run files only stage fresh) bytes skip out err ending =
-    IsRunOverHost g tells counts old new (ask_of files only stage fresh skip) out err ending
+IsUpdated g tells counts old new (Run files only stage fresh choice) bytes skip out err ending =
+    IsRunOverHost g tells counts old new (ask_of files only stage fresh choice skip) out err ending
 IsUpdated g tells counts old new Accept bytes skip out err ending = IsAcceptOver g old new out err ending
 IsUpdated g tells counts old new (Commit message no_verify) bytes skip out err ending =
     IsCommitOverHost g tells counts old new message no_verify skip out err ending
@@ -305,7 +324,7 @@ IsEnded g tells counts old new (line.Update update) bytes skip out err ending = 
 
 -- the update runs no hooks
 abbrev pub IsHookless : Update → Type 0
-IsHookless (Run files only stage fresh) = ⊥
+IsHookless (Run files only stage fresh choice) = ⊥
 IsHookless (Commit message no_verify) = ⊥
 IsHookless update = Unit {0}
 

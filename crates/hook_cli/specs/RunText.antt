@@ -1,5 +1,5 @@
 -- What runs of hooks and commits say.
-use Rattle.std.specs.Prelude.{ℕ, List, [], ◌++◌, codes}
+use Rattle.std.specs.Prelude.{ℕ, Bool, if◌then◌else◌, List, [], ◌++◌, codes}
 use Rattle.std.specs.List.{concat, flat_map}
 use Rattle.std.specs.Fmt.{decimal}
 use Rattle.report_text.specs.Report.{line}
@@ -7,6 +7,7 @@ use Rattle.hook_run.specs.declared.run_refusal.RunRefusal.{RunRefusal}
 use Rattle.hook_run.specs.Refusals.{name_of, number_of}
 use Rattle.commit_flow.specs.declared.reply.PostCommit.{PostCommit}
 use Rattle.commit_flow.specs.declared.reply.PostCommit.TheVariants.{Told, Stopped}
+use Rattle.commit_flow.specs.declared.staged_run.StagedRun.{StagedRun}
 use Rattle.hook_cli.specs.declared.command_ending.CommandEnding.{CommandEnding}
 use Rattle.hook_cli.specs.declared.command_ending.CommandEnding.TheVariants.{Done}
 use Rattle.text_output.specs.Outputs.{Output}
@@ -16,9 +17,17 @@ use Rattle.hook_cli.specs.Printing.{AreSaid, IsSaid, untaken_line}
 abbrev pub unsteady_line : List ℕ → List ℕ
 unsteady_line id = line (codes "unsteady: " ++ id)
 
--- a run: what is reported of its hooks, and then those hooks
-abbrev pub run_text : List ℕ → List (List ℕ) → List ℕ
-run_text report unsteady = report ++ flat_map unsteady_line unsteady
+-- what is reported of hooks, and then those of them
+abbrev pub reported_text : List ℕ → List (List ℕ) → List ℕ
+reported_text report unsteady = report ++ flat_map unsteady_line unsteady
+
+-- how many commands were answered from what is remembered, in a verbose run
+abbrev pub reused_text : Bool → ℕ → List ℕ
+reused_text verbose reused = if verbose then line (codes "answered from the cache: " ++ decimal reused) else []
+
+-- what a run says
+abbrev pub run_text : Bool → StagedRun → List ℕ
+run_text verbose ran = reported_text ran.report ran.unsteady ++ reused_text verbose ran.reused
 
 -- what is reported of the hooks behind a commit: nothing where they were stopped
 abbrev pub post_report : PostCommit → List ℕ

@@ -26,8 +26,8 @@ use std::io::Write;
 /// doesn't look at them.
 ///
 /// Done, it is 0: what the command looks up stands on `out` and nothing else, for `accept` how many fixes there were, for
-/// `memory` how many answers are remembered, with a limit how many are left, and for `forget` how many there were, for a run the report of its hooks and a line
-/// for each that is unsteady, and for a commit the reports of its stages and its number; `add` and `rm` print nothing. It is 1
+/// `memory` how many answers are remembered, with a limit how many are left, and for `forget` how many there were, for a run the report of its hooks, a line
+/// for each that is unsteady, and where it is verbose how many commands were answered from the cache, and for a commit the reports of its stages and its number; `add` and `rm` print nothing. It is 1
 /// where a hook failed in a run or before a commit, with what is reported on `out`. Where the hooks behind a commit are stopped,
 /// `err` says why, and it is 0. Refused, it is 3: `hookhost: refused: NUMBER NAME` stands on `err`, with the inner number where
 /// the refusal has one, or for `show` of a number that no commit has `hookhost: no commit N`; nothing is on `out`. Want of memory
@@ -104,8 +104,9 @@ fn updated<S: Alter, C: Children, O: Write, E: Write>(
             only,
             stage,
             fresh,
+            options,
         } => {
-            let ask = ask_of(alloc, files, only, *stage, *fresh, skip);
+            let ask = ask_of(alloc, files, only, *stage, *fresh, *options, skip);
             run(alloc, ask, host, children, out, err)
         }
         Update::Accept => accept(host, out, err),

@@ -5,20 +5,21 @@
 ghost use Rattle.std.specs.Prelude.{◌≡◌, IfOk};
 ghost use Rattle.child_port.specs.Telling.{SameTells};
 ghost use Rattle.commit_flow.specs.Commands.{reply_of_ending};
-ghost use Rattle.hook_cli.specs.CommandOver.{IsCommitOverHost, IsNamed, IsReplied, IsRunOverHost, ask_of, stage_of, which_of};
+ghost use Rattle.hook_cli.specs.CommandOver.{IsCommitOverHost, IsNamed, IsReplied, IsRunOverHost, ask_of, options_of, stage_of, which_of};
 
 use crate::printing::tell;
 use crate::run_printing::{say_commit, say_failure, say_run};
-use crate::{CommandEnding, FileChoice, StageChoice};
+use crate::{CommandEnding, FileChoice, RunChoice, StageChoice};
 use child_port::Children;
 use commit_flow::{AskStage, CommitEnding, Host, HostAsk, HostRefusal, Which};
 use hook_base::{Items, OutOfMemory, Text};
+use run_options::RunOptions;
 use sqlite::Alter;
 use std::alloc::Global;
 use std::io::Write;
 
 /// `run` and `run-files`: runs hooks on the staged files, where memory gave what is asked. It prints what is reported of the
-/// hooks, and which of them are unsteady.
+/// hooks, which of them are unsteady, and where it is verbose how many commands were answered from the cache.
 pub(crate) fn run<S: Alter, C: Children, O: Write, E: Write>(
     alloc: Global,
     ask: Result<HostAsk, OutOfMemory>,
@@ -48,13 +49,7 @@ fn run_asked<S: Alter, C: Children, O: Write, E: Write>(
     ensures same { SameTells (C.tells children.old) (C.tells children.new) }
 {
     match host.run(alloc, children, ask) {
-        Ok(ran) => say_run(
-            out,
-            err,
-            ran.passed,
-            ran.report.as_slice(),
-            ran.unsteady.as_slice(),
-        ),
+        Ok(ran) => say_run(out, err, &ran, ask.options.verbose),
         Err(refusal) => tell(err, &refusal),
     }
 }
@@ -104,10 +99,11 @@ pub(crate) fn ask_of(
     only: &Option<Text>,
     stage: StageChoice,
     fresh: bool,
+    choice: RunChoice,
     skip: &[Text],
 ) -> Result<HostAsk, OutOfMemory>
     requires { IsNamed files.now }
-    ensures { IfOk result (λ ask. ask ≡ ask_of files.now only.now stage fresh skip.now) }
+    ensures { IfOk result (λ ask. ask ≡ ask_of files.now only.now stage fresh choice skip.now) }
 {
     Ok(HostAsk {
         which: which_of(alloc, files)?,
@@ -115,6 +111,7 @@ pub(crate) fn ask_of(
         stage: stage_of(stage),
         skip: Items::from(copies_of(alloc, skip)?),
         fresh,
+        options: options_of(choice),
     })
 }
 
@@ -140,6 +137,15 @@ fn stage_of(stage: StageChoice) -> AskStage
     match stage {
         StageChoice::PreCommit => AskStage::PreCommit,
         StageChoice::Manual => AskStage::Manual,
+    }
+}
+
+fn options_of(choice: RunChoice) -> RunOptions
+    ensures { result ≡ options_of choice }
+{
+    RunOptions {
+        cautious: choice.cautious,
+        verbose: choice.verbose,
     }
 }
 

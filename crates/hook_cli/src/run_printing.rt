@@ -9,29 +9,29 @@ ghost use Rattle.report_text.specs.Report.{line};
 ghost use Rattle.text_output.specs.Outputs.{Has, HasBeginning};
 ghost use Rattle.hook_cli.specs.declared.command_ending.CommandEnding.TheVariants as ends;
 ghost use Rattle.hook_cli.specs.Printing.{IsSaid, IsTold, ending_of, untaken_line};
-ghost use Rattle.hook_cli.specs.RunText.{IsCommitSaid, made_line, run_text, stopped_text, unsteady_line};
+ghost use Rattle.hook_cli.specs.RunText.{IsCommitSaid, made_line, reported_text, reused_text, run_text, stopped_text, unsteady_line};
 
 use crate::CommandEnding;
 use crate::printing::{UNTAKEN_LINE, ending_of, tell_pieces};
-use commit_flow::PostCommit;
+use commit_flow::{PostCommit, StagedRun};
 use hook_base::{Bytes, Text};
 use hook_run::RunRefusal;
 use itoa::Buffer;
 use std::io::Write;
 use text_output::{Unwritten, write_out, write_pieces};
 
-/// Says what a run answered: the report, and the ids of the hooks that answered otherwise than is remembered.
+/// Says what a run answered: the report, the ids of the hooks that answered otherwise than is remembered, and where it is verbose
+/// how many commands were answered from the cache.
 pub(crate) fn say_run<O: Write, E: Write>(
     out: &mut O,
     err: &mut E,
-    passed: bool,
-    report: &[u8],
-    unsteady: &[Text],
+    ran: &StagedRun,
+    verbose: bool,
 ) -> CommandEnding
-    ensures { IsSaid (ending_of passed) (record { held = O.contents out.old; holds = O.contents out.new }) (run_text report.now unsteady.now) (record { held = E.contents err.old; holds = E.contents err.new }) untaken_line result }
+    ensures { IsSaid (ending_of ran.now.passed) (record { held = O.contents out.old; holds = O.contents out.new }) (run_text verbose ran.now) (record { held = E.contents err.old; holds = E.contents err.new }) untaken_line result }
 {
-    let ending = ending_of_run(passed);
-    ending_of(write_run(out, report, unsteady), ending, err)
+    let ending = ending_of_run(ran.passed);
+    ending_of(write_run(out, ran, verbose), ending, err)
 }
 
 fn ending_of_run(passed: bool) -> CommandEnding
@@ -131,12 +131,43 @@ fn tell_made_and_stopped<E: Write>(err: &mut E, number: u32, refusal: &RunRefusa
     )
 }
 
-fn write_run<O: Write>(out: &mut O, report: &[u8], unsteady: &[Text]) -> Result<(), Unwritten>
-    ensures ok { OnOk result (Has (record { held = O.contents out.old; holds = O.contents out.new }) (run_text report.now unsteady.now)) }
-    ensures err { OnErr result (HasBeginning (record { held = O.contents out.old; holds = O.contents out.new }) (run_text report.now unsteady.now)) }
+fn write_run<O: Write>(out: &mut O, ran: &StagedRun, verbose: bool) -> Result<(), Unwritten>
+    ensures ok { OnOk result (Has (record { held = O.contents out.old; holds = O.contents out.new }) (run_text verbose ran.now)) }
+    ensures err { OnErr result (HasBeginning (record { held = O.contents out.old; holds = O.contents out.new }) (run_text verbose ran.now)) }
+{
+    write_reported(out, ran.report.as_slice(), ran.unsteady.as_slice())?;
+    write_reused(out, verbose, ran.reused)
+}
+
+fn write_reported<O: Write>(out: &mut O, report: &[u8], unsteady: &[Text]) -> Result<(), Unwritten>
+    ensures ok { OnOk result (Has (record { held = O.contents out.old; holds = O.contents out.new }) (reported_text report.now unsteady.now)) }
+    ensures err { OnErr result (HasBeginning (record { held = O.contents out.old; holds = O.contents out.new }) (reported_text report.now unsteady.now)) }
 {
     write_out(out, report)?;
     write_unsteady(out, unsteady)
+}
+
+// How many commands were answered from the cache, where that is asked for.
+fn write_reused<O: Write>(out: &mut O, verbose: bool, reused: u64) -> Result<(), Unwritten>
+    ensures ok { OnOk result (Has (record { held = O.contents out.old; holds = O.contents out.new }) (reused_text verbose reused)) }
+    ensures err { OnErr result (HasBeginning (record { held = O.contents out.old; holds = O.contents out.new }) (reused_text verbose reused)) }
+{
+    if verbose {
+        write_reused_line(out, reused)
+    } else {
+        Ok(())
+    }
+}
+
+fn write_reused_line<O: Write>(out: &mut O, reused: u64) -> Result<(), Unwritten>
+    ensures ok { OnOk result (Has (record { held = O.contents out.old; holds = O.contents out.new }) (line (codes "answered from the cache: " ++ decimal reused))) }
+    ensures err { OnErr result (HasBeginning (record { held = O.contents out.old; holds = O.contents out.new }) (line (codes "answered from the cache: " ++ decimal reused))) }
+{
+    let mut digits = Buffer::new();
+    write_pieces(
+        out,
+        &["answered from the cache: ", digits.format(reused), "\n"],
+    )
 }
 
 fn write_unsteady<O: Write>(out: &mut O, unsteady: &[Text]) -> Result<(), Unwritten>

@@ -15,6 +15,7 @@ use Rattle.report_text.specs.Report.{is_empty}
 use Rattle.report_text.specs.declared.hook_result.Ending.{Ending}
 use Rattle.report_text.specs.declared.hook_result.HookResult.{HookResult}
 use Rattle.report_text.specs.declared.hook_result.LineFault.{LineFault}
+use Rattle.hook_run.specs.declared.hooks_run.HooksRun.{HooksRun}
 use Rattle.hook_run.specs.declared.run_ask.RunAsk.{RunAsk}
 use Rattle.hook_run.specs.declared.run_out.RunOut.{RunOut}
 use Rattle.hook_run.specs.AnswerLemmas.{answered-faults, faults-append}
@@ -97,8 +98,8 @@ faults-reported config ask tree trace out run =
     ∙ run-faults config ask tree (hooks_of_run config ask) trace run.results run.run
 
 -- over a run, the faults of the children rise by as many as its results report
-pub reported_if : {E : Type 0} (tells : List (List ℕ) → List File → Outcome → Type 0) (from to : Moment) (config : Config) (ask : RunAsk) (tree : List File) (result : Result RunOut E)
-    → IfOk result (IsRunOver tells from to config ask tree) → IfOk result (λ out. to.faults ≡ from.faults + child_faults out.results)
-reported_if tells from to config ask tree (Ok out) over =
-    answered-faults tells ask.fresh from to (all_parts over.trace) over.answered ∙ sym (ap (λ (more : ℕ). from.faults + more) (faults-reported config ask tree over.trace out over.run))
+pub reported_if : {E : Type 0} (tells : List (List ℕ) → List File → Outcome → Type 0) (from to : Moment) (config : Config) (ask : RunAsk) (tree : List File) (result : Result HooksRun E)
+    → IfOk result (λ ran. IsRunOver tells from to config ask tree ran.out) → IfOk result (λ ran. to.faults ≡ from.faults + child_faults ran.out.results)
+reported_if tells from to config ask tree (Ok ran) over =
+    answered-faults tells ask.reuse from to (all_parts over.trace) over.answered ∙ sym (ap (λ (more : ℕ). from.faults + more) (faults-reported config ask tree over.trace ran.out over.run))
 reported_if tells from to config ask tree (Err refusal) over = tt

@@ -12,6 +12,7 @@ pub mod NextLemmas
 pub mod PartLemmas
 pub mod PlanLemmas
 pub mod ReplayLemmas
+pub mod ReusedLemmas
 pub mod RowLemmas
 pub mod RunLemmas
 pub mod SomeRunLemmas

@@ -1,6 +1,6 @@
 -- A part of a plan that is looked up, and then started or not.
 use Rattle.std.proofs.Common.{◌≡◌, ◌≢◌, ◌⊎◌, ◌∙◌, ap, sym, subst, refl, inl, inr, arith, ℕ, ◌+◌, ◌-◌, ◌^◌, Bool, true, false, List, [], ◌∷◌, Option, None, Some, Result, Ok, Err, IfOk, IfErr}
-use Rattle.std.specs.Prelude.{not}
+use Rattle.std.specs.Prelude.{MatchBool, not}
 use Rattle.std.specs.Bool.{Decides}
 use Rattle.hook_base.specs.declared.file.File.{File}
 use Rattle.child_port.specs.Outcomes.{faults_in}
@@ -14,9 +14,10 @@ use Rattle.result_book.specs.Calls.{AfterFind}
 use Rattle.result_book.specs.CallLemmas.{found_after_find}
 use Rattle.result_book.specs.Told.{AddsTold}
 use Rattle.result_book.specs.ToldLemmas.{adds-then}
-use Rattle.result_book.specs.Contents.{Contents, Finds, Lacks}
+use Rattle.result_book.specs.Contents.{Contents, Finds}
 use Rattle.hook_run.specs.declared.need.Need.TheVariants.{Child}
 use Rattle.hook_run.specs.declared.part_outcome.PartOutcome.{PartOutcome}
+use Rattle.hook_run.specs.declared.reuse.Reuse.{Reuse}
 use Rattle.hook_run.specs.declared.run_refusal.RunRefusal.{RunRefusal}
 use Rattle.hook_run.specs.declared.run_refusal.RunRefusal.TheVariants.{NoSuchHook, Spent}
 use Rattle.hook_run.specs.AnswerLemmas.{answered-none, so-far-back_to, so-far-back_to-last}
@@ -26,28 +27,29 @@ use Rattle.hook_run.specs.Parts.{Part}
 use Rattle.hook_run.specs.PlanRuns.{IsPartStarted, IsPartStopped, IsPartUnput, part_of}
 use Rattle.hook_run.specs.Plans.{Plan, need_of, part_with, seen_of_plan, words_of}
 use Rattle.hook_run.specs.Refusals.{of_book}
-use Rattle.hook_run.specs.Starts.{AfterOutcome, IsMarked, IsStarted, StartsFor}
+use Rattle.hook_run.specs.Reuses.{LacksServing, NeedsStart, serves}
+use Rattle.hook_run.specs.Starts.{AfterOutcome, IsMarked, IsReplayed, IsStarted, StartsFor}
 use Rattle.hook_run.proofs.CompletionLemmas.{can-complete, can-follow}
 use Rattle.hook_run.proofs.RunLemmas.{not-asked, not-spent}
 
--- a child is started where nothing was found, or the run is fresh
-starts-for : (fresh : Bool) (found : Option Answer) (before after : Contents) (part : Part) → (fresh ≡ false → found ≡ None) → IsStarted found before after part → StartsFor fresh found before after part (part ∷ [])
-starts-for true found before after part needs started = (started, refl)
-starts-for false None before after part needs started = (started, refl)
-starts-for false (Some answer) before after part needs started = absurd (let none = needs refl in cc)
+-- a child is started where nothing was found, or that doesn't serve
+starts-for : (reuse : Reuse) (found : Option Answer) (before after : Contents) (part : Part) → NeedsStart reuse found → IsStarted found before after part → StartsFor reuse found before after part (part ∷ [])
+starts-for reuse None before after part needs started = (started, refl)
+starts-for reuse (Some answer) before after part needs started =
+    subst (λ (b : Bool). MatchBool b (IsReplayed answer before after part × (part ∷ [] ≡ [])) (IsStarted (Some answer) before after part × (part ∷ [] ≡ part ∷ []))) (sym needs) (started, refl)
 
-module _ (tells : List (List ℕ) → List File → Outcome → Type 0) (fresh : Bool) (plan : Plan) where
+module _ (tells : List (List ℕ) → List File → Outcome → Type 0) (reuse : Reuse) (plan : Plan) where
   pub part-started : (calls calls_after faults faults_after : ℕ) (before between after : Contents) (found : Option Answer) (part : Part)
-      → Finds part.words part.seen before found → AfterFind part.words part.seen before between → (fresh ≡ false → found ≡ None)
+      → Finds part.words part.seen before found → AfterFind part.words part.seen before between → NeedsStart reuse found
       → IsPartStarted tells found (moment calls faults between) (moment calls_after faults_after after) part
-      → AreAnswered tells fresh (moment calls faults before) (moment calls_after faults_after after) (part ∷ [])
+      → AreAnswered tells reuse (moment calls faults before) (moment calls_after faults_after after) (part ∷ [])
   part-started calls calls_after faults faults_after before between after found part finds look_up needs it = record {
     started = part ∷ [];
     starts = record {
       between = after;
       first = part ∷ [];
       others = [];
-      one = record { found = found; looked_up = between; finds = finds; look_up = look_up; starts = starts-for fresh found between after part needs it.started };
+      one = record { found = found; looked_up = between; finds = finds; look_up = look_up; starts = starts-for reuse found between after part needs it.started };
       more = (refl, refl);
       joined = refl;
     };
@@ -56,29 +58,31 @@ module _ (tells : List (List ℕ) → List File → Outcome → Type 0) (fresh :
   }
 
   pub part-started_if : {E : Type 0} (calls calls_after faults faults_after : ℕ) (before between after : Contents) (found : Option Answer) (result : Result PartOutcome E)
-      → Finds (words_of plan) (seen_of_plan plan) before found → AfterFind (words_of plan) (seen_of_plan plan) before between → (fresh ≡ false → found ≡ None)
+      → Finds (words_of plan) (seen_of_plan plan) before found → AfterFind (words_of plan) (seen_of_plan plan) before between → NeedsStart reuse found
       → IfOk result (λ came. IsPartStarted tells found (moment calls faults between) (moment calls_after faults_after after) (part_of plan came))
-      → IfOk result (λ came. AreAnswered tells fresh (moment calls faults before) (moment calls_after faults_after after) (part_of plan came ∷ []))
+      → IfOk result (λ came. AreAnswered tells reuse (moment calls faults before) (moment calls_after faults_after after) (part_of plan came ∷ []))
   part-started_if calls calls_after faults faults_after before between after found (Ok came) finds look_up needs it =
       part-started calls calls_after faults faults_after before between after found (part_of plan came) finds look_up needs it
   part-started_if calls calls_after faults faults_after before between after found (Err refusal) finds look_up needs it = tt
 
   -- what was found is replayed
-  replayed : (calls faults : ℕ) (before after : Contents) (answer : Answer) → fresh ≡ false → Finds (words_of plan) (seen_of_plan plan) before (Some answer)
-      → AfterFind (words_of plan) (seen_of_plan plan) before after → StartsFor fresh (Some answer) after after (part_with plan (Done answer) false) []
-  replayed calls faults before after answer steady finds look_up =
-      subst (λ (b : Bool). StartsFor b (Some answer) after after (part_with plan (Done answer) false) []) (sym steady) (record { outcome = refl; steady = refl; kept = refl }, refl)
+  replayed : (calls faults : ℕ) (before after : Contents) (answer : Answer) → serves reuse answer ≡ true → Finds (words_of plan) (seen_of_plan plan) before (Some answer)
+      → AfterFind (words_of plan) (seen_of_plan plan) before after → StartsFor reuse (Some answer) after after (part_with plan (Done answer) false) []
+  replayed calls faults before after answer served finds look_up =
+      let part = part_with plan (Done answer) false in
+      subst (λ (b : Bool). MatchBool b (IsReplayed answer after after part × (◌≡◌ {A = List Part} [] [])) (IsStarted (Some answer) after after part × (◌≡◌ {A = List Part} [] (part ∷ [])))) (sym served)
+      (record { outcome = refl; steady = refl; kept = refl }, refl)
 
-  pub part-replayed : (calls faults : ℕ) (before after : Contents) (answer : Answer) → fresh ≡ false → Finds (words_of plan) (seen_of_plan plan) before (Some answer)
+  pub part-replayed : (calls faults : ℕ) (before after : Contents) (answer : Answer) → serves reuse answer ≡ true → Finds (words_of plan) (seen_of_plan plan) before (Some answer)
       → AfterFind (words_of plan) (seen_of_plan plan) before after
-      → AreAnswered tells fresh (moment calls faults before) (moment calls faults after) (part_with plan (Done answer) false ∷ [])
-  part-replayed calls faults before after answer steady finds look_up = record {
+      → AreAnswered tells reuse (moment calls faults before) (moment calls faults after) (part_with plan (Done answer) false ∷ [])
+  part-replayed calls faults before after answer served finds look_up = record {
     started = [];
     starts = record {
       between = after;
       first = [];
       others = [];
-      one = record { found = Some answer; looked_up = after; finds = finds; look_up = look_up; starts = replayed calls faults before after answer steady finds look_up };
+      one = record { found = Some answer; looked_up = after; finds = finds; look_up = look_up; starts = replayed calls faults before after answer served finds look_up };
       more = (refl, refl);
       joined = refl;
     };
@@ -88,7 +92,7 @@ module _ (tells : List (List ℕ) → List File → Outcome → Type 0) (fresh :
 
   -- the look-up is refused
   pub part-unfound : (calls faults : ℕ) (before after : Contents) (refusal : RunRefusal) → after ≡ before → refusal ≢ NoSuchHook → refusal ≢ Spent
-      → IsPartStopped tells fresh (moment calls faults before) (moment calls faults after) plan refusal
+      → IsPartStopped tells reuse (moment calls faults before) (moment calls faults after) plan refusal
   part-unfound calls faults before after refusal kept asked countable = record {
     last = [];
     answered = record {
@@ -96,7 +100,7 @@ module _ (tells : List (List ℕ) → List File → Outcome → Type 0) (fresh :
       last = [];
       between = moment calls faults before;
       split = refl;
-      answered = answered-none tells fresh (moment calls faults before);
+      answered = answered-none tells reuse (moment calls faults before);
       stopped = inl (refl, ap (moment calls faults) kept);
     };
     begins = can-complete plan;
@@ -106,16 +110,18 @@ module _ (tells : List (List ℕ) → List File → Outcome → Type 0) (fresh :
   }
 
   lacks-still : (before after : Contents) (found : Option Answer) → Finds (words_of plan) (seen_of_plan plan) before found → AfterFind (words_of plan) (seen_of_plan plan) before after
-      → found ≡ None → Lacks (words_of plan) (seen_of_plan plan) after
-  lacks-still before after found finds look_up none =
-      found_after_find (words_of plan) (seen_of_plan plan) before after (words_of plan) (seen_of_plan plan) None look_up
-      (subst (Finds (words_of plan) (seen_of_plan plan) before) none finds)
+      → NeedsStart reuse found → LacksServing reuse (words_of plan) (seen_of_plan plan) after
+  lacks-still before after found finds look_up needs = record {
+    found = found;
+    finds = found_after_find (words_of plan) (seen_of_plan plan) before after (words_of plan) (seen_of_plan plan) found look_up finds;
+    needs = needs;
+  }
 
   -- no child told the part, or its answer isn't put
   pub part-unput : (calls calls_after faults faults_after : ℕ) (before between after : Contents) (found : Option Answer) (refusal : RunRefusal)
-      → Finds (words_of plan) (seen_of_plan plan) before found → AfterFind (words_of plan) (seen_of_plan plan) before between → (fresh ≡ false → found ≡ None)
+      → Finds (words_of plan) (seen_of_plan plan) before found → AfterFind (words_of plan) (seen_of_plan plan) before between → NeedsStart reuse found
       → IsPartUnput tells (moment calls faults between) (moment calls_after faults_after after) plan refusal
-      → IsPartStopped tells fresh (moment calls faults before) (moment calls_after faults_after after) plan refusal
+      → IsPartStopped tells reuse (moment calls faults before) (moment calls_after faults_after after) plan refusal
   part-unput calls calls_after faults faults_after before between after found refusal finds look_up needs it =
       let looked_up = subst (AfterFind (words_of plan) (seen_of_plan plan) before) (sym it.kept) look_up in
       record {
@@ -125,7 +131,7 @@ module _ (tells : List (List ℕ) → List File → Outcome → Type 0) (fresh :
           last = it.last;
           between = moment calls faults before;
           split = refl;
-          answered = answered-none tells fresh (moment calls faults before);
+          answered = answered-none tells reuse (moment calls faults before);
           stopped = inr (
             part_with plan it.outcome it.unsteady,
             record {
@@ -141,14 +147,14 @@ module _ (tells : List (List ℕ) → List File → Outcome → Type 0) (fresh :
         };
         begins = it.begins;
         asked = it.asked;
-        needs = λ is. ((it.spent is).0, (it.spent is).0, λ steady. lacks-still before after found finds looked_up (needs steady));
+        needs = λ is. ((it.spent is).0, (it.spent is).0, lacks-still before after found finds looked_up needs);
         spent = λ is. (it.spent is).1;
       }
 
   pub part-unput_if : {T : Type 0} (calls calls_after faults faults_after : ℕ) (before between after : Contents) (found : Option Answer) (result : Result T RunRefusal)
-      → Finds (words_of plan) (seen_of_plan plan) before found → AfterFind (words_of plan) (seen_of_plan plan) before between → (fresh ≡ false → found ≡ None)
+      → Finds (words_of plan) (seen_of_plan plan) before found → AfterFind (words_of plan) (seen_of_plan plan) before between → NeedsStart reuse found
       → IfErr result (IsPartUnput tells (moment calls faults between) (moment calls_after faults_after after) plan)
-      → IfErr result (IsPartStopped tells fresh (moment calls faults before) (moment calls_after faults_after after) plan)
+      → IfErr result (IsPartStopped tells reuse (moment calls faults before) (moment calls_after faults_after after) plan)
   part-unput_if calls calls_after faults faults_after before between after found (Ok came) finds look_up needs it = tt
   part-unput_if calls calls_after faults faults_after before between after found (Err refusal) finds look_up needs it =
       part-unput calls calls_after faults faults_after before between after found refusal finds look_up needs it
@@ -218,13 +224,13 @@ is-marked mark true answer found decides is = (λ marked. absurd (let m = is in 
 is-marked mark false answer found decides is = (λ marked alike. absurd (let no = decides.1 alike in cc), λ apart. is)
 
 -- under relations that tell the same
-pub stopped-back_to : (tells others : List (List ℕ) → List File → Outcome → Type 0) → SameTells tells others → (fresh : Bool) (from to : Moment) (plan : Plan) (refusal : RunRefusal)
-    → IsPartStopped others fresh from to plan refusal → IsPartStopped tells fresh from to plan refusal
-stopped-back_to tells others same fresh from to plan refusal it = record {
+pub stopped-back_to : (tells others : List (List ℕ) → List File → Outcome → Type 0) → SameTells tells others → (reuse : Reuse) (from to : Moment) (plan : Plan) (refusal : RunRefusal)
+    → IsPartStopped others reuse from to plan refusal → IsPartStopped tells reuse from to plan refusal
+stopped-back_to tells others same reuse from to plan refusal it = record {
   last = it.last;
-  answered = so-far-back_to tells others same fresh from to it.last it.answered;
+  answered = so-far-back_to tells others same reuse from to it.last it.answered;
   begins = it.begins;
   asked = it.asked;
-  needs = λ is. ((it.needs is).0, so-far-back_to-last tells others same fresh from to it.last it.answered ∙ (it.needs is).1, (it.needs is).2);
+  needs = λ is. ((it.needs is).0, so-far-back_to-last tells others same reuse from to it.last it.answered ∙ (it.needs is).1, (it.needs is).2);
   spent = it.spent;
 }

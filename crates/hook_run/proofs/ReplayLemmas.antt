@@ -1,5 +1,5 @@
 -- A run for whose parts answers are remembered has these answers, and starts no child.
-use Rattle.std.proofs.Common.{◌≡◌, ◌∙◌, ap, ap₂, sym, subst, ℕ, false, List, [], ◌∷◌, ◌++◌, length, Option, None, Some, arith}
+use Rattle.std.proofs.Common.{◌≡◌, ◌∙◌, ap, ap₂, sym, subst, ℕ, List, [], ◌∷◌, ◌++◌, length, Option, None, Some, arith}
 use Rattle.std.specs.List.{AllByRecursion as Each}
 use Rattle.std.proofs.lemmas.List.Elements.{recursion_from_All}
 use Rattle.hook_base.specs.declared.file.File.{File}
@@ -12,6 +12,7 @@ use Rattle.report_text.specs.declared.hook_result.HookResult.{HookResult}
 use Rattle.result_book.specs.Calls.{AfterFind}
 use Rattle.result_book.specs.Contents.{Contents, Finds}
 use Rattle.result_book.specs.KeyLemmas.{HaveRow-one}
+use Rattle.hook_run.specs.declared.reuse.Reuse.TheVariants as reuse
 use Rattle.hook_run.specs.declared.run_ask.RunAsk.{RunAsk}
 use Rattle.hook_run.specs.declared.run_out.RunOut.{RunOut}
 use Rattle.hook_run.specs.Asks.{hooks_of_run}
@@ -22,7 +23,7 @@ use Rattle.hook_run.specs.RunOuts.{IsRunOut, IsRunOver}
 use Rattle.hook_run.specs.SameRuns.{GiveSame, without_mark, without_marks}
 use Rattle.hook_run.specs.StageRun.{IsRun, is_last}
 use Rattle.hook_run.specs.Starts.{Starts, StartsFor, StartsOne}
-use Rattle.hook_run.specs.UnseenEdits.{DifferOnlyIn, EndAlike, HasRunAlike, HoldAlike, HoldsAll, HoldsOutcome, IsUnseenEdit, not_fresh}
+use Rattle.hook_run.specs.UnseenEdits.{DifferOnlyIn, EndAlike, HasRunAlike, HoldAlike, HoldsAll, HoldsOutcome, IsUnseenEdit, reusing_all}
 use Rattle.hook_run.specs.AgreeLemmas.{Agree, same-where-agree}
 use Rattle.hook_run.proofs.EditedRunLemmas.{second-way}
 use Rattle.hook_run.proofs.UnseenEditLemmas.{run-alike}
@@ -48,7 +49,7 @@ held-found words seen (Done answer) before after found others theirs held = foun
 held-found words seen (Failed fault) before after found others theirs held = held
 
 found-for : (outcome : Outcome) (found : Option Answer) (before between after : Contents) (part : Part) (started : List Part) → HoldsOutcome part.words part.seen outcome before → Finds part.words part.seen before found
-    → AfterFind part.words part.seen before between → StartsFor false found between after part started → IsFound before after outcome part started
+    → AfterFind part.words part.seen before between → StartsFor reuse.All found between after part started → IsFound before after outcome part started
 found-for (Failed fault) found before between after part started held finds looked starts = absurd held
 found-for (Done answer) None before between after part started held finds looked starts = absurd (finds answer held)
 found-for (Done answer) (Some found) before between after part started held finds looked starts =
@@ -59,7 +60,7 @@ found-for (Done answer) (Some found) before between after part started held find
       kept = λ one held_before. subst (λ (at : Contents). Held at one) (sym starts.0.kept) (held-found part.words part.seen one.outcome before between looked one.words one.seen held_before);
     }
 
-found-one : (outcome : Outcome) (before after : Contents) (part : Part) (started : List Part) → HoldsOutcome part.words part.seen outcome before → StartsOne false before after part started → IsFound before after outcome part started
+found-one : (outcome : Outcome) (before after : Contents) (part : Part) (started : List Part) → HoldsOutcome part.words part.seen outcome before → StartsOne reuse.All before after part started → IsFound before after outcome part started
 found-one outcome before after part started held one = found-for outcome one.found before one.looked_up after part started held one.finds one.look_up one.starts
 
 -- ---- all parts
@@ -68,14 +69,14 @@ held-as : (part other : Part) (before : Contents) → part.words ≡ other.words
 held-as part other before words seen held =
     subst (λ (w : List (List ℕ)). HoldsOutcome w other.seen part.outcome before) words (subst (λ (s : List File). HoldsOutcome part.words s part.outcome before) seen held)
 
-held-agree : (before after : Contents) (parts others started : List Part) → Each (Held before) parts → Starts false before after others started → Agree parts others
+held-agree : (before after : Contents) (parts others started : List Part) → Each (Held before) parts → Starts reuse.All before after others started → Agree parts others
 held-agree before after [] others started held starts = tt
 held-agree before after (part ∷ parts) [] started held starts = tt
 held-agree before after (part ∷ parts) (other ∷ others) started held starts = λ words seen.
     let one = found-one part.outcome before starts.between other starts.first (held-as part other before words seen held.0) starts.one in
     (one.same, held-agree starts.between after parts others starts.others (each-held before starts.between one.kept parts held.1) starts.more)
 
-none-started : (before after : Contents) (parts started : List Part) → Each (Held before) parts → Starts false before after parts started → started ≡ []
+none-started : (before after : Contents) (parts started : List Part) → Each (Held before) parts → Starts reuse.All before after parts started → started ≡ []
 none-started before after [] started held starts = starts.1
 none-started before after (part ∷ parts) started held starts =
     let one = found-one part.outcome before starts.between part starts.first held.0 starts.one in
@@ -94,22 +95,22 @@ held-unmarked before (part ∷ parts) (other ∷ others) same held =
     let rest : without_marks parts ≡ without_marks others = cc in
     (same-held before part other first held.0, held-unmarked before parts others rest held.1)
 
--- ---- whether a run is fresh doesn't matter to its parts and results
+-- ---- which remembered answers serve a run doesn't matter to its parts and results
 
-run-unfresh : (config : Config) (ask : RunAsk) (tree : List File) (hooks : List Hook) (trace : List (List Part)) (results : List HookResult) → IsRun config ask tree hooks trace results → IsRun config (not_fresh ask) tree hooks trace results
-run-unfresh config ask tree [] [] [] run = tt
-run-unfresh config ask tree [] [] (result ∷ results) run = absurd run
-run-unfresh config ask tree [] (parts ∷ trace) results run = absurd run
-run-unfresh config ask tree (hook ∷ hooks) [] results run = absurd run
-run-unfresh config ask tree (hook ∷ hooks) (parts ∷ trace) [] run = absurd run
-run-unfresh config ask tree (hook ∷ hooks) (parts ∷ trace) (result ∷ results) run = (
+run-reusing : (config : Config) (ask : RunAsk) (tree : List File) (hooks : List Hook) (trace : List (List Part)) (results : List HookResult) → IsRun config ask tree hooks trace results → IsRun config (reusing_all ask) tree hooks trace results
+run-reusing config ask tree [] [] [] run = tt
+run-reusing config ask tree [] [] (result ∷ results) run = absurd run
+run-reusing config ask tree [] (parts ∷ trace) results run = absurd run
+run-reusing config ask tree (hook ∷ hooks) [] results run = absurd run
+run-reusing config ask tree (hook ∷ hooks) (parts ∷ trace) [] run = absurd run
+run-reusing config ask tree (hook ∷ hooks) (parts ∷ trace) (result ∷ results) run = (
   record { name = run.0.name; id = run.0.id; verbose = run.0.verbose; ending = run.0.ending },
-  second-way ((trace ≡ []) × (results ≡ [])) (is_last config hook result.ending) (run-unfresh config ask (after_parts tree parts) hooks trace results) run.1,
+  second-way ((trace ≡ []) × (results ≡ [])) (is_last config hook result.ending) (run-reusing config ask (after_parts tree parts) hooks trace results) run.1,
 )
 
-out-unfresh : (config : Config) (ask : RunAsk) (tree : List File) (trace : List (List Part)) (out : RunOut) → IsRunOut config ask tree trace out → IsRunOut config (not_fresh ask) tree trace out
-out-unfresh config ask tree trace out run =
-    record { results = run.results; run = run-unfresh config ask tree (hooks_of_run config ask) trace run.results run.run; is = run.is }
+out-reusing : (config : Config) (ask : RunAsk) (tree : List File) (trace : List (List Part)) (out : RunOut) → IsRunOut config ask tree trace out → IsRunOut config (reusing_all ask) tree trace out
+out-reusing config ask tree trace out run =
+    record { results = run.results; run = run-reusing config ask tree (hooks_of_run config ask) trace run.results run.run; is = run.is }
 
 -- ---- a run behind an unseen edit
 
@@ -122,7 +123,7 @@ end-same paths tree other out there second alike given = record {
 }
 
 module _ (tells : List (List ℕ) → List File → Outcome → Type 0) (config : Config) (ask : RunAsk) (paths : List (List ℕ)) (tree other : List File) (trace : List (List Part)) (out there : RunOut) (from to : Moment)
-    (it : IsUnseenEdit config ask paths tree other trace out) (held : HoldsAll (all_parts trace) from.remembered) (over : IsRunOver tells from to config (not_fresh ask) other there) where
+    (it : IsUnseenEdit config ask paths tree other trace out) (held : HoldsAll (all_parts trace) from.remembered) (over : IsRunOver tells from to config (reusing_all ask) other there) where
   each-part : Each (Held from.remembered) (all_parts trace)
   each-part = recursion_from_All (Held from.remembered) (all_parts trace) held
 
@@ -131,7 +132,7 @@ module _ (tells : List (List ℕ) → List File → Outcome → Type 0) (config 
 
   same-run : AreSameRuns trace over.trace alike.there there
   same-run =
-      same-where-agree config (not_fresh ask) other trace over.trace alike.there there (out-unfresh config ask other trace alike.there alike.run) over.run
+      same-where-agree config (reusing_all ask) other trace over.trace alike.there there (out-reusing config ask other trace alike.there alike.run) over.run
       (held-agree from.remembered to.remembered (all_parts trace) (all_parts over.trace) over.answered.started each-part over.answered.starts)
 
   pub replayed-alike : EndAlike paths tree other out there

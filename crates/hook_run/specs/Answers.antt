@@ -1,12 +1,14 @@
 -- How the parts of a run come to their outcomes: from children, which tell and count them, or from what is remembered.
-use Rattle.std.specs.Prelude.{◌≡◌, ◌⊎◌, ◌+◌, ℕ, Bool, false, List, [], ◌∷◌, ◌++◌, length, Option, None}
+use Rattle.std.specs.Prelude.{◌≡◌, ◌⊎◌, ◌+◌, ◌-◌, ◌^◌, ℕ, min, List, [], ◌∷◌, ◌++◌, length, Option}
 use Rattle.hook_base.specs.declared.file.File.{File}
 use Rattle.child_port.specs.declared.answer.Answer.{Answer}
 use Rattle.child_port.specs.declared.answer.Outcome.{Outcome}
 use Rattle.result_book.specs.Calls.{AfterFind}
 use Rattle.result_book.specs.Contents.{Finds}
+use Rattle.hook_run.specs.declared.reuse.Reuse.{Reuse}
 use Rattle.hook_run.specs.Moments.{Moment}
 use Rattle.hook_run.specs.Parts.{AllTold, Part, faults_of}
+use Rattle.hook_run.specs.Reuses.{NeedsStart}
 use Rattle.hook_run.specs.Starts.{Starts}
 
 -- the children told these parts between two moments
@@ -16,28 +18,34 @@ pub record IsCounted (from to : Moment) (started : List Part) : Type 0 where
 
 -- Each of the parts has its outcome. Those that were started are all that the children told and counted, and what is
 -- remembered is what `Starts` says.
-pub record AreAnswered (tells : List (List ℕ) → List File → Outcome → Type 0) (fresh : Bool) (from to : Moment) (parts : List Part) : Type 0 where
+pub record AreAnswered (tells : List (List ℕ) → List File → Outcome → Type 0) (reuse : Reuse) (from to : Moment) (parts : List Part) : Type 0 where
   pub started : List Part
-  pub starts : Starts fresh from.remembered to.remembered parts started
+  pub starts : Starts reuse from.remembered to.remembered parts started
   pub told : AllTold tells started
   pub counted : IsCounted from to started
 
--- A run is stopped at a part that needs a child: it was looked up, and nothing is remembered for it or the run is fresh. No child
--- told it, or one did and its answer isn't put; `last` has the part then.
-pub record IsCutOff (tells : List (List ℕ) → List File → Outcome → Type 0) (fresh : Bool) (from to : Moment) (part : Part) (last : List Part) : Type 0 where
+-- So many of the parts were answered from what is remembered, and the others were started. They are counted up to 2^64 - 1.
+pub record AreReused (parts started : List Part) (reused : ℕ) : Type 0 where
+  pub unstarted : ℕ
+  pub others : unstarted + length started ≡ length parts
+  pub counted : reused ≡ min unstarted (2 ^ 64 - 1)
+
+-- A run is stopped at a part that needs a child: it was looked up, and what is remembered for it, if anything, doesn't serve. No
+-- child told it, or one did and its answer isn't put; `last` has the part then.
+pub record IsCutOff (tells : List (List ℕ) → List File → Outcome → Type 0) (reuse : Reuse) (from to : Moment) (part : Part) (last : List Part) : Type 0 where
   pub found : Option Answer
   pub finds : Finds part.words part.seen from.remembered found
-  pub needs : fresh ≡ false → found ≡ None
+  pub needs : NeedsStart reuse found
   pub look_up : AfterFind part.words part.seen from.remembered to.remembered
   pub this : (last ≡ []) ⊎ (last ≡ part ∷ [])
   pub told : AllTold tells last
   pub counted : IsCounted from to last
 
 -- The same of parts behind which a run may be stopped: behind a whole part, or at one that needs a child.
-pub record AreAnsweredSoFar (tells : List (List ℕ) → List File → Outcome → Type 0) (fresh : Bool) (from to : Moment) (parts : List Part) : Type 0 where
+pub record AreAnsweredSoFar (tells : List (List ℕ) → List File → Outcome → Type 0) (reuse : Reuse) (from to : Moment) (parts : List Part) : Type 0 where
   pub done : List Part
   pub last : List Part
   pub between : Moment
   pub split : parts ≡ done ++ last
-  pub answered : AreAnswered tells fresh from between done
-  pub stopped : ((last ≡ []) × (to ≡ between)) ⊎ ((part : Part) × IsCutOff tells fresh between to part last)
+  pub answered : AreAnswered tells reuse from between done
+  pub stopped : ((last ≡ []) × (to ≡ between)) ⊎ ((part : Part) × IsCutOff tells reuse between to part last)

@@ -19,6 +19,8 @@ pub mod PlanLaws
 pub mod PlanRuns
 pub mod Plans
 pub mod Refusals
+pub mod ReusedRuns
+pub mod Reuses
 pub mod Standing
 pub mod RunOuts
 pub mod SameRuns

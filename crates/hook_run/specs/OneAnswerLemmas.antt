@@ -1,6 +1,6 @@
 -- Lemmas on children that give one answer: a run over them without faults is the only one, and none of its hooks is unsteady.
 use Rattle.std.specs.Prelude.{◌≡◌, ◌≢◌, ◌↔◌, ◌+◌, ℕ, Bool, true, false, IsTrue, All, if◌then◌else◌, List, [], ◌∷◌, ◌++◌, length, Option, None, Some, refl}
-use Rattle.std.proofs.Common.{ap, ap₂, sym, ◌∙◌, subst, arith}
+use Rattle.std.proofs.Common.{ap, ap₂, sym, ◌∙◌, inl, inr, subst, arith}
 use Rattle.std.proofs.lemmas.List.{append-nil}
 use Rattle.std.proofs.lemmas.List.Elements.{All-cons, All-head, All-nil, All-tail}
 use Rattle.std.proofs.lemmas.List.Folds.{list_any_none}
@@ -14,9 +14,10 @@ use Rattle.hook_config.specs.declared.configuration.Hook.{Hook}
 use Rattle.result_book.specs.Contents.{Contents, Finds}
 use Rattle.result_book.specs.Told.{IsTold}
 use Rattle.result_book.specs.ToldLemmas.{told-adds}
+use Rattle.hook_run.specs.declared.reuse.Reuse.{Reuse}
 use Rattle.hook_run.specs.declared.run_ask.RunAsk.{RunAsk}
 use Rattle.hook_run.specs.declared.run_out.RunOut.{RunOut}
-use Rattle.hook_run.specs.AnswerLemmas.{answered-adds, told-back, told-front}
+use Rattle.hook_run.specs.AnswerLemmas.{answered-adds, started-or-found, told-back, told-front}
 use Rattle.hook_run.specs.Answers.{AreAnswered}
 use Rattle.hook_run.specs.Asks.{hooks_of_run}
 use Rattle.hook_run.specs.Moments.{Moment, moment}
@@ -92,17 +93,17 @@ module _ (tells : List (List ℕ) → List File → Outcome → Type 0) (alone :
   unmarked-found words seen (Some found) (Done answer) mark remembered book finds marked told =
       unmarked-answer words seen found answer mark marked (book words seen found finds).told told
 
-  unmarked-for : (fresh : Bool) (found : Option Answer) (before between after : Contents) (part : Part) (started : List Part) → IsTold tells before → Finds part.words part.seen before found
-      → StartsFor fresh found between after part started → AllTold tells started → part.unsteady ≡ false
-  unmarked-for false (Some found) before between after part started book finds starts told = starts.0.steady
-  unmarked-for false None before between after part started book finds starts told = starts.0.marked
-  unmarked-for true found before between after part started book finds starts told =
-      unmarked-found part.words part.seen found part.outcome part.unsteady before book finds starts.0.marked (subst (AllTold tells) starts.1 told).0
+  unmarked-for : (reuse : Reuse) (found : Option Answer) (before between after : Contents) (part : Part) (started : List Part) → IsTold tells before → Finds part.words part.seen before found
+      → StartsFor reuse found between after part started → AllTold tells started → part.unsteady ≡ false
+  unmarked-for reuse found before between after part started book finds starts told = elim (started-or-found reuse found between after part started starts) [
+    | inl one ↦ unmarked-found part.words part.seen found part.outcome part.unsteady before book finds one.0.marked (subst (AllTold tells) one.1 told).0
+    | inr replayed ↦ replayed.2.steady
+  ]
 
   -- what is remembered behind one part was told too
-  told-behind : (fresh : Bool) (before after : Contents) (part : Part) (started : List Part) → IsTold tells before → StartsOne fresh before after part started → AllTold tells started → IsTold tells after
-  told-behind fresh before after part started book one told =
-      let starts : Starts fresh before after (part ∷ []) started = record {
+  told-behind : (reuse : Reuse) (before after : Contents) (part : Part) (started : List Part) → IsTold tells before → StartsOne reuse before after part started → AllTold tells started → IsTold tells after
+  told-behind reuse before after part started book one told =
+      let starts : Starts reuse before after (part ∷ []) started = record {
         between = after;
         first = started;
         others = [];
@@ -111,25 +112,25 @@ module _ (tells : List (List ℕ) → List File → Outcome → Type 0) (alone :
         joined = sym (append-nil started);
       } in
       told-adds tells before after book
-      (answered-adds tells fresh (moment 0 0 before) (moment (0 + length started) (0 + faults_of started) after) (part ∷ [])
+      (answered-adds tells reuse (moment 0 0 before) (moment (0 + length started) (0 + faults_of started) after) (part ∷ [])
       (record { started = started; starts = starts; told = told; counted = record { called = refl; faulted = refl } }))
 
-  starts-unmarked : (fresh : Bool) (before after : Contents) (parts started : List Part) → IsTold tells before → Starts fresh before after parts started → AllTold tells started → All (λ part. part.unsteady ≡ false) parts
-  starts-unmarked fresh before after [] started book starts told = All-nil (λ (part : Part). part.unsteady ≡ false)
-  starts-unmarked fresh before after (part ∷ parts) started book starts told =
+  starts-unmarked : (reuse : Reuse) (before after : Contents) (parts started : List Part) → IsTold tells before → Starts reuse before after parts started → AllTold tells started → All (λ part. part.unsteady ≡ false) parts
+  starts-unmarked reuse before after [] started book starts told = All-nil (λ (part : Part). part.unsteady ≡ false)
+  starts-unmarked reuse before after (part ∷ parts) started book starts told =
       let all = subst (AllTold tells) starts.joined told in
       let front = told-front tells starts.first starts.others all in
       All-cons (λ (one : Part). one.unsteady ≡ false) part parts
-      (unmarked-for fresh starts.one.found before starts.one.looked_up starts.between part starts.first book starts.one.finds starts.one.starts front)
-      (starts-unmarked fresh starts.between after parts starts.others (told-behind fresh before starts.between part starts.first book starts.one front) starts.more
+      (unmarked-for reuse starts.one.found before starts.one.looked_up starts.between part starts.first book starts.one.finds starts.one.starts front)
+      (starts-unmarked reuse starts.between after parts starts.others (told-behind reuse before starts.between part starts.first book starts.one front) starts.more
       (told-back tells starts.first starts.others all))
 
   -- where each remembered answer was told, no part has another answer than the remembered one
-  pub answered-unmarked : (fresh : Bool) (from to : Moment) (parts : List Part) → IsTold tells from.remembered → AreAnswered tells fresh from to parts → All (λ part. part.unsteady ≡ false) parts
-  answered-unmarked fresh from to parts book answered = starts-unmarked fresh from.remembered to.remembered parts answered.started book answered.starts answered.told
+  pub answered-unmarked : (reuse : Reuse) (from to : Moment) (parts : List Part) → IsTold tells from.remembered → AreAnswered tells reuse from to parts → All (λ part. part.unsteady ≡ false) parts
+  answered-unmarked reuse from to parts book answered = starts-unmarked reuse from.remembered to.remembered parts answered.started book answered.starts answered.told
 
   -- so no hook of a run is unsteady
-  pub none-unsteady : (config : Config) (ask : RunAsk) (tree : List File) (trace : List (List Part)) (out : RunOut) (fresh : Bool) (from to : Moment) → IsTold tells from.remembered → IsRunOut config ask tree trace out
-      → AreAnswered tells fresh from to (all_parts trace) → out.unsteady ≡ []
-  none-unsteady config ask tree trace out fresh from to book run answered =
-      unmarked-steady config ask tree trace out run (answered-unmarked fresh from to (all_parts trace) book answered)
+  pub none-unsteady : (config : Config) (ask : RunAsk) (tree : List File) (trace : List (List Part)) (out : RunOut) (reuse : Reuse) (from to : Moment) → IsTold tells from.remembered → IsRunOut config ask tree trace out
+      → AreAnswered tells reuse from to (all_parts trace) → out.unsteady ≡ []
+  none-unsteady config ask tree trace out reuse from to book run answered =
+      unmarked-steady config ask tree trace out run (answered-unmarked reuse from to (all_parts trace) book answered)

@@ -1,17 +1,18 @@
 -- A plan that children and remembered answers complete. Serves private functions alone.
-use Rattle.std.specs.Prelude.{◌≡◌, ◌≢◌, ◌⊎◌, ◌-◌, ◌^◌, ℕ, Bool, false, List, [], ◌∷◌, ◌++◌, Option}
+use Rattle.std.specs.Prelude.{◌≡◌, ◌≢◌, ◌⊎◌, ◌-◌, ◌^◌, ℕ, Bool, if◌then◌else◌, List, [], ◌∷◌, ◌++◌, Option}
 use Rattle.hook_base.specs.declared.file.File.{File}
 use Rattle.child_port.specs.declared.answer.Answer.{Answer}
 use Rattle.child_port.specs.declared.answer.Outcome.{Outcome}
-use Rattle.result_book.specs.Contents.{Lacks}
 use Rattle.hook_run.specs.declared.part_outcome.PartOutcome.{PartOutcome}
-use Rattle.hook_run.specs.declared.run_out.RunOut.{RunOut}
+use Rattle.hook_run.specs.declared.hooks_run.HooksRun.{HooksRun}
+use Rattle.hook_run.specs.declared.reuse.Reuse.{Reuse}
 use Rattle.hook_run.specs.declared.run_refusal.RunRefusal.{RunRefusal}
 use Rattle.hook_run.specs.declared.run_refusal.RunRefusal.TheVariants.{NoSuchHook, Spent}
-use Rattle.hook_run.specs.Answers.{AreAnswered, AreAnsweredSoFar, IsCounted}
+use Rattle.hook_run.specs.Answers.{AreAnswered, AreAnsweredSoFar, AreReused, IsCounted}
 use Rattle.hook_run.specs.Moments.{Moment}
 use Rattle.hook_run.specs.Parts.{AllTold, Part}
 use Rattle.hook_run.specs.Plans.{CanComplete, Completes, Plan, part_with, seen_of_plan, words_of}
+use Rattle.hook_run.specs.Reuses.{LacksServing}
 use Rattle.hook_run.specs.Starts.{IsStarted}
 
 -- the part that the plan needs, with what came of it
@@ -41,35 +42,40 @@ pub record IsPartUnput (tells : List (List ℕ) → List File → Outcome → Ty
 
 -- ---- any part
 
+-- how many parts it is that were answered from what is remembered: one, or none
+abbrev pub one_if : Bool → ℕ
+one_if reused = if reused then 1 else 0
+
 -- the plan was stopped at the part that it needs
-pub record IsPartStopped (tells : List (List ℕ) → List File → Outcome → Type 0) (fresh : Bool) (from to : Moment) (plan : Plan) (refusal : RunRefusal) : Type 0 where
+pub record IsPartStopped (tells : List (List ℕ) → List File → Outcome → Type 0) (reuse : Reuse) (from to : Moment) (plan : Plan) (refusal : RunRefusal) : Type 0 where
   pub last : List Part
-  pub answered : AreAnsweredSoFar tells fresh from to last
+  pub answered : AreAnsweredSoFar tells reuse from to last
   pub begins : CanComplete plan last
   pub asked : refusal ≢ NoSuchHook
-  pub needs : refusal ≡ Spent → (last ≡ []) × (answered.last ≡ []) × (fresh ≡ false → Lacks (words_of plan) (seen_of_plan plan) to.remembered)
+  pub needs : refusal ≡ Spent → (last ≡ []) × (answered.last ≡ []) × LacksServing reuse (words_of plan) (seen_of_plan plan) to.remembered
   pub spent : refusal ≡ Spent → to.calls ≡ 2 ^ 64 - 1
 
 -- ---- all parts
 
 -- parts complete the plan
-pub record IsPlanRun (tells : List (List ℕ) → List File → Outcome → Type 0) (fresh : Bool) (from to : Moment) (plan : Plan) (out : RunOut) : Type 0 where
+pub record IsPlanRun (tells : List (List ℕ) → List File → Outcome → Type 0) (reuse : Reuse) (from to : Moment) (plan : Plan) (ran : HooksRun) : Type 0 where
   pub parts : List Part
-  pub answered : AreAnswered tells fresh from to parts
-  pub completes : Completes plan parts out
+  pub answered : AreAnswered tells reuse from to parts
+  pub reused : AreReused parts answered.started ran.reused
+  pub completes : Completes plan parts ran.out
 
 -- a further part may complete the plan behind these, and it needs a child
-pub record NeedsFurther (fresh : Bool) (at : Moment) (plan : Plan) (front : List Part) : Type 0 where
+pub record NeedsFurther (reuse : Reuse) (at : Moment) (plan : Plan) (front : List Part) : Type 0 where
   pub part : Part
   pub begins : CanComplete plan (front ++ part ∷ [])
-  pub lacks : fresh ≡ false → Lacks part.words part.seen at.remembered
+  pub lacks : LacksServing reuse part.words part.seen at.remembered
 
 -- the plan was stopped behind parts: those that complete it begin with them
-pub record IsPlanStopped (tells : List (List ℕ) → List File → Outcome → Type 0) (fresh : Bool) (from to : Moment) (plan : Plan) (refusal : RunRefusal) : Type 0 where
+pub record IsPlanStopped (tells : List (List ℕ) → List File → Outcome → Type 0) (reuse : Reuse) (from to : Moment) (plan : Plan) (refusal : RunRefusal) : Type 0 where
   pub parts : List Part
-  pub answered : AreAnsweredSoFar tells fresh from to parts
+  pub answered : AreAnsweredSoFar tells reuse from to parts
   pub begins : CanComplete plan parts
   pub asked : refusal ≢ NoSuchHook
-  pub needs : refusal ≡ Spent → NeedsFurther fresh to plan parts
+  pub needs : refusal ≡ Spent → NeedsFurther reuse to plan parts
   pub untold : refusal ≡ Spent → answered.last ≡ []
   pub spent : refusal ≡ Spent → to.calls ≡ 2 ^ 64 - 1

@@ -1,22 +1,24 @@
 -- What a run gives, and a run over children and remembered answers.
-use Rattle.std.specs.Prelude.{◌≡◌, ◌≢◌, ◌-◌, ◌^◌, ℕ, false, if◌then◌else◌, List, [], ◌∷◌, ◌++◌}
+use Rattle.std.specs.Prelude.{◌≡◌, ◌≢◌, ◌-◌, ◌^◌, ℕ, if◌then◌else◌, List, [], ◌∷◌, ◌++◌}
 use Rattle.hook_base.specs.declared.file.File.{File}
 use Rattle.child_port.specs.declared.answer.Outcome.{Outcome}
 use Rattle.hook_config.specs.declared.configuration.Config.{Config}
 use Rattle.hook_config.specs.declared.configuration.Hook.{Hook}
 use Rattle.report_text.specs.Report.{report_text}
 use Rattle.report_text.specs.declared.hook_result.HookResult.{HookResult}
-use Rattle.result_book.specs.Contents.{Contents, Lacks}
+use Rattle.result_book.specs.Contents.{Contents}
 use Rattle.result_book.specs.Told.{IsTold}
+use Rattle.hook_run.specs.declared.hooks_run.HooksRun.{HooksRun}
 use Rattle.hook_run.specs.declared.run_ask.RunAsk.{RunAsk}
 use Rattle.hook_run.specs.declared.run_out.RunOut.{RunOut}
 use Rattle.hook_run.specs.declared.run_refusal.RunRefusal.{RunRefusal}
 use Rattle.hook_run.specs.declared.run_refusal.RunRefusal.TheVariants.{NoSuchHook, Spent}
 use Rattle.hook_run.specs.Asks.{hooks_of_run, names_of_run}
-use Rattle.hook_run.specs.Answers.{AreAnswered, AreAnsweredSoFar}
+use Rattle.hook_run.specs.Answers.{AreAnswered, AreAnsweredSoFar, AreReused}
 use Rattle.hook_run.specs.Moments.{Moment}
 use Rattle.hook_run.specs.Parts.{AllTold, Part, all_parts, tree_after}
 use Rattle.hook_run.specs.PartsEnding.{is_unsteady}
+use Rattle.hook_run.specs.Reuses.{LacksServing}
 use Rattle.hook_run.specs.StageRun.{IsStageRun, has_passed}
 
 -- the id of a hook with these parts, where it is unsteady
@@ -53,26 +55,31 @@ pub record IsBegun (config : Config) (ask : RunAsk) (tree : List File) (front : 
   pub joined : all_parts trace ≡ front ++ rest
   pub run : IsRunOut config ask tree trace out
 
--- it has a further part behind these, for which a child is needed: the run is fresh, or nothing is remembered for it
+-- it has a further part behind these, for which a child is needed: what is remembered for it, if anything, doesn't serve
 pub record NeedsChild (remembered : Contents) (config : Config) (ask : RunAsk) (tree : List File) (front : List Part) : Type 0 where
   pub part : Part
   pub begun : IsBegun config ask tree (front ++ part ∷ [])
-  pub lacks : ask.fresh ≡ false → Lacks part.words part.seen remembered
+  pub lacks : LacksServing ask.reuse part.words part.seen remembered
 
 -- A run of the hooks that are asked for, between two moments. Where each answer that was remembered before is one that the
 -- children may tell, so is each outcome.
 pub record IsRunOver (tells : List (List ℕ) → List File → Outcome → Type 0) (from to : Moment) (config : Config) (ask : RunAsk) (tree : List File) (out : RunOut) : Type 0 where
   pub trace : List (List Part)
   pub run : IsRunOut config ask tree trace out
-  pub answered : AreAnswered tells ask.fresh from to (all_parts trace)
+  pub answered : AreAnswered tells ask.reuse from to (all_parts trace)
   pub told : IsTold tells from.remembered → AllTold tells (all_parts trace)
+
+-- the same, with how many of its parts were answered from what is remembered
+pub record IsCountedRun (tells : List (List ℕ) → List File → Outcome → Type 0) (from to : Moment) (config : Config) (ask : RunAsk) (tree : List File) (ran : HooksRun) : Type 0 where
+  pub over : IsRunOver tells from to config ask tree ran.out
+  pub reused : AreReused (all_parts over.trace) over.answered.started ran.reused
 
 -- A run that is refused between two moments, with the parts up to there: none where no hook has the name, else those that a
 -- run begins with. Where it is spent, it has a further part that needs a child, and the children have told as many outcomes as
 -- can be counted.
 pub record IsStoppedRun (tells : List (List ℕ) → List File → Outcome → Type 0) (from to : Moment) (config : Config) (ask : RunAsk) (tree : List File) (refusal : RunRefusal) : Type 0 where
   pub parts : List Part
-  pub answered : AreAnsweredSoFar tells ask.fresh from to parts
+  pub answered : AreAnsweredSoFar tells ask.reuse from to parts
   pub told : IsTold tells from.remembered → AllTold tells parts
   pub no_hook : refusal ≡ NoSuchHook → (parts ≡ []) × (to ≡ from)
   pub begins : refusal ≢ NoSuchHook → IsBegun config ask tree parts

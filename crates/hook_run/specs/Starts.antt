@@ -1,6 +1,6 @@
--- Which parts of a run are started, and what is remembered of their answers. For each part, in a fresh run too, its words and
+-- Which parts of a run are started, and what is remembered of their answers. For each part, whatever serves the run, its words and
 -- seen files are looked up in what is remembered at that moment: a found row comes to the front, and a put may drop the last row.
-use Rattle.std.specs.Prelude.{◌≡◌, ◌≢◌, ◌↔◌, ℕ, Bool, false, IsTrue, MatchBool, List, [], ◌∷◌, ◌++◌, Option, Some}
+use Rattle.std.specs.Prelude.{◌≡◌, ◌≢◌, ◌↔◌, ℕ, Bool, false, IsTrue, MatchBool, List, [], ◌∷◌, ◌++◌, Option, None, Some}
 use Rattle.hook_base.specs.declared.file.File.{File}
 use Rattle.child_port.specs.declared.answer.Answer.{Answer}
 use Rattle.child_port.specs.declared.answer.Outcome.{Outcome}
@@ -8,7 +8,9 @@ use Rattle.child_port.specs.declared.answer.Outcome.TheVariants.{Done, Failed}
 use Rattle.child_port.specs.Seen.{is_stray}
 use Rattle.result_book.specs.Calls.{AfterFind, AfterPut}
 use Rattle.result_book.specs.Contents.{Contents, Finds}
+use Rattle.hook_run.specs.declared.reuse.Reuse.{Reuse}
 use Rattle.hook_run.specs.Parts.{Part}
+use Rattle.hook_run.specs.Reuses.{serves}
 
 -- what is remembered behind a child with this outcome: a completed answer that changes the seen files alone is put, in front, and
 -- the one that was is gone; no other outcome is
@@ -32,30 +34,33 @@ pub record IsReplayed (found : Answer) (before after : Contents) (part : Part) :
   pub steady : part.unsteady ≡ false
   pub kept : after ≡ before
 
--- a child is started where nothing was found, or the run is fresh. `started` has the part then
-abbrev pub StartsFor : Bool → Option Answer → Contents → Contents → Part → List Part → Type 0
-StartsFor false (Some found) before after part started = IsReplayed found before after part × (started ≡ [])
-StartsFor fresh found before after part started = IsStarted found before after part × (started ≡ part ∷ [])
+-- a child is started where nothing was found, or that doesn't serve. `started` has the part then
+abbrev pub StartsFor : Reuse → Option Answer → Contents → Contents → Part → List Part → Type 0
+StartsFor reuse None before after part started = IsStarted None before after part × (started ≡ part ∷ [])
+StartsFor reuse (Some found) before after part started =
+    MatchBool (serves reuse found)
+    (IsReplayed found before after part × (started ≡ []))
+    (IsStarted (Some found) before after part × (started ≡ part ∷ []))
 
 -- one part: it is looked up, and then started or not
-pub record StartsOne (fresh : Bool) (before after : Contents) (part : Part) (started : List Part) : Type 0 where
+pub record StartsOne (reuse : Reuse) (before after : Contents) (part : Part) (started : List Part) : Type 0 where
   pub found : Option Answer
   pub looked_up : Contents
   pub finds : Finds part.words part.seen before found
   pub look_up : AfterFind part.words part.seen before looked_up
-  pub starts : StartsFor fresh found looked_up after part started
+  pub starts : StartsFor reuse found looked_up after part started
 
 -- a part, and then more of which `rest` says what is remembered before them and which of them are started
-pub record StartsThen (fresh : Bool) (before : Contents) (part : Part) (started : List Part) (rest : Contents → List Part → Type 0) : Type 0 where
+pub record StartsThen (reuse : Reuse) (before : Contents) (part : Part) (started : List Part) (rest : Contents → List Part → Type 0) : Type 0 where
   pub between : Contents
   pub first : List Part
   pub others : List Part
-  pub one : StartsOne fresh before between part first
+  pub one : StartsOne reuse before between part first
   pub more : rest between others
   pub joined : started ≡ first ++ others
 
 -- the parts in order, each with what is remembered at its moment; those in `started` had a child started for them
-abbrev pub Starts : Bool → Contents → Contents → List Part → List Part → Type 0
-Starts fresh before after [] started = (after ≡ before) × (started ≡ [])
-Starts fresh before after (part ∷ parts) started =
-    StartsThen fresh before part started (λ between others. Starts fresh between after parts others)
+abbrev pub Starts : Reuse → Contents → Contents → List Part → List Part → Type 0
+Starts reuse before after [] started = (after ≡ before) × (started ≡ [])
+Starts reuse before after (part ∷ parts) started =
+    StartsThen reuse before part started (λ between others. Starts reuse between after parts others)

@@ -12,6 +12,7 @@ use Rattle.hook_config.specs.declared.configuration.Language.{Language}
 use Rattle.hook_config.specs.declared.configuration.Language.TheVariants.{Fail, Pygrep, System, Script}
 use Rattle.path_select.specs.Candidates.{is_candidate}
 use Rattle.result_book.specs.Contents.{Contents, Holds}
+use Rattle.hook_run.specs.declared.reuse.Reuse.TheVariants as reuse
 use Rattle.hook_run.specs.declared.run_ask.RunAsk.{RunAsk}
 use Rattle.hook_run.specs.declared.run_out.RunOut.{RunOut}
 use Rattle.hook_run.specs.Asks.{hooks_of_run}
@@ -95,6 +96,6 @@ HoldsOutcome words seen (Failed fault) remembered = ⊥
 abbrev pub HoldsAll : List Part → Contents → Type 0
 HoldsAll parts remembered = All (λ part. HoldsOutcome part.words part.seen part.outcome remembered) parts
 
--- the same, but no child is started for what is remembered
-abbrev pub not_fresh : RunAsk → RunAsk
-not_fresh ask = record ask { fresh = false }
+-- the same, but each remembered answer serves
+abbrev pub reusing_all : RunAsk → RunAsk
+reusing_all ask = record ask { reuse = reuse.All }

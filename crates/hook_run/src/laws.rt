@@ -13,9 +13,10 @@ ghost use Rattle.hook_run.specs.Limits.{most_command_bytes, most_names};
 ghost use Rattle.hook_run.specs.Moments.{Moment};
 ghost use Rattle.hook_run.specs.OneAnswer.{AreSameRuns, IsFaultless, OneAnswer};
 ghost use Rattle.hook_run.specs.Parts.{AllTold, Part, all_parts, faults_of};
+ghost use Rattle.hook_run.specs.ReusedRuns.{AreServedOrStarted};
 ghost use Rattle.hook_run.specs.RunOuts.{IsRunOut, IsRunOver};
 ghost use Rattle.hook_run.specs.SameRuns.{IsNextOf, outcomes_of, without_marks};
-ghost use Rattle.hook_run.specs.UnseenEdits.{EndAlike, HasRunAlike, HoldsAll, IsUnseenEdit, not_fresh};
+ghost use Rattle.hook_run.specs.UnseenEdits.{EndAlike, HasRunAlike, HoldsAll, IsUnseenEdit, reusing_all};
 
 use crate::{MOST_COMMAND_BYTES, MOST_NAMES};
 use child_port::Children;
@@ -50,6 +51,12 @@ pub fn parts_decide_what_is_given()
     ensures { (config : Config) (ask : RunAsk) (tree : List File) (trace others : List (List Part)) (first second : RunOut) → IsRunOut config ask tree trace first → IsRunOut config ask tree others second → all_parts trace ≡ all_parts others → first ≡ second }
 {}
 
+/// Each part of a run has an answer that serves the run, or a child was started for it. So where only what passed serves, each
+/// failure and each fault of the run is one that a child told, and where nothing serves, so is each outcome.
+pub fn each_part_is_served_or_started<C: Children>(children: &C)
+    ensures { (from to : Moment) (config : Config) (ask : RunAsk) (tree : List File) (out : RunOut) → (over : IsRunOver (C.tells children.now) from to config ask tree out) → AreServedOrStarted ask.reuse (all_parts over.trace) over.answered.started }
+{}
+
 /// Children that give one answer to the same words on the same seen files leave no choice: two runs of one configuration, asked
 /// the same, on one tree, over children that tell the same, each outcome of which they may tell, and none of which is a fault,
 /// have the same parts and give the same. The marks of the parts, and so the ids of unsteady hooks, are left out: they speak of
@@ -72,9 +79,9 @@ pub fn an_unseen_edit_changes_no_result()
     ensures { (config : Config) (ask : RunAsk) (paths : List (List ℕ)) (tree other : List File) (trace : List (List Part)) (out : RunOut) → IsUnseenEdit config ask paths tree other trace out → HasRunAlike config ask paths tree other trace out }
 {}
 
-/// And it starts no child. Where the answer of each part of the run on the first tree is remembered, a run on the second that
-/// isn't fresh ends so, whatever children it is over, and calls none of them.
+/// And it starts no child. Where the answer of each part of the run on the first tree is remembered, a run on the second that each
+/// remembered answer serves ends so, whatever children it is over, and calls none of them.
 pub fn an_unseen_edit_starts_no_child<C: Children>(children: &C)
-    ensures alike { (config : Config) (ask : RunAsk) (paths : List (List ℕ)) (tree other : List File) (trace : List (List Part)) (out there : RunOut) (from to : Moment) → IsUnseenEdit config ask paths tree other trace out → HoldsAll (all_parts trace) from.remembered → IsRunOver (C.tells children.now) from to config (not_fresh ask) other there → EndAlike paths tree other out there }
-    ensures unstarted { (config : Config) (ask : RunAsk) (paths : List (List ℕ)) (tree other : List File) (trace : List (List Part)) (out there : RunOut) (from to : Moment) → IsUnseenEdit config ask paths tree other trace out → HoldsAll (all_parts trace) from.remembered → (over : IsRunOver (C.tells children.now) from to config (not_fresh ask) other there) → (over.answered.started ≡ []) × (to.calls ≡ from.calls) }
+    ensures alike { (config : Config) (ask : RunAsk) (paths : List (List ℕ)) (tree other : List File) (trace : List (List Part)) (out there : RunOut) (from to : Moment) → IsUnseenEdit config ask paths tree other trace out → HoldsAll (all_parts trace) from.remembered → IsRunOver (C.tells children.now) from to config (reusing_all ask) other there → EndAlike paths tree other out there }
+    ensures unstarted { (config : Config) (ask : RunAsk) (paths : List (List ℕ)) (tree other : List File) (trace : List (List Part)) (out there : RunOut) (from to : Moment) → IsUnseenEdit config ask paths tree other trace out → HoldsAll (all_parts trace) from.remembered → (over : IsRunOver (C.tells children.now) from to config (reusing_all ask) other there) → (over.answered.started ≡ []) × (to.calls ≡ from.calls) }
 {}

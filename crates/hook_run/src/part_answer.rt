@@ -7,43 +7,45 @@ ghost use Rattle.result_book.specs.Contents.{Contents};
 ghost use Rattle.result_book.specs.Told.{AddsTold};
 ghost use Rattle.hook_run.specs.Answers.{AreAnswered};
 ghost use Rattle.hook_run.specs.Moments.{moment};
-ghost use Rattle.hook_run.specs.PlanRuns.{IsPartStarted, IsPartStopped, IsPartUnput, part_of};
+ghost use Rattle.hook_run.specs.PlanRuns.{IsPartStarted, IsPartStopped, IsPartUnput, one_if, part_of};
 ghost use Rattle.hook_run.specs.Plans.{need_of, seen_of_plan, words_of};
 ghost use Rattle.hook_run.specs.Refusals.{IsOfBook, is_of_book};
 ghost use Rattle.hook_run.specs.Starts.{AfterOutcome, IsMarked};
 
 use crate::part_outcome::PartOutcome;
-use crate::{Need, RunPlan, RunRefusal};
+use crate::{Need, Reuse, RunPlan, RunRefusal};
 use child_port::{Answer, Children, Outcome, is_stray};
 use hook_base::{Text, Tree};
 use result_book::{Book, BookFault};
 
-/// What comes of the part that the plan needs. It is looked up first. What is remembered for it is its outcome, unless the run
-/// is fresh; else a child is started for it.
+/// What comes of the part that the plan needs. It is looked up first. What is remembered for it is its outcome where that serves
+/// the run; else a child is started for it.
 pub(crate) fn answer_part<C: Children, B: Book>(
     children: &mut C,
     book: &mut B,
-    fresh: bool,
+    reuse: Reuse,
     plan: &RunPlan,
 ) -> Result<PartOutcome, RunRefusal>
     requires { need_of plan.now ≡ Need.Child }
-    ensures answered { IfOk result (λ came. AreAnswered (C.tells children.old) fresh (moment (C.call_count children.old) (C.fault_count children.old) (B.contents book.old)) (moment (C.call_count children.new) (C.fault_count children.new) (B.contents book.new)) (part_of plan.now came ∷ [])) }
-    ensures stopped { IfErr result (IsPartStopped (C.tells children.old) fresh (moment (C.call_count children.old) (C.fault_count children.old) (B.contents book.old)) (moment (C.call_count children.new) (C.fault_count children.new) (B.contents book.new)) plan.now) }
+    ensures answered { IfOk result (λ came. AreAnswered (C.tells children.old) reuse (moment (C.call_count children.old) (C.fault_count children.old) (B.contents book.old)) (moment (C.call_count children.new) (C.fault_count children.new) (B.contents book.new)) (part_of plan.now came ∷ [])) }
+    ensures reused { IfOk result (λ came. C.call_count children.new + one_if came.reused ≡ C.call_count children.old + 1) }
+    ensures stopped { IfErr result (IsPartStopped (C.tells children.old) reuse (moment (C.call_count children.old) (C.fault_count children.old) (B.contents book.old)) (moment (C.call_count children.new) (C.fault_count children.new) (B.contents book.new)) plan.now) }
     ensures refused { IfErr result (IsOfBook B.refuses) }
     ensures left { (left : Contents) → B.leaves book.new left → B.leaves book.old left ⊎ AddsTold (C.tells children.old) (B.contents book.old) left }
     ensures rest { B.rests book.old book.new }
     ensures same { SameTells (C.tells children.old) (C.tells children.new) }
 {
     let found = book.find(plan.words(), plan.seen())?;
-    if fresh {
-        return start_part(children, book, plan, &found);
-    }
     let Some(answer) = found else {
         return start_part(children, book, plan, &None);
     };
+    if !reuse.serves(&answer) {
+        return start_part(children, book, plan, &Some(answer));
+    }
     Ok(PartOutcome {
         outcome: Outcome::Done(answer),
         unsteady: false,
+        reused: true,
     })
 }
 
@@ -56,6 +58,7 @@ fn start_part<C: Children, B: Book>(
 ) -> Result<PartOutcome, RunRefusal>
     requires { need_of plan.now ≡ Need.Child }
     ensures started { IfOk result (λ came. IsPartStarted (C.tells children.old) found.now (moment (C.call_count children.old) (C.fault_count children.old) (B.contents book.old)) (moment (C.call_count children.new) (C.fault_count children.new) (B.contents book.new)) (part_of plan.now came)) }
+    ensures reused { IfOk result (λ came. C.call_count children.new + one_if came.reused ≡ C.call_count children.old + 1) }
     ensures unput { IfErr result (IsPartUnput (C.tells children.old) (moment (C.call_count children.old) (C.fault_count children.old) (B.contents book.old)) (moment (C.call_count children.new) (C.fault_count children.new) (B.contents book.new)) plan.now) }
     ensures refused { IfErr result (IsOfBook B.refuses) }
     ensures left { (left : Contents) → B.leaves book.new left → B.leaves book.old left ⊎ AddsTold (C.tells children.old) (B.contents book.old) left }
@@ -67,6 +70,7 @@ fn start_part<C: Children, B: Book>(
     Ok(PartOutcome {
         unsteady: is_other(found, &outcome),
         outcome,
+        reused: false,
     })
 }
 

@@ -9,4 +9,6 @@ pub(crate) struct PartOutcome {
     pub(crate) outcome: Outcome,
     /// Whether that is another answer than the one that was remembered.
     pub(crate) unsteady: bool,
+    /// Whether it is what was remembered, so that no child was started.
+    pub(crate) reused: bool,
 }

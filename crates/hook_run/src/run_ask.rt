@@ -1,5 +1,6 @@
 //! What is asked of a run.
 
+use crate::Reuse;
 use hook_base::{Items, RepoPath, Text};
 use hook_config::Stage;
 
@@ -14,6 +15,6 @@ pub struct RunAsk {
     pub only: Option<Text>,
     /// The ids and aliases of hooks that are skipped. The empty text is no alias.
     pub skip: Items<Text>,
-    /// Whether every child is to be started, also where its answer is remembered.
-    pub fresh: bool,
+    /// Which remembered answers serve it.
+    pub reuse: Reuse,
 }

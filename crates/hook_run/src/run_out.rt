@@ -14,7 +14,7 @@ pub struct RunOut {
     pub results: Items<HookResult>,
     /// The files as the run left them.
     pub tree: Tree,
-    /// The ids of the hooks of a fresh run of which an answer was another than the one that was remembered at that moment, in
-    /// the order of the configuration.
+    /// The ids of the hooks for which a command was started although an answer was remembered at that moment, and that answered
+    /// otherwise, in the order of the configuration.
     pub unsteady: Items<Text>,
 }

@@ -1,18 +1,18 @@
 //! A run over children and what is remembered of their answers.
 
-ghost use Rattle.std.specs.Prelude.{◌≡◌, ◌↔◌, ◌⊎◌, ◌+◌, IfOk, IfErr, true};
+ghost use Rattle.std.specs.Prelude.{◌≡◌, ◌↔◌, ◌⊎◌, ◌+◌, ◌-◌, ◌^◌, min, IfOk, IfErr, true};
 ghost use Rattle.child_port.specs.Telling.{SameTells};
 ghost use Rattle.result_book.specs.Contents.{Contents};
 ghost use Rattle.result_book.specs.Told.{AddsTold};
 ghost use Rattle.hook_run.specs.Asks.{names_no_hook};
 ghost use Rattle.hook_run.specs.ChildFaults.{child_faults};
 ghost use Rattle.hook_run.specs.Moments.{moment};
-ghost use Rattle.hook_run.specs.PlanRuns.{IsPlanRun, IsPlanStopped};
+ghost use Rattle.hook_run.specs.PlanRuns.{IsPlanRun, IsPlanStopped, one_if};
 ghost use Rattle.hook_run.specs.Refusals.{IsOfBook};
-ghost use Rattle.hook_run.specs.RunOuts.{IsRunOver, IsStoppedRun};
+ghost use Rattle.hook_run.specs.RunOuts.{IsCountedRun, IsRunOver, IsStoppedRun};
 
 use crate::part_answer::answer_part;
-use crate::{Need, RunAsk, RunOut, RunPlan, RunRefusal};
+use crate::{HooksRun, Need, Reuse, RunAsk, RunPlan, RunRefusal};
 use child_port::Children;
 use hook_base::Tree;
 use hook_config::Config;
@@ -20,10 +20,10 @@ use result_book::Book;
 use std::alloc::Global;
 
 /// Runs the configuration's hooks on the files of the tree, as [`RunPlan::begin`] says. The words and the seen files of each
-/// part are looked up in the book, in a fresh run too. Where they are remembered, the part has that answer, changes included, and
-/// no child is started; `fresh` starts one for each part. A completed answer that changes the seen files alone is put in the book,
-/// in place of an earlier one; a fault never is. In a fresh run a hook is unsteady where an answer is another than the one that
-/// was remembered at that moment.
+/// part are looked up in the book, whatever serves the run. Where an answer is remembered that serves, the part has it, changes
+/// included, and no child is started; else one is. A completed answer that changes the seen files alone is put in the book, in
+/// place of an earlier one; a fault never is. Where a child was started although an answer was remembered at that moment, its hook
+/// is unsteady if it answered otherwise.
 ///
 /// `NoSuchHook` exactly where `only` has a name that no hook of the stage has; then `OutOfMemory` where memory is refused, `Book`
 /// where the book refuses, and `Spent` where a child is needed and the children have told as many outcomes as can be counted. A
@@ -36,10 +36,11 @@ pub fn run_hooks<C: Children, B: Book>(
     config: &Config,
     ask: &RunAsk,
     tree: &Tree,
-) -> Result<RunOut, RunRefusal>
-    ensures run { IfOk result (IsRunOver (C.tells children.old) (moment (C.call_count children.old) (C.fault_count children.old) (B.contents book.old)) (moment (C.call_count children.new) (C.fault_count children.new) (B.contents book.new)) config.now ask.now tree.now) }
+) -> Result<HooksRun, RunRefusal>
+    ensures run { IfOk result (λ ran. IsRunOver (C.tells children.old) (moment (C.call_count children.old) (C.fault_count children.old) (B.contents book.old)) (moment (C.call_count children.new) (C.fault_count children.new) (B.contents book.new)) config.now ask.now tree.now ran.out) }
+    ensures reused { IfOk result (IsCountedRun (C.tells children.old) (moment (C.call_count children.old) (C.fault_count children.old) (B.contents book.old)) (moment (C.call_count children.new) (C.fault_count children.new) (B.contents book.new)) config.now ask.now tree.now) }
     ensures stopped { IfErr result (IsStoppedRun (C.tells children.old) (moment (C.call_count children.old) (C.fault_count children.old) (B.contents book.old)) (moment (C.call_count children.new) (C.fault_count children.new) (B.contents book.new)) config.now ask.now tree.now) }
-    ensures reported { IfOk result (λ out. C.fault_count children.new ≡ C.fault_count children.old + child_faults out.results) }
+    ensures reported { IfOk result (λ ran. C.fault_count children.new ≡ C.fault_count children.old + child_faults ran.out.results) }
     ensures no_hook { (result ≡ Err RunRefusal.NoSuchHook) ↔ (names_no_hook config.now ask.now ≡ true) }
     ensures refused { IfErr result (IsOfBook B.refuses) }
 
@@ -50,27 +51,43 @@ pub fn run_hooks<C: Children, B: Book>(
     ensures same { SameTells (C.tells children.old) (C.tells children.new) }
 {
     let plan = RunPlan::begin(alloc, config, ask, tree)?;
-    run_plan(children, book, ask.fresh, plan)
+    run_plan(children, book, ask.reuse, plan)
 }
 
 // Completes the plan with what comes of its parts.
 fn run_plan<C: Children, B: Book>(
     children: &mut C,
     book: &mut B,
-    fresh: bool,
+    reuse: Reuse,
     plan: RunPlan,
-) -> Result<RunOut, RunRefusal>
-    ensures run { IfOk result (IsPlanRun (C.tells children.old) fresh (moment (C.call_count children.old) (C.fault_count children.old) (B.contents book.old)) (moment (C.call_count children.new) (C.fault_count children.new) (B.contents book.new)) plan.entry) }
-    ensures stopped { IfErr result (IsPlanStopped (C.tells children.old) fresh (moment (C.call_count children.old) (C.fault_count children.old) (B.contents book.old)) (moment (C.call_count children.new) (C.fault_count children.new) (B.contents book.new)) plan.entry) }
+) -> Result<HooksRun, RunRefusal>
+    ensures run { IfOk result (IsPlanRun (C.tells children.old) reuse (moment (C.call_count children.old) (C.fault_count children.old) (B.contents book.old)) (moment (C.call_count children.new) (C.fault_count children.new) (B.contents book.new)) plan.entry) }
+    ensures stopped { IfErr result (IsPlanStopped (C.tells children.old) reuse (moment (C.call_count children.old) (C.fault_count children.old) (B.contents book.old)) (moment (C.call_count children.new) (C.fault_count children.new) (B.contents book.new)) plan.entry) }
     ensures refused { IfErr result (IsOfBook B.refuses) }
     ensures left { (left : Contents) → B.leaves book.new left → B.leaves book.old left ⊎ AddsTold (C.tells children.old) (B.contents book.old) left }
     ensures rest { B.rests book.old book.new }
     ensures same { SameTells (C.tells children.old) (C.tells children.new) }
 {
     let mut plan = plan;
+    let mut reused = 0;
     'parts: while plan.next() == Need::Child {
-        let came = answer_part(children, book, fresh, &plan)?;
+        let came = answer_part(children, book, reuse, &plan)?;
+        reused = reused_with(reused, came.reused);
         plan = plan.tell_marked(came.outcome, came.unsteady)?;
     }
-    Ok(plan.finish())
+    Ok(HooksRun {
+        out: plan.finish(),
+        reused,
+    })
+}
+
+// How many parts were answered from what is remembered, with one more that was or wasn't.
+fn reused_with(reused: u64, is_reused: bool) -> u64
+    ensures { result ≡ min (reused + one_if is_reused) (2 ^ 64 - 1) }
+{
+    if is_reused {
+        reused.saturating_add(1)
+    } else {
+        reused
+    }
 }

@@ -2,7 +2,7 @@
 
 use hook_base::{Content, FileEntry, Items, Mode, RepoPath, Text, Tree};
 use hook_config::Stage;
-use hook_run::RunAsk;
+use hook_run::{Reuse, RunAsk};
 use std::alloc::Global;
 use trial_rows::{Stop, text_of};
 
@@ -17,7 +17,7 @@ pub(crate) fn ask_of(alloc: Global, arguments: &[Vec<u8>]) -> Result<RunAsk, Sto
         candidates: Items::from(paths_of(alloc, text_of(candidates.as_slice())?)?),
         only: only_of(alloc, text_of(only.as_slice())?)?,
         skip: Items::from(names_of(alloc, text_of(skip.as_slice())?)?),
-        fresh: false,
+        reuse: Reuse::All,
     })
 }
 

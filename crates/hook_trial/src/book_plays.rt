@@ -2,7 +2,7 @@
 //!
 //! A row's arguments are a configuration and steps, each a word and what it needs: `file MODE PATH CONTENTS` and `gone PATH`
 //! change the files, `child ROW` adds a row to the table by which children answer (`child_rows.rt`), and `others` begins
-//! another table. `run HOW CALLS KTH FAULT BOOK REFUSAL` runs the hooks of `pre-commit` on all files, HOW being `plain` or
+//! another table. `run HOW CALLS KTH FAULT BOOK REFUSAL` runs the hooks of `pre-commit` on all files, HOW being `plain`, `passed` or
 //! `fresh`, over children that have told CALLS outcomes (`child_runs.rt`) and fail their call of the number KTH by FAULT; the
 //! look-up or put of the number BOOK is refused by REFUSAL. `forget` forgets what is remembered. `limit NUMBER` begins another book,
 //! which remembers so many answers at most; without it there are as many as in a new store.
@@ -24,7 +24,7 @@ use crate::host_words::{Words, mode_of};
 use child_port::{Children, Fault, FuseChildren};
 use hook_base::{Content, FileEntry, Items, RepoPath, Tree};
 use hook_config::{Config, Stage, read_config};
-use hook_run::{RunAsk, run_hooks};
+use hook_run::{HooksRun, Reuse, RunAsk, RunOut, RunRefusal, run_hooks};
 use repo_store::{FIRST_LIMIT, MOST_ANSWERS, StoreFault};
 use result_book::{Book, BookFault};
 use std::alloc::Global;
@@ -138,8 +138,15 @@ fn run(
     );
     let calls = children.calls().saturating_sub(calls);
     let faults = children.faults().saturating_sub(faults);
-    let answer = with_ran(answer, &ran, calls, faults, &play.tree)?;
+    let answer = with_ran(answer, &out_of(ran), calls, faults, &play.tree)?;
     with_remembered(answer, play)
+}
+
+fn out_of(ran: Result<HooksRun, RunRefusal>) -> Result<RunOut, RunRefusal> {
+    match ran {
+        Ok(ran) => Ok(ran.out),
+        Err(refused) => Err(refused),
+    }
 }
 
 // All files of the tree are candidates.
@@ -153,14 +160,15 @@ fn ask_of(alloc: Global, tree: &Tree, how: &str) -> Result<RunAsk, Stop> {
         candidates: Items::from(candidates),
         only: None,
         skip: Items::new(alloc),
-        fresh: is_fresh(how)?,
+        reuse: reuse_of(how)?,
     })
 }
 
-fn is_fresh(how: &str) -> Result<bool, Stop> {
+fn reuse_of(how: &str) -> Result<Reuse, Stop> {
     match how {
-        "plain" => Ok(false),
-        "fresh" => Ok(true),
+        "plain" => Ok(Reuse::All),
+        "passed" => Ok(Reuse::Passed),
+        "fresh" => Ok(Reuse::Nothing),
         _ => Err(Stop::BadLine),
     }
 }

@@ -105,10 +105,10 @@ fn run_over(
     let (calls, faults) = (children.calls(), children.faults());
     let mut book = ListBook::new(alloc, FIRST_LIMIT);
     match run_hooks(alloc, children, &mut book, config, ask, tree) {
-        Ok(out) => {
+        Ok(ran) => {
             let calls = children.calls().saturating_sub(calls);
             let faults = children.faults().saturating_sub(faults);
-            told(alloc, &out, calls, faults, tree)
+            told(alloc, &ran.out, calls, faults, tree)
         }
         Err(refused) => refused_run(alloc, refused),
     }

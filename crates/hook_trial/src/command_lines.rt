@@ -2,12 +2,13 @@
 
 use hook_base::{Mode, Text};
 use hook_cli::{
-    FileChoice, FileVersion, Line, LookUp, PathSource, StageChoice, Standalone, Update, line_of,
+    FileChoice, FileVersion, Line, LookUp, PathSource, RunChoice, StageChoice, Standalone, Update,
+    line_of,
 };
 use std::alloc::Global;
 use trial_rows::{Answer, Stop, texts_of};
 
-/// `line_of WORD..`: the command with its words, a line each; or the kind of `clap`'s error, and its text.
+/// `line_of WORD..`: the command with its words, a line each, of a run behind its stage, its files and how it is made; or the kind of `clap`'s error, and its text.
 pub(crate) fn asked(alloc: Global, arguments: &[Vec<u8>]) -> Result<Answer, Stop> {
     let words = texts_of(alloc, arguments)?;
     match line_of(alloc, words.as_slice()) {
@@ -63,7 +64,12 @@ fn told_update(answer: Answer, update: &Update) -> Answer {
             only,
             stage,
             fresh,
-        } => with_run(answer, files, only, *stage, *fresh),
+            options,
+        } => {
+            let answer = answer.texts(&["run ", word_of_stage(*stage), word_of_files(files)]);
+            let answer = with_name(with_how(answer, *fresh, *options), only);
+            with_files(answer, files)
+        }
         Update::Accept => answer.text("accept\n"),
         Update::Commit { message, no_verify } => with_line(
             answer.text(word_of_commit(*no_verify)),
@@ -105,17 +111,12 @@ fn word_of_commit(no_verify: bool) -> &'static str {
     }
 }
 
-// The stage, the files, whether it is fresh, and then the name that is asked for and the paths, a line each.
-fn with_run(
-    answer: Answer,
-    files: &FileChoice,
-    only: &Option<Text>,
-    stage: StageChoice,
-    fresh: bool,
-) -> Answer {
-    let fresh = if fresh { " fresh\n" } else { "\n" };
-    let answer = answer.texts(&["run ", word_of_stage(stage), word_of_files(files), fresh]);
-    with_files(with_name(answer, only), files)
+// How a run is made, behind its stage and its files.
+fn with_how(answer: Answer, fresh: bool, options: RunChoice) -> Answer {
+    let fresh = if fresh { " fresh" } else { "" };
+    let cautious = if options.cautious { " cautious" } else { "" };
+    let verbose = if options.verbose { " verbose" } else { "" };
+    answer.texts(&[fresh, cautious, verbose, "\n"])
 }
 
 fn word_of_stage(stage: StageChoice) -> &'static str {

@@ -1,6 +1,6 @@
 //! The words by which a row asks for runs and commits: STAGE is `pre-commit` or `manual`; FILES is `changed`, `all` or the path of
-//! the one that is named; ONLY names the hooks to run, or is empty; HOW is `remembering` or `fresh` of a run, `verified` or
-//! `unverified` of a commit.
+//! the one that is named; ONLY names the hooks to run, or is empty; HOW of a run is `remembering`, or one or two of the words
+//! `fresh`, `cautious` and `verbose`; HOW of a commit is `verified` or `unverified`.
 
 ghost use Rattle.hook_cli.specs.CommandOver.{IsNamed};
 
@@ -19,11 +19,54 @@ pub(crate) fn stage_of(words: &mut Words<'_>) -> Result<AskStage, Stop> {
     }
 }
 
-pub(crate) fn is_fresh(words: &mut Words<'_>) -> Result<bool, Stop> {
+/// How a run is made.
+#[derive(Clone, Copy)]
+pub(crate) struct How {
+    pub(crate) fresh: bool,
+    pub(crate) cautious: bool,
+    pub(crate) verbose: bool,
+}
+
+const REMEMBERING: How = How {
+    fresh: false,
+    cautious: false,
+    verbose: false,
+};
+
+pub(crate) fn how_of(words: &mut Words<'_>) -> Result<How, Stop> {
     match words.text()? {
-        "remembering" => Ok(false),
-        "fresh" => Ok(true),
+        "remembering" => Ok(REMEMBERING),
+        "fresh" => Ok(fresh(REMEMBERING)),
+        "cautious" => Ok(cautious(REMEMBERING)),
+        "fresh cautious" => Ok(fresh(cautious(REMEMBERING))),
+        text => verbose_how(text),
+    }
+}
+
+fn verbose_how(text: &str) -> Result<How, Stop> {
+    match text {
+        "verbose" => Ok(verbose(REMEMBERING)),
+        "fresh verbose" => Ok(fresh(verbose(REMEMBERING))),
+        "cautious verbose" => Ok(cautious(verbose(REMEMBERING))),
         _ => Err(Stop::BadLine),
+    }
+}
+
+fn fresh(how: How) -> How {
+    How { fresh: true, ..how }
+}
+
+fn cautious(how: How) -> How {
+    How {
+        cautious: true,
+        ..how
+    }
+}
+
+fn verbose(how: How) -> How {
+    How {
+        verbose: true,
+        ..how
     }
 }
 

@@ -8,7 +8,7 @@ ghost use Rattle.std.specs.Prelude.{IfOk};
 ghost use Rattle.hook_cli.specs.CommandOver.{IsOneCall, IsOverHost};
 
 use crate::host_asks::{
-    asked_name, chosen_files, chosen_stage, files_of, is_fresh, is_unverified, stage_of,
+    asked_name, chosen_files, chosen_stage, files_of, how_of, is_unverified, stage_of,
 };
 use crate::host_commands::Played;
 use crate::host_words::{Words, mode_of};
@@ -16,7 +16,8 @@ use crate::host_writers::HabitWriter;
 use crate::turn_children::TurnChildren;
 use hook_base::{Items, Text};
 use hook_cli::{
-    AnswerLimit, FileVersion, Line, LookUp, PathSource, Update, command_over, skip_list_of,
+    AnswerLimit, FileVersion, Line, LookUp, PathSource, RunChoice, Update, command_over,
+    skip_list_of,
 };
 use std::alloc::Global;
 use std::mem;
@@ -103,12 +104,7 @@ fn update_of(alloc: Global, command: &str, words: &mut Words<'_>) -> Result<Upda
             Ok(Update::Remove { paths })
         }
         "accept" => Ok(Update::Accept),
-        "run" => Ok(Update::Run {
-            stage: chosen_stage(stage_of(words)?),
-            files: chosen_files(files_of(alloc, words)?),
-            only: asked_name(alloc, words)?,
-            fresh: is_fresh(words)?,
-        }),
+        "run" => run_of(alloc, words),
         "commit" => Ok(Update::Commit {
             message: Text::copy_of(alloc, words.text()?)?,
             no_verify: is_unverified(words)?,
@@ -117,6 +113,25 @@ fn update_of(alloc: Global, command: &str, words: &mut Words<'_>) -> Result<Upda
         "limit" => Ok(Update::Limit(asked_limit(words)?)),
         _ => Err(Stop::BadLine),
     }
+}
+
+fn run_of(alloc: Global, words: &mut Words<'_>) -> Result<Update, Stop>
+    ensures { IfOk result IsOneCall }
+{
+    let stage = chosen_stage(stage_of(words)?);
+    let files = chosen_files(files_of(alloc, words)?);
+    let only = asked_name(alloc, words)?;
+    let how = how_of(words)?;
+    Ok(Update::Run {
+        stage,
+        files,
+        only,
+        fresh: how.fresh,
+        options: RunChoice {
+            cautious: how.cautious,
+            verbose: how.verbose,
+        },
+    })
 }
 
 fn asked_limit(words: &mut Words<'_>) -> Result<AnswerLimit, Stop> {

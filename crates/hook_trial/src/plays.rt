@@ -6,7 +6,7 @@
 //! remembered, and by the repository.
 
 use crate::fused_children::fused_children_of;
-use crate::host_asks::{asked_name, files_of, is_fresh, is_unverified, stage_of};
+use crate::host_asks::{asked_name, files_of, how_of, is_unverified, stage_of};
 use crate::host_commands::{Played, empty_store};
 use crate::host_counts::{with_counts, with_forgotten};
 use crate::host_words::{Words, mode_of, with_file};
@@ -14,6 +14,7 @@ use crate::replies::{with_changes, with_length, with_reply};
 use commit_flow::{Command, Host, HostAsk, Reply};
 use hook_base::{Bytes, Text, Tree};
 use hook_cli::skip_list_of;
+use run_options::RunOptions;
 use std::alloc::Global;
 use trial_rows::{Answer, Stop};
 
@@ -73,11 +74,19 @@ fn command_of(alloc: Global, words: &mut Words<'_>) -> Result<Command, Stop> {
 }
 
 fn ask_of(alloc: Global, words: &mut Words<'_>) -> Result<HostAsk, Stop> {
+    let stage = stage_of(words)?;
+    let which = files_of(alloc, words)?;
+    let only = asked_name(alloc, words)?;
+    let how = how_of(words)?;
     Ok(HostAsk {
-        stage: stage_of(words)?,
-        which: files_of(alloc, words)?,
-        only: asked_name(alloc, words)?,
-        fresh: is_fresh(words)?,
+        stage,
+        which,
+        only,
+        fresh: how.fresh,
+        options: RunOptions {
+            cautious: how.cautious,
+            verbose: how.verbose,
+        },
         skip: skip_list_of(alloc, words.text()?)?,
     })
 }

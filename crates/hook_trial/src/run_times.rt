@@ -5,7 +5,7 @@ use crate::quiet_children::{QuietChildren, quiet_answer};
 use child_port::{Children, is_stray};
 use hook_base::{Bytes, Content, FileEntry, Items, Mode, RepoPath, Text, Tree};
 use hook_config::{Config, Stage, read_config};
-use hook_run::{RunAsk, RunOut, run_hooks};
+use hook_run::{HooksRun, Reuse, RunAsk, RunOut, run_hooks};
 use repo_store::MOST_ANSWERS;
 use result_book::{Book, ListBook};
 use std::alloc::Global;
@@ -103,7 +103,8 @@ impl Times {
         let ask = ask_of(self.alloc, tree)?;
         let (children, book) = (&mut self.children, &mut self.book);
         match run_hooks(self.alloc, children, book, &self.config, &ask, tree) {
-            Ok(out) => {
+            Ok(ran) => {
+                let HooksRun { out, reused: _ } = ran;
                 let RunOut { report, .. } = out;
                 self.report = report;
                 Ok(())
@@ -138,7 +139,7 @@ fn ask_of(alloc: Global, tree: &Tree) -> Result<RunAsk, Stop> {
         candidates: Items::from(candidates),
         only: None,
         skip: Items::new(alloc),
-        fresh: false,
+        reuse: Reuse::All,
     })
 }
 

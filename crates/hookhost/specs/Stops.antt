@@ -1,5 +1,5 @@
 -- The exit status with which the program ends for each reason to stop, and what an error of a library stops it for.
-use Rattle.std.specs.Prelude.{◌≡◌, ◌≢◌, ◌⊎◌, ◌++◌, ◌∷◌, ℕ, Bool, true, false, List, None}
+use Rattle.std.specs.Prelude.{◌≡◌, ◌≢◌, ◌⊎◌, ◌++◌, ◌∷◌, ℕ, Bool, true, false, List, None, codes}
 use Rattle.std.specs.IoError.{error_kind, raw_os_error}
 use Rattle.std.specs.declared.io.Error.{Error}
 use Rattle.std.specs.declared.io.ErrorKind.TheVariants.{OutOfMemory as MemoryKind}
@@ -145,20 +145,42 @@ IsStopOfChoice files stop = ⊥
 abbrev pub IsStopOfItsList : Update → Stop → Type 0
 IsStopOfItsList (Add paths mode) stop = IsStopOfSource paths stop
 IsStopOfItsList (Remove paths) stop = IsStopOfSource paths stop
-IsStopOfItsList (Run files only stage fresh) stop = IsStopOfChoice files stop
+IsStopOfItsList (Run files only stage fresh options) stop = IsStopOfChoice files stop
 IsStopOfItsList Accept stop = ⊥
 IsStopOfItsList (Commit message no_verify) stop = ⊥
 IsStopOfItsList Forget stop = ⊥
 IsStopOfItsList (Limit limit) stop = ⊥
 
--- what stops an update for what it needs beside the store: the files that it stages can't be used, or memory was refused for these or
--- for what runs of hooks need, which is then the host's refusal
+-- a variable of Git's hook, which names a file or the folder of children
+abbrev pub IsVariable : List ℕ → Type 0
+IsVariable word = (word ≡ codes "HOOKHOST_GIT_CALLS") ⊎ (word ≡ codes "HOOKHOST_SCRATCH")
+
+-- the variable isn't UTF-8, or memory was refused
+abbrev pub IsStopOfVariable : List ℕ → Stop → Type 0
+IsStopOfVariable variable (CannotUse word) = word ≡ variable
+IsStopOfVariable variable (Refused fault) = fault ≡ OutOfMemory
+IsStopOfVariable variable stop = ⊥
+
+-- the variable by which Git's hook names a file can't be used, or memory was refused
+abbrev pub IsStopOfChildren : Stop → Type 0
+IsStopOfChildren (CannotUse word) = IsVariable word
+IsStopOfChildren (Refused fault) = fault ≡ OutOfMemory
+IsStopOfChildren stop = ⊥
+
+-- the same of a command on the repository, where want of memory is the host's refusal
+abbrev pub IsStopOfHooks : Stop → Type 0
+IsStopOfHooks (CannotUse word) = IsVariable word
+IsStopOfHooks (RefusedCommand refusal) = refusal ≡ NoMemoryOfHost
+IsStopOfHooks stop = ⊥
+
+-- what stops an update for what it needs beside the store: the files that it stages can't be used, or what runs of hooks need, or
+-- memory was refused for one of these, which is then the host's refusal
 abbrev pub IsStopOfWork : Update → Stop → Type 0
 IsStopOfWork (Add paths mode) stop = IsStopOfStaging stop
 IsStopOfWork (Remove paths) stop = ⊥
-IsStopOfWork (Run files only stage fresh) stop = stop ≡ RefusedCommand NoMemoryOfHost
+IsStopOfWork (Run files only stage fresh options) stop = IsStopOfHooks stop
 IsStopOfWork Accept stop = ⊥
-IsStopOfWork (Commit message no_verify) stop = stop ≡ RefusedCommand NoMemoryOfHost
+IsStopOfWork (Commit message no_verify) stop = IsStopOfHooks stop
 IsStopOfWork Forget stop = ⊥
 IsStopOfWork (Limit limit) stop = ⊥
 

@@ -27,7 +27,7 @@ named files names = files
 
 -- the update with these names in it
 abbrev pub with_names : Update → List (List ℕ) → Update
-with_names (Run files only stage fresh) names = Run (named files names) only stage fresh
+with_names (Run files only stage fresh options) names = Run (named files names) only stage fresh options
 with_names update names = update
 
 -- the words of a line, or the names that its file lists

@@ -7,6 +7,7 @@ ghost use Rattle.hookhost.specs.Works.{IsWork};
 
 use crate::hint::{FIXES, hint, hint_undone, is_heard};
 use crate::names::names_of;
+use crate::refusal_hints::{Need, hint_need, need_of};
 use crate::shown_hooks::show_staged_hooks;
 use crate::stop::{Stop, tell};
 use crate::trouble::tell_trouble;
@@ -19,7 +20,7 @@ use hook_base::{Items, OutOfMemory, RepoPath, Text};
 use hook_cli::{Line, LookUp, PathSource, Update, command_over, stage_over};
 use repo_store::Store;
 use repository_files::{
-    Before, DatabaseOver, Lock, have_git_ignore, leave_database, look_at_store, open_database,
+    Before, DatabaseOver, Lock, keep_out_of_git, leave_database, look_at_store, open_database,
     open_store, take_lock,
 };
 use sqlite::{Alter, Connection};
@@ -32,6 +33,9 @@ const DONE: u8 = 0;
 
 // The exit status of a command in which a hook failed.
 const HOOK_FAILED: u8 = 1;
+
+// The exit status of a refused command.
+const REFUSED: u8 = 3;
 
 /// Looks something up in the repository, and answers the exit status, as `command_over` does. The errors are, in this order:
 /// `RepositoryFault::CannotUseStore` where the store's file isn't there, `RepositoryFault::CannotUseLock`, and what the store says
@@ -53,8 +57,8 @@ pub(crate) fn look_up(rt: &HostRuntime, asked: LookUp) -> Result<u8, Stop>
 /// Makes a change of the repository, and answers the exit status, as `command_over` and `stage_over` do. The errors are, in this
 /// order: `RepositoryFault::CannotUseStore` where the store's file isn't there, what `names_of` says of the file of
 /// `--paths-from`, `RepositoryFault::CannotUseLock`, what `work_of` says of the files of `add` and of what runs of hooks need, and
-/// what the store says when it is opened. After an error or a refusal the folder is as it was, but for its lock, the folder of
-/// children, a log of a command that was killed, which is in the database then, and a store of an earlier version, which is taken
+/// what the store says when it is opened. After an error or a refusal the folder is as it was, but for its lock, an ignore file of an
+/// earlier program, in whose place Git's own list keeps the folder out, the folder of children, a log of a command that was killed, which is in the database then, and a store of an earlier version, which is taken
 /// over; after a refused run or commit it remembers what was answered by then.
 pub(crate) fn change(rt: &HostRuntime, update: Update) -> Result<u8, Stop>
     ensures status { IfOk result (λ status. (status ≡ 0) ⊎ (status ≡ 1) ⊎ (status ≡ 3)) }
@@ -77,12 +81,10 @@ fn change_under(
     ensures status { IfOk result (λ status. (status ≡ 0) ⊎ (status ≡ 1) ⊎ (status ≡ 3)) }
     ensures stopped { IfErr result (IsStopOfUpdate update) }
 {
+    // The ignore file of an earlier program would stand above the files over which hooks run.
+    keep_out_of_git(rt);
     let work = work_of(rt, update, names)?;
-    let status = open_and_do(rt, lock, work)?;
-    if status == DONE {
-        have_git_ignore(rt);
-    }
-    Ok(status)
+    open_and_do(rt, lock, work)
 }
 
 // Opens the database, and does what is asked of the store in it.
@@ -138,8 +140,9 @@ fn do_in<S: Alter + Drop>(
             } else {
                 None
             };
+            let need = need_of(&work);
             let status = answer(rt, work, &mut host);
-            hint_behind(rt, status, undone, host.store());
+            hint_behind(rt, status, undone, need, host.store());
             Ok((status, host.into_store().into_connection()))
         }
         Err(fault) => Err(Stop::from(fault)),
@@ -147,10 +150,17 @@ fn do_in<S: Alter + Drop>(
 }
 
 // Says the next step behind what was done, where there is one.
-fn hint_behind<S: Alter>(rt: &HostRuntime, status: u8, undone: Option<RepoPath>, store: &Store<S>) {
-    match undone {
-        Some(path) if status == DONE => hint_undone(rt, &path),
-        _ if status == HOOK_FAILED && store.count_fixes() > 0 => hint(rt, FIXES),
+fn hint_behind<S: Alter>(
+    rt: &HostRuntime,
+    status: u8,
+    undone: Option<RepoPath>,
+    need: Need,
+    store: &Store<S>,
+) {
+    match (status, undone) {
+        (DONE, Some(path)) => hint_undone(rt, &path),
+        (HOOK_FAILED, _) if store.count_fixes() > 0 => hint(rt, FIXES),
+        (REFUSED, _) if is_heard(rt) => hint_need(rt, need, store),
         _ => {}
     }
 }

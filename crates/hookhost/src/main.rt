@@ -12,10 +12,12 @@ mod files;
 mod folder_files;
 mod hint;
 mod names;
+mod refusal_hints;
 mod runs;
 mod shown_hooks;
 mod staged_words;
 mod stop;
+mod stop_hints;
 mod terminal;
 mod trouble;
 mod undone_fix;
@@ -25,22 +27,19 @@ mod work;
 use commands::{change, look_up};
 use explained::explain_file;
 use files::{read_configuration, read_tree};
-use hint::hint_at;
 use hook_base::{Items, Text, Tree};
 use hook_cli::{Line, Standalone, TryFault, check_text, line_of, try_over};
 use hook_config::{Stage, read_config_with_node};
-use repository_files::init;
-use runs::{RealChildren, children_of};
+use repository_files::{init, replace_ignore_file};
+use runs::{RealChildren, passing_children};
 use shown_hooks::{AskedHooks, show_hooks};
 use std::io::{Read, Write};
 use std::process::ExitCode;
 use std::rt::Files;
 use std::{env, io, mem};
 use stop::{Stop, tell};
+use stop_hints::{CONFIGURATION, hint_at, hint_refused_file};
 use trouble::tell_trouble;
-
-// The file that `check` reads, in the working folder.
-const CONFIGURATION: &str = ".pre-commit-config.yaml";
 
 // The exit status where what was asked for is done, and no hook failed.
 const DONE: u8 = 0;
@@ -64,8 +63,9 @@ fn run(rt: &HostRuntime) -> Result<u8, Stop> {
     match line_of_process(rt) {
         Ok(Some(line)) => do_line(rt, line),
         Ok(None) => {
+            replace_ignore_file(rt);
             let tree = Tree::new(rt.alloc());
-            let passed = report(rt, &mut rt.reader(), &tree, children_of(rt)?)?;
+            let passed = report(rt, &mut rt.reader(), &tree, passing_children(rt)?)?;
             Ok(status_of_run(passed))
         }
         Err(Stop::Usage(error)) => version_or_usage(rt, error),
@@ -113,7 +113,7 @@ fn do_alone(rt: &HostRuntime, asked: Standalone) -> Result<u8, Stop> {
             init(rt).map_err(Stop::NoNewRepository)?;
             Ok(DONE)
         }
-        Standalone::Try { config, paths } => Ok(status_of_run(try_files(rt, config, paths)?)),
+        Standalone::Try { config, paths } => try_files(rt, config, paths),
         Standalone::Check => {
             check(rt).map_err(Stop::of_check)?;
             Ok(DONE)
@@ -159,10 +159,23 @@ fn print<R: Print>(rt: &R, text: &[u8]) -> io::Result<()> {
 }
 
 // `try CONFIG PATH..`: the first word whose file can't be used decides, and the run comes last.
-fn try_files(rt: &HostRuntime, config: Text, paths: Items<Text>) -> Result<bool, Stop> {
+fn try_files(rt: &HostRuntime, config: Text, paths: Items<Text>) -> Result<u8, Stop> {
+    let name = config.clone()?;
+    match try_over_files(rt, config, paths) {
+        Err(Stop::Refused(TryFault::Config(fault))) => {
+            let status = tell(rt, &Stop::Refused(TryFault::Config(fault)));
+            hint_refused_file(rt, name.as_str());
+            Ok(status)
+        }
+        ended => Ok(status_of_run(ended?)),
+    }
+}
+
+fn try_over_files(rt: &HostRuntime, config: Text, paths: Items<Text>) -> Result<bool, Stop> {
     let bytes = read_configuration(rt, config)?;
     let tree = read_tree(rt, paths)?;
-    let mut children = children_of(rt)?;
+    replace_ignore_file(rt);
+    let mut children = passing_children(rt)?;
     let asked = AskedHooks {
         stages: &[Stage::PreCommit],
         only: None,

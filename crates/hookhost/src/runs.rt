@@ -1,12 +1,14 @@
 //! What runs of hooks on the repository need: the hooks that the environment skips, and children.
 
-ghost use Rattle.std.specs.Prelude.{◌≡◌, IfOk};
+ghost use Rattle.std.specs.Prelude.{◌≡◌, IfErr, IfOk};
+ghost use Rattle.hookhost.specs.Stops.{IsStopOfChildren, IsStopOfVariable};
 ghost use Rattle.hookhost.specs.Works.{skipped_by};
 
+use crate::stop::Stop;
 use crate::terminal::terminal_of;
 use child_display::ShownChildren;
 use hook_base::{Items, OutOfMemory, Text};
-use hook_cli::skip_list_of;
+use hook_cli::{TryFault, skip_list_of};
 use process_children::ProcessChildren;
 use repository_files::SCRATCH;
 use std::alloc::Global;
@@ -16,13 +18,51 @@ use std::io::Stderr;
 // The variable of the environment that names the hooks to skip.
 const SKIP: &str = "SKIP";
 
+// The variable by which Git's hook names a file. There its own `git` notes each call that finds no repository in the folder of
+// children: what the hook answers then is no answer.
+const GIT_CALLS: &str = "HOOKHOST_GIT_CALLS";
+
+// The variable by which Git's hook names the folder of children: one that no tool takes for a part of Git's own.
+const SCRATCH_FOLDER: &str = "HOOKHOST_SCRATCH";
+
 /// Children that are processes, which a terminal shows.
 pub(crate) type RealChildren = ShownChildren<ProcessChildren<HostRuntime>, Stderr>;
 
-/// The children of a run, of which none has run yet.
-pub(crate) fn children_of(rt: &HostRuntime) -> Result<RealChildren, OutOfMemory> {
+/// The children of a run on the repository, of which none has run yet. They run in the folder that the variable of Git's hook
+/// names, else in that of the repository. If a variable names a file of calls, none of them is told as done that called Git there.
+/// A variable that isn't UTF-8 is `Stop::CannotUse`.
+pub(crate) fn children_of(rt: &HostRuntime) -> Result<RealChildren, Stop>
+    ensures { IfErr result IsStopOfChildren }
+{
+    let calls = named_by(rt.alloc(), GIT_CALLS, env::var(rt, GIT_CALLS))?;
+    let folder = match named_by(rt.alloc(), SCRATCH_FOLDER, env::var(rt, SCRATCH_FOLDER))? {
+        Some(folder) => folder,
+        None => String::from_str(rt.alloc(), SCRATCH)?,
+    };
+    let children = ProcessChildren::watching(rt.clone()?, folder, calls);
+    Ok(ShownChildren::new(rt.alloc(), children, terminal_of(rt)))
+}
+
+// What the variable of this name names. There is nothing where it isn't set.
+fn named_by(
+    alloc: Global,
+    variable: &str,
+    found: Result<String, VarError>,
+) -> Result<Option<String>, Stop>
+    ensures { IfErr result (IsStopOfVariable variable.now) }
+{
+    match found {
+        Ok(file) => Ok(Some(file)),
+        Err(VarError::NotPresent) => Ok(None),
+        Err(VarError::NotUnicode) => Err(Stop::CannotUse(Text::copy_of(alloc, variable)?)),
+        Err(VarError::OutOfMemory) => Err(Stop::Refused(TryFault::OutOfMemory)),
+    }
+}
+
+/// The children of a run without a repository, of whose folder nothing is left at their end.
+pub(crate) fn passing_children(rt: &HostRuntime) -> Result<RealChildren, OutOfMemory> {
     let folder = String::from_str(rt.alloc(), SCRATCH)?;
-    let children = ProcessChildren::new(rt.clone()?, folder);
+    let children = ProcessChildren::removed_at_end(rt.clone()?, folder);
     Ok(ShownChildren::new(rt.alloc(), children, terminal_of(rt)))
 }
 

@@ -1,26 +1,34 @@
-//! What was in the way of a child's files, told to whoever sits at a terminal.
+//! What was in the way of children: of their files, and of a start.
 
-use crate::hint::is_heard;
 use crate::runs::RealChildren;
+use process_children::Trouble;
 use std::io::Write;
 use text_output::{Unwritten, write_path, write_pieces};
 
-/// Says which file or folder was in the way of the children's files first, and the system's error there, on standard error where
-/// that is a terminal. Nothing where none was in the way, or where memory is refused.
+// What stands before the place that was in the way of files, and before the word that could not be started.
+const AT: &str = "hookhost: ";
+
+const CANNOT_START: &str = "hookhost: cannot start ";
+
+/// Says on standard error which file or folder was in the way of the children's files first, and which word could not be started
+/// first, each with the system's error there. Nothing of what was in no child's way, or where memory is refused.
 pub(crate) fn tell_trouble(rt: &HostRuntime, children: &RealChildren) {
-    if !is_heard(rt) {
-        return;
-    }
-    if let Some(trouble) = children.children().trouble() {
+    let children = children.children();
+    tell(rt, AT, children.trouble());
+    tell(rt, CANNOT_START, children.unstarted());
+}
+
+fn tell(rt: &HostRuntime, before: &str, trouble: Option<&Trouble>) {
+    if let Some(trouble) = trouble {
         let error = trouble.error();
         if let Ok(error) = format!(in rt.alloc(); "{error}") {
-            let _said = say(&mut rt.stderr(), trouble.place(), error.as_str());
+            let _said = say(&mut rt.stderr(), before, trouble.place(), error.as_str());
         }
     }
 }
 
-fn say<W: Write>(writer: &mut W, place: &str, error: &str) -> Result<(), Unwritten> {
-    write_pieces(writer, &["hookhost: "])?;
+fn say<W: Write>(writer: &mut W, before: &str, place: &str, error: &str) -> Result<(), Unwritten> {
+    write_pieces(writer, &[before])?;
     write_path(writer, place)?;
     write_pieces(writer, &[": ", error, "\n"])
 }

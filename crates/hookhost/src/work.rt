@@ -5,10 +5,8 @@
 ghost use Rattle.std.specs.Prelude.{◌≡◌, ◌∷◌, ℕ, List, [], IfErr, IfOk};
 ghost use Rattle.command_line.specs.declared.line.PathSource.TheVariants.{Words};
 ghost use Rattle.command_line.specs.declared.line.Update.TheVariants.{Add, Remove};
-ghost use Rattle.configuration_run.specs.declared.try_fault.TryFault.TheVariants.{OutOfMemory as NoMemory};
 ghost use Rattle.hook_cli.specs.CommandOver.{IsNamed};
-ghost use Rattle.hookhost.specs.declared.stop.Stop.TheVariants.{Refused};
-ghost use Rattle.hookhost.specs.Stops.{IsStopOfReading, IsStopOfWork};
+ghost use Rattle.hookhost.specs.Stops.{IsStopOfChildren, IsStopOfReading, IsStopOfWork};
 ghost use Rattle.hookhost.specs.Works.{IsWork, IsWorkOf, named};
 
 use crate::files::read_staged;
@@ -47,7 +45,7 @@ pub(crate) enum Work {
 
 /// What an update asks of the store. The names are those that its `--paths-from` lists. What it stages is read, each file once and
 /// up to one byte past the limit: the host refuses one that is longer. A word that can't be used is `Stop::CannotUse`, and want of
-/// memory, for what runs of hooks need too, `Stop::RefusedCommand`.
+/// memory, for what runs of hooks need too, `Stop::RefusedCommand`. So it is of the variable by which Git's hook names a file, if it isn't UTF-8.
 pub(crate) fn work_of(rt: &HostRuntime, update: Update, names: Items<Text>) -> Result<Work, Stop>
     ensures can { IfOk result IsWork }
     ensures work { IfOk result (IsWorkOf update names) }
@@ -61,6 +59,7 @@ pub(crate) fn work_of(rt: &HostRuntime, update: Update, names: Items<Text>) -> R
             only,
             stage,
             fresh,
+            options,
         } => {
             let (skip, children) = hook_needs(rt).map_err(Stop::of_command)?;
             let files = named(files, names);
@@ -70,6 +69,7 @@ pub(crate) fn work_of(rt: &HostRuntime, update: Update, names: Items<Text>) -> R
                     only,
                     stage,
                     fresh,
+                    options,
                 }),
                 skip,
                 children,
@@ -170,7 +170,7 @@ fn named(files: FileChoice, names: Items<Text>) -> FileChoice
 
 // What a line that runs hooks needs: the hooks that it skips, and children.
 fn hook_needs(rt: &HostRuntime) -> Result<(Items<Text>, RealChildren), Stop>
-    ensures { IfErr result (λ stop. stop ≡ Refused NoMemory) }
+    ensures { IfErr result IsStopOfChildren }
 {
     Ok((skipped(rt)?, children_of(rt)?))
 }

@@ -2,12 +2,14 @@
 
 ghost use Rattle.std.specs.Io.{ReadsAtMost};
 
+use crate::fresh::asked_mode;
 use crate::stamp::Stamp;
-use hook_base::MOST_FILE_BYTES;
+use hook_base::{FileEntry, MOST_FILE_BYTES};
 use libc::types::rlimit;
 use std::alloc::Global;
 use std::fs::{Files, OpenFile, OpenOptions};
 use std::io::{ErrorKind, Read, Write};
+use std::os::unix::fs::OpenOptionsExt;
 use std::{fs, io};
 
 // The limit of the process for its files' length, by POSIX's RLIMIT_FSIZE.
@@ -66,13 +68,15 @@ pub(crate) fn read_open<F: Read>(
     Err(io::Error::from(ErrorKind::FileTooLarge))
 }
 
-/// Makes a new file, where none may stand, with these bytes. Its stamp afterwards. An error of its own where they are more than
-/// this process may write.
-pub(crate) fn write_new<R: Files>(files: &R, place: &str, bytes: &[u8]) -> io::Result<Stamp> {
+/// Makes a new file, where none may stand, with the bytes of this one and its mode. Its stamp afterwards. An error of its own
+/// where they are more than this process may write.
+pub(crate) fn write_new<R: Files>(files: &R, place: &str, wanted: &FileEntry) -> io::Result<Stamp> {
+    let bytes = wanted.bytes.as_slice();
     if bytes.len() as u64 > most_bytes() {
         return Err(io::Error::from(ErrorKind::FileTooLarge));
     }
     let mut options = OpenOptions::new();
+    let options = options.mode(asked_mode(wanted.mode));
     let mut file = options.write(true).create_new(true).open(files, place)?;
     file.write_all(bytes)?;
     Ok(Stamp::of(&file.metadata()?))

@@ -47,12 +47,13 @@ impl Times {
     }
 
     /// The first child is about to be started, if none was: the scratch folder was changed just before.
-    pub(crate) fn child_starts(&mut self, folder: Option<&Metadata>) {
+    pub(crate) fn child_starts(&mut self, folder: &Metadata) {
         if let Times::Telling(ages) = self {
             if ages.first_child.is_none() {
-                ages.first_child = Some(match folder {
-                    Some(found) if found.dev() == ages.device => Moment::of_change(found),
-                    _ => ages.settled,
+                ages.first_child = Some(if folder.dev() == ages.device {
+                    Moment::of_change(folder)
+                } else {
+                    ages.settled
                 });
             }
         }

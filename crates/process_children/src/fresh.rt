@@ -1,13 +1,19 @@
 //! What files and folders are like that were just made.
 
+use hook_base::{FileEntry, Mode};
 use std::fs::Metadata;
 use std::os::unix::fs::MetadataExt;
 
 // Who may read, write and run, and the bits for other users' programs and for shared folders.
 const MODE_BITS: u32 = 0o7777;
 
-// What a new file may have of a new folder's mode: the right to search a folder is the one to run a file.
-const FILE_BITS: u32 = 0o666;
+/// The mode with which a file is made, before the process's mask narrows it.
+pub(crate) fn asked_mode(mode: Mode) -> u32 {
+    match mode {
+        Mode::Plain => 0o666,
+        Mode::Executable => 0o777,
+    }
+}
 
 /// What files and folders are like that were just made: their modes, as the process's mask narrows them, and their
 /// owner.
@@ -48,11 +54,11 @@ impl Fresh {
         found.mode() & MODE_BITS == self.mode
     }
 
-    /// Whether this is a file of that length, with a new file's mode and owner, and with no second name.
-    pub(crate) fn is_file(&self, found: &Metadata, length: usize) -> bool {
+    /// Whether this is a file of that length, with the mode and the owner that it has where it is made, and with no second name.
+    pub(crate) fn is_file(&self, found: &Metadata, wanted: &FileEntry) -> bool {
         found.is_file()
-            && found.len() == length as u64
-            && found.mode() & MODE_BITS == self.mode & FILE_BITS
+            && found.len() == wanted.bytes.len() as u64
+            && found.mode() & MODE_BITS == self.mode & asked_mode(wanted.mode)
             && found.nlink() == 1
             && self.is_owner_of(found)
     }

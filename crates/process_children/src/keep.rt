@@ -4,98 +4,79 @@ use crate::contents::{begins_with, write_new};
 use crate::folders::{folder_at, shared_bytes};
 use crate::fresh::Fresh;
 use crate::known_files::KnownFiles;
+use crate::laid_folder::LaidFolder;
 use crate::own_files::OwnFiles;
-use crate::place::{refuse_links_to, standing};
+use crate::place::{standing, standing_scratch};
+use crate::search::belongs;
 use crate::stamp::Stamp;
 use crate::stop::is_want_of_memory;
-use crate::strays::{Belonging, empty_trash, take_strays};
+use crate::strays::{Belonging, Besides, GIT_FOLDER, empty_trash, take_strays};
 use crate::trash::Trash;
 use crate::trouble::{Trouble, at_place};
 use hook_base::{SharedFile, Tree};
 use std::alloc::Global;
 use std::fs::{Files, Metadata, Permissions};
+use std::io::ErrorKind;
 use std::os::unix::fs::{PermissionsExt, lchown};
 use std::{fs, io};
 
-/// Makes the folder, with its missing parents, and makes it hold the files of the tree and nothing else. What is as it
-/// would be written stays; where that can't be told or mended, all of the folder is written anew. Of files that are known
+/// Makes the folder, with its missing parents, and makes it hold the files of the tree, the folder `.git`, and nothing else. What is
+/// as it would be written stays; where that can't be told or mended, all of the folder is written anew. Of files that are known
 /// none is read, and those are known afterwards that were read and can be.
 ///
 /// What is in the way where neither can be done, or where the folder or the one that it stands in is a link: then nothing
 /// behind it is touched.
-pub(crate) fn keep_as<R: Files>(
+pub(crate) fn keep_as<'a, R: Files>(
     files: &R,
     alloc: Global,
-    folder: &str,
+    folder: &'a str,
     tree: &Tree,
     known: &mut KnownFiles,
     piece: &mut [u8],
-) -> Result<(), Trouble> {
+) -> Result<LaidFolder<'a>, Trouble> {
     match settle(files, alloc, folder, tree, known, piece) {
-        Err(trouble) if !is_want_of_memory(trouble.error()) => {
-            write_anew(files, alloc, folder, tree, known, piece)
+        Ok(laid) => Ok(laid),
+        Err(trouble) if is_want_of_memory(trouble.error()) => Err(trouble),
+        Err(_trouble) => {
+            empty(files, alloc, folder)?;
+            settle(files, alloc, folder, tree, known, piece)
         }
-        settled => settled,
     }
 }
 
-fn write_anew<R: Files>(
+fn settle<'a, R: Files>(
     files: &R,
     alloc: Global,
-    folder: &str,
+    folder: &'a str,
     tree: &Tree,
     known: &mut KnownFiles,
     piece: &mut [u8],
-) -> Result<(), Trouble> {
-    empty(files, alloc, folder)?;
-    settle(files, alloc, folder, tree, known, piece)
+) -> Result<LaidFolder<'a>, Trouble> {
+    let mut keeping = Keeping::begin(files, alloc, folder, known, piece)?;
+    match keeping.settle(tree, piece) {
+        Ok(()) => keeping.finish(),
+        Err(trouble) => {
+            keeping.trash.leave(files);
+            Err(trouble)
+        }
+    }
 }
 
 /// Makes the folder hold nothing. An error where that can't be done, or where the folder or the one that it stands in is a
 /// link.
 pub(crate) fn empty<R: Files>(files: &R, alloc: Global, folder: &str) -> Result<(), Trouble> {
     let mut known = KnownFiles::none_ever(alloc);
-    settle(files, alloc, folder, &Tree::new(alloc), &mut known, &mut [])
-}
-
-fn settle<R: Files>(
-    files: &R,
-    alloc: Global,
-    folder: &str,
-    tree: &Tree,
-    known: &mut KnownFiles,
-    piece: &mut [u8],
-) -> Result<(), Trouble> {
-    at_place(alloc, folder, make_folder(files, folder))?;
-    let trash = at_place(alloc, folder, Trash::make_in(files, alloc, folder))?;
-    let found = match fs::symlink_metadata(files, trash.place()) {
-        Ok(found) => found,
-        Err(e) => {
-            trash.leave(files);
-            return at_place(alloc, folder, Err(e));
-        }
-    };
-    known.begin_to_note(files, alloc, &found, piece);
-    let mut keeping = Keeping {
-        files,
-        alloc,
-        folder,
-        own: OwnFiles::of(files, alloc, folder),
-        trash,
-        fresh: Fresh::of(&found),
-        known,
-    };
-    let settled = keeping.settle(tree, piece);
-    if settled.is_err() {
+    let mut keeping = Keeping::begin(files, alloc, folder, &mut known, &mut [])?;
+    let emptied = keeping.empty();
+    if emptied.is_err() {
         keeping.trash.leave(files);
     }
-    settled
+    emptied
 }
 
 // Makes the folder where it isn't one, and makes one that is there usable.
 fn make_folder<R: Files>(files: &R, folder: &str) -> io::Result<()> {
-    refuse_links_to(files, folder)?;
-    match standing(files, folder)? {
+    match standing_scratch(files, folder)? {
         None => fs::create_dir_all(files, folder),
         Some(found) if found.is_dir() => {
             fs::set_permissions(files, folder, Permissions::from_mode(0o700))
@@ -109,22 +90,70 @@ fn make_folder<R: Files>(files: &R, folder: &str) -> io::Result<()> {
 
 // What is needed while the folder is made to hold a tree.
 #[derive(Drop)]
-struct Keeping<'a, R: Files> {
-    files: &'a R,
+struct Keeping<'f, 'k, R: Files> {
+    files: &'k R,
     alloc: Global,
-    folder: &'a str,
-    own: OwnFiles<'a>,
+    own: OwnFiles<'f>,
     trash: Trash,
     fresh: Fresh,
-    known: &'a mut KnownFiles,
+    known: &'k mut KnownFiles,
 }
 
-impl<'a, R: Files> Keeping<'a, R> {
+impl<'f, 'k, R: Files> Keeping<'f, 'k, R> {
+    // Makes the folder, and the trash in it.
+    fn begin(
+        files: &'k R,
+        alloc: Global,
+        folder: &'f str,
+        known: &'k mut KnownFiles,
+        piece: &mut [u8],
+    ) -> Result<Keeping<'f, 'k, R>, Trouble> {
+        at_place(alloc, folder, make_folder(files, folder))?;
+        let trash = at_place(alloc, folder, Trash::make_in(files, alloc, folder))?;
+        let found = match fs::symlink_metadata(files, trash.place()) {
+            Ok(found) => found,
+            Err(e) => {
+                trash.leave(files);
+                return at_place(alloc, folder, Err(e));
+            }
+        };
+        known.begin_to_note(files, alloc, &found, piece);
+        Ok(Keeping {
+            files,
+            alloc,
+            own: OwnFiles::of(files, alloc, folder),
+            trash,
+            fresh: Fresh::of(&found),
+            known,
+        })
+    }
+
+    fn empty(&mut self) -> Result<(), Trouble> {
+        self.take_strays("", &Tree::new(self.alloc), Besides::Trash)?;
+        empty_trash(self.files, self.alloc, &mut self.trash)
+    }
+
     fn settle(&mut self, tree: &Tree, piece: &mut [u8]) -> Result<(), Trouble> {
-        self.take_strays("", tree)?;
+        self.take_strays("", tree, Besides::TrashAndGit)?;
+        let made = self.make_git_folder(tree);
+        self.own.at(GIT_FOLDER, made)?;
         self.settle_files(tree, piece)?;
-        empty_trash(self.files, self.alloc, &mut self.trash)?;
-        at_place(self.alloc, self.folder, self.finish())
+        empty_trash(self.files, self.alloc, &mut self.trash)
+    }
+
+    // Makes the folder `.git` anew, whatever stands there. Where the tree has files in it, it is settled as their folder.
+    fn make_git_folder(&mut self, tree: &Tree) -> io::Result<()> {
+        if belongs(self.alloc, tree, "", GIT_FOLDER.as_bytes())? {
+            return Ok(());
+        }
+        let place = self.own.place(GIT_FOLDER)?;
+        match fs::remove_dir(self.files, place.as_str()) {
+            Err(e) if e.kind() != ErrorKind::NotFound => {
+                self.trash.take(place.as_str().as_bytes())?;
+            }
+            _ => {}
+        }
+        fs::create_dir(self.files, place.as_str())
     }
 
     // Each file, and before the first of each folder that folder.
@@ -157,7 +186,7 @@ impl<'a, R: Files> Keeping<'a, R> {
         if self.own.at(folder, is_new)? {
             Ok(())
         } else {
-            self.take_strays(folder, tree)
+            self.take_strays(folder, tree, Besides::Nothing)
         }
     }
 
@@ -183,7 +212,7 @@ impl<'a, R: Files> Keeping<'a, R> {
         }
     }
 
-    fn take_strays(&mut self, folder: &str, tree: &Tree) -> Result<(), Trouble> {
+    fn take_strays(&mut self, folder: &str, tree: &Tree, besides: Besides) -> Result<(), Trouble> {
         let place = self.own.inside(folder);
         let place = self.own.at(folder, place)?;
         let shown = self.own.shown(folder)?;
@@ -192,7 +221,7 @@ impl<'a, R: Files> Keeping<'a, R> {
             folder,
             place: place.as_str(),
             shown: shown.as_str(),
-            has_trash: folder.is_empty(),
+            besides,
         };
         take_strays(self.files, self.alloc, &mut self.trash, &wanted)
     }
@@ -202,16 +231,16 @@ impl<'a, R: Files> Keeping<'a, R> {
         if self.is_known(file)? {
             return Ok(());
         }
-        let (path, bytes) = (&file.as_file().path, &file.as_file().entry.bytes);
-        let place = self.own.place(path.as_str())?;
+        let wanted = &file.as_file().entry;
+        let place = self.own.place(file.as_file().path.as_str())?;
         let place = place.as_str();
         if let Some(found) = standing(self.files, place)? {
-            if self.fresh.is_file(&found, bytes.len()) && self.holds(place, file, &found, piece)? {
+            if self.fresh.is_file(&found, wanted) && self.holds(place, file, &found, piece)? {
                 return Ok(());
             }
             self.trash.take(place.as_bytes())?;
         }
-        let stamp = write_new(self.files, place, bytes.as_slice())?;
+        let stamp = write_new(self.files, place, wanted)?;
         self.known.note_written(file, stamp)?;
         Ok(())
     }
@@ -219,15 +248,15 @@ impl<'a, R: Files> Keeping<'a, R> {
     // Whether a file is known to be as a new one, and to contain what the tree's does: then it is what stands at its path, whatever
     // leads there. A file of which nothing is known isn't looked at here.
     fn is_known(&mut self, file: &SharedFile) -> io::Result<bool> {
-        let (path, bytes) = (&file.as_file().path, &file.as_file().entry.bytes);
-        if !self.known.has(path.as_str()) {
+        let path = file.as_file().path.as_str();
+        if !self.known.has(path) {
             return Ok(false);
         }
-        let place = self.own.look_place(path.as_str())?;
+        let place = self.own.look_place(path)?;
         let Some(found) = standing(self.files, place.as_str())? else {
             return Ok(false);
         };
-        let is_known = self.fresh.is_file(&found, bytes.len())
+        let is_known = self.fresh.is_file(&found, &file.as_file().entry)
             && self.known.are_equal(file.as_file(), &found);
         if is_known {
             self.known.note(file, Stamp::of(&found))?;
@@ -255,15 +284,29 @@ impl<'a, R: Files> Keeping<'a, R> {
         Ok(is_equal)
     }
 
-    fn finish(&mut self) -> io::Result<()> {
-        let found = fs::symlink_metadata(self.files, self.folder)?;
-        if !self.fresh.is_folder(&found) {
-            let (owner, group) = self.fresh.owner_and_group();
-            lchown(self.files, self.folder, Some(owner), Some(group))?;
-        }
-        let mode = Permissions::from_mode(self.fresh.folder_mode());
-        fs::set_permissions(self.files, self.folder, mode)?;
-        self.known.end_to_note(self.alloc);
-        Ok(())
+    // The folder gets the mode and the owner of a new one.
+    fn finish(self) -> Result<LaidFolder<'f>, Trouble> {
+        let Keeping {
+            files,
+            alloc,
+            mut own,
+            trash: _,
+            fresh,
+            known,
+        } = self;
+        let folder = own.folder();
+        at_place(alloc, folder, make_like_new(files, &mut own, fresh))?;
+        known.end_to_note(alloc);
+        at_place(alloc, folder, LaidFolder::of(files, own))
     }
+}
+
+fn make_like_new<R: Files>(files: &R, own: &mut OwnFiles<'_>, fresh: Fresh) -> io::Result<()> {
+    let place = own.inside("")?;
+    let place = place.as_str();
+    if !fresh.is_folder(&fs::symlink_metadata(files, place)?) {
+        let (owner, group) = fresh.owner_and_group();
+        lchown(files, place, Some(owner), Some(group))?;
+    }
+    fs::set_permissions(files, place, Permissions::from_mode(fresh.folder_mode()))
 }

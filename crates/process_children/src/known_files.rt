@@ -89,7 +89,7 @@ impl KnownFiles {
     }
 
     /// A child is about to be started. The folder was changed just before.
-    pub(crate) fn child_starts(&mut self, folder: Option<&Metadata>) {
+    pub(crate) fn child_starts(&mut self, folder: &Metadata) {
         self.times.child_starts(folder);
     }
 

@@ -81,11 +81,15 @@ impl Mark {
         Ok((held.ino() ^ (held.dev() << 32)) % BYTES)
     }
 
+    /// Whether it stands at its place still.
+    pub(crate) fn stands<R: Files<File = File>>(&self, files: &R) -> bool {
+        is_at(files, &self.file, self.place.as_str()).is_ok_and(|is_there| is_there)
+    }
+
     /// Takes the mark away: the run has ended by itself.
     pub(crate) fn remove<R: Files<File = File>>(self, files: &R) {
-        let place = self.place.as_str();
-        if is_at(files, &self.file, place).is_ok_and(|is_there| is_there) {
-            let _gone = fs::remove_file(files, place);
+        if self.stands(files) {
+            let _gone = fs::remove_file(files, self.place.as_str());
         }
     }
 }

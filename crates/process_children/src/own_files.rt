@@ -36,7 +36,7 @@ pub(crate) struct OwnFiles<'a> {
     folder: &'a str,
     holds: bool,
     scratch: Option<HeldFolder>,
-    // The folder that was asked for last, by its path in the tree.
+    // The folder in it that was asked for last, by its path in the tree.
     inner: String,
     held: Option<HeldFolder>,
 }
@@ -105,8 +105,33 @@ impl<'a> OwnFiles<'a> {
         Ok(format!(in self.alloc; "{OPEN}/{number}/.")?)
     }
 
+    /// Where the scratch folder stands, as it is told.
+    pub(crate) fn folder(&self) -> &'a str {
+        self.folder
+    }
+
+    /// Holds the scratch folder, and lets go of what was found in it.
+    pub(crate) fn hold_scratch_alone(&mut self) -> io::Result<()> {
+        self.held = None;
+        let _scratch = self.scratch()?;
+        Ok(())
+    }
+
+    // The scratch folder, which is held from the first time on that it is asked for: whatever is put in its place, files are found
+    // in this one.
+    fn scratch(&mut self) -> io::Result<&HeldFolder> {
+        let scratch = match self.scratch.take() {
+            Some(scratch) => scratch,
+            None => HeldFolder::scratch(self.folder)?,
+        };
+        Ok(self.scratch.insert(scratch))
+    }
+
     // Holds a folder of the tree, and answers its number.
     fn hold(&mut self, inner: &str) -> io::Result<i32> {
+        if inner.is_empty() {
+            return Ok(self.scratch()?.number());
+        }
         if let Some(held) = &self.held {
             if self.inner.as_str() == inner {
                 return Ok(held.number());
@@ -126,13 +151,7 @@ impl<'a> OwnFiles<'a> {
                 return held.within(rest);
             }
         }
-        if self.scratch.is_none() {
-            self.scratch = Some(HeldFolder::scratch(self.folder)?);
-        }
-        match &self.scratch {
-            Some(scratch) if !inner.is_empty() => scratch.within(inner),
-            _ => HeldFolder::scratch(self.folder),
-        }
+        self.scratch()?.within(inner)
     }
 
     /// Opens a file to read it, which was just found at this place. `None` where it isn't there any more, or another is. It is

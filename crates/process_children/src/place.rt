@@ -34,12 +34,16 @@ pub(crate) fn refuse_link(files: &impl Files, place: &str) -> io::Result<()> {
     }
 }
 
-/// An error where the scratch folder, or the folder that it stands in, is a link.
-pub(crate) fn refuse_links_to(files: &impl Files, folder: &str) -> io::Result<()> {
+/// What stands at the place of the scratch folder, or `None` where nothing does. An error where that, or the folder that it is to
+/// stand in, is a link.
+pub(crate) fn standing_scratch(files: &impl Files, folder: &str) -> io::Result<Option<Metadata>> {
     if let Some(parent) = Path::new(folder).parent() {
         refuse_link(files, parent.path_text())?;
     }
-    refuse_link(files, folder)
+    match standing(files, folder)? {
+        Some(found) if found.is_symlink() => Err(link_refused()),
+        found => Ok(found),
+    }
 }
 
 /// The error for a link where none is followed.

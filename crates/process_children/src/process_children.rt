@@ -2,32 +2,22 @@
 
 ghost use Rattle.std.specs.Prelude.{◌≡◌, ◌+◌, ◌<◌, ◌^◌};
 
-use crate::contents::PIECE_BYTES;
-use crate::ending::ending_of;
-use crate::keep::keep_as;
-use crate::known_files::KnownFiles;
-use crate::read_back::read_back;
-use crate::scratch_folder::ScratchFolder;
-use crate::start::start;
+use crate::scratch_folder::AtEnd;
+use crate::stations::Stations;
 use crate::stop::Stop;
 use crate::trouble::Trouble;
-use child_port::{Answer, Children, Fault, Outcome};
+use child_port::{Children, Outcome};
 use hook_base::{OutOfMemory, Text, Tree};
-use std::fs;
 use std::fs::{File, Files};
-use std::os::fd::AsRawFd;
-use std::process::{OpenProcess, Processes, SystemProcess};
+use std::process::{Processes, SystemProcess};
 
-/// Children that are real processes, each started in a scratch folder that holds the files of its tree and nothing else.
+/// Children that are real processes, each started in a scratch folder that holds the files of its tree, the folder `.git`, and
+/// nothing else.
 ///
 /// Their folder is taken for the first of them, and left when this value is dropped. Meanwhile a locked file stands beside
 /// it, which other processes go by.
 pub struct ProcessChildren<R: Files<File = File> + AllocGlobal + Drop> {
-    runtime: R,
-    folder: String,
-    scratch: Option<ScratchFolder>,
-    known: KnownFiles,
-    trouble: Option<Trouble>,
+    stations: Stations<R>,
     completed: u64,
     failed: u64,
     ghost countable: { completed + failed < 2 ^ 64 },
@@ -43,130 +33,64 @@ impl<
         ensures no_calls { ⟦<ProcessChildren<R> as Children>⟧.call_count result ≡ 0 }
         ensures no_faults { ⟦<ProcessChildren<R> as Children>⟧.fault_count result ≡ 0 }
     {
-        let known = KnownFiles::new(runtime.alloc());
+        ProcessChildren::watching(runtime, folder, None)
+    }
+
+    /// The same, of which each is a fault, `ScratchFailed`, while which the file at the place `calls` got another length. There
+    /// a program writes down that a child has called it which must not be answered from what is remembered. A missing file has
+    /// no bytes.
+    pub fn watching(runtime: R, folder: String, calls: Option<String>) -> ProcessChildren<R>
+        ensures no_calls { ⟦<ProcessChildren<R> as Children>⟧.call_count result ≡ 0 }
+        ensures no_faults { ⟦<ProcessChildren<R> as Children>⟧.fault_count result ≡ 0 }
+    {
         ProcessChildren {
-            runtime,
-            folder,
-            scratch: None,
-            known,
-            trouble: None,
+            stations: Stations::new(runtime, folder, calls, AtEnd::FolderStays),
             completed: 0,
             failed: 0,
         }
     }
 
-    /// The same children, of which each costs a reading of all files: none is taken for unchanged by its times. For trials
-    /// of that.
-    pub fn reading_everything(runtime: R, folder: String) -> ProcessChildren<R>
+    /// Children as [`new`](ProcessChildren::new) makes them, whose folder is removed at their end, and the folder that it stands in
+    /// where that is empty then.
+    pub fn removed_at_end(runtime: R, folder: String) -> ProcessChildren<R>
         ensures no_calls { ⟦<ProcessChildren<R> as Children>⟧.call_count result ≡ 0 }
         ensures no_faults { ⟦<ProcessChildren<R> as Children>⟧.fault_count result ≡ 0 }
     {
-        let known = KnownFiles::none_ever(runtime.alloc());
         ProcessChildren {
-            runtime,
-            folder,
-            scratch: None,
-            known,
-            trouble: None,
+            stations: Stations::new(runtime, folder, None, AtEnd::FolderGoes),
             completed: 0,
             failed: 0,
         }
+    }
+
+    /// Of each child from now on all files are read: none is taken for unchanged by its times. For trials of that.
+    pub fn read_everything(&mut self)
+        ensures calls { ⟦<ProcessChildren<R> as Children>⟧.call_count self.new ≡ ⟦<ProcessChildren<R> as Children>⟧.call_count self.old }
+        ensures faults { ⟦<ProcessChildren<R> as Children>⟧.fault_count self.new ≡ ⟦<ProcessChildren<R> as Children>⟧.fault_count self.old }
+    {
+        self.stations.read_everything();
     }
 
     /// What kept the files of a child from being laid or read back, the first time that it was told as a fault.
     pub fn trouble(&self) -> Option<&Trouble> {
-        self.trouble.as_ref()
+        self.stations.troubles().of_files()
+    }
+
+    /// The first word that could not be started, as the place of the trouble, with the system's error.
+    pub fn unstarted(&self) -> Option<&Trouble> {
+        self.stations.troubles().of_a_start()
     }
 }
 
 impl<R: Files<File = File> + AllocGlobal + Drop> Drop for ProcessChildren<R> {
     fn drop(self) {
         let ProcessChildren {
-            runtime,
-            folder: _,
-            scratch,
-            known: _,
-            trouble: _,
+            stations,
             completed: _,
             failed: _,
         } = self;
-        if let Some(scratch) = scratch {
-            let alloc = runtime.alloc();
-            scratch.leave(&runtime, alloc);
-        }
+        stations.leave();
     }
-}
-
-// One child, in the folder that was taken for the first one.
-fn answer_of<R: Files<File = File> + Processes<Started = SystemProcess> + AllocGlobal>(
-    runtime: &R,
-    folder: &str,
-    scratch: &mut Option<ScratchFolder>,
-    known: &mut KnownFiles,
-    trouble: &mut Option<Trouble>,
-    words: &[Text],
-    tree: &Tree,
-) -> Result<Answer, Stop> {
-    let taken = match scratch.take() {
-        Some(taken) => taken,
-        None => take_scratch(runtime, folder, trouble)?,
-    };
-    let answer = answer_in(runtime, &taken, known, trouble, words, tree);
-    *scratch = Some(taken);
-    answer
-}
-
-fn take_scratch<R: Files<File = File> + AllocGlobal>(
-    runtime: &R,
-    folder: &str,
-    trouble: &mut Option<Trouble>,
-) -> Result<ScratchFolder, Stop> {
-    let folder = folder.trim_end_matches('/');
-    noted(
-        trouble,
-        ScratchFolder::take(runtime, runtime.alloc(), folder),
-    )
-}
-
-// A result whose trouble is kept, where it is the first, and is a fault unless memory was refused.
-fn noted<T>(first: &mut Option<Trouble>, ended: Result<T, Trouble>) -> Result<T, Stop> {
-    match ended {
-        Ok(value) => Ok(value),
-        Err(trouble) => {
-            let stop = Stop::of(trouble.error(), Fault::ScratchFailed);
-            if first.is_none() && matches!(stop, Stop::Fault(_)) {
-                *first = Some(trouble);
-            }
-            Err(stop)
-        }
-    }
-}
-
-// One child, from the files that it finds to those that it leaves.
-fn answer_in<R: Files<File = File> + Processes<Started = SystemProcess> + AllocGlobal>(
-    runtime: &R,
-    scratch: &ScratchFolder,
-    known: &mut KnownFiles,
-    trouble: &mut Option<Trouble>,
-    words: &[Text],
-    tree: &Tree,
-) -> Result<Answer, Stop> {
-    let (alloc, folder) = (runtime.alloc(), scratch.place());
-    let mut piece = vec![in alloc; 0u8; PIECE_BYTES]?;
-    let piece = piece.as_mut_slice();
-    noted(trouble, keep_as(runtime, alloc, folder, tree, known, piece))?;
-    known.child_starts(fs::symlink_metadata(runtime, folder).ok().as_ref());
-    let child = start(runtime, alloc, scratch, words)?;
-    let ending = ending_of(alloc, child, piece)?;
-    let changes = noted(
-        trouble,
-        read_back(runtime, alloc, folder, tree, known, piece),
-    )?;
-    Ok(Answer {
-        status: ending.status,
-        output: ending.output,
-        changes,
-    })
 }
 
 impl<R: Files<File = File> + Processes<Started = SystemProcess> + AllocGlobal + Drop> Children
@@ -184,9 +108,7 @@ impl<R: Files<File = File> + Processes<Started = SystemProcess> + AllocGlobal + 
     ghost faults_at_most_calls = { λ children. omega arith };
 
     fn run(&mut self, words: &[Text], tree: &Tree, _seen: &Tree) -> Result<Outcome, OutOfMemory> {
-        let (runtime, folder) = (&self.runtime, self.folder.as_str());
-        let (scratch, known, trouble) = (&mut self.scratch, &mut self.known, &mut self.trouble);
-        match answer_of(runtime, folder, scratch, known, trouble, words, tree) {
+        match self.stations.answer(words, tree) {
             Ok(answer) => {
                 self.completed += 1;
                 Ok(Outcome::Done(answer))

@@ -3,8 +3,9 @@
 use crate::contents::{begins_with, read_open};
 use crate::folders::{folder_at, shared_bytes};
 use crate::known_files::KnownFiles;
-use crate::own_files::{Opened, OwnFiles};
-use crate::place::{refuse_link, refuse_links_to, standing};
+use crate::laid_folder::LaidFolder;
+use crate::own_files::Opened;
+use crate::place::{refuse_link, standing};
 use crate::trouble::{Trouble, at_place};
 use hook_base::{Bytes, Change, Changes, Content, File, MOST_FILE_BYTES, Tree};
 use std::alloc::{AllocError, Global};
@@ -18,52 +19,57 @@ const MOST_LOOKS: u32 = 1_000;
 /// What became of the files of the tree, each looked at in the folder, and read back unless it is known. A missing one is
 /// gone.
 ///
-/// The first file that can't be read, that has more bytes than a file may, or in the place of which, or of a folder on the way
-/// to it, something else stands: a link too, since none is followed.
+/// The folder, where it was lost: where it doesn't stand at its place any more, or another one does. Else the first file that can't
+/// be read, that has more bytes than a file may, or in the place of which, or of a folder on the way to it, something else stands:
+/// a link too, since none is followed.
 pub(crate) fn read_back<R: Files>(
     files: &R,
     alloc: Global,
-    folder: &str,
+    laid: LaidFolder<'_>,
     tree: &Tree,
     known: &mut KnownFiles,
     piece: &mut [u8],
 ) -> Result<Changes, Trouble> {
-    let changes = changes_of(files, alloc, folder, tree, known, piece)?;
-    match Changes::from_rising(changes) {
+    let folder = laid.own.folder();
+    match Changes::from_rising(changes_of(files, alloc, laid, tree, known, piece)?) {
         Ok(changes) => Ok(changes),
         Err(_) => at_place(alloc, folder, Err(io::Error::from(ErrorKind::InvalidData))),
     }
 }
 
+// Only what stands at its place is read, and what was read counts only if it still stands there then.
 fn changes_of<R: Files>(
     files: &R,
     alloc: Global,
-    folder: &str,
+    laid: LaidFolder<'_>,
     tree: &Tree,
     known: &mut KnownFiles,
     piece: &mut [u8],
 ) -> Result<Vec<Change>, Trouble> {
-    at_place(alloc, folder, refuse_links_to(files, folder))?;
+    let folder = laid.own.folder();
+    at_place(alloc, folder, laid.check_place(files))?;
     known.begin();
     let mut reading = Reading {
         files,
         alloc,
-        own: OwnFiles::of(files, alloc, folder),
+        laid,
         known,
     };
-    reading.changes(tree, piece)
+    let changes = reading.changes(tree, piece);
+    at_place(alloc, folder, reading.laid.check_place(files))?;
+    changes
 }
 
 // What is needed while the files of a tree are read back.
 #[derive(Drop)]
-struct Reading<'a, R: Files> {
+struct Reading<'a, 'f, R: Files> {
     files: &'a R,
     alloc: Global,
-    own: OwnFiles<'a>,
+    laid: LaidFolder<'f>,
     known: &'a mut KnownFiles,
 }
 
-impl<'a, R: Files> Reading<'a, R> {
+impl<'a, 'f, R: Files> Reading<'a, 'f, R> {
     // Each file that changed, and before the first of each folder that folder.
     fn changes(&mut self, tree: &Tree, piece: &mut [u8]) -> Result<Vec<Change>, Trouble> {
         let mut changes = Vec::new(self.alloc);
@@ -72,9 +78,9 @@ impl<'a, R: Files> Reading<'a, R> {
             let file = tree.entry(index);
             let path = file.path.as_str();
             let links = self.refuse_links(path, shared_bytes(before, path));
-            self.own.at(path, links)?;
+            self.laid.own.at(path, links)?;
             let change = self.change_of(file, piece);
-            if let Some(change) = self.own.at(path, change)? {
+            if let Some(change) = self.laid.own.at(path, change)? {
                 changes.push(change).map_err(AllocError::from)?;
             }
             before = path;
@@ -85,7 +91,7 @@ impl<'a, R: Files> Reading<'a, R> {
     fn refuse_links(&mut self, path: &str, shared: usize) -> io::Result<()> {
         for at in shared..path.len() {
             if let Some(inner) = folder_at(path, at) {
-                match self.own.look_place(inner) {
+                match self.laid.own.look_place(inner) {
                     Ok(place) => refuse_link(self.files, place.as_str())?,
                     Err(e) if is_gone(&e) => return Ok(()),
                     Err(e) => return Err(e),
@@ -100,7 +106,7 @@ impl<'a, R: Files> Reading<'a, R> {
         if self.is_unchanged(file)? {
             return Ok(None);
         }
-        let place = match self.own.place(file.path.as_str()) {
+        let place = match self.laid.own.place(file.path.as_str()) {
             Ok(place) => place,
             Err(e) if is_gone(&e) => return Ok(Some(change_to(file, None)?)),
             Err(e) => return Err(e),
@@ -110,7 +116,7 @@ impl<'a, R: Files> Reading<'a, R> {
             match look_at(self.files, place)? {
                 Look::Gone => return Ok(Some(change_to(file, None)?)),
                 Look::Open(found) => {
-                    if let Some(opened) = self.own.open(self.files, place, &found)? {
+                    if let Some(opened) = self.laid.own.open(self.files, place, &found)? {
                         return self.change_in(opened, file, piece);
                     }
                 }
@@ -126,7 +132,7 @@ impl<'a, R: Files> Reading<'a, R> {
         if !self.known.has(path) {
             return Ok(false);
         }
-        let place = match self.own.look_place(path) {
+        let place = match self.laid.own.look_place(path) {
             Ok(place) => place,
             Err(e) if is_gone(&e) => return Ok(false),
             Err(e) => return Err(e),

@@ -2,7 +2,7 @@
 
 use crate::input;
 use crate::mark::{Mark, Marking};
-use crate::place::{refuse_link, standing};
+use crate::place::{refuse_link, standing, standing_scratch};
 use crate::removal::{put_away, remove};
 use crate::trouble::{Trouble, at_place};
 use std::alloc::{AllocError, Global};
@@ -10,6 +10,15 @@ use std::fs::{File, Files};
 use std::io::ErrorKind;
 use std::path::{AsPath, Path};
 use std::{fs, io};
+
+/// What becomes of the scratch folder at the end of its run.
+#[derive(Clone, Copy, Debug, PartialEq, Eq)]
+pub(crate) enum AtEnd {
+    /// It stays for the next run.
+    FolderStays,
+    /// It is removed, and the folder that it stands in where that is empty then.
+    FolderGoes,
+}
 
 /// The scratch folder of a run. Beside it stands the mark of the run, which says that it is in use.
 #[derive(Drop)]
@@ -56,17 +65,38 @@ impl ScratchFolder {
         self.input_byte
     }
 
-    /// Leaves the folder: all children of the run have ended. One of the run's own is removed.
-    pub(crate) fn leave<R: Files<File = File>>(self, files: &R, alloc: Global) {
+    /// Whether its mark still stands beside it: else other runs take the folder for one that none uses.
+    pub(crate) fn is_marked<R: Files<File = File>>(&self, files: &R) -> bool {
+        self.mark.stands(files)
+    }
+
+    /// Leaves the folder: all children of the run have ended. One of the run's own, beside another's, is removed whatever `at_end` says.
+    pub(crate) fn leave<R: Files<File = File>>(self, files: &R, alloc: Global, at_end: AtEnd) {
         let ScratchFolder {
             place,
             number,
             mark,
             input_byte: _,
         } = self;
-        if number == 0 || remove(files, alloc, place.as_str()).is_ok() {
+        let place = place.as_str();
+        let stays = number == 0 && at_end == AtEnd::FolderStays;
+        // Where it can't be removed its mark stays, and a later run puts it away.
+        if stays || remove_scratch(files, alloc, place).is_ok() {
             mark.remove(files);
         }
+        if at_end == AtEnd::FolderGoes {
+            if let Some(parent) = Path::new(place).parent() {
+                let _gone = fs::remove_dir(files, parent);
+            }
+        }
+    }
+}
+
+// A link is not followed, be it in place of the folder that this one stands in.
+fn remove_scratch<R: Files>(files: &R, alloc: Global, place: &str) -> io::Result<()> {
+    match standing_scratch(files, place)? {
+        Some(_) => remove(files, alloc, place),
+        None => Ok(()),
     }
 }
 

@@ -10,6 +10,9 @@ use std::fs;
 use std::fs::Files;
 use std::io::Read;
 
+/// The folder that makes the scratch folder the top of a working tree of Git, to whoever looks for one.
+pub(crate) const GIT_FOLDER: &str = ".git";
+
 /// A folder that is to hold what a tree says, and nothing else.
 #[derive(Debug, Drop)]
 pub(crate) struct Belonging<'a> {
@@ -21,11 +24,32 @@ pub(crate) struct Belonging<'a> {
     pub place: &'a str,
     /// Where the folder stands, as it is told.
     pub shown: &'a str,
-    /// Whether the trash stands there.
-    pub has_trash: bool,
+    /// What stands there besides.
+    pub besides: Besides,
 }
 
-/// Takes away what doesn't belong in a folder, whatever its name is. The trash itself stays.
+/// What stands in a folder besides the files of a tree.
+#[derive(Clone, Copy, Debug, PartialEq, Eq)]
+pub(crate) enum Besides {
+    /// Nothing.
+    Nothing,
+    /// The trash.
+    Trash,
+    /// The trash and the folder `.git`.
+    TrashAndGit,
+}
+
+impl Besides {
+    fn has(self, name: &[u8], trash: &Trash) -> bool {
+        match self {
+            Besides::Nothing => false,
+            Besides::Trash => name == trash.name(),
+            Besides::TrashAndGit => name == trash.name() || name == GIT_FOLDER.as_bytes(),
+        }
+    }
+}
+
+/// Takes away what doesn't belong in a folder, whatever its name is.
 pub(crate) fn take_strays<R: Files>(
     files: &R,
     alloc: Global,
@@ -56,8 +80,8 @@ fn take_strays_of(
 ) -> Result<(), Trouble> {
     for name in names.split(|byte| *byte == 0) {
         let is_folder = name.is_empty() || name == b".".as_slice() || name == b"..".as_slice();
-        let is_trash = wanted.has_trash && name == trash.name();
-        if !is_folder && !is_trash && !belongs(alloc, wanted.tree, wanted.folder, name)? {
+        let is_beside = wanted.besides.has(name, trash);
+        if !is_folder && !is_beside && !belongs(alloc, wanted.tree, wanted.folder, name)? {
             take_stray(alloc, trash, wanted, name)?;
         }
     }
@@ -106,7 +130,7 @@ pub(crate) fn empty_trash<R: Files>(
             folder: "",
             place: folder.as_str(),
             shown: folder.as_str(),
-            has_trash: false,
+            besides: Besides::Nothing,
         };
         take_strays(files, alloc, trash, &wanted)?;
         at_place(

@@ -1,9 +1,10 @@
-//! What keeps a child's files from being laid or read back.
+//! What is in the way of a child.
 
 use std::alloc::{AllocError, Global};
 use std::io;
 
-/// What keeps a child's files from being laid or read back: where it was, and the system's error.
+/// What is in the way of a child: what keeps its files from being laid or read back, and where, or the word that can't be started; and
+/// the system's error.
 #[derive(Debug, Drop)]
 pub struct Trouble {
     place: Option<String>,
@@ -11,7 +12,7 @@ pub struct Trouble {
 }
 
 impl Trouble {
-    /// The place of the file or folder. Empty where memory was refused for it.
+    /// The place of the file or folder, or the word. Empty where memory was refused for it.
     pub fn place(&self) -> &str {
         match &self.place {
             Some(place) => place.as_str(),

@@ -13,7 +13,7 @@ use crate::folder::{
     FOLDER, Folder, Found, LOCK, Lock, STORE, found_at, look_for_no_store, make_folder, take_away,
     take_lock,
 };
-use crate::ignore_file::have_git_ignore;
+use crate::kept_out::keep_out_of_git;
 use crate::repository_fault::RepositoryFault;
 use repo_store::Store;
 use sqlite::{Alter, Connection};
@@ -28,7 +28,7 @@ const NEW_STORE: &str = ".hookhost/new.db";
 // The log that the library writes beside it.
 const NEW_LOG: &str = ".hookhost/new.db-wal";
 
-/// Makes an empty repository, whose folder Git ignores. The errors are, in this order: `CannotUseStore` where anything stands at
+/// Makes an empty repository, whose folder is kept out of Git. The errors are, in this order: `CannotUseStore` where anything stands at
 /// the store's name, or the folder can't be made, `CannotUseLock`, `CannotUseStore` where another `init` has made a store since,
 /// and then `CannotUseStore` and `NoStore` where the database can't be made or put in place. An error leaves the folder as it
 /// was, but for its lock if the folder was there, and what a killed `init` left.
@@ -37,7 +37,7 @@ pub fn init(rt: &HostRuntime) -> Result<(), RepositoryFault> {
     let folder = make_folder(rt)?;
     let done = init_in(rt, folder);
     if done.is_ok() {
-        have_git_ignore(rt);
+        keep_out_of_git(rt);
     } else if folder == Folder::Made {
         // Another command may have put its lock there.
         let _unless_used = fs::remove_dir(rt, FOLDER);

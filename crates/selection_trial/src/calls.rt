@@ -1,6 +1,6 @@
 //! The calls by their names.
 
-use crate::{commands, found, greps, kept, paths, tags};
+use crate::{commands, found, greps, kept, options, paths, tags};
 use std::alloc::Global;
 use trial_rows::{Answer, Answers, Row, Stop};
 
@@ -13,7 +13,7 @@ impl Answers for Calls {
     }
 }
 
-// The calls stand in three functions, each of which knows the next, since one with many arms takes the checker long.
+// The calls stand in four functions, each of which knows the next, since one with many arms takes the checker long.
 fn of_selections(alloc: Global, call: &str, arguments: &[Vec<u8>]) -> Result<Answer, Stop> {
     match call {
         "tags_of" => tags::among(alloc, arguments),
@@ -41,6 +41,15 @@ fn of_commands(alloc: Global, call: &str, arguments: &[Vec<u8>]) -> Result<Answe
         "grep_answer" => greps::answered(alloc, arguments),
         "words" => commands::cut(alloc, arguments),
         "parts" => commands::partitioned(alloc, arguments),
+        _ => of_options(alloc, call, arguments),
+    }
+}
+
+fn of_options(alloc: Global, call: &str, arguments: &[Vec<u8>]) -> Result<Answer, Stop> {
+    match call {
+        "command_reads" => options::read_by(alloc, arguments),
+        "tools" => options::tools(alloc),
+        "with_options" => options::hooks(alloc, arguments),
         _ => Err(Stop::NoCall),
     }
 }

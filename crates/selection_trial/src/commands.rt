@@ -76,7 +76,8 @@ fn size(argument: &[u8]) -> Result<usize, Stop> {
     text_of(argument)?.parse().map_err(|_| Stop::BadLine)
 }
 
-fn texts(alloc: Global, lines: &[u8]) -> Result<Vec<Text>, Stop> {
+/// The lines of an argument, each a text.
+pub(crate) fn texts(alloc: Global, lines: &[u8]) -> Result<Vec<Text>, Stop> {
     let mut texts = Vec::new(alloc);
     for line in text_of(lines)?.lines() {
         texts.push(Text::copy_of(alloc, line)?)?;

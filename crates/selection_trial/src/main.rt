@@ -1,6 +1,6 @@
-//! The program `selection_trial`: plays calls on tags, patterns, selections, the hooks that start no child, an entry's words
-//! and the parts of a command, one a line of standard input, and answers each by a line. `tests/rows.py` and the scripts that
-//! compare with other tools drive it; how a line is written says the crate `trial_rows`.
+//! The program `selection_trial`: plays calls on tags, patterns, selections, the hooks that start no child, an entry's words,
+//! the parts of a command and the options of a run, one a line of standard input, and answers each by a line. `tests/rows.py`
+//! and the scripts that compare with other tools drive it; how a line is written says the crate `trial_rows`.
 #![tactic(auto)]
 
 mod calls;
@@ -9,6 +9,7 @@ mod files;
 mod found;
 mod greps;
 mod kept;
+mod options;
 mod paths;
 mod rules;
 mod tags;

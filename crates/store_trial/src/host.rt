@@ -11,6 +11,7 @@ use commit_flow::{
 };
 use hook_base::{Items, Text};
 use hook_config::Stage;
+use run_options::RunOptions;
 use sqlite::Alter;
 use std::alloc::Global;
 use std::fmt::Display;
@@ -134,6 +135,10 @@ fn read_ask(alloc: Global, which: &str) -> Result<HostAsk, Stop> {
         stage: AskStage::PreCommit,
         skip: Items::new(alloc),
         fresh: false,
+        options: RunOptions {
+            cautious: false,
+            verbose: false,
+        },
     })
 }
 

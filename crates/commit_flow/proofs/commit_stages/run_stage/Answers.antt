@@ -1,6 +1,7 @@
-use Rattle.std.proofs.Common.{false, List, [], subst}
+use Rattle.std.proofs.Common.{List, [], subst}
 use Rattle.std.proofs.lemmas.Result.{err_from_is_err_and}
 use Rattle.hook_base.specs.declared.file.File.{File}
+use Rattle.hook_run.specs.declared.reuse.Reuse.TheVariants as reuse
 use Rattle.hook_run.specs.AnswerLemmas.{answered-none}
 use Rattle.hook_run.specs.Moments.{moment}
 use Rattle.hook_run.specs.Parts.{all_parts}
@@ -30,7 +31,7 @@ returns-in_err-begun-clause-halted g c =
     let ask = ask_in c.args.changed.now c.args.skip.now c.args.stage in
     let tree = tree_in c.args.stage c.args.course in
     rw (p.1, p.2) (halted_for_memory book.refuses tells from from (IsBegun c.args.config.now ask tree) (NeedsChild (book.contents c.args.book.now) c.args.config.now ask tree) []
-    (begins-at-once c.args.config.now ask tree) (answered-none tells false from))
+    (begins-at-once c.args.config.now ask tree) (answered-none tells reuse.All from))
 
 pub returns-in_err-out-clause-halted : goal.returns-in_err-out-clause-halted
 returns-in_err-out-clause-halted g c =

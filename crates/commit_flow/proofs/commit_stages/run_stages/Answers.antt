@@ -1,7 +1,8 @@
-use Rattle.std.proofs.Common.{◌+◌, ◌∷◌, ◌++◌, [], false, drop, refl, arith, rules}
+use Rattle.std.proofs.Common.{◌+◌, ◌∷◌, ◌++◌, [], drop, refl, arith, rules}
 use Rattle.std.proofs.lemmas.Grind.{common_steps}
 use Rattle.std.proofs.lemmas.Result.{err_from_is_err_and}
 use Rattle.child_port.specs.TellingLemmas.{SameTells-refl, SameTells-trans}
+use Rattle.hook_run.specs.declared.reuse.Reuse.TheVariants as reuse
 use Rattle.hook_run.specs.Moments.{moment}
 use Rattle.commit_flow.proofs.StagesLemmas.{all_passed, none_so_far, one_failed, one_halted, one_lost, one_more, rest_after}
 use Rattle.hook_run.specs.AnswerLemmas.{answered-adds}
@@ -72,7 +73,7 @@ stages-preserved g c =
           _ c.stages.course c.stages.reports.items c.stages.invariant.same c.stages.invariant.so_far
           (rest_after c.args.stages.now c.stages.stage-index _ (omega (arith, c.stages-test.true))) c.add_report.new.reports.items c.in_ok-end.end c.in_ok-end.ensures.run c.in_ok-add_report.ensures (search rules);
       left = left_then (children.tells c.args.children.now) (children.tells c.stages.children) (book.contents c.args.book.now) (book.contents c.stages.book) (book.leaves c.args.book.now) (book.leaves c.stages.book) (book.leaves c.run_stage.new.book)
-          c.stages.invariant.same (answered-adds (children.tells c.args.children.now) false from between (parts_of c.stages.invariant.so_far.told) c.stages.invariant.so_far.answered) c.stages.invariant.left c.run_stage.ensures.left;
+          c.stages.invariant.same (answered-adds (children.tells c.args.children.now) reuse.All from between (parts_of c.stages.invariant.so_far.told) c.stages.invariant.so_far.answered) c.stages.invariant.left c.run_stage.ensures.left;
       rest = g.met.B.Book.rests_on c.args.book.now c.stages.book c.run_stage.new.book c.stages.invariant.rest c.run_stage.ensures.rest;
       same = SameTells-trans (children.tells c.args.children.now) (children.tells c.stages.children) (children.tells c.run_stage.new.children) c.stages.invariant.same c.run_stage.ensures.same;
     }
@@ -104,7 +105,7 @@ returns-in_err-end-clause-left g c =
     let from = moment (children.call_count c.args.children.now) (children.fault_count c.args.children.now) (book.contents c.args.book.now) in
     let between = moment (children.call_count c.stages.children) (children.fault_count c.stages.children) (book.contents c.stages.book) in
     left_then tells (children.tells c.stages.children) (book.contents c.args.book.now) (book.contents c.stages.book) (book.leaves c.args.book.now) (book.leaves c.stages.book) (book.leaves c.run_stage.new.book)
-    c.stages.invariant.same (answered-adds tells false from between (parts_of c.stages.invariant.so_far.told) c.stages.invariant.so_far.answered) c.stages.invariant.left c.run_stage.ensures.left
+    c.stages.invariant.same (answered-adds tells reuse.All from between (parts_of c.stages.invariant.so_far.told) c.stages.invariant.so_far.answered) c.stages.invariant.left c.run_stage.ensures.left
 
 pub returns-in_err-add_report-clause-left : goal.returns-in_err-add_report-clause-left
 returns-in_err-add_report-clause-left g c =
@@ -114,7 +115,7 @@ returns-in_err-add_report-clause-left g c =
     let from = moment (children.call_count c.args.children.now) (children.fault_count c.args.children.now) (book.contents c.args.book.now) in
     let between = moment (children.call_count c.stages.children) (children.fault_count c.stages.children) (book.contents c.stages.book) in
     left_then tells (children.tells c.stages.children) (book.contents c.args.book.now) (book.contents c.stages.book) (book.leaves c.args.book.now) (book.leaves c.stages.book) (book.leaves c.run_stage.new.book)
-    c.stages.invariant.same (answered-adds tells false from between (parts_of c.stages.invariant.so_far.told) c.stages.invariant.so_far.answered) c.stages.invariant.left c.run_stage.ensures.left
+    c.stages.invariant.same (answered-adds tells reuse.All from between (parts_of c.stages.invariant.so_far.told) c.stages.invariant.so_far.answered) c.stages.invariant.left c.run_stage.ensures.left
 
 pub returns-then-not-passed-clause-left : goal.returns-then-not-passed-clause-left
 returns-then-not-passed-clause-left g c =
@@ -124,4 +125,4 @@ returns-then-not-passed-clause-left g c =
     let from = moment (children.call_count c.args.children.now) (children.fault_count c.args.children.now) (book.contents c.args.book.now) in
     let between = moment (children.call_count c.stages.children) (children.fault_count c.stages.children) (book.contents c.stages.book) in
     left_then tells (children.tells c.stages.children) (book.contents c.args.book.now) (book.contents c.stages.book) (book.leaves c.args.book.now) (book.leaves c.stages.book) (book.leaves c.run_stage.new.book)
-    c.stages.invariant.same (answered-adds tells false from between (parts_of c.stages.invariant.so_far.told) c.stages.invariant.so_far.answered) c.stages.invariant.left c.run_stage.ensures.left
+    c.stages.invariant.same (answered-adds tells reuse.All from between (parts_of c.stages.invariant.so_far.told) c.stages.invariant.so_far.answered) c.stages.invariant.left c.run_stage.ensures.left

@@ -9,7 +9,7 @@ returns-in-Ok-clause-run g c =
     c.args.host.now c.run.new.self c.args.ask.now
     (record { held = g.O.Write.contents c.args.out.now; holds = g.O.Write.contents c.say_run.new.out })
     (record { held = g.E.Write.contents c.args.err.now; holds = g.E.Write.contents c.say_run.new.err })
-    c.say_run.result c.in-Ok.ran c.as_slice.result.now c.as_slice-in-Ok.result.now c.as_slice.ensures c.as_slice-in-Ok.ensures
+    c.say_run.result c.in-Ok.ran
     c.in-Ok.ensures.step c.in-Ok.ensures.kept c.in-Ok.ensures.command c.say_run.ensures
 
 pub returns-in-Err-clause-run : goal.returns-in-Err-clause-run

@@ -9,9 +9,9 @@ pub returns : goal.returns
 returns g c =
     subst
     (λ (wanted : CommandEnding). IsSaid wanted (record { held = g.O.Write.contents c.args.out.now; holds = g.O.Write.contents c.write_run.new.out })
-    (run_text c.args.report.now c.args.unsteady.now)
+    (run_text c.args.verbose c.args.ran.now)
     (record { held = g.E.Write.contents c.args.err.now; holds = g.E.Write.contents c.ending_of.new.err }) untaken_line c.ending_of.result)
     c.ending_of_run-ending.ensures
     (said-of c.ending_of_run-ending.result c.ending_of.result c.write_run.result (record { held = g.O.Write.contents c.args.out.now; holds = g.O.Write.contents c.write_run.new.out })
-    (record { held = g.E.Write.contents c.args.err.now; holds = g.E.Write.contents c.ending_of.new.err }) (run_text c.args.report.now c.args.unsteady.now)
+    (record { held = g.E.Write.contents c.args.err.now; holds = g.E.Write.contents c.ending_of.new.err }) (run_text c.args.verbose c.args.ran.now)
     c.write_run.ensures.ok c.write_run.ensures.err c.ending_of.ensures.taken c.ending_of.ensures.untaken)

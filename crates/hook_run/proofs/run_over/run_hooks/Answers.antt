@@ -2,7 +2,7 @@ use Rattle.std.proofs.Common.{◌≢◌, IfErr, rules}
 use Rattle.hook_run.specs.declared.run_refusal.RunRefusal.TheVariants.{Spent}
 use Rattle.hook_run.specs.Moments.{moment}
 use Rattle.hook_run.proofs.FaultLemmas.{reported_if}
-use Rattle.hook_run.proofs.RunLemmas.{adds_if, run-over_if, stopped-at-once_if, stopped_if}
+use Rattle.hook_run.proofs.RunLemmas.{adds_if, run-counted_if, run-over_if, stopped-at-once_if, stopped_if}
 use Rattle.hook_run.proofs.run_over.run_hooks.Goals as goal
 
 pub returns-in_err-plan-clause-stopped : goal.returns-in_err-plan-clause-stopped
@@ -17,6 +17,13 @@ returns-clause-run g c =
     let children = g.C.Children in
     let book = g.B.Book in
     run-over_if (children.tells c.args.children.now) (moment (children.call_count c.args.children.now) (children.fault_count c.args.children.now) (book.contents c.args.book.now)) (moment (children.call_count c.run_plan.new.children) (children.fault_count c.run_plan.new.children) (book.contents c.run_plan.new.book)) c.args.config.now c.args.ask.now c.args.tree.now c.in_ok-plan.plan c.in_ok-plan.ensures.plan
+    c.run_plan.result c.run_plan.ensures.run
+
+pub returns-clause-reused : goal.returns-clause-reused
+returns-clause-reused g c =
+    let children = g.C.Children in
+    let book = g.B.Book in
+    run-counted_if (children.tells c.args.children.now) (moment (children.call_count c.args.children.now) (children.fault_count c.args.children.now) (book.contents c.args.book.now)) (moment (children.call_count c.run_plan.new.children) (children.fault_count c.run_plan.new.children) (book.contents c.run_plan.new.book)) c.args.config.now c.args.ask.now c.args.tree.now c.in_ok-plan.plan c.in_ok-plan.ensures.plan
     c.run_plan.result c.run_plan.ensures.run
 
 pub returns-clause-stopped : goal.returns-clause-stopped

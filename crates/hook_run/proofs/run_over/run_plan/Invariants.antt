@@ -12,9 +12,9 @@ invariant-parts g l =
     let children = g.C.Children in
     let book = g.B.Book in
     record {
-      so_far : PlanSoFar (children.tells l.fn.children) l.fn.fresh
+      so_far : PlanSoFar (children.tells l.fn.children) l.fn.reuse
           (moment (children.call_count l.fn.children) (children.fault_count l.fn.children) (book.contents l.fn.book))
-          (moment (children.call_count l.children) (children.fault_count l.children) (book.contents l.book)) l.fn.plan l.plan;
+          (moment (children.call_count l.children) (children.fault_count l.children) (book.contents l.book)) l.reused l.fn.plan l.plan;
       left : (left : Contents) → book.leaves l.book left → book.leaves l.fn.book left ⊎ AddsTold (children.tells l.fn.children) (book.contents l.fn.book) left;
       rest : book.rests l.fn.book l.book;
       same : SameTells (children.tells l.fn.children) (children.tells l.children);

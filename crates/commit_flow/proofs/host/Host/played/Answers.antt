@@ -1,5 +1,6 @@
-use Rattle.std.proofs.Common.{false, refl}
+use Rattle.std.proofs.Common.{refl}
 use Rattle.result_book.specs.StoreBooks.{remembered_by}
+use Rattle.hook_run.specs.declared.reuse.Reuse.TheVariants as reuse
 use Rattle.hook_run.specs.Moments.{moment}
 use Rattle.commit_flow.proofs.PlayLemmas.{same_remembered, unmade_of}
 use Rattle.commit_flow.proofs.SafeLemmas.{runless_safely}
@@ -14,7 +15,7 @@ returns-in-Add-clause-played g c =
     let old = c.args.self.now.store in
     let new = c.play_add.new.self.store in
     rw c.in-Add.is (runless_safely g.S.Store tells (moment calls faults (remembered_by old.kept)) (moment calls faults (remembered_by new.kept)) old new refl refl _ c.play_add.result (λ runs. runs) c.play_add.ensures.step
-    (unmade_of tells false calls faults (remembered_by old.kept) (remembered_by new.kept) (same_remembered old.kept new.kept c.play_add.ensures.answers c.play_add.ensures.limit)) c.play_add.ensures.one)
+    (unmade_of tells reuse.All calls faults (remembered_by old.kept) (remembered_by new.kept) (same_remembered old.kept new.kept c.play_add.ensures.answers c.play_add.ensures.limit)) c.play_add.ensures.one)
 
 pub returns-in-Remove-clause-played : goal.returns-in-Remove-clause-played
 returns-in-Remove-clause-played g c =
@@ -25,7 +26,7 @@ returns-in-Remove-clause-played g c =
     let old = c.args.self.now.store in
     let new = c.play_remove.new.self.store in
     rw c.in-Remove.is (runless_safely g.S.Store tells (moment calls faults (remembered_by old.kept)) (moment calls faults (remembered_by new.kept)) old new refl refl _ c.play_remove.result (λ runs. runs) c.play_remove.ensures.step
-    (unmade_of tells false calls faults (remembered_by old.kept) (remembered_by new.kept) (same_remembered old.kept new.kept c.play_remove.ensures.answers c.play_remove.ensures.limit)) c.play_remove.ensures.one)
+    (unmade_of tells reuse.All calls faults (remembered_by old.kept) (remembered_by new.kept) (same_remembered old.kept new.kept c.play_remove.ensures.answers c.play_remove.ensures.limit)) c.play_remove.ensures.one)
 
 pub returns-in-Accept-clause-played : goal.returns-in-Accept-clause-played
 returns-in-Accept-clause-played g c =
@@ -36,7 +37,7 @@ returns-in-Accept-clause-played g c =
     let old = c.args.self.now.store in
     let new = c.play_accept.new.self.store in
     rw c.in-Accept.is (runless_safely g.S.Store tells (moment calls faults (remembered_by old.kept)) (moment calls faults (remembered_by new.kept)) old new refl refl _ c.play_accept.result (λ runs. runs) c.play_accept.ensures.step
-    (unmade_of tells false calls faults (remembered_by old.kept) (remembered_by new.kept) (same_remembered old.kept new.kept c.play_accept.ensures.answers c.play_accept.ensures.limit)) c.play_accept.ensures.one)
+    (unmade_of tells reuse.All calls faults (remembered_by old.kept) (remembered_by new.kept) (same_remembered old.kept new.kept c.play_accept.ensures.answers c.play_accept.ensures.limit)) c.play_accept.ensures.one)
 
 pub returns-in-Forget-clause-played : goal.returns-in-Forget-clause-played
 returns-in-Forget-clause-played g c =

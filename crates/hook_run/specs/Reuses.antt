@@ -1,0 +1,34 @@
+-- Which remembered answers serve a run, and for which parts a child is needed.
+use Rattle.std.specs.Prelude.{◌≡◌, ◌==◌, ◌&&◌, ℕ, Bool, true, false, List, [], ◌∷◌, Option, None, Some}
+use Rattle.child_port.specs.declared.answer.Answer.{Answer}
+use Rattle.hook_base.specs.declared.change.Change.{Change}
+use Rattle.hook_base.specs.declared.file.File.{File}
+use Rattle.result_book.specs.Contents.{Contents, Finds}
+use Rattle.hook_run.specs.declared.reuse.Reuse.{Reuse}
+use Rattle.hook_run.specs.declared.reuse.Reuse.TheVariants.{All, Passed, Nothing}
+
+-- there is no change
+abbrev pub is_without : List Change → Bool
+is_without [] = true
+is_without (change ∷ changes) = false
+
+-- the answer passed: its status is 0, and it changed no file
+abbrev pub is_pass : Answer → Bool
+is_pass answer = answer.status == 0 && is_without answer.changes
+
+-- a remembered answer serves in place of a child: each, only one that passed, or none
+abbrev pub serves : Reuse → Answer → Bool
+serves All answer = true
+serves Passed answer = is_pass answer
+serves Nothing answer = false
+
+-- a child is needed for what was found: nothing was, or it doesn't serve
+abbrev pub NeedsStart : Reuse → Option Answer → Type 0
+NeedsStart reuse None = Unit {0}
+NeedsStart reuse (Some found) = serves reuse found ≡ false
+
+-- no answer that serves is remembered for the words and the seen files
+pub record LacksServing (reuse : Reuse) (words : List (List ℕ)) (seen : List File) (remembered : Contents) : Type 0 where
+  pub found : Option Answer
+  pub finds : Finds words seen remembered found
+  pub needs : NeedsStart reuse found

@@ -1,0 +1,106 @@
+//! The next step behind a stop.
+
+use crate::hint::{hint, is_plain};
+use crate::stop::Stop;
+use hook_base::Text;
+use hook_config::ConfigKind;
+use repository_files::{RepositoryFault, STORE};
+use std::fs;
+use std::io::ErrorKind;
+use std::rt::Files;
+
+/// The file that `check` and `explain` read where they are given none, and that is staged for the hooks of a repository.
+pub(crate) const CONFIGURATION: &str = ".pre-commit-config.yaml";
+
+/// Where the configuration of the working folder is said more of.
+pub(crate) const EXPLAIN: &str = "hint: hookhost explain says what is wrong and where";
+
+const NO_STORE: &str = "hint: hookhost init makes a repository here";
+
+const STORE_HERE: &str = "hint: a repository is here already: go on with it, as by hookhost status";
+
+const NO_CONFIGURATION: &str =
+    "hint: there is no .pre-commit-config.yaml in this folder: write one first";
+
+// The most folders above the working folder in which a repository is looked for.
+const MOST_FOLDERS: usize = 40;
+
+/// Says the remedy of a stop, where it has one.
+pub(crate) fn hint_at(rt: &HostRuntime, stop: &Stop) {
+    match stop {
+        Stop::NoRepository(RepositoryFault::CannotUseStore) if is_missing(rt, STORE) => {
+            hint_repository(rt);
+        }
+        Stop::NoNewRepository(RepositoryFault::CannotUseStore) if is_file(rt, STORE) => hint(
+            rt, STORE_HERE,
+        ),
+        Stop::NoConfiguration(fault) if fault.kind != ConfigKind::OutOfMemory => hint(rt, EXPLAIN),
+        Stop::CannotUse(word) if is_missing_configuration(rt, word) => hint(rt, NO_CONFIGURATION),
+        _ => {}
+    }
+}
+
+fn is_missing_configuration<R: Files>(rt: &R, word: &Text) -> bool {
+    word.as_str() == CONFIGURATION && is_missing(rt, CONFIGURATION)
+}
+
+// Says where the repository is, if it is in a folder above, and else how one is made.
+fn hint_repository(rt: &HostRuntime) {
+    let mut folder = String::new(rt.alloc());
+    'folders: for _ in 0..MOST_FOLDERS {
+        if folder.push_str("../").is_err() {
+            return;
+        }
+        let Ok(store) = format!(in rt.alloc(); "{folder}{STORE}") else {
+            return;
+        };
+        if is_file(rt, store.as_str()) {
+            hint_folder(rt, folder.as_str().trim_end_matches('/'));
+            return;
+        }
+    }
+    hint(rt, NO_STORE);
+}
+
+fn hint_folder(rt: &HostRuntime, folder: &str) {
+    if let Ok(text) = format!(in rt.alloc(); "hint: the repository is in {folder}: cd {folder}") {
+        hint(rt, text.as_str());
+    }
+}
+
+/// Says where more is told of the configuration of a `try` that was refused. A file that isn't there to be read again has no hint.
+pub(crate) fn hint_refused_file(rt: &HostRuntime, file: &str) {
+    if file == CONFIGURATION {
+        hint(rt, EXPLAIN);
+        return;
+    }
+    if !is_file(rt, file) {
+        return;
+    }
+    let word = if is_word(file) { file } else { "CONFIG" };
+    if let Ok(text) = format!(in rt.alloc();
+        "hint: hookhost explain {word} says what is wrong and where"
+    ) {
+        hint(rt, text.as_str());
+    }
+}
+
+// Whether a shell and the command line take the name as it is.
+fn is_word(name: &str) -> bool {
+    !name.starts_with('-') && name.bytes().all(|byte| byte == b'-' || is_plain(byte))
+}
+
+/// Whether nothing stands at a name.
+pub(crate) fn is_missing<R: Files>(rt: &R, name: &str) -> bool {
+    match fs::symlink_metadata(rt, name) {
+        Ok(_) => false,
+        Err(error) => error.kind() == ErrorKind::NotFound,
+    }
+}
+
+fn is_file<R: Files>(rt: &R, name: &str) -> bool {
+    match fs::symlink_metadata(rt, name) {
+        Ok(found) => found.is_file(),
+        Err(_) => false,
+    }
+}

@@ -1,0 +1,161 @@
+//! What a child goes through, from the files that it finds to those that it leaves.
+
+use crate::contents::PIECE_BYTES;
+use crate::ending::{Ending, ending_of};
+use crate::first_troubles::FirstTroubles;
+use crate::keep::keep_as;
+use crate::known_files::KnownFiles;
+use crate::read_back::read_back;
+use crate::scratch_folder::{AtEnd, ScratchFolder};
+use crate::start::start;
+use crate::stop::Stop;
+use crate::trouble::at_place;
+use child_port::{Answer, Fault};
+use hook_base::{Text, Tree};
+use std::fs::{File, Files};
+use std::io::ErrorKind;
+use std::process::{Processes, SystemProcess};
+use std::{fs, io};
+
+/// What a child goes through, and what is known of those before it.
+#[derive(Drop)]
+pub(crate) struct Stations<R: Files<File = File> + AllocGlobal + Drop> {
+    runtime: R,
+    folder: String,
+    scratch: Option<ScratchFolder>,
+    known: KnownFiles,
+    calls: Option<String>,
+    at_end: AtEnd,
+    troubles: FirstTroubles,
+}
+
+impl<R: Files<File = File> + AllocGlobal + Drop> Stations<R> {
+    /// What children go through that run in this folder. None has run yet.
+    pub(crate) fn new(
+        runtime: R,
+        folder: String,
+        calls: Option<String>,
+        at_end: AtEnd,
+    ) -> Stations<R> {
+        let known = KnownFiles::new(runtime.alloc());
+        Stations {
+            runtime,
+            folder,
+            scratch: None,
+            known,
+            calls,
+            at_end,
+            troubles: FirstTroubles::new(),
+        }
+    }
+
+    /// From now on no file is known.
+    pub(crate) fn read_everything(&mut self) {
+        self.known = KnownFiles::none_ever(self.runtime.alloc());
+    }
+
+    /// What was in the way first.
+    pub(crate) fn troubles(&self) -> &FirstTroubles {
+        &self.troubles
+    }
+
+    /// Leaves the folder: all children have ended.
+    pub(crate) fn leave(self) {
+        let Stations {
+            runtime,
+            folder: _,
+            scratch,
+            known: _,
+            calls: _,
+            at_end,
+            troubles: _,
+        } = self;
+        if let Some(scratch) = scratch {
+            let alloc = runtime.alloc();
+            scratch.leave(&runtime, alloc, at_end);
+        }
+    }
+
+    fn take_scratch(&mut self) -> Result<ScratchFolder, Stop> {
+        let folder = self.folder.as_str().trim_end_matches('/');
+        let taken = ScratchFolder::take(&self.runtime, self.runtime.alloc(), folder);
+        self.troubles.note_files(taken)
+    }
+}
+
+impl<R: Files<File = File> + Processes<Started = SystemProcess> + AllocGlobal + Drop> Stations<R> {
+    /// One child, in the folder that was taken for the first one.
+    pub(crate) fn answer(&mut self, words: &[Text], tree: &Tree) -> Result<Answer, Stop> {
+        let taken = match self.scratch.take() {
+            Some(taken) => taken,
+            None => self.take_scratch()?,
+        };
+        let answer = self.answer_in(&taken, words, tree);
+        if answer.is_err() && !taken.is_marked(&self.runtime) {
+            // The child has taken the mark away, maybe with all that stands beside it. The next one takes a folder anew.
+            taken.leave(&self.runtime, self.runtime.alloc(), AtEnd::FolderStays);
+        } else {
+            self.scratch = Some(taken);
+        }
+        answer
+    }
+
+    fn answer_in(
+        &mut self,
+        scratch: &ScratchFolder,
+        words: &[Text],
+        tree: &Tree,
+    ) -> Result<Answer, Stop> {
+        let alloc = self.runtime.alloc();
+        let mut piece = vec![in alloc; 0u8; PIECE_BYTES]?;
+        let piece = piece.as_mut_slice();
+        let (place, known) = (scratch.place(), &mut self.known);
+        let laid = keep_as(&self.runtime, alloc, place, tree, known, piece);
+        let laid = self.troubles.note_files(laid)?;
+        self.known.child_starts(laid.found());
+        let ending = self.ending_in(scratch, words, piece)?;
+        let changes = read_back(&self.runtime, alloc, laid, tree, &mut self.known, piece);
+        Ok(Answer {
+            status: ending.status,
+            output: ending.output,
+            changes: self.troubles.note_files(changes)?,
+        })
+    }
+
+    // Starts a child, and waits for its end. What is written down while it runs that it called goes before how it ended.
+    fn ending_in(
+        &mut self,
+        scratch: &ScratchFolder,
+        words: &[Text],
+        piece: &mut [u8],
+    ) -> Result<Ending, Stop> {
+        let alloc = self.runtime.alloc();
+        let before = self.call_bytes()?;
+        let child = start(&self.runtime, alloc, scratch, words);
+        let ending = ending_of(alloc, self.troubles.note_start(child)?, piece);
+        if self.call_bytes()? == before {
+            ending
+        } else {
+            Err(Stop::Fault(Fault::ScratchFailed))
+        }
+    }
+
+    // How many bytes the file has in which calls are written down.
+    fn call_bytes(&mut self) -> Result<u64, Stop> {
+        let Some(place) = &self.calls else {
+            return Ok(0);
+        };
+        let length = length_at(&self.runtime, place.as_str());
+        let length = at_place(self.runtime.alloc(), place.as_str(), length);
+        self.troubles.note_files(length)
+    }
+}
+
+// How long the file at a place is. Nothing where none stands there.
+fn length_at<R: Files>(files: &R, place: &str) -> io::Result<u64> {
+    match fs::metadata(files, place) {
+        Ok(found) => Ok(found.len()),
+        Err(e) if e.kind() == ErrorKind::NotFound => Ok(0),
+        Err(e) => Err(e),
+    }
+}

@@ -1,0 +1,170 @@
+//! The checkout of Git in which the working folder lies.
+
+use std::fs::{Metadata, OpenFile};
+use std::io::{ErrorKind, Read};
+use std::os::unix::fs::MetadataExt;
+use std::rt::Files;
+use std::{fs, io};
+
+// How Git names the folder of a checkout's history, or a file that tells where that lies.
+const GIT: &str = ".git";
+
+// What such a file begins with.
+const GITDIR: &str = "gitdir: ";
+
+// The most bytes of a file that names a folder.
+const MOST_NAME_BYTES: usize = 4_096;
+
+// The most folders above the working folder that are looked at: a path with more is longer than the system takes.
+const MOST_FOLDERS: usize = 1_000;
+
+/// Where the working folder lies, as Git sees it.
+#[derive(Debug, Drop)]
+pub(crate) enum Checkout {
+    /// In no checkout.
+    None,
+    /// Within the folder of a checkout's history, of which Git stages nothing.
+    History,
+    /// In a checkout, or in a worktree of it, whose history lies in the folder of this name.
+    Of(String),
+}
+
+/// Looks for the checkout in the working folder and in those above it. An error where that can't be told, as where what stands for
+/// the history is another user's, or names a folder that holds none.
+pub(crate) fn find_checkout<R: Files + AllocGlobal>(rt: &R) -> io::Result<Checkout> {
+    let owner = fs::metadata(rt, ".")?.uid();
+    let mut up = String::new(rt.alloc());
+    let mut below = None;
+    'folders: for _ in 0..MOST_FOLDERS {
+        let here = fs::metadata(rt, format!(in rt.alloc(); "{up}.")?.as_str())?;
+        if is_same(below.as_ref(), &here) {
+            return Ok(Checkout::None);
+        }
+        if let Some(history) = history_in(rt, up.as_str(), owner)? {
+            return checkout_of(rt, history, below.as_ref());
+        }
+        below = Some(here);
+        up.push_str("../")?;
+    }
+    Err(ErrorKind::Unsupported.into())
+}
+
+// The checkout of this history, found above the folder `below`, or in the working folder itself.
+fn checkout_of<R: Files + AllocGlobal>(
+    rt: &R,
+    history: String,
+    below: Option<&Metadata>,
+) -> io::Result<Checkout> {
+    let found = fs::metadata(rt, history.as_str())?;
+    if is_same(below, &found) {
+        return Ok(Checkout::History);
+    }
+    Ok(Checkout::Of(common_folder(rt, history)?))
+}
+
+fn is_same(one: Option<&Metadata>, other: &Metadata) -> bool {
+    match one {
+        Some(one) => one.dev() == other.dev() && one.ino() == other.ino(),
+        None => false,
+    }
+}
+
+// The folder of a history that this folder's `.git` is or names, or `None` where there is no such entry, or an empty folder, past
+// which Git looks too. An error where it is another user's: it could name any folder in which this one may write.
+fn history_in<R: Files + AllocGlobal>(
+    rt: &R,
+    folder: &str,
+    owner: u32,
+) -> io::Result<Option<String>> {
+    let name = format!(in rt.alloc(); "{folder}{GIT}")?;
+    match fs::symlink_metadata(rt, name.as_str()) {
+        Ok(found) if found.uid() != owner => Err(ErrorKind::PermissionDenied.into()),
+        Ok(_) => history_at(rt, folder, name),
+        Err(error) if error.kind() == ErrorKind::NotFound => Ok(None),
+        Err(error) => Err(error),
+    }
+}
+
+fn history_at<R: Files + AllocGlobal>(
+    rt: &R,
+    folder: &str,
+    name: String,
+) -> io::Result<Option<String>> {
+    if fs::metadata(rt, name.as_str())?.is_dir() {
+        let found = is_history(rt, name.as_str())?;
+        return Ok(found.then_some(name));
+    }
+    let told = read_name(rt, name.as_str())?;
+    match told.as_str().strip_prefix(GITDIR) {
+        Some(place) => {
+            let history = place_from(rt, folder, place)?;
+            if is_history(rt, history.as_str())? {
+                Ok(Some(history))
+            } else {
+                Err(ErrorKind::NotFound.into())
+            }
+        }
+        None => Err(ErrorKind::InvalidData.into()),
+    }
+}
+
+// Whether a folder holds a history: Git takes none without a file `HEAD`.
+fn is_history<R: Files + AllocGlobal>(rt: &R, folder: &str) -> io::Result<bool> {
+    let head = format!(in rt.alloc(); "{folder}/HEAD")?;
+    match fs::symlink_metadata(rt, head.as_str()) {
+        Ok(_) => Ok(true),
+        Err(error) if error.kind() == ErrorKind::NotFound => Ok(false),
+        Err(error) => Err(error),
+    }
+}
+
+// The folder that all worktrees of a checkout share, which the file `commondir` of a worktree's history names.
+fn common_folder<R: Files + AllocGlobal>(rt: &R, history: String) -> io::Result<String> {
+    let name = format!(in rt.alloc(); "{history}/commondir")?;
+    match read_name(rt, name.as_str()) {
+        Ok(place) => {
+            let from = format!(in rt.alloc(); "{history}/")?;
+            place_from(rt, from.as_str(), place.as_str())
+        }
+        Err(error) if error.kind() == ErrorKind::NotFound => Ok(history),
+        Err(error) => Err(error),
+    }
+}
+
+// A place that is told from a folder, whose name ends with a slash or is empty.
+fn place_from<R: Files + AllocGlobal>(rt: &R, folder: &str, place: &str) -> io::Result<String> {
+    let from = if place.starts_with('/') { "" } else { folder };
+    Ok(format!(in rt.alloc(); "{from}{place}")?)
+}
+
+// The name in a file, without the line ends behind it.
+fn read_name<R: Files + AllocGlobal>(rt: &R, name: &str) -> io::Result<String> {
+    let bytes = read_at_most(rt, name, MOST_NAME_BYTES)?;
+    match str::from_utf8(bytes.as_slice()) {
+        Ok(text) => {
+            let name = text.trim_end_matches(['\n', '\r']);
+            Ok(String::from_str(rt.alloc(), name)?)
+        }
+        Err(_) => Err(ErrorKind::InvalidData.into()),
+    }
+}
+
+/// The bytes of a file, of which there are at most so many: else it is an error, and so it is where anything but a file stands at the
+/// name, which isn't opened.
+pub(crate) fn read_at_most<R: Files + AllocGlobal>(
+    rt: &R,
+    name: &str,
+    most: usize,
+) -> io::Result<Vec<u8>> {
+    if !fs::metadata(rt, name)?.is_file() {
+        return Err(ErrorKind::Unsupported.into());
+    }
+    let mut bytes = Vec::new(rt.alloc());
+    let file = fs::open(rt, name)?;
+    file.take((most as u64).saturating_add(1))
+        .read_to_end(&mut bytes)?;
+    if bytes.len() > most {
+        return Err(ErrorKind::FileTooLarge.into());
+    }
+    Ok(bytes)
+}

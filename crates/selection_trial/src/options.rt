@@ -1,0 +1,95 @@
+//! Calls on what the options of a run make of a configuration.
+
+use crate::commands::texts;
+use hook_config::{Config, Hook, MOST_TEXT_BYTES, SharedPattern, read_config};
+use run_options::{RunOptions, TOOLS, ToolKind, command_reads, with_options};
+use std::alloc::Global;
+use trial_rows::{Answer, Stop, text_of};
+
+/// `command_reads WORDS PASS_FILENAMES ALWAYS_RUN`: the text of the pattern of what the command reads besides its files, or
+/// `every path`. Each word ends with a line feed, and the others are `true` or `false`.
+pub(crate) fn read_by(alloc: Global, arguments: &[Vec<u8>]) -> Result<Answer, Stop> {
+    let [words, pass_filenames, always_run] = arguments else {
+        return Err(Stop::BadLine);
+    };
+    let words = texts(alloc, words.as_slice())?;
+    let pass_filenames = truth_of(pass_filenames.as_slice())?;
+    let always_run = truth_of(always_run.as_slice())?;
+    let reads = command_reads(words.as_slice(), pass_filenames, always_run);
+    Ok(Answer::new(alloc).text(shown_pattern(reads)))
+}
+
+fn truth_of(word: &[u8]) -> Result<bool, Stop> {
+    match word {
+        b"true" => Ok(true),
+        b"false" => Ok(false),
+        _ => Err(Stop::BadLine),
+    }
+}
+
+fn shown_pattern(text: &str) -> &str {
+    if text.is_empty() { "every path" } else { text }
+}
+
+/// `tools`: the name of each known tool and the text of its pattern, with a bar between them, a line each. `BadLine` if a
+/// pattern isn't taken.
+pub(crate) fn tools(alloc: Global) -> Result<Answer, Stop> {
+    tool_lines(alloc, &TOOLS)
+}
+
+fn tool_lines(alloc: Global, tools: &[(&str, ToolKind, &str)]) -> Result<Answer, Stop> {
+    let mut answer = Answer::new(alloc);
+    for (name, _kind, reads) in tools {
+        if reads.len() > MOST_TEXT_BYTES {
+            return Err(Stop::BadLine);
+        }
+        if SharedPattern::build(alloc, reads).is_err() {
+            return Err(Stop::BadLine);
+        }
+        answer = answer.texts(&[*name, "|", *reads, "\n"]);
+    }
+    Ok(answer)
+}
+
+/// `with_options OPTIONS TEXT`: of each hook of the configuration that is run with these options its id, the pattern of what
+/// it reads and whether it is verbose, with bars between them, a line each. The options are names with blanks between them.
+pub(crate) fn hooks(alloc: Global, arguments: &[Vec<u8>]) -> Result<Answer, Stop> {
+    let [options, text] = arguments else {
+        return Err(Stop::BadLine);
+    };
+    let options = options_of(text_of(options.as_slice())?)?;
+    let Ok(config) = read_config(alloc, text.as_slice()) else {
+        return Err(Stop::BadLine);
+    };
+    let config = with_options(alloc, config, options)?;
+    Ok(hook_lines(alloc, &config))
+}
+
+fn options_of(names: &str) -> Result<RunOptions, Stop> {
+    let mut options = RunOptions {
+        cautious: false,
+        verbose: false,
+    };
+    for name in names.split_ascii_whitespace() {
+        match name {
+            "cautious" => options.cautious = true,
+            "verbose" => options.verbose = true,
+            _ => return Err(Stop::BadLine),
+        }
+    }
+    Ok(options)
+}
+
+fn hook_lines(alloc: Global, config: &Config) -> Answer {
+    let mut answer = Answer::new(alloc);
+    for hook in config.hooks.as_slice() {
+        answer = with_hook(answer, hook);
+    }
+    answer
+}
+
+fn with_hook(answer: Answer, hook: &Hook) -> Answer {
+    let reads = shown_pattern(hook.x_reads.as_pattern().as_str());
+    let answer = answer.texts(&[hook.id.as_str(), "|", reads, "|"]);
+    answer.shown(hook.verbose).text("\n")
+}

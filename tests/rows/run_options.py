@@ -1,0 +1,277 @@
+"""What the commands of known tools are taken to read in a cautious run, and what the options of a run make of a configuration.
+The table of known tools stands here a second time, by its patterns, so that none is changed unseen."""
+
+PROGRAM = "selection_trial"
+
+EVERY = "every path"
+NOTHING = "^$"
+DOT = r"(^|/)\."
+PYTHON = r"(^|/)\.|\.(toml|cfg|ini)$"
+TOML = r"(^|/)\.|\.toml$"
+PROJECT = r"/|^\.|^[^.]*$|\.([cm]?[jt]sx?|json5?|jsonc|ya?ml|toml|cfg|ini|conf|properties|xml|txt|in|lock|lst|dic|dict|words|pyi?|typed|rb|ru|gemspec|rake|p[lm]|t|(ba|da|k|z)?sh|bats|inc|env|vue|svelte|css|s[ac]ss|less|html?|mod|sum|hh?|hpp|cc?|cpp)$"
+HASKELL = r"(^|/)\.|\.cabal$|(^|/)(cabal\.project|fourmolu\.ya?ml|package\.yaml)"
+
+# The tools by the pattern of what they read besides their files.
+TOOLS = {
+    NOTHING: """add-trailing-comma check-ast check-builtin-literals check-byte-order-marker check-docstring-first check-json
+        check-toml check-yaml checkbashisms debug-statement-hook desktop-file-validate detect-private-key dos2unix
+        double-quote-string-fixer echo egrep end-of-file-fixer false fgrep file-contents-sorter fix-byte-order-marker
+        fix-encoding-pragma flawfinder grep jpegoptim jsonnetfmt misspell mixed-line-ending name-tests-test podchecker
+        pretty-format-json printf pyflakes pyflakes3 pyupgrade requirements-txt-fixer sed sort-simple-yaml tidy
+        trailing-whitespace-fixer true unix2dos""",
+    DOT: "csslint deadnix editorconfig-checker nixfmt shfmt vint",
+    PYTHON: "autoflake autopep8 black blacken-docs darglint docformatter flynt pycodestyle pydocstyle yapf yapf3",
+    TOML: "alejandra stylua toml-sort typos",
+    HASKELL: "fourmolu ormolu",
+    PROJECT: """codespell eslint flake8 isort markdownlint mdl mypy perlcritic prettier pylint rubocop ruff shellcheck stylelint
+        tsc yamllint""",
+    r"(^|/)\.|\.(toml|cfg|ini|ya?ml|py)$": "bandit",
+    r"\.bak$": "optipng",
+    r"(^|/)\.|(^|/)_clang-format$": "clang-format",
+    r"(^|/)\.|(^|/)elm(-package)?\.json$": "elm-format",
+    r"(^|/)\.|(^|/)go\.(mod|work)$": "gofmt",
+    r"(^|/)\.|\.java$": "google-java-format",
+    r"(^|/)\.|(^|/)hadolint\.ya?ml$": "hadolint",
+    r"(^|/)\.|(^|/)dune[^/]*$": "ocamlformat",
+    r"(^|/)\.|(^|/)perltidy[^/]*$|\.(bak|DEBUG|ERR|LOG|TEE|tdy)$": "perltidy",
+    r"(^|/)\.|(^|/)proselint[^/]*$": "proselint",
+}
+PATTERNS = {name: pattern for pattern, names in TOOLS.items() for name in names.split()}
+
+# Tools that may read any file, or look for one: they aren't known.
+UNKNOWN = """ansible-lint bash cat cppcheck djlint env golangci-lint hlint jq luacheck npx perl pytest python python3 reuse
+    rustfmt sh sqlfluff terraform textlint vulture xmllint""".split()
+
+# Words after the name of a tool that takes options, and whether they are harmless.
+OPTIONS = [
+    ("", True),
+    ("--check", True),
+    ("--check -q --fast", True),
+    ("--py39-plus", True),
+    ("--a", True),
+    ("--2", True),
+    ("---", True),
+    ("-i", True),
+    ("-I", True),
+    ("-l100", True),
+    ("-o7", True),
+    ("--line-length=100", True),
+    ("--select=E9,F63,F7", True),
+    ("--jobs=1", True),
+    ("--x=1,2", True),
+    # what might name a file
+    ("src", False),
+    ("100", False),
+    ("--line-length 100", False),
+    ("-l 100", False),
+    ("--config=x", False),
+    ("--config=setup1.cfg", False),
+    ("--config=a/b", False),
+    ("--config=CONFIG", False),
+    ("--select=E,F", False),
+    ("--config=", False),
+    ("--config==1", False),
+    ("--config=1=2", False),
+    ("--line-length=100.", False),
+    ("@args", False),
+    ("-cfoo", False),
+    ("-c1a", False),
+    ("-style=file", False),
+    ("-xq", False),
+    ("-1", False),
+    ("-", False),
+    ("--", False),
+    ("--=1", False),
+    ("--Werror", False),
+    ("--a.b", False),
+    ("--a/b", False),
+    ("--a_b", False),
+    ("--caf\u00e9", False),
+    ("-\u00e9", False),
+    ("--check src", False),
+    ("src --check", False),
+    ("--check --config=x", False),
+]
+
+# The same for `grep`: at most one word is no option.
+GREP = [
+    ("", True),
+    ("TODO", True),
+    ("a/b", True),
+    ("-n TODO", True),
+    ("-nHiE TODO", True),
+    ("TODO -q", True),
+    ("-abcEFGhHiIlLnoPqsvwxyzZ x", True),
+    ("--quiet TODO", True),
+    ("--count --extended-regexp --fixed-strings --ignore-case --invert-match --line-number --word-regexp x", True),
+    ("TODO src", False),
+    ("-n TODO src", False),
+    ("-r TODO", False),
+    ("-R TODO", False),
+    ("-rn TODO", False),
+    ("-nr TODO", False),
+    ("-f words", False),
+    ("-fwords", False),
+    ("-e TODO", False),
+    ("-d skip", False),
+    ("-D skip", False),
+    ("-A3 TODO", False),
+    ("-m1 TODO", False),
+    ("--recursive TODO", False),
+    ("--file=words", False),
+    ("--include=x TODO", False),
+    ("--Quiet TODO", False),
+    ("--quiet=1 TODO", False),
+    ("-- TODO", False),
+    ("- TODO", False),
+]
+
+# The same for `sed`: the last word is a script, and no script has a letter of a command that looks outside.
+SED = [
+    ("p", True),
+    ("s/a/b/", True),
+    ("-i s/a/b/", True),
+    ("-i -n s/a/b/p", True),
+    ("-i -E s/a+/b/g", True),
+    ("-e s/a/b/ -e s/b/c/", True),
+    ("-zsu p", True),
+    ("-nErsuz p", True),
+    ("-i -e p", True),
+    ("s/a/b/ p", True),
+    ("", False),
+    ("-i", False),
+    ("-n -e", False),
+    ("s/a/b/ -i", False),
+    ("r", False),
+    ("rwords", False),
+    ("Rwords", False),
+    ("s/a/b/w", False),
+    ("s/a/b/W", False),
+    ("s/a/b/e", False),
+    ("F", False),
+    ("s/for/b/", False),
+    ("-f p", False),
+    ("-fp", False),
+    ("-l p", False),
+    ("-i.bak p", False),
+    ("-i1 p", False),
+    ("-ni p", False),
+    ("-in p", False),
+    ("-iE p", False),
+    ("-ne p", False),
+    ("-en p", False),
+    ("-e- p", False),
+    ("--expression=p", False),
+    ("--quiet p", False),
+    ("-e s/a/b/ -e rwords", False),
+    ("-e rwords -e p", False),
+    ("- p", False),
+]
+
+# Words with blanks, empty words and words beyond ASCII, as lists.
+WHOLE_WORDS = [
+    (["black", "--check "], EVERY),
+    (["black", ""], EVERY),
+    (["black "], EVERY),
+    (["", "--check"], EVERY),
+    (["Black"], EVERY),
+    (["./black"], EVERY),
+    (["/usr/bin/black"], EVERY),
+    (["bin/black"], EVERY),
+    (["blac"], EVERY),
+    (["blackd"], EVERY),
+    (["bash", "-c", "black"], EVERY),
+    (["env", "black"], EVERY),
+    (["python", "-m", "black"], EVERY),
+    (["npx", "prettier"], EVERY),
+    (["sed", "-i", "s/ *$//"], NOTHING),
+    (["sed", "-i", "s/\t/    /"], NOTHING),
+    (["sed", "s/\u00e9/x/"], NOTHING),
+    (["sed", ""], NOTHING),
+    (["grep", ""], NOTHING),
+    (["grep", "", ""], EVERY),
+    (["grep", "-n", "to do"], NOTHING),
+    (["grep", "\u00e9"], NOTHING),
+    (["egrep", "-q", "a|b"], NOTHING),
+    (["egrep", "-r", "a"], EVERY),
+    (["fgrep", "-q", "a"], NOTHING),
+    (["fgrep", "-f", "a"], EVERY),
+    (["true", "src", "--config=x"], NOTHING),
+    (["false", "-r", "."], NOTHING),
+    (["echo", "a file"], NOTHING),
+    (["printf", "%s\\n", "@x"], NOTHING),
+    ([], EVERY),
+]
+
+
+def reads(words, answer, pass_filenames="true", always_run="false"):
+    return ("command_reads", "".join(f"{word}\n" for word in words), pass_filenames, always_run, answer)
+
+
+def harmless(tool, cases):
+    return [reads([tool, *words.split(" ")] if words else [tool], PATTERNS[tool] if known else EVERY) for words, known in cases]
+
+
+def rows_of_commands():
+    rows = [reads([name], pattern) for name, pattern in PATTERNS.items() if name != "sed"]
+    rows += [reads([name], EVERY) for name in UNKNOWN]
+    rows += [reads(words, answer) for words, answer in WHOLE_WORDS]
+    for tool in ("black", "gofmt", "pyupgrade"):
+        rows += harmless(tool, OPTIONS)
+    for tool in ("grep", "egrep", "fgrep"):
+        rows += harmless(tool, GREP)
+    rows += harmless("sed", SED)
+    # a command that isn't handed names, or that may be handed none
+    for words in (["black"], ["grep", "x"], ["sed", "p"], ["true"], ["unknown"]):
+        rows += [reads(words, EVERY, *switches) for switches in (("false", "false"), ("true", "true"), ("false", "true"))]
+    return rows
+
+
+# The hooks of a configuration, in the keys of one each, and for each the pattern that it has in a cautious run.
+HOOKS = [
+    ("known", "language: system, entry: black", PYTHON),
+    ("args", "language: system, entry: black, args: [--check, -q]", PYTHON),
+    ("path", "language: system, entry: black, args: [--config=x.toml]", EVERY),
+    ("unknown", "language: system, entry: vulture", EVERY),
+    ("words", "language: system, entry: 'grep -n TODO'", NOTHING),
+    ("shell", "language: system, entry: bash -c true", EVERY),
+    ("always", "language: system, entry: black, always_run: true", EVERY),
+    ("whole", "language: system, entry: black, pass_filenames: false", EVERY),
+    ("single", "language: system, entry: black, x_per_file: true", PYTHON),
+    ("script", "language: script, entry: black", EVERY),
+    ("reads", "language: system, entry: vulture, x_reads: '^a$'", "^a$"),
+    ("known_reads", "language: system, entry: black, x_reads: '^a$'", "^a$"),
+    ("script_reads", "language: script, entry: x.sh, x_reads: '^a$'", "^a$"),
+    ("every", "language: system, entry: black, x_reads: ''", EVERY),
+    ("none", "language: system, entry: vulture, x_reads: '^$'", EVERY),
+    ("fail", "language: fail, entry: no", NOTHING),
+    ("fail_reads", "language: fail, entry: no, x_reads: '^a$'", "^a$"),
+    ("pygrep", "language: pygrep, entry: black", NOTHING),
+    ("verbose", "language: system, entry: 'true', verbose: true", NOTHING),
+]
+# What a hook has without options, if its keys say it.
+OWN = {"reads": "^a$", "known_reads": "^a$", "script_reads": "^a$", "every": EVERY, "fail_reads": "^a$"}
+
+
+def configuration(hooks):
+    lines = "".join(f"  - {{id: {name}, name: {name}, {keys}}}\n" for name, keys, _cautious in hooks)
+    return f"repos:\n- repo: local\n  hooks:\n{lines}"
+
+
+def options(names, hooks=HOOKS):
+    cautious, verbose = "cautious" in names, "verbose" in names
+    lines = ""
+    for name, _keys, pattern in hooks:
+        shown = pattern if cautious else OWN.get(name, NOTHING)
+        lines += f"{name}|{shown}|{str(verbose or name == 'verbose').lower()}\n"
+    return ("with_options", names, configuration(hooks), lines)
+
+
+ROWS = [
+    ("tools", "".join(f"{name}|{PATTERNS[name]}\n" for name in sorted(PATTERNS))),
+    *rows_of_commands(),
+    *(options(names) for names in ("", "cautious", "verbose", "cautious verbose")),
+    *(options("cautious", [hook]) for hook in HOOKS),
+    ("with_options", "cautious verbose", "repos: []\n", ""),
+    options("cautious", [(f"h{number}", "language: system, entry: " + ("black" if number % 2 else "vulture"), PYTHON if number % 2 else EVERY) for number in range(500)]),
+]
