@@ -179,7 +179,9 @@ fn answer<S: Alter + Drop>(rt: &HostRuntime, work: Work, host: &mut Host<S>) -> 
             let (skip, mut children) = (skip.as_slice(), children);
             show_staged_hooks(rt, &line, skip, host.store(), &mut children);
             let status = call(rt, &line, &[], skip, host, &mut children);
-            tell_trouble(rt, &children);
+            if status != REFUSED {
+                tell_trouble(rt, &children);
+            }
             status
         }
         Work::Stage(edits) => stage(rt, edits.as_slice(), host),

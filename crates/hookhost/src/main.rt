@@ -188,7 +188,7 @@ fn try_over_files(rt: &HostRuntime, config: Text, paths: Items<Text>) -> Result<
     Ok(passed)
 }
 
-// Runs the configuration over the tree, with these children, and prints the report. What was in their files' way comes behind it.
+// Runs the configuration over the tree, with these children, and prints the report. What was in their way comes after it.
 fn report(
     rt: &HostRuntime,
     reader: &mut impl Read,
@@ -197,6 +197,8 @@ fn report(
 ) -> Result<bool, Stop> {
     let mut children = children;
     let passed = try_over(rt.alloc(), reader, &mut io::writer(rt), tree, &mut children);
-    tell_trouble(rt, &children);
+    if passed.is_ok() {
+        tell_trouble(rt, &children);
+    }
     Ok(passed?)
 }

@@ -11,7 +11,8 @@ const AT: &str = "hookhost: ";
 const CANNOT_START: &str = "hookhost: cannot start ";
 
 /// Says on standard error which file or folder was in the way of the children's files first, and which word could not be started
-/// first, each with the system's error there. Nothing of what was in no child's way, or where memory is refused.
+/// first, each with the system's error there. Nothing of what was in no child's way, of a word without a letter, or if memory is
+/// refused.
 pub(crate) fn tell_trouble(rt: &HostRuntime, children: &RealChildren) {
     let children = children.children();
     tell(rt, AT, children.trouble());
@@ -20,9 +21,12 @@ pub(crate) fn tell_trouble(rt: &HostRuntime, children: &RealChildren) {
 
 fn tell(rt: &HostRuntime, before: &str, trouble: Option<&Trouble>) {
     if let Some(trouble) = trouble {
-        let error = trouble.error();
+        let (place, error) = (trouble.place(), trouble.error());
+        if place.is_empty() {
+            return;
+        }
         if let Ok(error) = format!(in rt.alloc(); "{error}") {
-            let _said = say(&mut rt.stderr(), before, trouble.place(), error.as_str());
+            let _said = say(&mut rt.stderr(), before, place, error.as_str());
         }
     }
 }
