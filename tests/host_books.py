@@ -52,15 +52,15 @@ def key_of(words, seen, held):
     """What a child says that has these records."""
     words = read_list(words, read_bytes)
     files = {path: (mode, held(digest)) for path, mode, digest in read_list(seen, read_seen)}
-    # One that has seen all files tells the folders too.
-    folders = {path[:at] for path in files for at, letter in enumerate(path) if letter == ord("/")}
+    # One that has seen all files tells the folders too. The empty `.git` is there as at the top of a working tree.
+    folders = {b".git", *(path[:at] for path in files for at, letter in enumerate(path) if letter == ord("/"))}
     folders = folders if b"--whole" in words else set()
     state = 14695981039346656037
     for word in words[1:]:
         state = digested(state, word + b"\0")
     for path in sorted([*files, *folders]):
-        kind, contents = (FILE, files[path][1]) if path in files else (FOLDER, b"")
-        for each in (path + b"\0", struct.pack("=i", kind), struct.pack("=Q", len(contents)), contents):
+        kind, mode, contents = (FILE, *files[path]) if path in files else (FOLDER, 0, b"")
+        for each in (path + b"\0", struct.pack("=i", kind), struct.pack("=i", mode), struct.pack("=Q", len(contents)), contents):
             state = digested(state, each)
     return f"{state:016x}", tuple((path.decode(), files[path][0]) for path in sorted(files))
 

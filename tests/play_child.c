@@ -33,7 +33,7 @@ enum { MOST_ENTRIES = 256, MOST_LINE = 16384, MOST_OUTPUT = 1048576 };
 struct entry {
     char *path, *bytes;
     size_t length;
-    int kind;
+    int kind, is_executable;
     bool is_seen;
 };
 
@@ -84,9 +84,10 @@ static bool may(char letter) { return strchr(letters, letter) != NULL; }
 static int found(const char *path, const struct stat *about, int kind, struct FTW *place) {
     if (place->level == 0) return 0;
     must(entry_count < MOST_ENTRIES);
-    /* No copy of a file is executable. */
-    must(kind != FTW_F || (about->st_mode & 0111) == 0);
-    entries[entry_count++] = (struct entry){.path = strdup(path + strlen("./")), .kind = kind};
+    /* Whoever may read a file may execute it, or nobody. */
+    mode_t execute = about->st_mode & 0111, read = (about->st_mode & 0444) >> 2;
+    must(kind != FTW_F || execute == 0 || execute == read);
+    entries[entry_count++] = (struct entry){.path = strdup(path + strlen("./")), .kind = kind, .is_executable = kind == FTW_F && execute != 0};
     return 0;
 }
 
@@ -139,6 +140,7 @@ static void look(char **words) {
         if (entry->is_seen) read_bytes(entry);
         digest_text(entry->path);
         digest_bytes(&entry->kind, sizeof entry->kind);
+        digest_bytes(&entry->is_executable, sizeof entry->is_executable);
         digest_bytes(&entry->length, sizeof entry->length);
         digest_bytes(entry->bytes, entry->length);
     }
