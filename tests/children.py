@@ -92,5 +92,6 @@ if __name__ == "__main__":
         except Wrong as wrong:
             failed += 1
             print(f"children: {case.__name__}: {wrong}")
-    print(f"children: {len(cases) - failed} passed, {failed} failed, on {kind_of(BASE)}, whose times tell {'what changed' if TELLING else 'nothing'}")
+    print(f"children: played on {kind_of(BASE)}, whose times tell {'what changed' if TELLING else 'nothing'}")
+    print(f"children: {len(cases) - failed} passed, {failed} failed")
     sys.exit(1 if failed else 0)

@@ -363,7 +363,8 @@ def main():
     unneeded = [name for name in REASONS if name not in needed] if PLAYS >= 40 else []
     for name in unneeded:
         print(f"compare_commits: no play needed the reason: {name}")
-    print(f"commits: {tried} tried in {PLAYS} plays, {made} made, {len(failures)} plays differ without a reason")
+    print(f"compare_commits: {tried} tried in {PLAYS} plays, {made} made")
+    print(f"compare_commits: {PLAYS - len(failures)} passed, {len(failures) + len(unneeded)} failed")
     sys.exit(1 if failures or unneeded or not made else 0)
 
 

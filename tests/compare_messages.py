@@ -49,7 +49,8 @@ def main():
     differ = [(message, mine, theirs) for message, mine, theirs in zip(made, answers, wanted) if mine != theirs]
     for message, mine, theirs in differ[:10]:
         print(f"differs: {message!r}: {mine!r} here, {theirs!r} there")
-    print(f"compare_messages: {len(made)} messages, {sum(mine != message for message, mine in zip(made, answers))} of them changed, {len(differ)} differ")
+    print(f"compare_messages: {sum(mine != message for message, mine in zip(made, answers))} messages changed by cleaning")
+    print(f"compare_messages: {len(made) - len(differ)} passed, {len(differ)} failed")
     sys.exit(1 if differ or not made else 0)
 
 

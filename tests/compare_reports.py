@@ -417,7 +417,8 @@ def main():
                 used[reason] += 1
     for reason, number in used.items():
         print(f"{number} differ: {reason}")
-    print(f"reports: {agreed} of {count} agree, {excused} differ with a reason, {wrong} without one")
+    print(f"compare_reports: {agreed} of {count} agree, {excused} differ with a reason")
+    print(f"compare_reports: {agreed + excused} passed, {wrong} failed")
     sys.exit(1 if wrong or not agreed or not all(used.values()) else 0)
 
 

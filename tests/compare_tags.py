@@ -215,7 +215,9 @@ def main():
     lacking = [reason for _, reason in REASONS if reason not in by_reason]
     for reason in lacking:
         print(f"compare_tags: no file has this reason any more: {reason}")
-    print(f"compare_tags: {agreed} of {len(all_files)} files agree, {sum(map(len, by_reason.values()))} differ with a reason, {len(without_reason)} without")
+    with_reason = sum(map(len, by_reason.values()))
+    print(f"compare_tags: {agreed} of {len(all_files)} files agree, {with_reason} differ with a reason")
+    print(f"compare_tags: {agreed + with_reason} passed, {len(without_reason) + len(lacking)} failed")
     sys.exit(1 if without_reason or lacking or not agreed else 0)
 
 

@@ -64,7 +64,8 @@ def main():
         if not number:
             failed += 1
             print(f"compare_words: no text was answered by {kind}")
-    print(f"compare_words: {len(rows)} texts, {kinds['words']} with words, {kinds['1 OpenQuote']} OpenQuote, {kinds['2 NothingEscaped']} NothingEscaped, {failed} failed")
+    print(f"compare_words: {kinds['words']} texts with words, {kinds['1 OpenQuote']} OpenQuote, {kinds['2 NothingEscaped']} NothingEscaped")
+    print(f"compare_words: {len(rows) - failed} passed, {failed} failed")
     sys.exit(1 if failed else 0)
 
 

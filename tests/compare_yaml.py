@@ -152,7 +152,8 @@ def main():
         only_there += 1
         if reason is None:
             wrong.append(text)
-    print(f"yaml: {agreed} of {len(read) + len(refused)} texts agree, {only_here} are read only here, {only_there} only by PyYAML, {len(wrong)} differ without a reason")
+    print(f"compare_yaml: {agreed} of {len(read) + len(refused)} texts agree, {only_here} are read only here, {only_there} only by PyYAML")
+    print(f"compare_yaml: {len(read) + len(refused) - len(wrong)} passed, {len(wrong)} failed")
     sys.exit(1 if wrong or not agreed else 0)
 
 

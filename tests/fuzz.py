@@ -140,7 +140,7 @@ def main():
                 tell(case, number, wrong)
     of_kinds = ", ".join(f"{name.partition('_')[2]} {count}" for name, count in counts.items())
     print(f"fuzz: seed {WORDS.seed}: {commands} commands, {refused} of them refused; {of_kinds}")
-    print(f"fuzz: {sum(counts.values())} cases of {len(counts)} kinds, {failed} failed")
+    print(f"fuzz: {sum(counts.values()) - failed} passed, {failed} failed")
     sys.exit(1 if failed or not counts else 0)
 
 

@@ -1,16 +1,19 @@
 #!/usr/bin/env python3
-"""Runs the parts of the gate, up to the first that fails, and prints what each said last and where the time went.
+"""Runs the parts of tests/run or tests/prove, up to the first that fails, and prints what each said last and where the time went.
 
-Usage: tests/gate_time.py PART.. [-- PART..]
+Usage: tests/gate_time.py --name=NAME --budget=N [--before=COMMAND] [--in=FOLDER] FILE
 
-Each PART is a command in one word, as 'rt ci'. Those before `--` run in turn; those behind it side by side, one a processor,
-begun in this order, and what each prints is shown once it has ended.
+FILE has a command a line, and comments. Those before the line `--` run in turn, and then COMMAND; those after it side by side,
+one a processor, begun in this order, and what each prints is shown once it has ended. The scripts run in FOLDER. N is how many
+processor minutes all may take; more are told. The last line, `N passed, M failed`, counts the cases of all scripts: each ends
+with a line that counts its own.
 
 A part's processor time is what the system counts for it and for all that it started. Where it is the checker's, the processes
 below it are looked at twice a second, and their time goes to the crate that their command line or folder names: to its
 proofs, to its must-fail edits, or to its program (built and run). What a process took after the last look at it, and what
 names no crate, is the part's own.
 """
+import argparse
 import os
 import re
 import shlex
@@ -22,11 +25,6 @@ import time
 from collections import defaultdict
 from concurrent.futures import ThreadPoolExecutor
 
-# What the whole gate may take, in processor minutes: a tenth more than the 286 of a run from nothing of 27 November 2026, which
-# other proofs shared the machine with, and 20 for `configuration_explain`, for several changes at once and for the hook of Git,
-# 15 for trees that share rows and for files that aren't read again, and 20 for a bounded book and version 2 of the store. A slow
-# machine takes up to twice as many. Who adds a crate says what it adds.
-BUDGET = 370
 PAUSE = 0.5
 START = time.monotonic()
 TICKS = os.sysconf("SC_CLK_TCK")
@@ -112,13 +110,13 @@ class Watch:
 class Part:
     """A part of the gate: its command, and once it ran its status, its last line, its seconds, and those of processors."""
 
-    def __init__(self, name):
-        self.name, self.status, self.said, self.took, self.seconds, self.by_work = name, None, "", 0.0, 0.0, {}
+    def __init__(self, name, folder="."):
+        self.name, self.folder, self.status, self.said, self.took, self.seconds, self.by_work = name, folder, None, "", 0.0, 0.0, {}
 
     def run(self, show):
         """Runs the part, and shows its lines as they come."""
         start = time.monotonic()
-        with subprocess.Popen(shlex.split(self.name), stdin=subprocess.DEVNULL, stdout=subprocess.PIPE, stderr=subprocess.STDOUT) as command:
+        with subprocess.Popen(shlex.split(self.name), cwd=self.folder, stdin=subprocess.DEVNULL, stdout=subprocess.PIPE, stderr=subprocess.STDOUT) as command:
             watch = Watch(command.pid) if self.name.startswith("rt ") else None
             try:
                 for line in command.stdout:
@@ -131,6 +129,12 @@ class Part:
                     command.terminate()
                 self.by_work = watch.end() if watch else {}
         self.status, self.took, self.seconds = command.returncode, time.monotonic() - start, used.ru_utime + used.ru_stime
+
+    def cases(self):
+        """How many cases its last line says that passed and failed. One that fails before it counts them is one that failed."""
+        counts = re.search(r"(\d+) passed, (\d+) failed$", self.said) if self.name.startswith("python3 ") else None
+        passed, failed = map(int, counts.groups()) if counts else (0, 0)
+        return passed, failed or int(bool(self.status))
 
 
 def show(line):
@@ -145,13 +149,13 @@ def minutes():
 
 def show_with_time(line):
     """Shows a line of the checker, which begins what it says of a crate by two signs."""
-    show(b"gate: after " + minutes().encode() + b": " + line if line.startswith(b"== ") else line)
+    show(b"after " + minutes().encode() + b": " + line if line.startswith(b"== ") else line)
 
 
 def run_in_turn(parts):
     """Runs the parts up to the first that fails, and says whether all passed."""
     for part in parts:
-        print(f"gate: after {minutes()}: {part.name}", flush=True)
+        print(f"after {minutes()}: {part.name}", flush=True)
         part.run(show_with_time)
         if part.status:
             return False
@@ -170,7 +174,7 @@ def run_side_by_side(parts):
         if part.status:
             failed.set()
         with printing:
-            print(f"gate: after {minutes()}: {part.name}, within {part.took / 60:.1f} minutes", flush=True)
+            print(f"after {minutes()}: {part.name}, within {part.took / 60:.1f} minutes", flush=True)
             show(b"".join(lines))
 
     with ThreadPoolExecutor(len(os.sched_getaffinity(0))) as pool:
@@ -183,36 +187,57 @@ def show_times(parts):
     for part in parts:
         for work, took in part.by_work.items():
             sums[work] += took
-    print(f"gate: {'processor minutes':28}" + "".join(f"{each:>9}" for each in [*PHASES, "sum"]))
+    print(f"{'processor minutes':28}" + "".join(f"{each:>9}" for each in [*PHASES, "sum"]))
     for crate in sorted({crate for crate, _ in sums}, key=lambda it: -sum(sums[it, phase] for phase in PHASES)):
         row = [sums[crate, phase] / 60 for phase in PHASES]
-        print(f"gate:   {crate:26}" + "".join(f"{each:9.1f}" for each in [*row, sum(row)]))
+        print(f"  {crate:26}" + "".join(f"{each:9.1f}" for each in [*row, sum(row)]))
     row = [sum(sums[it] for it in sums if it[1] == phase) / 60 for phase in PHASES]
-    print(f"gate:   {'all crates':26}" + "".join(f"{each:9.1f}" for each in [*row, sum(row)]))
+    print(f"  {'all crates':26}" + "".join(f"{each:9.1f}" for each in [*row, sum(row)]))
     for part in parts:
         own = max(part.seconds - sum(part.by_work.values()), 0) / 60
-        print(f"gate:   {part.name + (', the rest' if part.by_work else ''):53}{own:9.1f}, within {part.took / 60:.1f} minutes")
+        print(f"  {part.name + (', the rest' if part.by_work else ''):53}{own:9.1f}, within {part.took / 60:.1f} minutes")
+
+
+def parts_of(file, before, folder):
+    """The parts that run in turn, and those that run side by side."""
+    lines = [line.strip() for line in file.read().splitlines() if line.strip() and not line.startswith("#")]
+    cut = lines.index("--")
+    return [Part(name, folder) for name in lines[:cut]] + [Part(name) for name in before], [Part(name, folder) for name in lines[cut + 1:]]
+
+
+def options():
+    reader = argparse.ArgumentParser(description="Runs the parts of tests/run or tests/prove.")
+    reader.add_argument("--name", required=True)
+    reader.add_argument("--budget", type=int, required=True)
+    reader.add_argument("--before", action="append", default=[])
+    reader.add_argument("--in", dest="folder", default=".")
+    reader.add_argument("file", type=argparse.FileType())
+    return reader.parse_args()
 
 
 def main():
     signal.signal(signal.SIGTERM, lambda number, _: sys.exit(128 + number))
-    names = sys.argv[1:]
-    cut = names.index("--") if "--" in names else len(names)
-    first, rest = ([Part(name) for name in some] for some in (names[:cut], names[cut + 1:]))
+    words = options()
+    first, rest = parts_of(words.file, words.before, words.folder)
     if run_in_turn(first):
         run_side_by_side(rest)
     parts = first + rest
     ran = [part for part in parts if part.status is not None]
     show_times(ran)
     for part in ran:
-        print(f"gate: {part.name}: {'FAILED with status ' + str(part.status) if part.status else 'passed'}: {part.said}")
+        print(f"{words.name}: {part.name}: {'FAILED with status ' + str(part.status) if part.status else 'passed'}: {part.said}")
     for part in parts:
         if part.status is None:
-            print(f"gate: {part.name}: not run")
+            print(f"{words.name}: {part.name}: not run")
     took = sum(part.seconds for part in ran) / 60
     is_well = bool(parts) and all(part.status == 0 for part in parts)
-    print(f"gate: {'passed' if is_well else 'FAILED'}: {took:.1f} processor minutes of at most {BUDGET}{', OVER THE BUDGET' if took > BUDGET else ''}, "
+    over = ", OVER THE BUDGET" if took > words.budget else ""
+    print(f"{words.name}: {'passed' if is_well else 'FAILED'}: {took:.1f} processor minutes of at most {words.budget}{over}, "
           f"in {minutes()} on {len(os.sched_getaffinity(0))} processors")
+    if not any(part.name.startswith("rt ") for part in parts):
+        print(f"{words.name}: no proof was checked: tests/prove does that")
+    passed, failed = map(sum, zip(*(part.cases() for part in parts)))
+    print(f"{passed:,} passed, {failed:,} failed")
     sys.exit(0 if is_well else 1)
 
 

@@ -55,7 +55,7 @@ def run_cases():
 
 
 def run_plays():
-    """What the plays needed, and how many failed."""
+    """How many plays there were, and how many failed, each reason that no play needed among them."""
     reasons, failed = Reasons(), 0
     with tempfile.TemporaryDirectory(dir="/dev/shm" if os.path.isdir("/dev/shm") else None) as top:
         template = templates(top, environment(top))
@@ -70,17 +70,19 @@ def run_plays():
         for name in unneeded:
             print(f"git_bridge: no play needed the reason: {name}")
         failed += len(unneeded)
-    print(f"git_bridge: {reasons.tried} commits tried beside pre-commit, {reasons.made} made, {sum(reasons.needed.values())} differ for a reason, {failed} plays failed", flush=True)
-    return failed
+    print(f"git_bridge: {reasons.tried} commits tried beside pre-commit, {reasons.made} made, {sum(reasons.needed.values())} differ for a reason", flush=True)
+    return PLAYS, failed
+
+
+def run_kills():
+    return len(KILLS), sum(in_folder(kills) for kills in KILLS)
 
 
 def main():
-    cases, failed = run_cases() if PART not in ("plays", "kills") else (0, 0)
-    if PART in ("", "plays"):
-        failed += run_plays()
-    if PART in ("", "kills"):
-        failed += sum(in_folder(kills) for kills in KILLS)
-    print(f"git_bridge: {cases} cases, {failed} failed")
+    parts = [run_cases] if PART not in ("plays", "kills") else []
+    parts += [run for name, run in (("plays", run_plays), ("kills", run_kills)) if PART in ("", name)]
+    played, failed = map(sum, zip(*(run() for run in parts)))
+    print(f"git_bridge: {played - failed} passed, {failed} failed")
     sys.exit(1 if failed else 0)
 
 

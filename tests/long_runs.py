@@ -253,8 +253,8 @@ def main():
     ends = collections.Counter(play.ends)
     took = sum(resource.getrusage(who).ru_utime + resource.getrusage(who).ru_stime for who in (resource.RUSAGE_SELF, resource.RUSAGE_CHILDREN))
     print("long_runs: " + ", ".join(f"{name}: {count}" for name, count in sorted(ends.items())))
-    counts = f"{len(play.commands)} commands, {ends['killed']} killed, {'1 differs' if wrong else '0 differ'}"
-    print(f"long_runs: {counts}, {took:.0f} processor seconds, {time.monotonic() - begin:.0f} s")
+    print(f"long_runs: {ends['killed']} commands killed, {took:.0f} processor seconds, {time.monotonic() - begin:.0f} s")
+    print(f"long_runs: {len(play.commands) - bool(wrong)} passed, {int(bool(wrong))} failed")
     sys.exit(1 if wrong or not ends["killed"] else 0)
 
 

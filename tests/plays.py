@@ -236,7 +236,8 @@ def main():
         print(f"plays: {text[:3000]}")
     for counts in (ends, parts):
         print("plays: " + ", ".join(f"{name}: {count}" for name, count in sorted(counts.items())))
-    print(f"plays: {PLAYS} plays of {COMMANDS} commands by two hosts, {len(wrong)} differ")
+    print(f"plays: {PLAYS} plays of {COMMANDS} commands by two hosts")
+    print(f"plays: {PLAYS - len(wrong)} passed, {len(wrong)} failed")
     sys.exit(1 if wrong or not PLAYS else 0)
 
 

@@ -449,8 +449,8 @@ def main():
     for text in differing[:3]:
         print(f"process plays: {text}", end="")
     print("process plays: " + ", ".join(f"{name}: {count}" for name, count in sorted(ends.items())))
-    said = f"{ends['started']} children started, {ends['replayed']} replayed, {len(differing)} differ"
-    print(f"process plays: {PLAYS} plays of {COMMANDS} commands by two hosts, {said}")
+    print(f"process plays: {PLAYS} plays of {COMMANDS} commands by two hosts, {ends['started']} children started, {ends['replayed']} replayed")
+    print(f"process plays: {PLAYS - len(differing)} passed, {len(differing)} failed")
     sys.exit(1 if differing or not ends["started"] or not ends["replayed"] else 0)
 
 

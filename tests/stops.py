@@ -170,7 +170,8 @@ def tell(results, seconds):
         print(f"{name}: " + "; ".join(f"{kind} " + ", ".join(f"{count} {place}" for place, count in places.items()) for kind, places in kinds.items()))
     took = sum(resource.getrusage(who).ru_utime + resource.getrusage(who).ru_stime for who in (resource.RUSAGE_SELF, resource.RUSAGE_CHILDREN))
     stopped = sum(place != "not stopped" for _, place, _ in results)
-    print(f"stops: {stopped} of {len(results)} stops came, {wrong} failed, {took:.0f} processor seconds, {seconds:.0f} s")
+    print(f"stops: {stopped} of {len(results)} stops came, {took:.0f} processor seconds, {seconds:.0f} s")
+    print(f"stops: {len(results) - wrong} passed, {wrong} failed")
     sys.exit(1 if wrong or not stopped else 0)
 
 

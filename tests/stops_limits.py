@@ -303,7 +303,8 @@ def tell(results, seconds):
     if not IS_ROOT:
         print("stops_limits: not played, since that needs root: processes of a user, and what a user may not write")
     took = sum(resource.getrusage(who).ru_utime + resource.getrusage(who).ru_stime for who in (resource.RUSAGE_SELF, resource.RUSAGE_CHILDREN))
-    print(f"stops_limits: {len(results)} limits, {wrong} failed, {took:.0f} processor seconds, {seconds:.0f} s")
+    print(f"stops_limits: {took:.0f} processor seconds, {seconds:.0f} s")
+    print(f"stops_limits: {len(results) - wrong} passed, {wrong} failed")
     sys.exit(1 if wrong or not results else 0)
 
 
