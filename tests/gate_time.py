@@ -132,7 +132,7 @@ class Part:
 
     def cases(self):
         """How many cases its last line says that passed and failed. One that fails before it counts them is one that failed."""
-        counts = re.search(r"(\d+) passed, (\d+) failed$", self.said) if self.name.startswith("python3 ") else None
+        counts = re.search(r"(\d+) passed, (\d+) failed$", self.said) if not self.name.startswith("rt ") else None
         passed, failed = map(int, counts.groups()) if counts else (0, 0)
         return passed, failed or int(bool(self.status))
 
