@@ -188,7 +188,7 @@ def pages_are_found(desk):
 
 
 def told_by_bash(desk, lines):
-    env, script = desk.env | {"XDG_DATA_HOME": desk.at("share")}, "\n".join(lines) + "\n"
+    env, script = desk.env | {"XDG_DATA_HOME": os.path.join(desk.top, "data")}, "\n".join(lines) + "\n"
     done = subprocess.run(["bash", "--norc", "--noprofile"], input=script, env=env, cwd=desk.top, stdout=subprocess.PIPE, stderr=subprocess.STDOUT,
                           text=True, timeout=60)
     return done.stdout
@@ -196,6 +196,8 @@ def told_by_bash(desk, lines):
 
 def completions_load_in_bash(desk):
     desk.install()
+    # bash-completion takes no folder with blanks in its name.
+    os.symlink(desk.at("share"), os.path.join(desk.top, "data"))
     rows = [("hookhost", "_hookhost", "st", "status"), ("hookhost-git", "_hookhost_git", "inst", "install")]
     for name, function, word, wanted in rows:
         proposed = [f"complete -p {name}", f"COMP_WORDS=({name} {word}) COMP_CWORD=1; {function}; echo \"${{COMPREPLY[@]}}\""]
