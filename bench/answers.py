@@ -27,7 +27,7 @@ import tempfile
 from collections import defaultdict
 
 HERE = os.path.dirname(os.path.abspath(__file__))
-sys.path[:1] = [HERE, os.path.join(HERE, "..", "tests")]
+sys.path[:1] = [HERE, os.path.join(HERE, "..", "tests", "shared")]
 from timing import asked_parts, in_folder, is_asked, program, show
 
 SMALL = is_asked("--small")

@@ -24,7 +24,7 @@ import tempfile
 import time
 
 HERE = os.path.dirname(os.path.abspath(__file__))
-sys.path[:1] = [HERE, os.path.join(HERE, "..", "tests")]
+sys.path[:1] = [HERE, os.path.join(HERE, "..", "tests", "shared")]
 from kept_answers import digest
 from timing import is_asked, once, program, seconds_to_settle, show
 

@@ -13,7 +13,7 @@ import sys
 import time
 
 HERE = os.path.dirname(os.path.abspath(__file__))
-sys.path[:1] = [os.path.join(HERE, "..", "tests"), HERE]
+sys.path[:1] = [os.path.join(HERE, "..", "tests", "children"), HERE]
 from children import MIB, READS, Trial, digits
 from timing import show
 

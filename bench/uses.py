@@ -25,7 +25,7 @@ import sys
 import tempfile
 
 HERE = os.path.dirname(os.path.abspath(__file__))
-sys.path[:1] = [HERE, os.path.join(HERE, "..", "tests")]
+sys.path[:1] = [HERE, os.path.join(HERE, "..", "tests", "shared")]
 from timing import asked_parts, in_folder, is_asked, made_peak, peak, program, show
 
 SMALL = is_asked("--small")

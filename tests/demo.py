@@ -10,8 +10,9 @@ import re
 import subprocess
 import sys
 
-HERE = os.path.dirname(os.path.abspath(__file__))
-TOP = os.path.join(HERE, "..")
+sys.path.insert(0, os.path.abspath(f"{__file__}/../shared"))
+from places import TOP
+
 COUNT = os.path.join(TOP, "demo", "count_proved")
 # The calls of the program by which it reaches the repository.
 CUT = ["look_up(", "change(", "init("]
@@ -39,7 +40,7 @@ def wrong_cuts():
 
 
 def main():
-    with open(os.path.join(HERE, "demo_lines.txt"), "rb") as file:
+    with open(os.path.join(TOP, "tests", "demo_lines.txt"), "rb") as file:
         lines = file.read()
     failed = 0
     for asked, proved in CASES:

@@ -195,7 +195,7 @@ def show_times(parts):
     print(f"  {'all crates':26}" + "".join(f"{each:9.1f}" for each in [*row, sum(row)]))
     for part in parts:
         own = max(part.seconds - sum(part.by_work.values()), 0) / 60
-        print(f"  {part.name + (', the rest' if part.by_work else ''):53}{own:9.1f}, within {part.took / 60:.1f} minutes")
+        print(f"  {part.name + (', the rest' if part.by_work else ''):60}{own:9.1f}, within {part.took / 60:.1f} minutes")
 
 
 def parts_of(file, before, folder):

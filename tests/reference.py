@@ -23,7 +23,10 @@ import os
 import re
 import sys
 
-TOP = os.path.abspath(sys.argv[1] if len(sys.argv) > 1 else os.path.join(os.path.dirname(os.path.abspath(__file__)), ".."))
+sys.path.insert(0, os.path.abspath(f"{__file__}/../shared"))
+import places
+
+TOP = os.path.abspath(sys.argv[1] if len(sys.argv) > 1 else places.TOP)
 # The row of the table, the words in it with {} for the number, and the limit: its crate, its name, and how much the words
 # say more than it.
 LIMITS = [

@@ -16,10 +16,11 @@ import subprocess
 import sys
 import tempfile
 
-HERE = os.path.dirname(os.path.abspath(__file__))
-TOP = os.path.dirname(HERE)
+sys.path.insert(0, os.path.abspath(f"{__file__}/../shared"))
+from places import TOP, program
+
 SHARE = os.path.join(TOP, "share")
-PROGRAM = os.path.abspath(sys.argv[1] if len(sys.argv) > 1 else os.path.join(TOP, "crates/hookhost/out/hookhost"))
+PROGRAM = os.path.abspath(sys.argv[1] if len(sys.argv) > 1 else program("hookhost"))
 MADE = ["hookhost.bash", "_hookhost", "hookhost.fish", "hookhost.1"]
 FILES = [".pre-commit-config.yaml", "README.md", "my file.md", "src/main.c"]
 

@@ -1,0 +1,90 @@
+#!/usr/bin/env python3
+"""Plays git/hookhost-git as the hook of real repositories of Git.
+
+Usage: tests/git/git_bridge.py [PROGRAM [PART [PLAYS [FIRST]]]]   (default: crates/hookhost/out/hookhost, all parts, 200 plays from 1 on)
+
+PART is `plays`, `kills`, or a part of a case's name.
+First what docs/GIT.md promises, case by case (tests/git/git_bridge_cases.py, .._fixes.py, .._runs.py, .._calls.py and .._share.py), and what
+README.md shows (tests/git/git_bridge_readme.py). Then random repositories beside copies of them in which pre-commit is the hook
+(tests/git/git_bridge_plays.py), and kills (tests/git/git_bridge_kills.py).
+"""
+import os
+import sys
+import tempfile
+import time
+
+sys.path.insert(0, os.path.abspath(f"{__file__}/../../shared"))
+from git_bridge_calls import CASES as CALLS
+from git_bridge_cases import CASES
+from git_bridge_fixes import CASES as FIXES
+from git_bridge_kills import KILLS
+from git_bridge_plays import REASONS, Reasons, play, templates
+from git_bridge_readme import readme_session
+from git_bridge_repository import Wrong, environment
+from git_bridge_runs import CASES as RUNS
+from git_bridge_share import CASES as SHARED
+
+PART = sys.argv[2] if len(sys.argv) > 2 else ""
+PLAYS, FIRST = int(sys.argv[3]) if len(sys.argv) > 3 else 200, int(sys.argv[4]) if len(sys.argv) > 4 else 1
+SHOWS_TIMES = "GIT_BRIDGE_TIMES" in os.environ
+
+
+def in_folder(action):
+    """Does something in a folder of its own, and answers whether it went wrong."""
+    start = time.monotonic()
+    with tempfile.TemporaryDirectory(dir="/dev/shm" if os.path.isdir("/dev/shm") else None) as top:
+        home = os.path.join(top, "home")
+        os.mkdir(home)
+        try:
+            action(top, environment(home))
+        except Wrong as wrong:
+            print(f"git_bridge: FAILED: {wrong}", flush=True)
+            return True
+        finally:
+            if SHOWS_TIMES:
+                print(f"{action.__name__}: {time.monotonic() - start:.2f} s", flush=True)
+    return False
+
+
+def run_cases():
+    """How many cases there were, and how many failed."""
+    chosen = [case for case in (*CASES, *FIXES, *RUNS, *CALLS, *SHARED, readme_session) if PART in case.__name__]
+    failed = [case.__name__ for case in chosen if in_folder(case)]
+    for name in failed:
+        print(f"git_bridge: FAILED: case {name}")
+    return len(chosen), len(failed)
+
+
+def run_plays():
+    """How many plays there were, and how many failed, each reason that no play needed among them."""
+    reasons, failed = Reasons(), 0
+    with tempfile.TemporaryDirectory(dir="/dev/shm" if os.path.isdir("/dev/shm") else None) as top:
+        template = templates(top, environment(top))
+        for seed in range(FIRST, FIRST + PLAYS):
+            def one(folder, env, seed=seed):
+                play(folder, env, seed, template, reasons)
+            failed += in_folder(one)
+    for name, count in sorted(reasons.needed.items()):
+        print(f"{count:5} {name}: {REASONS[name]}")
+    unneeded = [name for name in REASONS if name not in reasons.needed]
+    if PLAYS >= 200:
+        for name in unneeded:
+            print(f"git_bridge: no play needed the reason: {name}")
+        failed += len(unneeded)
+    print(f"git_bridge: {reasons.tried} commits tried beside pre-commit, {reasons.made} made, {sum(reasons.needed.values())} differ for a reason", flush=True)
+    return PLAYS, failed
+
+
+def run_kills():
+    return len(KILLS), sum(in_folder(kills) for kills in KILLS)
+
+
+def main():
+    parts = [run_cases] if PART not in ("plays", "kills") else []
+    parts += [run for name, run in (("plays", run_plays), ("kills", run_kills)) if PART in ("", name)]
+    played, failed = map(sum, zip(*(run() for run in parts)))
+    print(f"git_bridge: {played - failed} passed, {failed} failed")
+    sys.exit(1 if failed else 0)
+
+
+main()

@@ -1,0 +1,176 @@
+"""Kills of hookhost-git, for tests/git/git_bridge.py: before each command that its script starts, in turn, and at random moments.
+
+After each kill the working files are whole: each is as it was, or as hooks fixed it. The next run then prints, and leaves, what
+it does in a copy of the repository in which nothing was killed, and nothing that the killed one began lies about.
+"""
+import os
+import random
+import shutil
+import signal
+import subprocess
+import time
+
+from git_bridge_repository import BLANKS, BRIDGE, Repository, Wrong, check, content, names_hook, same
+
+# What the script starts. Each is found in a folder of its own first, where a script stands that counts.
+COMMANDS = ["awk", "cat", "chmod", "cmp", "cp", "find", "flock", "git", "ln", "mkdir", "mv", "rm", "sed", "tr", "wc", "hookhost"]
+COUNTING = """#!/bin/sh
+echo x >> "$KILL_COUNT"
+[ "$({wc} -l < "$KILL_COUNT")" -lt "$KILL_AT" ] || kill -9 "-$KILL_GROUP"
+if [ "{name}:$NO_LINKS" = ln:none ]; then
+  for last; do :; done
+  case $last in [!/]*) exit 1 ;; esac
+fi
+exec {command} "$@"
+"""
+STRAY = ".hookhost-git."
+# More commands than the script starts, and how many kills come at random.
+MOST_COMMANDS, KILLS_AT_RANDOM = 300, 16
+# At most so many runs are tried until one isn't kept out by what a killed one has started.
+MOST_TRIES = 200
+
+
+def make(folder, env, rng):
+    """A repository that was synced, with further changes that are staged: some files hooks fix, and one they remove."""
+    git = Repository.made(folder, env, "--template=")
+    git.configure(BLANKS, names_hook("types: [executable]"), "id: tidy, name: Tidy, language: system, entry: rm -f --, files: 'tmp$'")
+    for path in ("a.txt", "b.txt", "d/c.txt", "d/run.sh", "e"):
+        git.add(path, f"{path}\n", rng.choice([0o644, 0o755]))
+    same("the first run", git.bridge("run").status, 0)
+    git.git("commit", "--quiet", "-m", "m")
+    change(git, rng)
+    git.write("b.txt", "not staged\n")
+    git.write("new \\.txt", "x \n", 0o640)
+    git.write("d/-gone.tmp", "x\n")
+    git.git("add", "new \\.txt", "d/-gone.tmp")
+    return git
+
+
+def change(git, rng):
+    """Stages some changes."""
+    for path in ("a.txt", "b.txt", "d/c.txt", "d/run.sh", "e"):
+        where = os.path.join(git.folder, path)
+        kind = rng.choice(["edit", "edit", "mode", "remove", "none"])
+        if kind == "edit" or not os.path.exists(where):
+            git.write(path, rng.choice(["x \n", "y\nz  \n"]))
+        elif kind == "mode":
+            os.chmod(where, os.stat(where).st_mode ^ 0o111)
+        elif kind == "remove":
+            os.remove(where)
+    # Not what a killed run may have left beside a working file.
+    git.git("add", "--all", "--", ".", f":(exclude,glob)**/{STRAY}*")
+
+
+def copied(git, folder):
+    shutil.copytree(git.folder, folder, symlinks=True)
+    return Repository(folder, git.env)
+
+
+class Whole:
+    """What a run that nothing disturbs prints and leaves in a copy of a repository, whose store is made anew."""
+
+    def __init__(self, git):
+        copy = copied(git, git.folder + ".whole")
+        copy.forget()
+        for path in copy.working_files():
+            if os.path.basename(path).startswith(STRAY):
+                os.remove(os.path.join(copy.folder, path))
+        self.answer, self.files, self.store = copy.bridge("run"), copy.working_files(), copy.store_holds()
+        shutil.rmtree(copy.folder)
+
+
+def run_again(git):
+    """The answer of the next run, once what a killed one has started is over."""
+    for _ in range(MOST_TRIES):
+        answer = git.bridge("run")
+        if "another hookhost" not in answer.err:
+            return answer
+        time.sleep(0.02)
+    raise Wrong(f"a killed run keeps others out: {answer!r}")
+
+
+def look_at(git, before, whole):
+    """That the working files after a kill are those before or the fixed ones, but for one that was being written beside."""
+    for path, held in git.working_files().items():
+        if not os.path.basename(path).startswith(STRAY):
+            check(held in (before.get(path), whole.files.get(path)), f"after a kill {path} is {held!r}, and was {before.get(path)!r}")
+    lost = [path for path in before if path in whole.files and not os.path.exists(os.path.join(git.folder, path))]
+    same("files that are gone after a kill", lost, [])
+
+
+def go_on(git, before, whole, rng):
+    """Looks at what a kill left, perhaps stages other changes, and compares the next run with an undisturbed one."""
+    look_at(git, before, whole)
+    if rng.random() < 0.3:
+        change(git, rng)
+        whole = Whole(git)
+    found = run_again(git)
+    same("the report after a kill", (found.status, found.out), (whole.answer.status, whole.answer.out))
+    same("the working files after it", git.working_files(), whole.files)
+    same("the store after it", git.store_holds(), whole.store)
+    same("what lies in the store's folder", os.listdir(os.path.join(git.home(), "files")), [".hookhost"])
+
+
+# ---- before each command
+
+def counting_commands(top, env):
+    """A folder of commands that count themselves, and the environment in which the script finds them."""
+    folder = os.path.join(top, "counting")
+    os.mkdir(folder)
+    for name in COMMANDS:
+        command = env["HOOKHOST"] if name == "hookhost" else shutil.which(name)
+        path = os.path.join(folder, name)
+        with open(path, "w", encoding="utf-8") as file:
+            file.write(COUNTING.format(name=name, command="'" + command + "'", wc=shutil.which("wc")))
+        os.chmod(path, 0o755)
+    return {"PATH": folder + ":" + env["PATH"], "HOOKHOST": os.path.join(folder, "hookhost"), "KILL_COUNT": os.path.join(top, "count")}
+
+
+def killed_before_each_command(top, env):
+    """In every second run no link leads from one folder to another, so that files are written beside working files."""
+    counting = counting_commands(top, env)
+    first = make(os.path.join(top, "first"), env, random.Random(1))
+    before, whole, over = first.working_files(), Whole(first), set()
+    for at in range(1, MOST_COMMANDS):
+        git, links = copied(first, os.path.join(top, f"killed {at}")), "" if at % 2 else "none"
+        if os.path.exists(counting["KILL_COUNT"]):
+            os.remove(counting["KILL_COUNT"])
+        words = ["sh", "-c", 'export KILL_GROUP=$$; exec "$0" run', BRIDGE]
+        done = subprocess.run(words, cwd=git.folder, env=env | counting | {"KILL_AT": str(at), "NO_LINKS": links}, stdin=subprocess.DEVNULL, capture_output=True, start_new_session=True, timeout=60)
+        if done.returncode != -signal.SIGKILL:
+            check(40 < content(counting["KILL_COUNT"]).count(b"x") < at, f"the script isn't killed before command {at}")
+            over.add(links)
+            if len(over) == 2:
+                return
+        try:
+            go_on(git, before, whole, random.Random(at))
+        except Wrong as wrong:
+            raise Wrong(f"killed before command {at}: {wrong}") from None
+        shutil.rmtree(git.folder)
+    raise Wrong("the script starts ever more commands")
+
+
+# ---- at random moments
+
+def killed_at_random(top, env):
+    rng = random.Random(2)
+    first = make(os.path.join(top, "first"), env, rng)
+    before, whole = first.working_files(), Whole(first)
+    start = time.monotonic()
+    copied(first, os.path.join(top, "timed")).bridge("run")
+    takes = time.monotonic() - start
+    for number in range(KILLS_AT_RANDOM):
+        git = copied(first, os.path.join(top, f"killed {number}"))
+        command = subprocess.Popen([BRIDGE, "run"], cwd=git.folder, env=env, stdin=subprocess.DEVNULL, stdout=subprocess.DEVNULL, stderr=subprocess.DEVNULL, start_new_session=True)
+        time.sleep(rng.random() * takes)
+        # The script alone, whose commands go on, or all that it has started.
+        if number % 2:
+            command.kill()
+        else:
+            os.killpg(command.pid, signal.SIGKILL)
+        command.wait()
+        go_on(git, before, whole, rng)
+        shutil.rmtree(git.folder)
+
+
+KILLS = [killed_before_each_command, killed_at_random]

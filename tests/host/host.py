@@ -1,0 +1,54 @@
+#!/usr/bin/env python3
+"""Plays the commands on a repository with the built program: files with hard names, files and folders that can't be used,
+several programs at once, kills, limits to what is remembered, and how often the disk is waited for.
+
+Usage: tests/host/host.py [KILLS [PROGRAM [STORE_TRIAL]]]   (default: 30 kills of each command, and the built programs)
+
+What one program alone prints stands in tests/sessions/. Here stands what no session can make: names that no text file
+keeps, another user, fifos, programs side by side. Each kill is a SIGKILL at a random moment of a command on a copy of a
+repository, which then has to be the one before the command or the one after it, and what its hooks had answered by then is
+remembered. The commits are made by store_trial. The cases stand in the modules tests/host/host_*.py, each of one topic.
+"""
+import os
+import subprocess
+import sys
+import tempfile
+
+sys.path.insert(0, os.path.abspath(f"{__file__}/../../shared"))
+import host_answers
+import host_at_once
+import host_calls
+import host_checkout
+import host_files
+import host_folder
+import host_kills
+import host_limit
+import host_log
+import host_names
+import host_put_kills
+import host_runs
+import host_unusable
+import host_version_1
+from host_program import Wrong
+
+TOPICS = [host_names, host_unusable, host_folder, host_checkout, host_calls, host_at_once, host_kills, host_put_kills, host_log, host_files,
+          host_runs, host_answers, host_limit, host_version_1]
+
+
+def main():
+    passed, failed = 0, 0
+    for case in (case for topic in TOPICS for case in topic.CASES):
+        with tempfile.TemporaryDirectory() as folder:
+            try:
+                case(folder)
+                wrong = None
+            except (Wrong, subprocess.TimeoutExpired) as error:
+                wrong = error
+        passed, failed = (passed, failed + 1) if wrong else (passed + 1, failed)
+        if wrong:
+            print(f"FAILED {case.__name__.replace('_', ' ')}: {str(wrong)[:2000]}")
+    print(f"host: {passed} passed, {failed} failed")
+    sys.exit(1 if failed or not passed else 0)
+
+
+main()

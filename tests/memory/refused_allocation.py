@@ -1,0 +1,65 @@
+"""Runs of a program of which one allocation is refused, for tests/memory/refused_memory.py and the modules of its plays. The
+allocator is stood in for by tests/shared/refuse_allocation.c."""
+import itertools
+import os
+import subprocess
+import sys
+
+from places import TOP, program
+
+EACH = "--each" in sys.argv
+WORDS = [word for word in sys.argv[1:] if word != "--each"]
+
+
+def given(at, name):
+    """The program that is the word at this place, or the built one of this name."""
+    return os.path.abspath(WORDS[at] if len(WORDS) > at else program(name))
+
+
+PROGRAM, STORE_TRIAL = given(0, "hookhost"), given(1, "store_trial")
+HOOK_TRIAL, SELECTION_TRIAL, YAML_TRIAL = given(2, "hook_trial"), given(3, "selection_trial"), given(4, "yaml_trial")
+
+
+def make_allocator(folder):
+    """Makes what stands in for the allocator."""
+    made, source = os.path.join(folder, "refuse.so"), os.path.join(TOP, "tests/shared/refuse_allocation.c")
+    subprocess.run(["cc", "-shared", "-fPIC", "-O1", "-o", made, source, "-ldl"], check=True)
+
+
+def end_with_refusal(words, refused, shared, folder, work, given):
+    """How a program ends of which the allocation of this number (0: none) is refused, and whether one was."""
+    mark = os.path.join(folder, "refused")
+    if os.path.exists(mark):
+        os.remove(mark)
+    refusing = {"LD_PRELOAD": os.path.join(shared, "refuse.so"), "REFUSE_ALLOCATION": str(refused), "REFUSED_FILE": mark}
+    return end_of(words, work, given, os.environ | refusing), os.path.exists(mark)
+
+
+def end_of(words, work, given=b"", env=None):
+    """The status and the outputs of a program."""
+    done = subprocess.run(words, input=given, capture_output=True, env=env, timeout=60, cwd=work)
+    return done.returncode, done.stdout, done.stderr
+
+
+def count_allocations(is_refused):
+    """How many allocations are made: the greatest number at which one is refused, found by halving."""
+    least, most = 0, 1
+    while is_refused(most):
+        least, most = most, 2 * most
+    while most - least > 1:
+        middle = (least + most) // 2
+        least, most = (middle, most) if is_refused(middle) else (least, middle)
+    return least
+
+
+def some_of(count, at_ends, between):
+    """Of the numbers from 1 on, without an end, so many first and last ones of the count, and of those between one in so
+    many."""
+    step = max(1, (count - 2 * at_ends) // between)
+    return (at for at in itertools.count(1) if at <= at_ends or at > count - at_ends or at % step == 0)
+
+
+def line_of(call, words):
+    """The line by which a program for tests plays a call."""
+    held = (word.encode() if isinstance(word, str) else word for word in words)
+    return " ".join([call, *(word.hex() or "-" for word in held)]).encode() + b"\n"

@@ -1,0 +1,58 @@
+"""Lists of commands that a host makes at one call, over children of which one call fails. The call is
+
+play fused KTH FAULT CHILD.. COMMAND..
+
+with the commands of `crates/hook_trial/src/plays.rt`. Each play of tests/shared/host_plays.py is played with each fault at its first call,
+at its second, and so on, until one ends in which no call failed. The command in which one did is made again at once, and then the
+play goes on. Its answer is told behind that command, behind the same again, and at the end: the hook failed with the fault's
+line, its child isn't remembered and is started again, and the counts are those of the calls.
+
+The answers are those of tests/shared/host_model.py. Beside it stands a host of the model that remembers nothing and none of whose
+children fails, on the repository as it then is: what the command replies when it is made again has to be that one's reply."""
+from host_model import FAULTS, Committed, call_of, played
+from host_plays import FRESH_RUN, PLAYS, commands_of, host_of, words_of
+
+PROGRAM = "hook_trial"
+
+
+def fused_command(hooks, commands, kth):
+    """The index of the command in which the call of this number is made, or None."""
+    host = host_of(hooks)
+    for at, command in enumerate(commands):
+        host.reply(call_of(command))
+        if host.memory.calls >= kth:
+            return at
+    return None
+
+
+def check_from_scratch(hooks, commands, at, kth, said):
+    """That the model itself says what is told of these plays."""
+    host, scratch = host_of(hooks, kth=kth, fault=said), host_of(hooks)
+    replies = [host.reply(call_of(command)) for command in commands[:at + 1]]
+    memory, is_made = host.memory, isinstance(replies[-1], Committed)
+    assert b"".join(reply.told() for reply in replies).count(f"- fault: {said}\n".encode()) == memory.faults == 1
+    # What was remembered before a fresh run still is.
+    assert (memory.fused in memory.book) == (commands[at] == FRESH_RUN)
+    scratch.history, scratch.staged, scratch.fixes, calls = host.history, host.staged, host.fixes, memory.calls
+    assert host.reply(call_of(commands[at])) == scratch.reply(call_of(commands[at]))
+    # The hook behind a commit isn't asked by the same commit, which is none any more; all others are started again.
+    assert memory.faults == 1 and (is_made or memory.calls > calls and memory.fused in memory.book)
+
+
+def row(hooks, commands, kth, fault, said):
+    return "play", "fused", str(kth), fault, *words_of(commands), played(host_of(hooks, kth=kth, fault=said), commands)
+
+
+def fused_rows(hooks, commands, said, fault):
+    """The rows of a play whose calls fail in turn, and of the play in which none does any more."""
+    for kth in range(1, 100):
+        at = fused_command(hooks, commands, kth)
+        if at is None:
+            yield row(hooks, commands, kth, fault, said)
+            return
+        check_from_scratch(hooks, commands, at, kth, said)
+        again = [*commands[:at + 1], *commands[at:]]
+        yield from (row(hooks, again[:end], kth, fault, said) for end in (at + 1, at + 2, len(again)))
+
+
+ROWS = [each for hooks, commands in PLAYS for said, fault in FAULTS.items() for each in fused_rows(hooks, commands_of(hooks, commands), said, fault)]

@@ -1,0 +1,10 @@
+"""Where the parts of the repository lie, and the programs that are built of it."""
+import os
+
+TOP = os.path.abspath(f"{__file__}/../../..")
+CRATES = os.path.join(TOP, "crates")
+
+
+def program(name):
+    """The built program of the crate of this name."""
+    return os.path.join(CRATES, name, "out", name)
