@@ -1,7 +1,7 @@
 """A model of a host: the commits, the staged files and the fixes as plain lists and dictionaries, and the book of remembered answers
 as the list of tests/shared/list_book.py.
 
-tests/plays/plays.py plays it beside the program hook_trial, and the table tests/rows/tables/fused_plays.py and
+tests/plays/plays.py plays it beside the program hook_trial, and the table tests/rows/tables/commit_flow_fused.py and
 tests/memory/refused_memory.py have their answers from it. It says of each command what a host replies, as the program prints it
 and as hook_trial tells it; what is left then; and which children were started. One child of it may fail, as that of the kit's
 name `FuseChildren` does, and at one place it may be refused memory.

@@ -1,5 +1,5 @@
-"""The lists of commands that a host plays over children of which one fails (tests/rows/tables/fused_plays.py), and with each growth of
-memory refused in turn (tests/memory/refused_memory.py)."""
+"""The lists of commands that a host plays over children of which one fails (tests/rows/tables/commit_flow_fused.py), and with each
+growth of memory refused in turn (tests/memory/refused_memory.py)."""
 from host_model import (CONFIGURATION, MESSAGE, Answer, File, FixedTable, Hook, Machine, Memory, configuration_text, words_of_rows)
 
 RUN, FRESH_RUN = (("run", "pre-commit", "changed", "", how, "") for how in ("remembering", "fresh"))

@@ -1,4 +1,4 @@
-"""Lists of commands that a host makes at one call, over children of which one call fails. The call is
+"""Lists of commands that a host of commit_flow makes at one call, over children of which one call fails. The call is
 
 play fused KTH FAULT CHILD.. COMMAND..
 

@@ -1,5 +1,5 @@
-"""Runs over a book of remembered answers: what is started and what isn't, what is put, what goes where only so many are kept, what a
-refusal of the book leaves, and which hooks are unsteady. The calls are
+"""Runs of hook_run over a book of remembered answers: what is started and what isn't, what is put, what goes where only so many
+are kept, what a refusal of the book leaves, and which hooks are unsteady. The calls are
 
 play_book CONFIGURATION STEP..
 play COMMAND..
