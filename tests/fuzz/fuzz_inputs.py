@@ -6,7 +6,7 @@ import row_tables
 import yaml_texts
 from places import TOP
 
-TABLES = ("hook_config", "report_text", "command_line", "configuration_run", "hook_run", "builtin_hooks", "hook_cli")
+TABLES = ("hook_config", "report_text", "command_line", "configuration_run", "hook_run", "builtin_hooks", "hook_cli", "hook_cli_remembered")
 # A text that is longer makes all that are made of it long, and few of them.
 MOST_TEXT_BYTES = 20_000
 # Pieces that the readers of configurations, paths and messages look for.
