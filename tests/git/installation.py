@@ -1,11 +1,11 @@
 #!/usr/bin/env python3
 """Plays share/install, which puts hookhost where a Unix looks for it, and share/package, which makes a package of Debian of it.
 
-Usage: tests/installation.py [PROGRAM [PART [ROOT]]]   (default: crates/hookhost/out/hookhost, all cases)
+Usage: tests/git/installation.py [PROGRAM [PART [ROOT]]]   (default: crates/hookhost/out/hookhost, all cases)
 
 PART is a part of a case's name. Each case has a copy of what share/install and share/package read, a home and a prefix of its
 own, all with blanks and quotes in their names. The package is installed in a bare Debian, made of this machine's packages
-(tests/installation_root.py), where README.md's session with Git is played. ROOT is a folder with another bare Debian and Git,
+(tests/git/installation_root.py), where README.md's session with Git is played. ROOT is a folder with another bare Debian and Git,
 as `debootstrap --variant=minbase --include=git bookworm ROOT` makes one, and is played in its place. That needs root.
 """
 import gzip
@@ -20,6 +20,7 @@ import sys
 import tarfile
 import tempfile
 
+sys.path.insert(0, os.path.abspath(f"{__file__}/../../shared"))
 from git_bridge_readme import session
 from git_bridge_repository import BLANKS, PROGRAM, TOP, WORDS, Answer, Repository, Wrong, check, content, environment, made, not_made, same
 from installation_root import Root
@@ -47,7 +48,7 @@ NO_WORDS = {
     "install": ["--no-such", "x", "--prefix", "--prefix=", "--destdir", "--destdir=", "--prefix --uninstall", "--uninstall x"],
     "package": ["--no-such", "a b", "-x"],
 }
-# The time of all commits of tests/git_bridge_repository.py, in seconds and as a version has it.
+# The time of all commits of tests/git/git_bridge_repository.py, in seconds and as a version has it.
 COMMITTED, SHOWN = 1795766400, "20261127080000"
 # A program in the place of hookhost, where a case looks at names alone: the real one takes long to pack.
 SHORT = "#!/bin/sh\necho hookhost 0.1.0\n"
@@ -519,7 +520,7 @@ CASES = [
 
 def main():
     if not os.path.exists(PROGRAM):
-        sys.exit(f"tests/installation.py: there is no {PROGRAM}: build it with `rt run` in crates/hookhost")
+        sys.exit(f"tests/git/installation.py: there is no {PROGRAM}: build it with `rt run` in crates/hookhost")
     chosen = [case for case in CASES if PART in case.__name__]
     failed = 0
     for case in chosen:

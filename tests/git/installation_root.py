@@ -1,4 +1,4 @@
-"""A bare Debian in a folder, made of this machine's own packages, for tests/installation.py.
+"""A bare Debian in a folder, made of this machine's own packages, for tests/git/installation.py.
 
 It has the files of the packages that Debian marks as essential, of those that are named, and of all that these depend on, as
 they are installed here, and a list of packages in which no other stands. So it has neither the kit nor what else is installed,
