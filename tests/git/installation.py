@@ -493,6 +493,9 @@ def play_readme(root, folder):
 
 
 def a_bare_debian_runs_the_package(desk):
+    if why := Root.hindrance():
+        print(f"installation: no bare Debian was played: {why}", flush=True)
+        return
     desk.commit()
     deb, _ = desk.package("packages")
     root = Root(ROOT) if ROOT else Root.made(os.path.join(desk.top, "root"), "git")

@@ -8,6 +8,7 @@ import os
 import re
 import shutil
 import subprocess
+import tempfile
 
 from git_bridge_repository import check
 
@@ -57,9 +58,17 @@ class Root:
     """A bare Debian in a folder."""
 
     def __init__(self, folder):
-        check(os.getuid() == 0, "only root can play a bare Debian")
         self.folder = folder
         self.env = {"PATH": PATH, "HOME": "/root", "DEBIAN_FRONTEND": "noninteractive"}
+
+    @staticmethod
+    def hindrance():
+        """Why none can be played here, or None."""
+        if os.getuid() != 0:
+            return "only root can enter a bare Debian"
+        with tempfile.TemporaryDirectory() as place:
+            mounts = subprocess.run(["unshare", "--mount", "mount", "-t", "proc", "proc", place], stderr=subprocess.PIPE)
+        return f"nothing can be mounted: {mounts.stderr.decode(errors='replace').strip()}" if mounts.returncode else None
 
     @staticmethod
     def made(folder, *names):
