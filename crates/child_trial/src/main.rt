@@ -1,5 +1,5 @@
 //! The program `child_trial`: keeps a tree of files and runs real children on it in the folder that its one word names,
-//! each as a line of standard input says, and answers each by a line. `tests/children.py` drives it.
+//! each as a line of standard input says, and answers each by a line. `tests/children/children.py` drives it.
 //!
 //! How a line is written says the crate `trial_rows`. At a line that is no call the program ends with the exit status 2.
 //! Where the variable `CHILD_TRIAL_READS` is `everything`, no file is taken for unchanged by its times; where `CHILD_TRIAL_AT_END`

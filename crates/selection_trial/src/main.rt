@@ -1,5 +1,5 @@
 //! The program `selection_trial`: plays calls on tags, patterns, selections, the hooks that start no child, an entry's words,
-//! the parts of a command and the options of a run, one a line of standard input, and answers each by a line. `tests/rows.py`
+//! the parts of a command and the options of a run, one a line of standard input, and answers each by a line. `tests/rows/rows.py`
 //! and the scripts that compare with other tools drive it; how a line is written says the crate `trial_rows`.
 #![tactic(auto)]
 

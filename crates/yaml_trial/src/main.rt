@@ -1,5 +1,5 @@
 //! The program `yaml_trial`: plays calls of `hook_base`, `child_port`, the YAML reader and the records of answers, one a line of
-//! standard input, and answers each by a line. `tests/rows.py` plays its tables by it.
+//! standard input, and answers each by a line. `tests/rows/rows.py` plays its tables by it.
 #![tactic(auto)]
 
 mod calls;
