@@ -220,7 +220,7 @@ EXCHANGES = r"""
 #include <unistd.h>
 
 int main(int count, char **words) {
-    char one[4096], other[4096], stop[4096], go[4096], idle[4096];
+    char one[4096], other[4096], stop[4096], go[4096], idle[4096], busy[4096];
     if (fork() != 0) return 0;
     setsid();
     for (int number = 0; number < 3; number++) close(number);
@@ -230,6 +230,7 @@ int main(int count, char **words) {
     sprintf(stop, "%s/stop", words[1]);
     sprintf(go, "%s/go", words[1]);
     sprintf(idle, "%s/idle", words[1]);
+    sprintf(busy, "%s/busy", words[1]);
     mkdir(other, 0755);
     while (access(stop, F_OK) != 0 && access(words[1], F_OK) == 0) {
         if (access(go, F_OK) != 0) {
@@ -241,6 +242,7 @@ int main(int count, char **words) {
         usleep(count > 2 ? 300 : 0);
         renameat2(AT_FDCWD, one, AT_FDCWD, other, RENAME_EXCHANGE);
         usleep(count > 2 ? 700 : 0);
+        close(open(busy, O_WRONLY | O_CREAT, 0666));
     }
     sprintf(stop, "%s/done.1", words[1]);
     close(open(stop, O_WRONLY | O_CREAT, 0666));
@@ -257,9 +259,9 @@ def a_folder_that_is_changed_for_another_tells_no_file_as_removed():
         told = {}
         equal(trial.outcome(exchanges, trial.top, *slowly), (0, b"", {}), "what exchanges the folder")
         for _ in range(100):
-            outcome = trial.outcome("sh", "-c", f"touch {trial.top}/go; sleep 0.001", within=60)
-            Path(trial.top, "go").unlink()
-            Path(trial.top, "idle").unlink(missing_ok=True)
+            outcome = trial.outcome("sh", "-c", f"touch {trial.top}/go; until [ -e {trial.top}/busy ]; do :; done", within=60)
+            for name in ("go", "idle", "busy"):
+                Path(trial.top, name).unlink(missing_ok=True)
             wait_for(Path(trial.top, "idle"))
             check(outcome == "ScratchFailed" or outcome == (0, b"", {}), f"a child whose folder is changed for another is told as {outcome!r}")
             told[outcome == "ScratchFailed"] = True
