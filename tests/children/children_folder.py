@@ -220,7 +220,7 @@ EXCHANGES = r"""
 #include <unistd.h>
 
 int main(int count, char **words) {
-    char one[4096], other[4096], stop[4096], go[4096], idle[4096], busy[4096];
+    char one[4096], other[4096], stop[4096];
     if (fork() != 0) return 0;
     setsid();
     for (int number = 0; number < 3; number++) close(number);
@@ -228,21 +228,12 @@ int main(int count, char **words) {
     sprintf(one, "%s/h/scratch", words[1]);
     sprintf(other, "%s/other", words[1]);
     sprintf(stop, "%s/stop", words[1]);
-    sprintf(go, "%s/go", words[1]);
-    sprintf(idle, "%s/idle", words[1]);
-    sprintf(busy, "%s/busy", words[1]);
     mkdir(other, 0755);
     while (access(stop, F_OK) != 0 && access(words[1], F_OK) == 0) {
-        if (access(go, F_OK) != 0) {
-            close(open(idle, O_WRONLY | O_CREAT, 0666));
-            usleep(100);
-            continue;
-        }
         renameat2(AT_FDCWD, one, AT_FDCWD, other, RENAME_EXCHANGE);
         usleep(count > 2 ? 300 : 0);
         renameat2(AT_FDCWD, one, AT_FDCWD, other, RENAME_EXCHANGE);
         usleep(count > 2 ? 700 : 0);
-        close(open(busy, O_WRONLY | O_CREAT, 0666));
     }
     sprintf(stop, "%s/done.1", words[1]);
     close(open(stop, O_WRONLY | O_CREAT, 0666));
@@ -252,18 +243,16 @@ int main(int count, char **words) {
 
 
 def a_folder_that_is_changed_for_another_tells_no_file_as_removed():
-    """From within a child on until its files were read back. docs/SAFETY.md tells of the moment before."""
+    """All the time, from before the first file is laid: each child finds the files of its tree, and loses none of them."""
     exchanges = built("exchanges", EXCHANGES)
     for slowly in ([], ["slowly"]):
         trial = Trial(TREE)
         told = {}
-        equal(trial.outcome(exchanges, trial.top, *slowly), (0, b"", {}), "what exchanges the folder")
+        first = trial.outcome(exchanges, trial.top, *slowly)
+        check(first in ("ScratchFailed", (0, b"", {})), f"what exchanges the folder is told as {first!r}")
         for _ in range(100):
-            outcome = trial.outcome("sh", "-c", f"touch {trial.top}/go; until [ -e {trial.top}/busy ]; do :; done", within=60)
-            for name in ("go", "idle", "busy"):
-                Path(trial.top, name).unlink(missing_ok=True)
-            wait_for(Path(trial.top, "idle"))
-            check(outcome == "ScratchFailed" or outcome == (0, b"", {}), f"a child whose folder is changed for another is told as {outcome!r}")
+            outcome = trial.outcome("cat", "a.txt", "b.txt", within=60)
+            check(outcome == "ScratchFailed" or outcome == (0, TREE["a.txt"] + TREE["b.txt"], {}), f"a child whose folder is changed for another is told as {outcome!r}")
             told[outcome == "ScratchFailed"] = True
         Path(trial.top, "stop").touch()
         wait_for(Path(trial.top, "done.1"))

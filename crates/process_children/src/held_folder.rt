@@ -2,6 +2,9 @@
 
 use std::io;
 
+// The number of standard error.
+const LAST_STREAM: i32 = 2;
+
 /// A folder that is held open.
 #[derive(Debug)]
 pub(crate) struct HeldFolder {
@@ -36,7 +39,7 @@ impl HeldFolder {
     }
 
     fn found(dir: i32, name: &str) -> io::Result<HeldFolder> {
-        let number = os::open_dir_at(dir, name.as_bytes());
+        let number = above_streams(os::open_dir_at(dir, name.as_bytes()));
         if number < 0 {
             Err(last_error())
         } else {
@@ -54,6 +57,18 @@ impl Drop for HeldFolder {
     fn drop(self) {
         let HeldFolder { number } = self;
         libc::close(number);
+    }
+}
+
+// The number of what was opened, which is none of a child's streams: a program that was started without one of these gets its number,
+// and the child, which is started in the folder by its number, gets another file under it.
+fn above_streams(number: i32) -> i32 {
+    if 0 <= number && number <= LAST_STREAM {
+        let moved = os::duplicate(number);
+        libc::close(number);
+        moved
+    } else {
+        number
     }
 }
 

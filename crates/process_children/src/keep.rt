@@ -100,7 +100,7 @@ struct Keeping<'f, 'k, R: Files> {
 }
 
 impl<'f, 'k, R: Files> Keeping<'f, 'k, R> {
-    // Makes the folder, and the trash in it.
+    // Makes the folder, holds it, and makes the trash in it.
     fn begin(
         files: &'k R,
         alloc: Global,
@@ -109,7 +109,11 @@ impl<'f, 'k, R: Files> Keeping<'f, 'k, R> {
         piece: &mut [u8],
     ) -> Result<Keeping<'f, 'k, R>, Trouble> {
         at_place(alloc, folder, make_folder(files, folder))?;
-        let trash = at_place(alloc, folder, Trash::make_in(files, alloc, folder))?;
+        let mut own = OwnFiles::of(files, alloc, folder);
+        let place = at_place(alloc, folder, own.inside(""))?;
+        let place = place.as_str();
+        let held = at_place(alloc, folder, fs::symlink_metadata(files, place))?;
+        let trash = at_place(alloc, folder, Trash::make_in(files, alloc, place, folder))?;
         let found = match fs::symlink_metadata(files, trash.place()) {
             Ok(found) => found,
             Err(e) => {
@@ -117,11 +121,11 @@ impl<'f, 'k, R: Files> Keeping<'f, 'k, R> {
                 return at_place(alloc, folder, Err(e));
             }
         };
-        known.begin_to_note(files, alloc, &found, piece);
+        known.begin_to_note(files, alloc, &held, &found, piece);
         Ok(Keeping {
             files,
             alloc,
-            own: OwnFiles::of(files, alloc, folder),
+            own,
             trash,
             fresh: Fresh::of(&found),
             known,

@@ -1,7 +1,7 @@
 //! Files of the scratch folder whose bytes are known without being read.
 
 use crate::file_ages::Times;
-use crate::stamp::Stamp;
+use crate::stamp::{Identity, Stamp};
 use hook_base::{File, SharedFile};
 use std::alloc::{AllocError, Global};
 use std::fs::{Files, Metadata};
@@ -39,6 +39,8 @@ impl KnownFile {
 #[derive(Debug, Drop)]
 pub(crate) struct KnownFiles {
     times: Times,
+    // The scratch folder that the files lie in.
+    folder: Option<Identity>,
     files: Vec<KnownFile>,
     at: usize,
     noted: Vec<KnownFile>,
@@ -58,21 +60,29 @@ impl KnownFiles {
     fn with_times(alloc: Global, times: Times) -> KnownFiles {
         KnownFiles {
             times,
+            folder: None,
             files: Vec::new(alloc),
             at: 0,
             noted: Vec::new(alloc),
         }
     }
 
-    /// Begins a walk over the files in which they are noted anew. Something was made in their folder just before.
+    /// Begins a walk over the files of this folder, in which they are noted anew. Those that lay in another folder are known no
+    /// more. Something was made in the folder just before.
     pub(crate) fn begin_to_note<R: Files>(
         &mut self,
         files: &R,
         alloc: Global,
+        folder: &Metadata,
         made: &Metadata,
         piece: &mut [u8],
     ) {
         self.times.ask(files, alloc, made, piece);
+        let folder = Some(Identity::of(folder));
+        if self.folder != folder {
+            self.files = Vec::new(alloc);
+        }
+        self.folder = folder;
         self.noted = Vec::new(alloc);
         self.at = 0;
     }

@@ -2,13 +2,13 @@
 
 use crate::own_files::OwnFiles;
 use crate::place::standing_scratch;
+use crate::stamp::Identity;
 use std::fs::{Files, Metadata};
 use std::io::ErrorKind;
-use std::os::unix::fs::MetadataExt;
 use std::{fs, io};
 
-/// The scratch folder of a child. It is held open from when it was laid until the child's files are read back: so these are read
-/// where the child found them, and no other folder gets the number by which this one is known.
+/// The scratch folder of a child. It is held open from before its first file is laid until the child's files are read back: so all
+/// of them are laid in one folder, the child is started in it, they are read there, and no other folder gets its number meanwhile.
 #[derive(Drop)]
 pub(crate) struct LaidFolder<'a> {
     /// Its files.
@@ -42,6 +42,6 @@ impl<'a> LaidFolder<'a> {
     }
 
     fn is(&self, found: &Metadata) -> bool {
-        found.dev() == self.found.dev() && found.ino() == self.found.ino()
+        Identity::of(found) == Identity::of(&self.found)
     }
 }

@@ -181,7 +181,7 @@ impl<'a> OwnFiles<'a> {
     // a second name, by which no other process goes, and is looked at there. Where it can't have one, it is opened as it is. A
     // process that is killed meanwhile leaves the name to be a stray.
     fn open_to_read<R: Files>(&self, files: &R, place: &str) -> io::Result<R::File> {
-        let second = format!(in self.alloc; "{}/\u{1}look", self.folder)?;
+        let second = self.second_name()?;
         let second = second.as_str();
         let _gone = fs::remove_file(files, second);
         match fs::hard_link(files, place, second) {
@@ -192,6 +192,14 @@ impl<'a> OwnFiles<'a> {
             }
             Err(e) if is_in_the_way(&e) => Err(e),
             Err(_) => fs::open(files, place),
+        }
+    }
+
+    // A name in the scratch folder that no path of a tree has.
+    fn second_name(&self) -> Result<String, AllocError> {
+        match &self.scratch {
+            Some(held) => format!(in self.alloc; "{OPEN}/{}/\u{1}look", held.number()),
+            None => format!(in self.alloc; "{}/\u{1}look", self.folder),
         }
     }
 }

@@ -42,12 +42,28 @@ impl Moment {
     }
 }
 
+/// The device and the number by which the system knows a file or folder as long as it is there or held open.
+#[derive(Clone, Copy, Debug, PartialEq, Eq)]
+pub(crate) struct Identity {
+    device: u64,
+    number: u64,
+}
+
+impl Identity {
+    /// That of what was found.
+    pub(crate) fn of(found: &Metadata) -> Identity {
+        Identity {
+            device: found.dev(),
+            number: found.ino(),
+        }
+    }
+}
+
 /// What the system tells of a file. Who changes its bytes or puts another file in its place changes the stamp too, but for
 /// those cases of which the module `file_ages` speaks.
 #[derive(Clone, Copy, Debug, PartialEq, Eq)]
 pub(crate) struct Stamp {
-    device: u64,
-    number: u64,
+    identity: Identity,
     kind_and_mode: u32,
     names: u64,
     owner: u32,
@@ -61,8 +77,7 @@ impl Stamp {
     /// The stamp of what was found.
     pub(crate) fn of(found: &Metadata) -> Stamp {
         Stamp {
-            device: found.dev(),
-            number: found.ino(),
+            identity: Identity::of(found),
             kind_and_mode: found.mode(),
             names: found.nlink(),
             owner: found.uid(),
@@ -78,12 +93,12 @@ impl Stamp {
 
     /// Whether it is of the file that was found, be that changed since.
     pub(crate) fn is_of(&self, found: &Metadata) -> bool {
-        self.device == found.dev() && self.number == found.ino()
+        self.identity == Identity::of(found)
     }
 
     /// The device that the file lies on.
     pub(crate) fn device(&self) -> u64 {
-        self.device
+        self.identity.device
     }
 
     /// The number of bytes.

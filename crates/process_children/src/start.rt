@@ -1,7 +1,6 @@
 //! Starting a child.
 
 use crate::input;
-use crate::scratch_folder::ScratchFolder;
 use crate::trouble::{Trouble, at_place};
 use hook_base::Text;
 use std::alloc::Global;
@@ -10,15 +9,16 @@ use std::io;
 use std::io::ErrorKind;
 use std::process::{Child, Command, Processes, Stdio};
 
-/// Starts the words in the scratch folder, with empty standard input and a pipe for each output, in the environment of
-/// this process. A program word with a slash that doesn't begin with one is taken within the folder, one without a slash is
+/// Starts the words in a folder, with empty standard input, which is locked on a byte, and a pipe for each output, in the
+/// environment of this process. A program word with a slash that doesn't begin with one is taken within the folder, one without a slash is
 /// looked for along `PATH`. No open file but these three is handed on.
 ///
 /// The program word and the system's error where it can't be started, or where there is no word.
 pub(crate) fn start<R: Files<File = File> + Processes>(
     runtime: &R,
     alloc: Global,
-    scratch: &ScratchFolder,
+    folder: &str,
+    input_byte: u64,
     words: &[Text],
 ) -> Result<Child<R::Started>, Trouble> {
     let Some((program, arguments)) = words.split_first() else {
@@ -29,8 +29,8 @@ pub(crate) fn start<R: Files<File = File> + Processes>(
     for argument in arguments {
         let _command = command.arg(argument.as_str())?;
     }
-    let command = command.current_dir(scratch.place())?;
-    let input = input::open(runtime, scratch.input_byte());
+    let command = command.current_dir(folder)?;
+    let input = input::open(runtime, input_byte);
     let command = command.stdin(at_place(alloc, program.as_str(), input)?);
     let command = command.stdout(Stdio::piped());
     let command = command.stderr(Stdio::piped());

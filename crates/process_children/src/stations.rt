@@ -111,9 +111,11 @@ impl<R: Files<File = File> + Processes<Started = SystemProcess> + AllocGlobal + 
         let piece = piece.as_mut_slice();
         let (place, known) = (scratch.place(), &mut self.known);
         let laid = keep_as(&self.runtime, alloc, place, tree, known, piece);
-        let laid = self.troubles.note_files(laid)?;
+        let mut laid = self.troubles.note_files(laid)?;
         self.known.child_starts(laid.found());
-        let ending = self.ending_in(scratch, words, piece)?;
+        let inside = at_place(alloc, place, laid.own.inside(""));
+        let inside = self.troubles.note_files(inside)?;
+        let ending = self.ending_in(inside.as_str(), scratch.input_byte(), words, piece)?;
         let changes = read_back(&self.runtime, alloc, laid, tree, &mut self.known, piece);
         Ok(Answer {
             status: ending.status,
@@ -122,16 +124,17 @@ impl<R: Files<File = File> + Processes<Started = SystemProcess> + AllocGlobal + 
         })
     }
 
-    // Starts a child, and waits for its end. What is written down while it runs that it called goes before how it ended.
+    // Starts a child in a folder, and waits for its end. What is written down while it runs that it called goes before how it ended.
     fn ending_in(
         &mut self,
-        scratch: &ScratchFolder,
+        folder: &str,
+        input_byte: u64,
         words: &[Text],
         piece: &mut [u8],
     ) -> Result<Ending, Stop> {
         let alloc = self.runtime.alloc();
         let before = self.call_bytes()?;
-        let child = start(&self.runtime, alloc, scratch, words);
+        let child = start(&self.runtime, alloc, folder, input_byte, words);
         let ending = ending_of(alloc, self.troubles.note_start(child)?, piece);
         if self.call_bytes()? == before {
             ending

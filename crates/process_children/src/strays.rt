@@ -128,16 +128,13 @@ pub(crate) fn empty_trash<R: Files>(
         let wanted = Belonging {
             tree: &nothing,
             folder: "",
-            place: folder.as_str(),
-            shown: folder.as_str(),
+            place: folder.place.as_str(),
+            shown: folder.shown.as_str(),
             besides: Besides::Nothing,
         };
         take_strays(files, alloc, trash, &wanted)?;
-        at_place(
-            alloc,
-            folder.as_str(),
-            fs::remove_dir(files, folder.as_str()),
-        )?;
+        let removed = fs::remove_dir(files, folder.place.as_str());
+        at_place(alloc, folder.shown.as_str(), removed)?;
     }
-    at_place(alloc, trash.place(), fs::remove_dir(files, trash.place()))
+    at_place(alloc, trash.shown(), fs::remove_dir(files, trash.place()))
 }

@@ -6,6 +6,15 @@ use std::fs::Files;
 use std::io::ErrorKind;
 use std::{fs, io};
 
+/// A folder that was moved into the trash.
+#[derive(Debug, Drop)]
+pub(crate) struct MovedFolder {
+    /// Where it stands.
+    pub place: String,
+    /// The same, as it is told.
+    pub shown: String,
+}
+
 /// A new folder in the scratch folder, into which other folders are moved to be emptied one by one. However deep they
 /// lie within one another, and whatever their names, each then has a short path. Its own name begins with a byte that no
 /// path of a tree has.
@@ -13,17 +22,24 @@ use std::{fs, io};
 pub(crate) struct Trash {
     alloc: Global,
     place: String,
+    shown: String,
     moved: u64,
     emptied: u64,
 }
 
 impl Trash {
-    /// Makes the folder, under the first name that isn't taken.
-    pub(crate) fn make_in<R: Files>(files: &R, alloc: Global, folder: &str) -> io::Result<Trash> {
+    /// Makes the folder in the one at `place`, which is told as `shown`, under the first name that isn't taken.
+    pub(crate) fn make_in<R: Files>(
+        files: &R,
+        alloc: Global,
+        place: &str,
+        shown: &str,
+    ) -> io::Result<Trash> {
         for number in 0..u64::MAX {
-            let place = format!(in alloc; "{folder}/\u{1}{number}")?;
+            let place = format!(in alloc; "{place}/\u{1}{number}")?;
+            let shown = format!(in alloc; "{shown}/\u{1}{number}")?;
             match fs::create_dir(files, place.as_str()) {
-                Ok(()) => return Ok(Trash::at(alloc, place)),
+                Ok(()) => return Ok(Trash::at(alloc, place, shown)),
                 Err(e) if e.kind() == ErrorKind::AlreadyExists => {}
                 Err(e) => return Err(e),
             }
@@ -31,10 +47,11 @@ impl Trash {
         Err(io::Error::from(ErrorKind::AlreadyExists))
     }
 
-    fn at(alloc: Global, place: String) -> Trash {
+    fn at(alloc: Global, place: String, shown: String) -> Trash {
         Trash {
             alloc,
             place,
+            shown,
             moved: 0,
             emptied: 0,
         }
@@ -43,6 +60,11 @@ impl Trash {
     /// Where it stands.
     pub(crate) fn place(&self) -> &str {
         self.place.as_str()
+    }
+
+    /// Where it stands, as it is told.
+    pub(crate) fn shown(&self) -> &str {
+        self.shown.as_str()
     }
 
     /// Its name in the folder that it stands in.
@@ -72,26 +94,26 @@ impl Trash {
 
     // A folder whose owner may not write can't be moved, and can't be emptied.
     fn move_here(&mut self, place: &[u8]) -> io::Result<()> {
-        let moved = self.numbered(self.moved)?;
+        let moved = self.numbered(self.place(), self.moved)?;
         succeeded(os::chmod(place, 0o700))?;
         succeeded(os::rename(place, moved.as_str().as_bytes()))?;
         self.moved = self.moved.saturating_add(1);
         Ok(())
     }
 
-    /// The place of the next folder that was moved here, or `None` after the last. It is to be emptied and removed.
-    pub(crate) fn next_folder(&mut self) -> Result<Option<String>, AllocError> {
+    /// The next folder that was moved here, or `None` after the last. It is to be emptied and removed.
+    pub(crate) fn next_folder(&mut self) -> Result<Option<MovedFolder>, AllocError> {
         if self.emptied == self.moved {
             return Ok(None);
         }
-        let place = self.numbered(self.emptied)?;
+        let place = self.numbered(self.place(), self.emptied)?;
+        let shown = self.numbered(self.shown(), self.emptied)?;
         self.emptied = self.emptied.saturating_add(1);
-        Ok(Some(place))
+        Ok(Some(MovedFolder { place, shown }))
     }
 
-    fn numbered(&self, number: u64) -> Result<String, AllocError> {
-        let place = self.place.as_str();
-        format!(in self.alloc; "{place}/{number}")
+    fn numbered(&self, folder: &str, number: u64) -> Result<String, AllocError> {
+        format!(in self.alloc; "{folder}/{number}")
     }
 }
 
