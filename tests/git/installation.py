@@ -1,5 +1,6 @@
 #!/usr/bin/env python3
-"""Plays share/install, which puts hookhost where a Unix looks for it, and share/package, which makes a package of Debian of it.
+"""Plays share/install, which puts hookhost where a Unix looks for it, share/package, which makes a package of Debian of it, and
+share/stamp, by which both tell how it was built (tests/git/installation_stamps.py).
 
 Usage: tests/git/installation.py [PROGRAM [PART [ROOT]]]   (default: crates/hookhost/out/hookhost, all cases)
 
@@ -21,9 +22,11 @@ import tarfile
 import tempfile
 
 sys.path.insert(0, os.path.abspath(f"{__file__}/../../shared"))
+from build_stamps import PROVED
 from git_bridge_readme import session
 from git_bridge_repository import BLANKS, PROGRAM, TOP, WORDS, Answer, Repository, Wrong, check, content, environment, made, not_made, same
 from installation_root import Root
+from installation_stamps import CASES as CASES_OF_STAMPS, lay_sources, line_up
 
 PART, ROOT = (sys.argv + ["", "", ""])[2:4]
 # What is put below the prefix: its mode, and what it is a copy of.
@@ -43,10 +46,11 @@ LIST = "share/hookhost/installed"
 BASH_COMPLETION = "/usr/share/bash-completion/bash_completion"
 # Variables that would say where the program is, where shells look, or when a package was made.
 UNSET = ["HOOKHOST", "XDG_DATA_HOME", "XDG_DATA_DIRS", "SOURCE_DATE_EPOCH"]
-# Words that share/install and share/package don't take.
+# Words that share/install, share/package and share/stamp don't take.
 NO_WORDS = {
     "install": ["--no-such", "x", "--prefix", "--prefix=", "--destdir", "--destdir=", "--prefix --uninstall", "--uninstall x"],
     "package": ["--no-such", "a b", "-x"],
+    "stamp": ["", "--no-such", "x", "x maybe", "x proved y z", "-x proved", "--copy-of x", "--commit x"],
 }
 # The time of all commits of tests/git/git_bridge_repository.py, in seconds and as a version has it.
 COMMITTED, SHOWN = 1795766400, "20261127080000"
@@ -85,6 +89,11 @@ class Desk:
 
     def at(self, place):
         return os.path.join(self.prefix, place)
+
+    def run_bridge(self, *words):
+        """What the Git script of the clone prints, over its program."""
+        env = self.env | {"HOOKHOST": self.program}
+        return subprocess.run([os.path.join(self.clone, "git/hookhost-git"), *words], cwd=self.top, env=env, check=True, capture_output=True, text=True, timeout=60).stdout
 
     def write(self, path, text, mode=0o644):
         path = os.path.join(self.top, path)
@@ -351,6 +360,23 @@ def a_fault_changes_nothing(desk):
         shutil.rmtree(os.path.join(desk.top, "a home"))
 
 
+def who_stops_reading_stops_nothing(desk):
+    """As `share/install | head -n 1` does. A second time there is an old file to be removed."""
+    for old in (False, True):
+        if old:
+            desk.write(desk.at("share/old"), "old\n")
+            digest = subprocess.run(["cksum"], input="old\n", capture_output=True, text=True, timeout=60).stdout.rstrip()
+            with open(desk.at(LIST), "a", encoding="utf-8") as file:
+                file.write(f"file {digest} share/old\n")
+        read, written = os.pipe()
+        os.close(read)
+        subprocess.run([os.path.join(desk.clone, "share/install"), "--prefix", desk.prefix], env=desk.env, stdout=written, stderr=subprocess.DEVNULL, timeout=60)
+        os.close(written)
+        is_whole(desk, desk.prefix)
+        found = snapshot(os.path.join(desk.top, "a home"))
+        same("files", {os.path.relpath(path, "it's mine") for path, (_, held) in found.items() if held != "folder"}, {*PLACES, LIST})
+
+
 # ---- packages
 
 
@@ -391,17 +417,19 @@ def libc_of(program):
     return max(re.findall(r"Name: GLIBC_([0-9.]+)", shown), key=lambda it: [int(part) for part in it.split(".")])
 
 
-def runs_unpacked(desk, tar):
-    """Checks that the programs of the tar find each other."""
+def runs_unpacked(desk, tar, build):
+    """Checks that the programs of the tar find each other, and say how they were built."""
     subprocess.run(["tar", "-xzf", tar, "--strip-components=2", "--one-top-level=unpacked"], cwd=desk.top, check=True, timeout=60)
     env = desk.env | {"PATH": f"{desk.top}/unpacked/bin:/usr/bin:/bin"}
     done = subprocess.run(["hookhost-git", "--version"], env=env, capture_output=True, text=True, timeout=60)
-    says(done.stdout, "hookhost-git, over hookhost 0.1.0")
+    says(done.stdout, "hookhost-git, over hookhost 0.1.0\n", f"\n{build}")
 
 
 def packages_have_all(desk):
     """The package and the tar: what they say, what is in them, and that they are made twice alike."""
+    lay_sources(desk)
     head = desk.commit().head()
+    build = f"{PROVED}{head[:12]}\n"
     deb, tar = desk.package("packages")
     version = f"0.1.0~git{SHOWN}.{head[:8]}"
     names = f"hookhost_{version}_{ARCHITECTURE}.deb", f"hookhost-{version}-{ARCHITECTURE}.tar.gz"
@@ -415,7 +443,8 @@ def packages_have_all(desk):
         name, bytes_of = ("usr/" + place + ".gz", gzip.decompress) if "/man/" in place else ("usr/" + place, bytes)
         check(name in held, f"the package has no {name}")
         same(f"mode, owner and time of {name}", held[name][:4], (mode, 0, 0, COMMITTED))
-        check(bytes_of(held[name][4]) == content(os.path.join(desk.clone, source)), f"{name} isn't {source}")
+        wanted = content(os.path.join(desk.clone, source)) + (line_up(build.encode()) if name == "usr/bin/hookhost" else b"")
+        check(bytes_of(held[name][4]) == wanted, f"{name} isn't {source}")
     same("modes and owners", {(mode, user, group) for mode, user, group, _, data in held.values() if data is None}, {(0o755, 0, 0)})
     documents = {name.removeprefix("usr/share/doc/hookhost/") for name in held if name.startswith("usr/share/doc/hookhost/")}
     pages = {"docs/" + name for name in os.listdir(os.path.join(desk.clone, "docs"))}
@@ -427,7 +456,7 @@ def packages_have_all(desk):
     again = desk.package("again", env={"TZ": "Asia/Tokyo", "LC_ALL": "C.UTF-8", "TMPDIR": desk.home}, umask=0o077)
     for first, second in zip((deb, tar), again):
         check(content(first) == content(second), f"{os.path.basename(first)} is another when it is made again")
-    runs_unpacked(desk, tar)
+    runs_unpacked(desk, tar, build)
 
 
 def versions_follow_the_commit(desk):
@@ -516,8 +545,8 @@ def a_bare_debian_runs_the_package(desk):
 CASES = [
     files_lie_where_a_unix_looks, any_folder_will_do, pages_are_found, completions_load_in_bash, the_installed_programs_find_each_other,
     what_is_left_to_do_is_told, uninstall_leaves_all_else, what_was_changed_since_is_left, an_old_one_is_replaced_whole, links_are_replaced,
-    an_unbuilt_program_changes_nothing, unknown_words_are_refused, a_fault_changes_nothing, a_destdir_stands_for_the_top,
-    packages_have_all, versions_follow_the_commit, a_bare_debian_runs_the_package,
+    an_unbuilt_program_changes_nothing, unknown_words_are_refused, a_fault_changes_nothing, who_stops_reading_stops_nothing, a_destdir_stands_for_the_top,
+    *CASES_OF_STAMPS, packages_have_all, versions_follow_the_commit, a_bare_debian_runs_the_package,
 ]
 
 

@@ -18,6 +18,7 @@ A session file holds cases. `== NAME` begins a case, in an empty folder. Within 
   -- run-bytes WORD ..   the same with Python's escapes, the words cut at blanks, for words that no text file keeps
   -- stdout, -- stderr   what that command printed there, to the byte (nothing where left out)
   -- stdout bytes   the same of standard output with Python's escapes; line ends are as written
+  -- stdout build   the same of standard output, and then the line that the end of the program's file says of its build
   -- shown in PATH  what it printed stands in that file of the repository, to the byte
   -- stderr contains TEXT   a part of what it printed there
   -- status N       its exit status (0 where left out)
@@ -45,6 +46,7 @@ import sys
 import tempfile
 
 sys.path.insert(0, os.path.abspath(f"{__file__}/../../shared"))
+from build_stamps import build_line
 from places import TOP, program
 
 PROGRAM = os.path.abspath(sys.argv[1] if len(sys.argv) > 1 else program("hookhost"))
@@ -104,7 +106,8 @@ def commands_of(steps):
             stdin, is_locked, environment = b"", False, {}
             yield "run", command, None
         elif word == "stdout":
-            command["stdout"] = unescaped(body.replace("\n", "")) if rest == "bytes" else body.encode()
+            told = body + (build_line(PROGRAM) if rest == "build" else "")
+            command["stdout"] = unescaped(body.replace("\n", "")) if rest == "bytes" else told.encode()
         elif word == "stderr" and rest.startswith("contains "):
             command["part"] = rest[len("contains "):].encode()
         elif word == "stderr":

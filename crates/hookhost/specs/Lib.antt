@@ -1,3 +1,4 @@
+pub mod BuildStamps
 pub mod FileTrees
 pub mod Stops
 pub mod Works

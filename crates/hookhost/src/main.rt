@@ -5,6 +5,7 @@
 ghost use Rattle.std.specs.Prelude.{◌≡◌};
 ghost use Rattle.hookhost.specs.Stops.{status_of_run};
 
+mod build_stamp;
 mod commands;
 mod explained;
 mod file_tree;
@@ -24,6 +25,7 @@ mod undone_fix;
 mod unstaged_words;
 mod work;
 
+use build_stamp::{build_line, end_of_program};
 use commands::{change, look_up};
 use explained::explain_file;
 use files::{read_configuration, read_tree};
@@ -73,13 +75,14 @@ fn run(rt: &HostRuntime) -> Result<u8, Stop> {
     }
 }
 
-// Prints the version where the words ask for it; else the error stops the program.
+// Prints the version, and how the program was built, where the words ask for it; else the error stops the program.
 fn version_or_usage(rt: &HostRuntime, error: clap::Error) -> Result<u8, Stop> {
     if error.kind() != clap::error::ErrorKind::DisplayVersion {
         return Err(Stop::Usage(error));
     }
-    let text = format!(in rt.alloc(); "{error}")?;
-    print(rt, text.as_bytes()).map_err(|_| Stop::Refused(TryFault::Write))?;
+    let mut text = format!(in rt.alloc(); "{error}")?.into_bytes();
+    text.extend_from_slice(build_line(&end_of_program(rt)))?;
+    print(rt, text.as_slice()).map_err(|_| Stop::Refused(TryFault::Write))?;
     Ok(DONE)
 }
 
