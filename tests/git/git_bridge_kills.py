@@ -10,7 +10,7 @@ import signal
 import subprocess
 import time
 
-from git_bridge_repository import BLANKS, BRIDGE, Repository, Wrong, check, content, names_hook, same
+from git_bridge_repository import BLANKS, BRIDGE, Repository, Wrong, check, content, names_hook, same, shell
 
 # What the script starts. Each is found in a folder of its own first, where a script stands that counts.
 COMMANDS = ["awk", "cat", "chmod", "cmp", "cp", "find", "flock", "git", "ln", "mkdir", "mv", "rm", "sed", "tr", "wc", "hookhost"]
@@ -24,16 +24,20 @@ fi
 exec {command} "$@"
 """
 STRAY = ".hookhost-git."
+# A hook that calls Git, twice at once, says what it finds, and writes.
+CALLS_GIT = "id: calls, name: Calls, language: system, verbose: true, pass_filenames: false, always_run: true, " + shell("git ls-files & git status --short > /dev/null; wait; git config a.b; git config a.b c; git log --oneline; true")
 # More commands than the script starts, and how many kills come at random.
 MOST_COMMANDS, KILLS_AT_RANDOM = 300, 16
+# Of the commands of a run in which a hook calls Git each that has this distance from the next is killed before.
+DISTANCE = 5
 # At most so many runs are tried until one isn't kept out by what a killed one has started.
 MOST_TRIES = 200
 
 
-def make(folder, env, rng):
+def make(folder, env, rng, *hooks):
     """A repository that was synced, with further changes that are staged: some files hooks fix, and one they remove."""
     git = Repository.made(folder, env, "--template=")
-    git.configure(BLANKS, names_hook("types: [executable]"), "id: tidy, name: Tidy, language: system, entry: rm -f --, files: 'tmp$'")
+    git.configure(BLANKS, names_hook("types: [executable]"), "id: tidy, name: Tidy, language: system, entry: rm -f --, files: 'tmp$'", *hooks)
     for path in ("a.txt", "b.txt", "d/c.txt", "d/run.sh", "e"):
         git.add(path, f"{path}\n", rng.choice([0o644, 0o755]))
     same("the first run", git.bridge("run").status, 0)
@@ -109,6 +113,8 @@ def go_on(git, before, whole, rng):
     same("the working files after it", git.working_files(), whole.files)
     same("the store after it", git.store_holds(), whole.store)
     same("what lies in the store's folder", os.listdir(os.path.join(git.home(), "files")), [".hookhost"])
+    same("what is left of a repository", [name for name in os.listdir(git.home()) if name.startswith(("repository", "served"))], [])
+    same("what is left next to the folder of hooks", [name for name in os.listdir(os.path.dirname(git.scratch())) if name.startswith(".git")], [])
 
 
 # ---- before each command
@@ -127,11 +133,19 @@ def counting_commands(top, env):
 
 
 def killed_before_each_command(top, env):
+    killed_before_commands(top, env, 1)
+
+
+def killed_while_a_hook_calls_git(top, env):
+    killed_before_commands(top, env, DISTANCE, CALLS_GIT)
+
+
+def killed_before_commands(top, env, distance, *hooks):
     """In every second run no link leads from one folder to another, so that files are written beside working files."""
     counting = counting_commands(top, env)
-    first = make(os.path.join(top, "first"), env, random.Random(1))
+    first = make(os.path.join(top, "first"), env, random.Random(1), *hooks)
     before, whole, over = first.working_files(), Whole(first), set()
-    for at in range(1, MOST_COMMANDS):
+    for at in range(1, MOST_COMMANDS, distance):
         git, links = copied(first, os.path.join(top, f"killed {at}")), "" if at % 2 else "none"
         if os.path.exists(counting["KILL_COUNT"]):
             os.remove(counting["KILL_COUNT"])
@@ -154,7 +168,7 @@ def killed_before_each_command(top, env):
 
 def killed_at_random(top, env):
     rng = random.Random(2)
-    first = make(os.path.join(top, "first"), env, rng)
+    first = make(os.path.join(top, "first"), env, rng, CALLS_GIT)
     before, whole = first.working_files(), Whole(first)
     start = time.monotonic()
     copied(first, os.path.join(top, "timed")).bridge("run")
@@ -173,4 +187,4 @@ def killed_at_random(top, env):
         shutil.rmtree(git.folder)
 
 
-KILLS = [killed_before_each_command, killed_at_random]
+KILLS = [killed_before_each_command, killed_while_a_hook_calls_git, killed_at_random]

@@ -150,7 +150,7 @@ def answers_of_an_earlier_version_are_forgotten(top, env):
     git = repository(top, env, starts_hook(log, "x_reads: ''"))
     git.add("a.txt", "a\n")
     synced = os.path.join(git.home(), "synced")
-    for change, count in ((None, 1), (None, 1), (lambda text: text.removeprefix("2:"), 2), (None, 2), (lambda text: "1" + text[1:], 3), (lambda text: "", 4), (None, 4)):
+    for change, count in ((None, 1), (None, 1), (lambda text: text.removeprefix("3:"), 2), (None, 2), (lambda text: "2" + text[1:], 3), (lambda text: "", 4), (None, 4)):
         if change:
             git.write(synced, change(content(synced).decode()))
         same("run", git.bridge("run").status, 0)

@@ -193,11 +193,26 @@ def what_is_left_out_does_not_pass(desk):
     not_made(desk.commit(), ".hookhost/x")
 
 
-def a_hook_that_calls_git_is_refused(desk):
-    desk.starts_with(system("plain", shell("true")), system("secrets", shell("! git grep -q secret")))
+def a_hook_that_calls_git_looks_at_the_commit(desk):
+    desk.starts_with(system("branch", shell("test \"$(git branch --show-current)\" != main")), system("secrets", shell("! git grep -n secret a.txt")))
+    desk.git.add("a.txt", "secret\n")
+    not_made(desk.commit(), "branch....", "a.txt:1:secret")
+    desk.git.git("checkout", "--quiet", "-b", "work")
+    desk.git.add("a.txt", "none\n")
+    desk.git.write("a.txt", "a secret that isn't staged\n")
+    answer = desk.commit()
+    made(answer, "branch....", "secrets....")
+    check("Failed" not in answer[1], f"a hook failed: {answer[1]!r}")
+    desk.git.git("checkout", "--quiet", "-f", "main")
+    desk.git.git("merge", "--quiet", "--squash", "work")
+    not_made(desk.commit(), "branch....", "Failed")
+
+
+def a_hook_that_names_no_repository_is_refused(desk):
+    desk.starts_with(system("plain", shell("true")), system("secrets", shell("! git --git-dir=.git grep -q secret")))
     desk.git.add("a.txt", "secret\n")
     answer = desk.commit()
-    not_made(answer, "secrets", "git grep -q secret")
+    not_made(answer, "secrets", "git --git-dir=.git grep -q secret")
     check("plain....." not in answer[1] or "Passed" not in answer[1], f"a verdict is printed: {answer[1]!r}")
     same("what stays cached", desk.git.store("memory").out, "remembered: 0\n")
     made(desk.commit(SKIP="secrets"))
@@ -332,7 +347,7 @@ def install_lists_stages(desk):
 
 SESSIONS = [
     tools_find_the_top_of_a_tree, scripts_are_executable, a_lost_folder_removes_nothing, many_files_are_not_removed, a_fix_loses_no_text,
-    what_is_left_out_does_not_pass, a_hook_that_calls_git_is_refused, what_cannot_be_started_is_named, variables_name_the_top,
+    what_is_left_out_does_not_pass, a_hook_that_calls_git_looks_at_the_commit, a_hook_that_names_no_repository_is_refused, what_cannot_be_started_is_named, variables_name_the_top,
     an_edit_of_a_configuration_file_counts, a_failure_is_not_cached, a_tool_is_installed_and_upgraded, a_second_commit_starts_nothing,
     a_run_takes_names_and_options, a_diff_is_shown_on_failure, no_hint_leads_out_of_git, a_refused_configuration_is_explained, install_lists_stages,
 ]

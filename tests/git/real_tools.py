@@ -37,10 +37,8 @@ PACKAGES = {
     "ruby-mdl": "mdl", "shellcheck": "shellcheck", "silversearcher-ag": "ag", "tidy": "tidy", "vulture": "vulture", "yamllint": "yamllint",
 }
 
-CALLS_GIT = "the hook of Git has no repository for hooks, so a hook that calls Git is refused, and left to pre-commit"
-
-# What differs from pre-commit: the way, the step or `*` for each, and the hook; with the reason.
-DIFFERENCES = {(way, "*", case.id): CALLS_GIT for way in ("hook of Git", "commit") for case in real_tools_searches.git_cases()}
+# What differs from pre-commit: the way, the step or `*` for each, and the hook; with the reason. Nothing does.
+DIFFERENCES = {}
 
 IN_MEMORY = "/dev/shm"
 
