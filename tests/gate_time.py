@@ -1,12 +1,14 @@
 #!/usr/bin/env python3
 """Runs the parts of tests/run or tests/prove, up to the first that fails, and prints what each said last and where the time went.
 
-Usage: tests/gate_time.py --name=NAME --budget=N [--before=COMMAND] [--in=FOLDER] FILE
+Usage: tests/gate_time.py --name=NAME --budget=N --programs=COMMAND [--in=FOLDER] FILE
 
-FILE has a command a line, and comments. Those before the line `--` run in turn, and then COMMAND; those after it side by side,
-one a processor, begun in this order, and what each prints is shown once it has ended. The scripts run in FOLDER. N is how many
-processor minutes all may take; more are told. The last line, `N passed, M failed`, counts the cases of all scripts: each ends
-with a line that counts its own.
+FILE has a command a line, and comments. Those before the line `--` run in turn. Then COMMAND makes the programs, and says of
+each when it is there. A line after `--` names the programs that its command plays, and then the command. These run side by side,
+begun in this order, each once its programs are there: one a processor, and further ones while a processor is idle. As long as
+COMMAND runs, one is begun if a processor is idle. What each prints is shown once it has ended. All of these run in FOLDER. N is
+how many processor minutes all may take; more are told. The last line, `N passed, M failed`, counts the cases of all scripts:
+each ends with a line that counts its own.
 
 A part's processor time is what the system counts for it and for all that it started. Where it is the checker's, the processes
 below it are looked at twice a second, and their time goes to the crate that their command line or folder names: to its
@@ -23,12 +25,13 @@ import sys
 import threading
 import time
 from collections import defaultdict
-from concurrent.futures import ThreadPoolExecutor
 
-PAUSE = 0.5
+PAUSE, IDLE_SECONDS = 0.5, 5
 START = time.monotonic()
 TICKS = os.sysconf("SC_CLK_TCK")
 PHASES = ["proofs", "edits", "program"]
+# What the checker, or what builds programs without proofs, says of a program that is there.
+MADE = re.compile(rb"(?:rt: )?(\w+)(?: proved|: the proved program|: built without proofs .*)\n")
 
 
 def processes():
@@ -108,10 +111,12 @@ class Watch:
 
 
 class Part:
-    """A part of the gate: its command, and once it ran its status, its last line, its seconds, and those of processors."""
+    """A part of the gate: its command, the programs that it plays, and once it ran its status, its last line, its seconds, and
+    those of processors."""
 
-    def __init__(self, name, folder="."):
-        self.name, self.folder, self.status, self.said, self.took, self.seconds, self.by_work = name, folder, None, "", 0.0, 0.0, {}
+    def __init__(self, name, folder=".", programs=()):
+        self.name, self.folder, self.programs = name, folder, frozenset(programs)
+        self.status, self.said, self.took, self.seconds, self.by_work = None, "", 0.0, 0.0, {}
 
     def run(self, show):
         """Runs the part, and shows its lines as they come."""
@@ -147,38 +152,97 @@ def minutes():
     return f"{(time.monotonic() - START) / 60:.1f} minutes"
 
 
-def show_with_time(line):
-    """Shows a line of the checker, which begins what it says of a crate by two signs."""
-    show(b"after " + minutes().encode() + b": " + line if line.startswith(b"== ") else line)
+def with_time(line):
+    """A line of the checker, which begins what it says of a crate by two signs, with the time."""
+    return b"after " + minutes().encode() + b": " + line if line.startswith(b"== ") else line
 
 
 def run_in_turn(parts):
     """Runs the parts up to the first that fails, and says whether all passed."""
     for part in parts:
         print(f"after {minutes()}: {part.name}", flush=True)
-        part.run(show_with_time)
+        part.run(show)
         if part.status:
             return False
     return True
 
 
-def run_side_by_side(parts):
-    """Runs the parts, one a processor. Once one has failed, none is begun any more."""
-    printing, failed = threading.Lock(), threading.Event()
+class Idleness:
+    """Whether a processor that the gate may use has been idle for the last seconds."""
 
-    def run(part):
-        if failed.is_set():
-            return
+    def __init__(self):
+        self.begin()
+
+    def begin(self):
+        """Looks from now on."""
+        self.since, self.before = time.monotonic(), self.idle_seconds()
+
+    @staticmethod
+    def idle_seconds():
+        """How long the processors have been idle, all together."""
+        ours = {f"cpu{number}" for number in os.sched_getaffinity(0)}
+        with open("/proc/stat", encoding="ascii") as file:
+            lines = [line.split() for line in file]
+        return sum(int(words[4]) + int(words[5]) for words in lines if words[0] in ours) / TICKS
+
+    def is_there(self):
+        """Says so after each stretch of time, and then begins the next one."""
+        passed = time.monotonic() - self.since
+        if passed < IDLE_SECONDS:
+            return False
+        idle = self.idle_seconds() - self.before
+        self.begin()
+        return idle >= 0.9 * passed
+
+
+class SideBySide:
+    """What makes the programs, and the scripts that play them."""
+
+    def __init__(self, maker, scripts):
+        self.maker, self.scripts, self.left, self.running = maker, scripts, list(scripts), []
+        self.made, self.printing, self.idleness = set(), threading.Lock(), Idleness()
+
+    def run(self):
+        """Runs all, up to the first that fails: those that run then go on to their end."""
+        making = threading.Thread(target=self.make)
+        making.start()
+        while making.is_alive() or self.running or self.left:
+            self.running = [thread for thread in self.running if thread.is_alive()]
+            if self.has_failed():
+                self.left = []
+            if part := self.next(making.is_alive()):
+                self.left.remove(part)
+                self.running.append(threading.Thread(target=self.play, args=[part]))
+                self.running[-1].start()
+            else:
+                time.sleep(PAUSE)
+
+    def make(self):
+        print(f"after {minutes()}: {self.maker.name}", flush=True)
+        self.maker.run(self.hear)
+
+    def hear(self, line):
+        if found := MADE.fullmatch(line):
+            self.made.add(found[1].decode())
+        with self.printing:
+            show(with_time(line))
+
+    def play(self, part):
         lines = []
         part.run(lines.append)
-        if part.status:
-            failed.set()
-        with printing:
+        with self.printing:
             print(f"after {minutes()}: {part.name}, within {part.took / 60:.1f} minutes", flush=True)
             show(b"".join(lines))
 
-    with ThreadPoolExecutor(len(os.sched_getaffinity(0))) as pool:
-        list(pool.map(run, parts))
+    def has_failed(self):
+        return any(part.status for part in [self.maker, *self.scripts])
+
+    def next(self, is_making):
+        """The script that is to be begun now, if any."""
+        processors = len(os.sched_getaffinity(0))
+        ready = [part for part in self.left if part.programs <= self.made]
+        is_free = not is_making and len(self.running) < processors or len(self.running) < 2 * processors and self.idleness.is_there()
+        return ready[0] if ready and is_free else None
 
 
 def show_times(parts):
@@ -198,18 +262,19 @@ def show_times(parts):
         print(f"  {part.name + (', the rest' if part.by_work else ''):60}{own:9.1f}, within {part.took / 60:.1f} minutes")
 
 
-def parts_of(file, before, folder):
-    """The parts that run in turn, and those that run side by side."""
+def parts_of(file, folder):
+    """The parts that run in turn, and the scripts that play programs."""
     lines = [line.strip() for line in file.read().splitlines() if line.strip() and not line.startswith("#")]
     cut = lines.index("--")
-    return [Part(name, folder) for name in lines[:cut]] + [Part(name) for name in before], [Part(name, folder) for name in lines[cut + 1:]]
+    scripts = [line.split(": ", 1) for line in lines[cut + 1:]]
+    return [Part(name, folder) for name in lines[:cut]], [Part(name, folder, programs.split()) for programs, name in scripts]
 
 
 def options():
     reader = argparse.ArgumentParser(description="Runs the parts of tests/run or tests/prove.")
     reader.add_argument("--name", required=True)
     reader.add_argument("--budget", type=int, required=True)
-    reader.add_argument("--before", action="append", default=[])
+    reader.add_argument("--programs", required=True)
     reader.add_argument("--in", dest="folder", default=".")
     reader.add_argument("file", type=argparse.FileType())
     return reader.parse_args()
@@ -218,10 +283,11 @@ def options():
 def main():
     signal.signal(signal.SIGTERM, lambda number, _: sys.exit(128 + number))
     words = options()
-    first, rest = parts_of(words.file, words.before, words.folder)
+    first, scripts = parts_of(words.file, words.folder)
+    maker = Part(words.programs)
     if run_in_turn(first):
-        run_side_by_side(rest)
-    parts = first + rest
+        SideBySide(maker, scripts).run()
+    parts = [*first, maker, *scripts]
     ran = [part for part in parts if part.status is not None]
     show_times(ran)
     for part in ran:
