@@ -9,8 +9,6 @@ mod columns;
 mod line;
 mod shown_children;
 mod shown_hook;
-#[cfg(test)]
-mod tests;
 
 pub use columns::columns_of;
 pub use line::{clearing, line_of_child, line_of_hook};

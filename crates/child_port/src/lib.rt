@@ -20,8 +20,6 @@ mod seen_indexes;
 mod table;
 mod table_outcome;
 mod table_row;
-#[cfg(test)]
-mod tests;
 mod words;
 
 pub use answer::{Answer, Outcome};

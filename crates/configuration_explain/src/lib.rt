@@ -30,8 +30,6 @@ mod shown;
 mod stages;
 mod tables;
 mod taken;
-#[cfg(test)]
-mod tests;
 mod yaml_sentence;
 
 pub use explained_file::{Explanation, explain};

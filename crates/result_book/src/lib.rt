@@ -13,8 +13,6 @@ pub mod laws;
 mod list_book;
 mod rows;
 mod store_book;
-#[cfg(test)]
-mod tests;
 
 pub use book::Book;
 pub use book_fault::BookFault;

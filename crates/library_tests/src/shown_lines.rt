@@ -1,6 +1,7 @@
-//! Tests of what no clause says: that lines are made, by example, and what a terminal is told while a child runs.
+//! Tests of what no clause of `child_display` says: that lines are made, by example, and what a terminal is told while a child
+//! runs.
 
-use crate::{
+use child_display::{
     ShownChildren, ShownHook, Terminal, clearing, columns_of, line_of_child, line_of_hook,
 };
 use child_port::{Answer, Children, Fault, FuseChildren, Outcome, TableChildren, TableRow};

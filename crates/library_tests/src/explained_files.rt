@@ -1,6 +1,6 @@
-//! Tests of what no clause says: the texts that are printed.
+//! Tests of what no clause of `configuration_explain` says: the texts that are printed.
 
-use crate::explain;
+use configuration_explain::explain;
 use hook_base::{OutOfMemory, Text};
 use std::alloc::Global;
 use std::process::Abort;

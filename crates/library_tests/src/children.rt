@@ -1,7 +1,8 @@
-//! Tests of what no clause says: that the calls which take memory succeed, the rules by example, and which call of a
-//! fuse fails.
+//! Tests of what no clause of `child_port` says: that the calls which take memory succeed, the rules by example, and which call
+//! of a fuse fails.
 
-use crate::{
+use crate::words::words_of;
+use child_port::{
     Answer, Children, Fault, FuseChildren, Outcome, TableChildren, TableRow, is_stray, plain_word,
     seen_of,
 };
@@ -9,14 +10,6 @@ use hook_base::{Bytes, Change, Changes, Content, FileEntry, Items, Mode, RepoPat
 use std::alloc::Global;
 use std::process::Abort;
 use std::test::Fail;
-
-fn words_of(alloc: Global, line: &str) -> Result<Items<Text>, Fail> {
-    let mut words = Vec::new(alloc);
-    for word in line.split_whitespace() {
-        words.push(Text::copy_of(alloc, word)?)?;
-    }
-    Ok(Items::from(words))
-}
 
 // A file at each of these paths. It holds its path, and is to be run where this ends in `.sh`.
 fn tree_of(alloc: Global, paths: &str) -> Result<Tree, Fail> {

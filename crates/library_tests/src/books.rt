@@ -1,22 +1,16 @@
-//! Tests of what no clause says: that the calls which take memory succeed, and what a key is and which row goes, by example.
+//! Tests of what no clause of `result_book` says: that the calls which take memory succeed, and what a key is and which row
+//! goes, by example.
 
 ghost use Rattle.repo_store.specs.Limits.{IsLimit};
 
-use crate::{Book, ListBook};
+use crate::words::words_of;
 use child_port::{Answer, is_stray};
 use hook_base::{Bytes, Change, Changes, Content, FileEntry, Items, Mode, RepoPath, Text, Tree};
 use repo_store::FIRST_LIMIT;
+use result_book::{Book, ListBook};
 use std::alloc::Global;
 use std::process::Abort;
 use std::test::Fail;
-
-fn words_of(alloc: Global, line: &str) -> Result<Items<Text>, Fail> {
-    let mut words = Vec::new(alloc);
-    for word in line.split_whitespace() {
-        words.push(Text::copy_of(alloc, word)?)?;
-    }
-    Ok(Items::from(words))
-}
 
 // The files of these paths with the bytes after `=`. Those that are to be run have `*` before their path.
 fn tree_of(alloc: Global, files: &str) -> Result<Tree, Fail> {
