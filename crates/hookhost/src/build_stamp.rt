@@ -57,8 +57,8 @@ fn without_line_feeds(bytes: &[u8]) -> &[u8]
     ensures { result.now ≡ without_line_feeds bytes.now }
 {
     let mut rest = bytes;
-    'feeds: while let [b'\n', behind @ ..] = rest {
-        rest = behind;
+    'feeds: while let [b'\n', after @ ..] = rest {
+        rest = after;
     }
     rest
 }

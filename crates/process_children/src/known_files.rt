@@ -67,7 +67,7 @@ impl KnownFiles {
         }
     }
 
-    /// Begins a walk over the files of this folder, in which they are noted anew. Those that lay in another folder are known no
+    /// Begins a walk over the files of this folder, which notes each of them. Those that lay in another folder are known no
     /// more. Something was made in the folder just before.
     pub(crate) fn begin_to_note<R: Files>(
         &mut self,
