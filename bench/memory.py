@@ -1,7 +1,7 @@
 #!/usr/bin/env python3
-"""Times runs whose answers are remembered, in one process of the built program hook_trial, and prints ratios.
+"""Times runs whose answers are remembered, in one process of the built program run_trial, and prints ratios.
 
-Usage: bench/memory.py [--small] [HOOK_TRIAL]   (default: crates/hook_trial/out/hook_trial)
+Usage: bench/memory.py [--small] [RUN_TRIAL]   (default: crates/run_trial/out/run_trial)
 
   --small   few files and answers, to see that all of it runs: the figures say nothing
 
@@ -21,7 +21,7 @@ sys.path[:1] = [HERE]
 from timing import is_asked
 
 SMALL = is_asked("--small")
-PROGRAM = os.path.abspath(sys.argv[1] if len(sys.argv) > 1 else os.path.join(HERE, "..", "crates/hook_trial/out/hook_trial"))
+PROGRAM = os.path.abspath(sys.argv[1] if len(sys.argv) > 1 else os.path.join(HERE, "..", "crates/run_trial/out/run_trial"))
 HOOKS, SIZE, TURNS = 10, 400, 2 if SMALL else 5
 AIM_BESIDE_FAIL, AIM_TWICE = 2, 2.2
 # The files of a run, and how many more runs a call makes.
@@ -53,7 +53,7 @@ def row(call, *arguments):
 def played(rows):
     """The answers of one process to these rows, and the milliseconds of each."""
     process = subprocess.Popen([PROGRAM], stdin=subprocess.PIPE, stdout=subprocess.PIPE, text=True)
-    process.stdin.write("".join(line + "\n" for line in ["fault_texts", *rows]))
+    process.stdin.write("".join(line + "\n" for line in ["columns", *rows]))
     process.stdin.close()
     process.stdout.readline()
     answers, times = [], []
@@ -62,7 +62,7 @@ def played(rows):
         answers.append(bytes.fromhex(process.stdout.readline().strip()).decode())
         times.append((time.perf_counter() - start) * 1000)
     if process.wait():
-        sys.exit(f"bench/memory.py: hook_trial ended with {process.returncode}")
+        sys.exit(f"bench/memory.py: run_trial ended with {process.returncode}")
     return answers, times
 
 

@@ -46,7 +46,7 @@ from fuzz_stores import damaged_repository, plays_stores
 from host_program import PROGRAM, Wrong
 
 if WORDS.trial:
-    fuzz_configurations.TRIALS["hook_trial"] = os.path.abspath(WORDS.trial)
+    fuzz_configurations.TRIALS["run_trial"] = os.path.abspath(WORDS.trial)
 # Folders are made here where there is room for large files: on the disk each command waits for it.
 IN_MEMORY, ROOM = "/dev/shm", 1 << 30
 # Cases that fail are told up to here: more tell no more.

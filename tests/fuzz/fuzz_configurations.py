@@ -54,14 +54,14 @@ def played(crate, call, texts):
 
 
 def read_by_the_trials(texts):
-    """How hook_trial reads each text: the number of the fault's kind, or 0 and how many hooks there are. Where yaml_trial reads
+    """How run_trial reads each text: the number of the fault's kind, or 0 and how many hooks there are. Where yaml_trial reads
     no node, that is the fault, and no other text has it."""
-    read = [answer and reading(text, answer) for text, answer in zip(texts, played("hook_trial", "read_config", texts))]
+    read = [answer and reading(text, answer) for text, answer in zip(texts, played("run_trial", "read_config", texts))]
     for text, found, answer in zip(texts, read, played("yaml_trial", "read_yaml", texts)):
         if answer is not None:
             told = re.fullmatch(rb"(\w+) in line (\d+)", answer)
             check(not told or told[1].decode() in YAML_FAULTS, f"yaml_trial reads {text_of(text)} as {text_of(answer)}")
-            check(not found or bool(told) == (found[0] == CONFIG_FAULTS["Yaml"]), f"hook_trial reads {text_of(text)} as {found}, and yaml_trial as {text_of(answer)}")
+            check(not found or bool(told) == (found[0] == CONFIG_FAULTS["Yaml"]), f"run_trial reads {text_of(text)} as {found}, and yaml_trial as {text_of(answer)}")
     return read
 
 
@@ -69,12 +69,12 @@ def reading(text, answer):
     words = answer.split(b"\n")[0].split()
     if len(words) > 1 and words[1].startswith(b"hooks"):
         return 0, int(words[0])
-    check(CONFIG_FAULTS.get(words[1].decode()) == int(words[0]) and words[2] == b"at", f"hook_trial reads {text_of(text)} as {text_of(answer)}")
+    check(CONFIG_FAULTS.get(words[1].decode()) == int(words[0]) and words[2] == b"at", f"run_trial reads {text_of(text)} as {text_of(answer)}")
     return int(words[0]), None
 
 
 def read_by_the_program(case):
-    """How `check` and `explain` read the configuration of the folder, as hook_trial tells it."""
+    """How `check` and `explain` read the configuration of the folder, as run_trial tells it."""
     told, why = case.run("check"), case.run("explain")
     is_taken = told.status == 0
     check((told.status, why.status) in ((0, 0), (3, 1)), f"check answers {text_of(told)} and explain {text_of(why)}")
@@ -124,5 +124,5 @@ def plays_configurations(case, bases):
     for text, wanted in zip(texts, read):
         case.write(CONFIGURATION, text)
         found = read_by_the_program(case)
-        check(wanted in (None, found), f"the program reads the text as {found}, and hook_trial as {wanted}")
+        check(wanted in (None, found), f"the program reads the text as {found}, and run_trial as {wanted}")
         run_made(case, text, *found, bases.texts.tools)

@@ -18,6 +18,7 @@ def given(at, name):
 
 PROGRAM, STORE_TRIAL = given(0, "hookhost"), given(1, "store_trial")
 HOOK_TRIAL, SELECTION_TRIAL, YAML_TRIAL = given(2, "hook_trial"), given(3, "selection_trial"), given(4, "yaml_trial")
+RUN_TRIAL = given(5, "run_trial")
 
 
 def make_allocator(folder):

@@ -1,7 +1,7 @@
 #!/usr/bin/env python3
 """Runs the built program with each of its allocations refused in turn, until a run ends with none refused.
 
-Usage: tests/memory/refused_memory.py [--each] [PROGRAM [STORE_TRIAL [HOOK_TRIAL [SELECTION_TRIAL [YAML_TRIAL]]]]]   (default: the built programs)
+Usage: tests/memory/refused_memory.py [--each] [PROGRAM [STORE_TRIAL [HOOK_TRIAL [SELECTION_TRIAL [YAML_TRIAL [RUN_TRIAL]]]]]]   (default: the built programs)
 
 Each refused run has to say `hookhost: refused: NUMBER OutOfMemory`, write nothing to standard output and end with
 status 3, or else to answer just as with ample memory (a growth that was refused may be tried again with less). Each play
@@ -23,11 +23,11 @@ that has been played.
 Neither may leave an empty folder in which what doesn't belong to the children's folder was to be gathered.
 
 Of runs over one book, half of whose answers are remembered when the second begins, each allocation is refused too, by the
-program hook_trial, and of runs over a book of fewer answers than hooks. What was used and put by then stays in its order and
+program run_trial, and of runs over a book of fewer answers than hooks. What was used and put by then stays in its order and
 is told, no child is started for it again, and the next run reports what it does from scratch.
 
 Of the lists of commands that a host plays (tests/shared/host_plays.py), in which all but what stages a file is made twice, each allocation
-is refused too, by the same program. What it answers has to be what tests/shared/host_model.py does, of which one command or the hooks
+is refused too, by the program hook_trial. What it answers has to be what tests/shared/host_model.py does, of which one command or the hooks
 behind one commit are refused memory, after some of the children or before any: all that stands behind that is from scratch.
 So it is with commands of which some limit what is remembered, where memory is refused to a look-up too: that leaves the order.
 

@@ -1,4 +1,5 @@
-"""What tests/memory/refused_memory.py plays of books and of hosts, of which each allocation is refused, by the program hook_trial.
+"""What tests/memory/refused_memory.py plays of books and of hosts, of which each allocation is refused: runs over one book by the
+program run_trial, and commands of a host by hook_trial.
 """
 import itertools
 import re
@@ -8,7 +9,7 @@ from dataclasses import dataclass
 from host_model import (CONFIGURATION, OUT_OF_MEMORY, Answer, FixedTable, Hook, Machine, Memory, call_of,
                         configuration_text, ended, played, words_of_rows)
 from host_plays import TXT, add, commands_of, host_of, plain as plain_file, words_of
-from refused_allocation import EACH, HOOK_TRIAL, count_allocations, end_with_refusal, line_of, some_of
+from refused_allocation import EACH, HOOK_TRIAL, RUN_TRIAL, count_allocations, end_with_refusal, line_of, some_of
 
 # How many allocations at the beginning and the end are refused, and how many between, of the lists of commands that a host
 # plays, and of the one with limits.
@@ -70,7 +71,7 @@ def book_runs(play, refused, shared, folder):
     """How the program ended, what it answered, whether the allocation of this number (0: none) was refused, and the runs, if
     they were told."""
     line = line_of("play_book", play.words())
-    (status, out, err), was_refused = end_with_refusal([HOOK_TRIAL], refused, shared, folder, folder, line)
+    (status, out, err), was_refused = end_with_refusal([RUN_TRIAL], refused, shared, folder, folder, line)
     text = bytes.fromhex(out.decode().strip()).decode()
     runs = [book_run(table, *told) for table, told in zip(play.tables, BOOK_ANSWER.findall(text))]
     return (status, text, err), was_refused, runs

@@ -1,8 +1,7 @@
 //! What `check` prints, and the limit of what it reads.
 
-use crate::configurations::refusal;
 use hook_cli::{MOST_CONFIGURATION_BYTES, check_text};
-use hook_config::{Config, read_config};
+use hook_config::{Config, ConfigFault, read_config};
 use std::alloc::Global;
 use trial_rows::{Answer, Stop, only};
 
@@ -17,6 +16,12 @@ pub(crate) fn of_text(alloc: Global, arguments: &[Vec<u8>]) -> Result<Answer, St
 fn printed(alloc: Global, config: &Config) -> Result<Answer, Stop> {
     let text = check_text(alloc, config)?;
     Ok(Answer::new(alloc).bytes(text.as_slice()))
+}
+
+// A refusal's number, name and place.
+fn refusal(alloc: Global, fault: ConfigFault) -> Answer {
+    let answer = Answer::new(alloc).shown(fault.number());
+    answer.texts(&[" ", fault.name(), " at "]).shown(fault.at)
 }
 
 /// `most_configuration_bytes`: the greatest number of bytes of a configuration.

@@ -1,15 +1,13 @@
 //! The table by which the children of a row answer, from the row's first words.
 //!
-//! `child ROW` is a row of the table (`child_rows.rt`). `failing FAULT ROW` is one whose child fails, of which the words and the
-//! seen files count. Rows with equal words and equal seen files take turns. A child that has no row isn't started. Where `spent`
-//! is the first word, no child can be counted.
+//! `child ROW` is a row of the table (`child_rows.rt` of `trial_rows`). `failing FAULT ROW` is one whose child fails, of which
+//! the words and the seen files count. Rows with equal words and equal seen files take turns. A child that has no row isn't started.
+//! Where `spent` is the first word, no child can be counted.
 
-use crate::child_rows::{fault_of, row_of};
-use crate::host_words::Words;
 use crate::turn_children::{Turn, TurnChildren};
 use child_port::{Outcome, TableRow};
 use std::alloc::Global;
-use trial_rows::Stop;
+use trial_rows::{Stop, Words, fault_of, row_of};
 
 /// The children by the rows that the first words give.
 pub(crate) fn children_of(alloc: Global, words: &mut Words<'_>) -> Result<TurnChildren, Stop> {

@@ -1,13 +1,11 @@
 //! Children of which one call fails, from a row's first words: behind `fused` stand the number of that call and its fault, and then,
 //! as without that word, the table by which the others answer (`child_tables.rt`).
 
-use crate::child_rows::fault_of;
 use crate::child_tables::children_of;
-use crate::host_words::Words;
 use crate::turn_children::TurnChildren;
 use child_port::{Fault, FuseChildren};
 use std::alloc::Global;
-use trial_rows::Stop;
+use trial_rows::{Stop, Words, fault_of};
 
 /// The children by the first words.
 pub(crate) fn fused_children_of(

@@ -4,12 +4,11 @@
 
 ghost use Rattle.hook_cli.specs.CommandOver.{IsNamed};
 
-use crate::host_words::Words;
 use commit_flow::{AskStage, Which};
 use hook_base::{Items, Text};
 use hook_cli::{FileChoice, StageChoice};
 use std::alloc::Global;
-use trial_rows::Stop;
+use trial_rows::{Stop, Words};
 
 pub(crate) fn stage_of(words: &mut Words<'_>) -> Result<AskStage, Stop> {
     match words.text()? {

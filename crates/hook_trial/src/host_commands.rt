@@ -16,8 +16,8 @@ ghost use Rattle.hook_base.specs.Paths.{message_path};
 use crate::child_tables::children_of;
 use crate::host_counts::{with_counts, with_forgotten, with_rows};
 use crate::host_edits::several_played;
+use crate::host_files::with_file;
 use crate::host_lines::line_played;
-use crate::host_words::{Words, mode_of, with_file};
 use crate::turn_children::TurnChildren;
 use commit_flow::Host;
 use hook_base::{Change, Changes, Content, RepoPath};
@@ -25,7 +25,7 @@ use repo_store::{FileRef, Store, StoreFault};
 use sqlite::{Connection, MemStore};
 use std::alloc::Global;
 use std::mem;
-use trial_rows::{Answer, Stop, text_of};
+use trial_rows::{Answer, Stop, Words, mode_of, text_of};
 
 /// The host of a row.
 pub(crate) type Played = Host<MemStore>;

@@ -3,13 +3,12 @@
 
 use crate::host_commands::Played;
 use crate::host_lines::tell_end;
-use crate::host_words::{Words, mode_of};
 use crate::host_writers::HabitWriter;
 use commit_flow::StagingEdit;
 use hook_base::{Bytes, Text};
 use hook_cli::stage_over;
 use std::alloc::Global;
-use trial_rows::{Answer, Stop};
+use trial_rows::{Answer, Stop, Words, mode_of};
 
 /// Makes the changes, of which there is one at least.
 pub(crate) fn several_played(

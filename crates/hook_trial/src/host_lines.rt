@@ -11,7 +11,6 @@ use crate::host_asks::{
     asked_name, chosen_files, chosen_stage, files_of, how_of, is_unverified, stage_of,
 };
 use crate::host_commands::Played;
-use crate::host_words::{Words, mode_of};
 use crate::host_writers::HabitWriter;
 use crate::turn_children::TurnChildren;
 use hook_base::{Items, Text};
@@ -21,7 +20,7 @@ use hook_cli::{
 };
 use std::alloc::Global;
 use std::mem;
-use trial_rows::{Answer, Stop};
+use trial_rows::{Answer, Stop, Words, mode_of};
 
 /// Plays one command.
 pub(crate) fn line_played(

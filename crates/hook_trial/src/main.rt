@@ -1,41 +1,28 @@
-//! The program `hook_trial`: plays calls on the libraries of hooks, one a line of standard input, and answers each by a
-//! line, so that tables of cases can be compared with what the libraries answer.
+//! The program `hook_trial`: plays calls on commands over a repository, on lines of words, on commits and on runs of `try`. Each is a
+//! line of standard input and is answered by a line, so that tables of cases can be compared with what the libraries answer.
 //!
-//! How a line is written says the crate `trial_rows`. At a line that is no call the program ends with the exit status 2.
+//! How a line is written says the crate `trial_rows`. At a line that is no call the program ends with the exit status 2. Calls on
+//! configurations and on runs of hooks alone are played by `run_trial`.
 #![tactic(auto)]
 
-mod asks;
-mod book_plays;
-mod book_told;
 mod calls;
 mod checks;
-mod child_rows;
-mod child_runs;
 mod child_tables;
 mod command_lines;
-mod config_kinds;
-mod config_texts;
-mod configurations;
 mod fault_texts;
-mod fused_book;
 mod fused_children;
 mod host_asks;
 mod host_commands;
 mod host_counts;
 mod host_edits;
+mod host_files;
 mod host_lines;
-mod host_words;
 mod host_writers;
 mod messages;
-mod plans;
 mod plays;
-mod quiet_children;
 mod readers;
 mod replies;
-mod report_texts;
-mod run_times;
 mod runs;
-mod stages;
 mod try_faults;
 mod turn_children;
 mod writers;

@@ -9,14 +9,14 @@ use crate::fused_children::fused_children_of;
 use crate::host_asks::{asked_name, files_of, how_of, is_unverified, stage_of};
 use crate::host_commands::{Played, empty_store};
 use crate::host_counts::{with_counts, with_forgotten};
-use crate::host_words::{Words, mode_of, with_file};
+use crate::host_files::with_file;
 use crate::replies::{with_changes, with_length, with_reply};
 use commit_flow::{Command, Host, HostAsk, Reply};
 use hook_base::{Bytes, Text, Tree};
 use hook_cli::skip_list_of;
 use run_options::RunOptions;
 use std::alloc::Global;
-use trial_rows::{Answer, Stop};
+use trial_rows::{Answer, Stop, Words, mode_of};
 
 /// `play COMMAND..`: the replies, the counts, and the repository.
 pub(crate) fn played(alloc: Global, arguments: &[Vec<u8>]) -> Result<Answer, Stop> {

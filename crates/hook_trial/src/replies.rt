@@ -1,10 +1,9 @@
 //! What the rows tell of the replies of a host: a line, and the reports behind it, each behind a line with its length.
 
-use crate::plans::verdict_of;
 use commit_flow::{HostRefusal, PostCommit, Reply};
 use hook_base::{Bytes, Change, Items, Text};
 use std::fmt::Display;
-use trial_rows::Answer;
+use trial_rows::{Answer, verdict_of};
 
 pub(crate) fn with_reply(answer: Answer, reply: &Reply) -> Answer {
     match reply {

@@ -3,7 +3,6 @@
 //! A run's answer is a line with `passed`, `failed` or `refused`, and what was written. A refused run's line has the
 //! refusal, as `Debug` shows it, and how often the writer was called.
 
-use crate::plans::verdict_of;
 use crate::readers::{Pieces, Texts};
 use crate::writers::{Flushed, Kept};
 use child_port::TableChildren;
@@ -11,7 +10,7 @@ use hook_base::{Content, FileEntry, Items, Mode, RepoPath, Tree};
 use hook_cli::{TryFault, try_over};
 use std::alloc::Global;
 use std::io::{Read, Write};
-use trial_rows::{Answer, Stop, number_of, text_of};
+use trial_rows::{Answer, Stop, number_of, text_of, verdict_of};
 
 /// `try_over CONFIGURATION PATH..`: a run over plain files at these paths.
 pub(crate) fn over_files(alloc: Global, arguments: &[Vec<u8>]) -> Result<Answer, Stop> {

@@ -2,20 +2,27 @@
 //!
 //! A [`Row`] is a call's name and its arguments, which stand in the line in hexadecimal digits, `-` for one without bytes,
 //! parted by single blanks. A program is [`play`] over its [`Answers`], each an [`Answer`] that is put together piece by
-//! piece; `answer_line` makes a line of bytes that are one. A [`Stop`] says why a play ends before its last row. It serves tests
-//! alone, and has no contracts.
+//! piece; `answer_line` makes a line of bytes that are one. A [`Stop`] says why a play ends before its last row. [`Words`] are
+//! arguments that are taken one after another, [`row_of`] and [`fault_of`] say how children answer or fail, and [`verdict_of`] how a
+//! run ended. It serves tests alone, and has no contracts.
 #![tactic(auto)]
 
 mod answer;
 mod arguments;
+mod child_rows;
 mod gathered;
 mod plays;
 mod row;
 mod stop;
+mod verdict;
+mod words;
 
 pub use answer::answer_line;
 pub use arguments::{number_of, only, text_of, texts_of};
+pub use child_rows::{fault_of, row_of};
 pub use gathered::Answer;
 pub use plays::{Answers, play};
 pub use row::Row;
 pub use stop::Stop;
+pub use verdict::verdict_of;
+pub use words::{Words, mode_of};

@@ -1,7 +1,7 @@
 """What no contract of hook_config says: which refusal a text has and where, what each is shown as, and that the words of a
 configuration are those of pre-commit."""
 
-PROGRAM = "hook_trial"
+PROGRAM = "run_trial"
 
 # A configuration of one hook.
 ONE_HOOK = """\

@@ -12,7 +12,7 @@ The first line then tells the children's outcomes and faults, and lines on the f
 where each child that the plan of the run needs is started outside, and its outcome told to the plan. No contract says what a
 refusal is shown as; the other rows are those of users, beside the definitions that the contracts cite."""
 
-PROGRAM = "hook_trial"
+PROGRAM = "run_trial"
 
 
 def hook(name, more="", language="fail", entry="no"):

@@ -1,36 +1,19 @@
 """Runs of hook_run over a book of remembered answers: what is started and what isn't, what is put, what goes where only so many
-are kept, what a refusal of the book leaves, and which hooks are unsteady. The calls are
+are kept, what a refusal of the book leaves, and which hooks are unsteady. The call is
 
 play_book CONFIGURATION STEP..
-play COMMAND..
 
-with the steps that `crates/hook_trial/src/book_plays.rt` names and the commands of `plays.rt`. A run is answered by a line on it,
-by what it gave, and by how many answers are remembered and whether that of each row of the table is, which is looked up then and so
-used. The definitions say the same; these rows are those of users, and show that memory is enough for them."""
+with the steps that `crates/run_trial/src/book_plays.rt` names. A run is answered by a line on it, by what it gave, and by how many
+answers are remembered and whether that of each row of the table is, which is looked up then and so used. The definitions say the
+same; these rows are those of users, and show that memory is enough for them. Those of a host's book stand in
+commit_flow_remembered.py."""
 from list_book import ListBook
+from remembered_rows import LOOK, LOOKS, MANY, MANY_FILES, MODIFIED, PASSED, TRIM, TRIMMED, TRIMS, T, child, details, hook, hooks, line, lint
 
-PROGRAM = "hook_trial"
+PROGRAM = "run_trial"
 
 
 # ---- configurations and children
-
-def hook(name, entry, more=r"files: '\.txt$'", language="system"):
-    """A hook's table. Its id is its name in small letters."""
-    return f"  - {{id: {name.lower()}, name: {name}, language: {language}, entry: {entry}{', ' + more if more else ''}}}\n"
-
-
-def hooks(*tables):
-    return f"repos:\n- repo: local\n  hooks:\n{''.join(tables)}"
-
-
-def answered(*words, seen=("a.txt=x",), status=0, changes="", output=""):
-    """A row of the table: once a child of these words has seen these files, it answers so."""
-    return "\n".join([f"answer {status}", "\t".join(words), "\t".join(seen), changes, output])
-
-
-def child(*words, **how):
-    return ("child", answered(*words, **how))
-
 
 def file(path, contents="x\n", mode="plain"):
     return ("file", mode, path, contents)
@@ -43,17 +26,6 @@ def run(how="plain", calls=0, kth=0, fault="signal", book=0, refusal="damaged"):
 
 # ---- what is answered
 
-def line(name, word):
-    return f"{name}{'.' * (79 - len(name) - len(word))}{word}\n"
-
-
-def details(name, *lines, output=""):
-    """What a report says of a hook that failed so."""
-    block = f"\n{output}\n" if output else ""
-    return line(name, "Failed") + "".join(f"- {each}\n" for each in [f"hook id: {name.lower()}", *lines]) + block
-
-
-MODIFIED = "files were modified by this hook"
 NOT_STARTED = "fault: could not be started"
 
 
@@ -64,9 +36,7 @@ def told(verdict, calls, faults, *lines, held=()):
     return f"{verdict}, {calls} calls, {faults} faults\n{''.join(lines)}{kept} remembered:{''.join(' ' + word for word in held)}\n"
 
 
-T = hook("T", "c")
 A = file("a.txt")
-PASSED = line("T", "Passed")
 PASS = child("c", "a.txt")
 
 # Names of 4,095 bytes, of which 31 fit one command of `c`, and not the next.
@@ -91,18 +61,6 @@ FAULTS = {
     "output too long": "output is longer than 1048576 bytes",
     "scratch failed": "files could not be written or read back",
 }
-
-# A child that takes the blank off a.txt, the same where there is none, and one that looks at it; and what their hooks report.
-TRIM = child("trim", "a.txt", seen=["a.txt=x "], changes="a.txt=x")
-TRIMMED, LOOK = child("trim", "a.txt"), child("look", "a.txt")
-TRIMS = ("changed a.txt\n", details("Trim", MODIFIED), line("Look", "Passed"))
-LOOKS = (line("Trim", "Passed"), line("Look", "Passed"))
-
-
-def lint(number):
-    """A child of a script with this number in it."""
-    return child("sh", "tools/lint.sh", "a.txt", seen=["a.txt=x", f"tools/lint.sh={number}"])
-
 
 RUNS = [
     # Each part is remembered by itself. One that a signal ended isn't, and it alone is started again.
@@ -434,90 +392,6 @@ BOOKS = [
 ]
 
 
-# ---- a host, whose book lives as long as it does
-
-def of_host(name, text):
-    """A text behind the line that tells what it is and how long."""
-    return f"{name} {len(text)}\n{text}"
-
-
-def add(path, contents):
-    return ("add", "none", path, contents)
-
-
-def host_run(files="all"):
-    return ("run", "pre-commit", files, "", "remembering", "")
-
-
-def ran(verdict, report, *changes):
-    return f"ran, {verdict}, 0 unsteady\n{''.join(of_host('change ' + path, text) for path, text in changes)}{of_host('report', report)}"
-
-
-def ended(calls, faults, remembered):
-    return f"{calls} calls, {faults} faults, {remembered} remembered\n{remembered} forgotten\n"
-
-
-def staged(*files):
-    return "".join(of_host(f"staged plain {path}", text) for path, text in files)
-
-
-TRIM_LOOK = hooks(hook("Trim", "trim"), hook("Look", "look"))
-CONFIGURATION = (".pre-commit-config.yaml", TRIM_LOOK)
-CONFIGURED = add(*CONFIGURATION)
-UNTRIMMED = add("a.txt", "x \n")
-# A file is trimmed, the fix is accepted, and two runs find it trimmed.
-TRIMMING = (*CONFIGURED, *UNTRIMMED, *host_run(), "accept", *host_run(), *host_run())
-TRIM_FAILS = ran("failed", "".join(TRIMS[1:]), ("a.txt", "x\n"))
-TRIM_PASSES = ran("passed", "".join(LOOKS))
-TRIMMING_TOLD = "added\nadded\n" + TRIM_FAILS + "accepted 1\n" + TRIM_PASSES + TRIM_PASSES
-TRIMMING_LEAVES = staged(CONFIGURATION, ("a.txt", "x\n"))
-OF_TRIMMING = (*TRIM, *LOOK, *TRIMMED)
-STRAYING = hooks(hook("T", "c", "files: ^a"))
-LINTED = hooks(hook("T", "sh tools/lint.sh", "files: ^a"))
-
-HOSTS = [
-    # After the first run two answers are remembered; the second starts one child more, and the third none.
-    (*OF_TRIMMING, *CONFIGURED, *UNTRIMMED, *host_run(), "added\nadded\n" + TRIM_FAILS + ended(2, 0, 2) + staged(CONFIGURATION, ("a.txt", "x \n")) + of_host("fix a.txt", "x\n")),
-    (
-        *OF_TRIMMING, *CONFIGURED, *UNTRIMMED, *host_run(), "accept", *host_run(),
-        "added\nadded\n" + TRIM_FAILS + "accepted 1\n" + TRIM_PASSES + ended(3, 0, 3) + TRIMMING_LEAVES,
-    ),
-    (*OF_TRIMMING, *TRIMMING, TRIMMING_TOLD + ended(3, 0, 3) + TRIMMING_LEAVES),
-    (*OF_TRIMMING, *TRIMMING, "forget", *host_run(), TRIMMING_TOLD + "forgot 3\n" + TRIM_PASSES + ended(5, 0, 2) + TRIMMING_LEAVES),
-    # A host that has run the hooks before, and taken all away again, replies as a new one does, and starts the third child alone.
-    (
-        *OF_TRIMMING, *CONFIGURED, *UNTRIMMED, *host_run(), "rm", "a.txt", "rm", ".pre-commit-config.yaml", *TRIMMING,
-        "added\nadded\n" + TRIM_FAILS + "removed\nremoved\n" + TRIMMING_TOLD + ended(3, 0, 3) + TRIMMING_LEAVES,
-    ),
-    # A file that no child has seen is staged, and staged anew: nothing is started.
-    (
-        *OF_TRIMMING, *TRIMMING, *add("b.md", "1\n"), *host_run("a.txt"), *add("b.md", "2\n"), *host_run("a.txt"),
-        TRIMMING_TOLD + ("added\n" + TRIM_PASSES) * 2 + ended(3, 0, 3) + staged(CONFIGURATION, ("a.txt", "x\n"), ("b.md", "2\n")),
-    ),
-    # What a child changes that it hasn't seen is a fix, and isn't remembered.
-    (
-        *child("c", "a.txt", changes="b.txt=z"), *add(".pre-commit-config.yaml", STRAYING), *add("a.txt", "x\n"), *add("b.txt", "y\n"), *host_run(), *host_run(),
-        "added\n" * 3 + ran("failed", details("T", MODIFIED), ("b.txt", "z\n")) * 2 + ended(2, 0, 0)
-        + staged((".pre-commit-config.yaml", STRAYING), ("a.txt", "x\n"), ("b.txt", "y\n")) + of_host("fix b.txt", "z\n"),
-    ),
-    # A script that is staged anew with other bytes is started again, and with the bytes that it had it isn't.
-    (
-        *lint(1), *lint(2), *add(".pre-commit-config.yaml", LINTED), *add("a.txt", "x\n"), *add("tools/lint.sh", "1\n"), *host_run(), *add("tools/lint.sh", "2\n"), *host_run(),
-        *add("tools/lint.sh", "1\n"), *host_run(),
-        "added\n" * 3 + ran("passed", PASSED) + ("added\n" + ran("passed", PASSED)) * 2 + ended(2, 0, 2)
-        + staged((".pre-commit-config.yaml", LINTED), ("a.txt", "x\n"), ("tools/lint.sh", "1\n")),
-    ),
-    # A run that is refused leaves what was remembered by then: the second hook's child can't be counted.
-    (
-        "spent", *CONFIGURED, *UNTRIMMED, *host_run(), "added\nadded\nrefused 14 Spent\n" + ended(2**64 - 1, 0, 0) + staged(CONFIGURATION, ("a.txt", "x \n")),
-    ),
-]
-
-# More answers than anyone would think a book has to make room for: each run sees another file.
-MANY = 1_001
-MANY_FILES = [f"{number}\n" for number in range(MANY)]
-
-
 def many_runs(calls):
     """Runs over files one after another, each of which starts so many children."""
     steps = [word for number, text in enumerate(MANY_FILES) for word in ("others", *child("c", "a.txt", seen=[f"a.txt={number}"]), *file("a.txt", text), *run())]
@@ -530,16 +404,4 @@ def many_books():
     return (hooks(T), *first[0], *again[0], "forget", first[1] + again[1] + f"{MANY} forgotten\n")
 
 
-def many_plays():
-    """The same by a host, whose book its store keeps."""
-    rows = [word for number in range(MANY) for word in child("c", "a.txt", seen=[f"a.txt={number}"])]
-    plays = [word for text in MANY_FILES * 2 for word in (*add("a.txt", text), *host_run())]
-    replies = "added\n" + ("added\n" + ran("passed", PASSED)) * 2 * MANY
-    configuration = (".pre-commit-config.yaml", hooks(T))
-    return (*rows, *add(*configuration), *plays, replies + ended(MANY, 0, MANY) + staged(configuration, ("a.txt", MANY_FILES[-1])))
-
-
-# A repository has no commit of the number 0, and none behind its last one.
-NEITHER = "no files\n" * 2
-
-ROWS = [*(("play_book", *row) for row in [*RUNS, *LIMITS, *BOOKS, many_books()]), *(("play", *row, answer + NEITHER) for *row, answer in [*HOSTS, many_plays()])]
+ROWS = [("play_book", *row) for row in [*RUNS, *LIMITS, *BOOKS, many_books()]]

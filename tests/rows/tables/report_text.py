@@ -1,6 +1,6 @@
 """What report_text makes of a hook and of what became of it, and how wide a report is."""
 
-PROGRAM = "hook_trial"
+PROGRAM = "run_trial"
 
 WIDE = "日" * 60
 

@@ -1,11 +1,11 @@
 //! Runs over one book, one after another, of which a call may be refused.
 //!
 //! A row's arguments are a configuration and steps, each a word and what it needs: `file MODE PATH CONTENTS` and `gone PATH`
-//! change the files, `child ROW` adds a row to the table by which children answer (`child_rows.rt`), and `others` begins
-//! another table. `run HOW CALLS KTH FAULT BOOK REFUSAL` runs the hooks of `pre-commit` on all files, HOW being `plain`, `passed` or
-//! `fresh`, over children that have told CALLS outcomes (`child_runs.rt`) and fail their call of the number KTH by FAULT; the
-//! look-up or put of the number BOOK is refused by REFUSAL. `forget` forgets what is remembered. `limit NUMBER` begins another book,
-//! which remembers so many answers at most; without it there are as many as in a new store.
+//! change the files, `child ROW` adds a row to the table by which children answer (`child_rows.rt` of `trial_rows`), and `others`
+//! begins another table. `run HOW CALLS KTH FAULT BOOK REFUSAL` runs the hooks of `pre-commit` on all files, HOW being `plain`,
+//! `passed` or `fresh`, over children that have told CALLS outcomes (`child_runs.rt`) and fail their call of the number KTH by FAULT;
+//! the look-up or put of the number BOOK is refused by REFUSAL. `forget` forgets what is remembered. `limit NUMBER` begins another
+//! book, which remembers so many answers at most; without it there are as many as in a new store.
 //!
 //! A run is answered by its verdict or its refusal and by how many outcomes it added, how many of these are faults; then by a line
 //! for each unsteady hook, for each file that is changed, by the report, and by how many answers are remembered and whether
@@ -16,11 +16,9 @@ ghost use Rattle.std.specs.Prelude.{IfOk};
 ghost use Rattle.repo_store.specs.Limits.{IsLimit};
 
 use crate::book_told::{with_ran, with_remembered};
-use crate::child_rows::fault_of;
 use crate::child_runs::table_of;
 use crate::configurations::refusal;
 use crate::fused_book::FusedBook;
-use crate::host_words::{Words, mode_of};
 use child_port::{Children, Fault, FuseChildren};
 use hook_base::{Content, FileEntry, Items, RepoPath, Tree};
 use hook_config::{Config, Stage, read_config};
@@ -28,7 +26,7 @@ use hook_run::{HooksRun, Reuse, RunAsk, RunOut, RunRefusal, run_hooks};
 use repo_store::{FIRST_LIMIT, MOST_ANSWERS, StoreFault};
 use result_book::{Book, BookFault};
 use std::alloc::Global;
-use trial_rows::{Answer, Stop, text_of};
+use trial_rows::{Answer, Stop, Words, fault_of, mode_of, text_of};
 
 /// The files, the rows by which children answer, as their texts say them, and what is remembered.
 #[derive(Drop)]

@@ -1,9 +1,8 @@
 //! Runs over children that answer by a table, one of which may fail.
 
 use crate::asks::{ask_of, tree_of};
-use crate::child_rows::{fault_of, row_of};
 use crate::configurations::refusal;
-use crate::plans::{refused_run, verdict_of, with_results};
+use crate::plans::{refused_run, with_results};
 use child_port::{Children, FuseChildren, TableChildren, TableRow};
 use hook_base::{Change, Items, Tree};
 use hook_config::{Config, read_config};
@@ -11,7 +10,7 @@ use hook_run::{Need, RunAsk, RunOut, RunPlan, RunRefusal, run_hooks};
 use repo_store::FIRST_LIMIT;
 use result_book::ListBook;
 use std::alloc::Global;
-use trial_rows::{Answer, Stop, number_of, text_of};
+use trial_rows::{Answer, Stop, fault_of, number_of, row_of, text_of, verdict_of};
 
 // A run that a row asks for: of which configuration, over which children, and on which files.
 #[derive(Drop)]

@@ -7,7 +7,7 @@ use hook_config::{Config, read_config};
 use hook_run::{Need, RunAsk, RunOut, RunPlan, RunRefusal};
 use report_text::Ending;
 use std::alloc::Global;
-use trial_rows::{Answer, Stop};
+use trial_rows::{Answer, Stop, verdict_of};
 
 /// `run CONFIGURATION STAGE CANDIDATES ONLY SKIP FILE..`: the run's refusal with its number, name and text; or a line that
 /// says that the plan is over, whether every hook passed, what became of the tree, and how many hooks are unsteady; then a
@@ -61,11 +61,6 @@ fn told(alloc: Global, out: &RunOut, tree: &Tree) -> Answer {
     ]);
     let answer = answer.shown(out.unsteady.len()).text(" unsteady\n");
     with_results(answer, out)
-}
-
-/// The word for whether every hook passed.
-pub(crate) fn verdict_of(passed: bool) -> &'static str {
-    if passed { "passed" } else { "failed" }
 }
 
 /// Adds a line for each result, and the report.

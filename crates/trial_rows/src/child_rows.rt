@@ -5,10 +5,11 @@
 //! the byte 1 stands for a line feed too. `PATH` alone, of what is changed, is a file that is gone; behind the byte 2, of what
 //! is seen, stands one that is executable.
 
+use crate::arguments::{number_of, text_of};
+use crate::stop::Stop;
 use child_port::{Answer, Fault, TableRow};
 use hook_base::{Bytes, Change, Changes, Content, FileEntry, Items, Mode, RepoPath, Text, Tree};
 use std::alloc::Global;
-use trial_rows::{Stop, number_of, text_of};
 
 // The message of a commit, among the files of its stages.
 const MESSAGE: &str = ".git/COMMIT_EDITMSG";
@@ -19,8 +20,8 @@ const FURTHER_LINE: u8 = 1;
 // What stands before the path of an executable file.
 const EXECUTABLE: &str = "\u{2}";
 
-/// The row that a text is.
-pub(crate) fn row_of(alloc: Global, text: &str) -> Result<TableRow, Stop> {
+/// The row of a table of children that a text is. `BadLine` where it is none, `OutOfMemory` where memory is refused.
+pub fn row_of(alloc: Global, text: &str) -> Result<TableRow, Stop> {
     let (head, rest) = line_of(text)?;
     let (words, rest) = line_of(rest)?;
     let (seen, rest) = line_of(rest)?;
@@ -44,8 +45,8 @@ fn status_of(text: &str) -> Result<u8, Stop> {
     }
 }
 
-/// The fault of this name.
-pub(crate) fn fault_of(word: &[u8]) -> Result<Fault, Stop> {
+/// The fault of a child that has this name. `BadLine` where none has it.
+pub fn fault_of(word: &[u8]) -> Result<Fault, Stop> {
     match text_of(word)? {
         "not started" => Ok(Fault::NotStarted),
         "wait failed" => Ok(Fault::WaitFailed),

@@ -1,14 +1,12 @@
 //! What the rows tell of a run over a book: what it gave, what the children told, and what is remembered behind it.
 
 use crate::book_plays::BookPlay;
-use crate::child_rows::row_of;
 use crate::child_runs::with_changes;
-use crate::plans::verdict_of;
 use child_port::TableRow;
 use hook_base::Tree;
 use hook_run::{RunOut, RunRefusal};
 use result_book::{Book, BookFault};
-use trial_rows::{Answer, Stop, text_of};
+use trial_rows::{Answer, Stop, row_of, text_of, verdict_of};
 
 pub(crate) fn with_ran(
     answer: Answer,

@@ -1,0 +1,34 @@
+//! What the rows tell of a file.
+
+use hook_base::Mode;
+use trial_rows::Answer;
+
+// The most bytes of a file that are all told, and how many are told of each end of one that has more.
+const MOST_TOLD_BYTES: usize = 4096;
+
+const END_BYTES: usize = 100;
+
+/// Adds a line with the mode, the path and the length of a file, and then its bytes, of a long one only the first and the last.
+pub(crate) fn with_file(
+    answer: Answer,
+    list: &str,
+    mode: Mode,
+    path: &str,
+    bytes: &[u8],
+) -> Answer {
+    let mode = match mode {
+        Mode::Plain => " plain ",
+        Mode::Executable => " executable ",
+    };
+    let answer = answer.texts(&[list, mode, path, " "]);
+    with_ends(answer.shown(bytes.len()).text("\n"), bytes)
+}
+
+fn with_ends(answer: Answer, bytes: &[u8]) -> Answer {
+    if bytes.len() <= MOST_TOLD_BYTES {
+        return answer.bytes(bytes);
+    }
+    let (first, rest) = bytes.split_at(END_BYTES);
+    let (_, last) = rest.split_at(rest.len() - END_BYTES);
+    answer.bytes(first).bytes(last)
+}
