@@ -8,10 +8,10 @@ pub(crate) struct Noted<D: Disk> {
     pub(crate) inner: D,
     /// A letter for each call, in order: `r` for a read, `l` for the length, `w` for a write, `c` for a new length, `s` for
     /// a sync.
-    pub(crate) calls: Vec<u8>,
+    pub(crate) calls: String,
 }
 
-fn note(calls: &mut Vec<u8>, letter: u8) {
+fn note(calls: &mut String, letter: char) {
     // A letter that is lost is missed in what a test compares.
     let _noted = calls.push(letter);
 }
@@ -58,32 +58,32 @@ impl<D: Disk> Disk for Noted<D> {
     }
 
     fn len(&mut self) -> io::Result<usize> {
-        note(&mut self.calls, b'l');
+        note(&mut self.calls, 'l');
         self.inner.len()
     }
 
     fn read_at(&mut self, at: usize, buf: &mut [u8]) -> io::Result<()> {
-        note(&mut self.calls, b'r');
+        note(&mut self.calls, 'r');
         self.inner.read_at(at, buf)
     }
 
     fn read_checked(&mut self, key: u64, want: u64, at: usize, buf: &mut [u8]) -> io::Result<()> {
-        note(&mut self.calls, b'r');
+        note(&mut self.calls, 'r');
         self.inner.read_checked(key, want, at, buf)
     }
 
     fn write_at(&mut self, at: usize, bytes: &[u8]) -> io::Result<()> {
-        note(&mut self.calls, b'w');
+        note(&mut self.calls, 'w');
         self.inner.write_at(at, bytes)
     }
 
     fn set_len(&mut self, len: usize) -> io::Result<()> {
-        note(&mut self.calls, b'c');
+        note(&mut self.calls, 'c');
         self.inner.set_len(len)
     }
 
     fn sync(&mut self) -> io::Result<()> {
-        note(&mut self.calls, b's');
+        note(&mut self.calls, 's');
         self.inner.sync()
     }
 }
@@ -91,5 +91,16 @@ impl<D: Disk> Disk for Noted<D> {
 impl<D: Crash> Crash for Noted<D> {
     fn crash(&mut self) {
         self.inner.crash();
+    }
+}
+
+/// What tells which calls it noted.
+pub(crate) trait Notes {
+    fn notes(&self) -> &str;
+}
+
+impl<D: Disk> Notes for Noted<D> {
+    fn notes(&self) -> &str {
+        self.calls.as_str()
     }
 }

@@ -2,16 +2,21 @@
 //!
 //! A case is a disk, the calls that are made of it, and what they tell, a word a call: `.` where it passed and `!` where it
 //! failed, the letters of the calls that were handed on (`noted.rt`), and behind a slash what was read. A disk that may not be
-//! used is asked nothing but to crash: `-`. At the end stands how many bytes the disk below is known to have where a cut is due.
+//! used is asked nothing but to crash: `-`. At the end stands whether a cut is due.
+//!
+//! A case is plain data, and each layer of its disk is put on by a function of its own, over any disk: a proof grows with the
+//! types that its function names, and faster than they do.
 
-ghost use Rattle.std.specs.Prelude.{IsTrue};
+ghost use Rattle.std.specs.Prelude.{◌≡◌, true, false, IsTrue};
 ghost use Rattle.sqlite_disk.specs.Disk.{Only};
+ghost use Rattle.sqlite_std_file.specs.File.{IsFresh};
 
-use crate::noted::Noted;
+use crate::noted::{Noted, Notes};
 use crate::{LazyDisk, settled_files};
 use sqlite_disk::{Crash, Disk, Files, Fuse, Memory, digest_of};
-use sqlite_std_file::{Unknown, open};
-use std::alloc::{AllocError, Global};
+use sqlite_std_file::{FileFrom, Start, Unknown, open};
+use std::alloc::Global;
+use std::process::Abort;
 use std::test::Fail;
 use std::{fs, io};
 
@@ -23,30 +28,38 @@ enum Call {
     Len,
     // Two bytes from there on.
     Read(usize),
+    // Writes two bytes, waits for the disk, and reads them beside their digest.
+    ReadBesideDigest,
     Crash,
 }
 
-use Call::{Len, Read, SetLen, Sync, Write};
+use Call::{Len, Read, ReadBesideDigest, SetLen, Sync, Write};
 
-// An empty file in memory, of which so many calls pass and then each fails.
-fn fused(alloc: Global, calls: u64) -> Noted<Fuse<Memory>>
-    ensures usable { IsTrue (⟦<Noted<Fuse<Memory>> as Disk>⟧.is_usable result) }
-    ensures synced { Only (⟦<Noted<Fuse<Memory>> as Disk>⟧.seen result)
-        (⟦<Noted<Fuse<Memory>> as Disk>⟧.may_leave result) }
-{
-    Noted {
-        inner: Fuse::new(Memory::new(alloc), calls),
-        calls: Vec::new(alloc),
+// A disk over an empty file in memory, of which so many calls pass and then each fails.
+#[derive(Clone, Copy)]
+enum Over {
+    // Nothing is known to be synced.
+    Unsynced(u64),
+    Synced(u64),
+    // Nothing is known to be synced, and the file gets no longer than the first number.
+    UpTo(usize, u64),
+}
+
+use Over::{Synced, Unsynced, UpTo};
+
+fn passing_calls(over: Over) -> u64 {
+    match over {
+        Unsynced(calls) | Synced(calls) | UpTo(_, calls) => calls,
     }
 }
 
-// The same, over which nothing is known to be synced.
-fn unknown(alloc: Global, calls: u64) -> LazyDisk<Noted<Fuse<Memory>>> {
-    LazyDisk::new(fused(alloc, calls))
+// Text that is lost is missed in what a test compares.
+fn tell(told: &mut String, text: &str) {
+    let _told = told.push_str(text);
 }
 
-fn synced(alloc: Global, calls: u64) -> LazyDisk<Noted<Fuse<Memory>>> {
-    LazyDisk::over_synced(fused(alloc, calls))
+fn tell_byte(told: &mut String, byte: u8) {
+    let _told = told.push(char::from(byte));
 }
 
 fn mark(ended: io::Result<()>) -> &'static str {
@@ -56,18 +69,27 @@ fn mark(ended: io::Result<()>) -> &'static str {
     }
 }
 
+fn read_beside_digest<D: Disk>(disk: &mut D, read: &mut [u8; 2]) -> io::Result<()>
+    requires { IsTrue (D.Disk.is_usable disk.old) }
+{
+    disk.write_at(0, b"ab")?;
+    disk.sync()?;
+    disk.read_checked(7, digest_of(7, b"ab"), 0, read)
+}
+
 // Makes a call of a disk that may be used.
 fn called<D: Disk>(disk: &mut D, call: Call, read: &mut [u8; 2]) -> &'static str {
     if !disk.may_be_used() {
         return "-";
     }
-    match call {
-        Call::Write(at, text) => mark(disk.write_at(at, text.as_bytes())),
-        Call::SetLen(len) => mark(disk.set_len(len)),
-        Call::Sync => mark(disk.sync()),
-        Call::Read(at) => mark(disk.read_at(at, read)),
-        Call::Len | Call::Crash => mark(disk.len().map(|_len| ())),
-    }
+    mark(match call {
+        Call::Write(at, text) => disk.write_at(at, text.as_bytes()),
+        Call::SetLen(len) => disk.set_len(len),
+        Call::Sync => disk.sync(),
+        Call::Read(at) => disk.read_at(at, read),
+        Call::ReadBesideDigest => read_beside_digest(disk, read),
+        Call::Len | Call::Crash => disk.len().map(|_len| ()),
+    })
 }
 
 fn played_call<D: Crash>(disk: &mut D, call: Call, read: &mut [u8; 2]) -> &'static str {
@@ -80,215 +102,240 @@ fn played_call<D: Crash>(disk: &mut D, call: Call, read: &mut [u8; 2]) -> &'stat
     }
 }
 
-// A call's word.
-fn tell<D: Crash>(
-    told: &mut Vec<u8>,
-    disk: &mut LazyDisk<Noted<D>>,
-    call: Call,
-) -> Result<(), AllocError> {
-    let before = disk.inner().calls.len();
-    let mut read = [0; 2];
-    told.extend_from_slice(played_call(disk, call, &mut read).as_bytes())?;
-    told.extend_from_slice(disk.inner().calls.get(before..).unwrap_or(&[]))?;
-    if let Call::Read(_) = call {
-        told.extend_from_slice(b"/")?;
-        told.extend_from_slice(&read)?;
+fn tell_read(told: &mut String, call: Call, read: [u8; 2]) {
+    if matches!(call, Call::Read(_) | Call::ReadBesideDigest) {
+        tell(told, "/");
+        tell_byte(told, read[0]);
+        tell_byte(told, read[1]);
     }
-    told.extend_from_slice(b" ")
 }
 
-fn tell_cut<D: Disk>(told: &mut Vec<u8>, disk: &LazyDisk<Noted<D>>) -> Result<(), AllocError> {
-    match disk.uncut_len() {
-        Some(_) => told.extend_from_slice(b"due"),
-        None => told.extend_from_slice(b"none due"),
-    }
+// A call's word.
+fn tell_call<D: Crash + Notes>(told: &mut String, disk: &mut LazyDisk<D>, call: Call) {
+    let before = disk.inner().notes().len();
+    let mut read = [0; 2];
+    tell(told, played_call(disk, call, &mut read));
+    tell(told, disk.inner().notes().get(before..).unwrap_or(""));
+    tell_read(told, call, read);
+    tell(told, " ");
 }
 
 // What the calls tell that are made of a disk.
-fn played<D: Crash + Drop>(
-    alloc: Global,
-    disk: LazyDisk<Noted<D>>,
-    calls: &[Call],
-) -> Result<Vec<u8>, AllocError> {
+fn played<D: Crash + Notes + Drop>(alloc: Global, disk: LazyDisk<D>, calls: &[Call]) -> String {
     let mut disk = disk;
-    let mut told = Vec::new(alloc);
+    let mut told = String::new(alloc);
     for call in calls {
-        tell(&mut told, &mut disk, *call)?;
+        tell_call(&mut told, &mut disk, *call);
     }
-    tell_cut(&mut told, &disk)?;
-    Ok(told)
-}
-
-#[test]
-fn hands_one_sync_on_after_each_write(rt: HostRuntime) -> Result<(), Fail> {
-    let calls = [
-        Write(0, "ab"),
-        Sync,
-        Sync,
-        Sync,
-        SetLen(1),
-        Sync,
-        Sync,
-        Sync,
-        Write(0, "c"),
-    ];
-    let told = played(rt.alloc(), synced(rt.alloc(), 4), &calls)?;
-    assert_eq!(rt;
-        told.as_slice(),
-        b".w .s . . . .cs . . !w none due".as_slice()
+    tell(
+        &mut told,
+        match disk.uncut_len() {
+            Some(_) => "due",
+            None => "none due",
+        },
     );
-    Ok(())
+    told
 }
 
-#[test]
-fn hands_the_first_sync_on_where_it_may_tell_something(rt: HostRuntime) -> Result<(), Fail> {
-    let told = played(rt.alloc(), unknown(rt.alloc(), 1), &[Sync, Sync])?;
-    assert_eq!(rt; told.as_slice(), b".s . none due".as_slice());
-    let told = played(rt.alloc(), synced(rt.alloc(), 0), &[Sync])?;
-    assert_eq!(rt; told.as_slice(), b". none due".as_slice());
-    Ok(())
-}
-
-#[test]
-fn counts_a_failed_write_as_written(rt: HostRuntime) -> Result<(), Fail> {
-    let told = played(rt.alloc(), synced(rt.alloc(), 0), &[Write(0, "ab"), Sync])?;
-    assert_eq!(rt; told.as_slice(), b"!w !s none due".as_slice());
-    let told = played(rt.alloc(), synced(rt.alloc(), 0), &[SetLen(1), Sync])?;
-    assert_eq!(rt; told.as_slice(), b"!c !s none due".as_slice());
-    Ok(())
-}
-
-#[test]
-fn hands_no_sync_on_after_reads(rt: HostRuntime) -> Result<(), Fail> {
-    let calls = [Write(0, "ab"), Sync, Len, Read(0), Read(1), Sync];
-    let told = played(rt.alloc(), unknown(rt.alloc(), 5), &calls)?;
-    assert_eq!(rt;
-        told.as_slice(),
-        b".w .s .l .r/ab !r/\0\0 . none due".as_slice()
-    );
-    Ok(())
-}
-
-#[test]
-fn hands_a_sync_on_after_a_crash(rt: HostRuntime) -> Result<(), Fail> {
-    let calls = [
-        Write(0, "ab"),
-        Sync,
-        Write(0, "cd"),
-        Sync,
-        Sync,
-        Call::Crash,
-        Read(0),
-        Sync,
-        Sync,
-        Call::Crash,
-        Read(0),
-        Sync,
-        Sync,
-    ];
-    let told = played(rt.alloc(), unknown(rt.alloc(), 3), &calls)?;
-    let expected = b".w .s .w !s - . .r/ab .s . . .r/ab .s . none due";
-    assert_eq!(rt; told.as_slice(), expected.as_slice());
-    Ok(())
-}
-
-#[test]
-fn cuts_before_the_next_write(rt: HostRuntime) -> Result<(), Fail> {
-    let told = played(
-        rt.alloc(),
-        unknown(rt.alloc(), 1),
-        &[Write(0, "abcd"), SetLen(1)],
-    )?;
-    assert_eq!(rt; told.as_slice(), b".w . due".as_slice());
-    let calls = [Write(0, "abcd"), SetLen(1), Write(2, "z"), Read(0), Read(1)];
-    let told = played(rt.alloc(), unknown(rt.alloc(), 5), &calls)?;
-    assert_eq!(rt;
-        told.as_slice(),
-        b".w . .cw .r/a\0 .r/\0z none due".as_slice()
-    );
-    Ok(())
-}
-
-#[test]
-fn cuts_before_a_longer_length(rt: HostRuntime) -> Result<(), Fail> {
-    let calls = [Write(0, "abcd"), SetLen(2), SetLen(3), Read(1)];
-    let told = played(rt.alloc(), unknown(rt.alloc(), 4), &calls)?;
-    assert_eq!(rt; told.as_slice(), b".w . .cc .r/b\0 none due".as_slice());
-    Ok(())
-}
-
-#[test]
-fn cuts_before_a_sync(rt: HostRuntime) -> Result<(), Fail> {
-    let calls = [
-        Write(0, "abcd"),
-        SetLen(3),
-        SetLen(2),
-        Sync,
-        Read(0),
-        Read(1),
-    ];
-    let told = played(rt.alloc(), unknown(rt.alloc(), 5), &calls)?;
-    assert_eq!(rt;
-        told.as_slice(),
-        b".w . . .cs .r/ab !r/\0\0 none due".as_slice()
-    );
-    Ok(())
-}
-
-#[test]
-fn keeps_a_cut_due_that_fails(rt: HostRuntime) -> Result<(), Fail> {
-    let calls = [Write(0, "abcd"), SetLen(2), Sync, Sync];
-    let told = played(rt.alloc(), unknown(rt.alloc(), 1), &calls)?;
-    assert_eq!(rt; told.as_slice(), b".w . !c - due".as_slice());
-    Ok(())
-}
-
-#[test]
-fn reads_only_what_is_not_cut(rt: HostRuntime) -> Result<(), Fail> {
-    let calls = [Write(0, "abcd"), SetLen(3), Read(2), Read(1)];
-    let told = played(rt.alloc(), unknown(rt.alloc(), 2), &calls)?;
-    assert_eq!(rt; told.as_slice(), b".w . !/\0\0 .r/bc due".as_slice());
-    Ok(())
-}
-
-#[test]
-fn hands_nothing_on_that_ends_past_the_most_bytes(rt: HostRuntime) -> Result<(), Fail> {
-    let calls = [
-        Write(0, "abcd"),
-        Write(3, "ef"),
-        Write(4, "x"),
-        SetLen(5),
-        SetLen(2),
-        Write(4, "x"),
-        SetLen(4),
-        Sync,
-        Read(0),
-    ];
-    let told = played(rt.alloc(), unknown(rt.alloc(), 9).up_to(4), &calls)?;
-    assert_eq!(rt;
-        told.as_slice(),
-        b".w ! ! ! . ! .cc .s .r/ab none due".as_slice()
-    );
-    Ok(())
-}
-
-// Writes bytes, waits for the disk, reads them beside their digest, and waits again.
-fn read_beside_a_digest<D: Disk>(disk: &mut D) -> io::Result<()>
-    requires { IsTrue (D.Disk.is_usable disk.old) }
+fn lazy<D: Disk>(inner: D, over: Over) -> LazyDisk<D>
+    requires mixing { (a b : D) → D.Disk.is_mixing a ≡ D.Disk.is_mixing b }
+    requires synced { Only (D.Disk.seen inner) (D.Disk.may_leave inner) }
 {
-    disk.write_at(0, b"ab")?;
-    disk.sync()?;
-    let mut read = [0; 2];
-    disk.read_checked(7, digest_of(7, b"ab"), 0, &mut read)?;
-    disk.sync()
+    match over {
+        Unsynced(_) => LazyDisk::new(inner),
+        Synced(_) => LazyDisk::over_synced(inner),
+        UpTo(most_len, _) => LazyDisk::new(inner).up_to(most_len),
+    }
+}
+
+// The disk that is tested goes over one that notes its calls.
+fn told_lazily<D: Crash + Notes + Drop>(
+    alloc: Global,
+    inner: D,
+    over: Over,
+    calls: &[Call],
+) -> String
+    requires mixing { (a b : D) → D.Disk.is_mixing a ≡ D.Disk.is_mixing b }
+    requires synced { Only (D.Disk.seen inner) (D.Disk.may_leave inner) }
+{
+    played(alloc, lazy(inner, over), calls)
+}
+
+// And that goes over one that may fail.
+fn told_noted<D: Crash + Drop>(alloc: Global, inner: D, over: Over, calls: &[Call]) -> String
+    requires mixing { (a b : D) → D.Disk.is_mixing a ≡ D.Disk.is_mixing b }
+    requires synced { Only (D.Disk.seen inner) (D.Disk.may_leave inner) }
+{
+    let noted = Noted {
+        inner,
+        calls: String::new(alloc),
+    };
+    told_lazily(alloc, noted, over, calls)
+}
+
+fn told(alloc: Global, over: Over, calls: &[Call]) -> String {
+    let inner = Fuse::new(Memory::new(alloc), passing_calls(over));
+    told_noted(alloc, inner, over, calls)
+}
+
+// These calls of such a disk tell this.
+fn check(rt: &(impl Abort + AllocGlobal), over: Over, calls: &[Call], wanted: &str) {
+    let told = told(rt.alloc(), over, calls);
+    assert_eq!(rt; told.as_str(), wanted);
 }
 
 #[test]
-fn hands_no_sync_on_after_a_read_beside_a_digest(rt: HostRuntime) -> Result<(), Fail> {
-    let mut disk = LazyDisk::new(fused(rt.alloc(), 3));
-    read_beside_a_digest(&mut disk)?;
-    assert_eq!(rt; disk.inner().calls.as_slice(), b"wsr".as_slice());
-    Ok(())
+fn hands_one_sync_on_after_each_write(rt: HostRuntime) {
+    check(
+        &rt,
+        Synced(4),
+        &[
+            Write(0, "ab"),
+            Sync,
+            Sync,
+            Sync,
+            SetLen(1),
+            Sync,
+            Sync,
+            Sync,
+            Write(0, "c"),
+        ],
+        ".w .s . . . .cs . . !w none due",
+    );
+}
+
+#[test]
+fn hands_the_first_sync_on_where_it_may_tell_something(rt: HostRuntime) {
+    check(&rt, Unsynced(1), &[Sync, Sync], ".s . none due");
+    check(&rt, Synced(0), &[Sync], ". none due");
+}
+
+#[test]
+fn counts_a_failed_write_as_written(rt: HostRuntime) {
+    check(&rt, Synced(0), &[Write(0, "ab"), Sync], "!w !s none due");
+    check(&rt, Synced(0), &[SetLen(1), Sync], "!c !s none due");
+}
+
+#[test]
+fn hands_no_sync_on_after_reads(rt: HostRuntime) {
+    check(
+        &rt,
+        Unsynced(5),
+        &[Write(0, "ab"), Sync, Len, Read(0), Read(1), Sync],
+        ".w .s .l .r/ab !r/\0\0 . none due",
+    );
+}
+
+#[test]
+fn hands_a_sync_on_after_a_crash(rt: HostRuntime) {
+    check(
+        &rt,
+        Unsynced(3),
+        &[
+            Write(0, "ab"),
+            Sync,
+            Write(0, "cd"),
+            Sync,
+            Sync,
+            Call::Crash,
+            Read(0),
+            Sync,
+            Sync,
+            Call::Crash,
+            Read(0),
+            Sync,
+            Sync,
+        ],
+        ".w .s .w !s - . .r/ab .s . . .r/ab .s . none due",
+    );
+}
+
+#[test]
+fn cuts_before_the_next_write(rt: HostRuntime) {
+    check(&rt, Unsynced(1), &[Write(0, "abcd"), SetLen(1)], ".w . due");
+    check(
+        &rt,
+        Unsynced(5),
+        &[Write(0, "abcd"), SetLen(1), Write(2, "z"), Read(0), Read(1)],
+        ".w . .cw .r/a\0 .r/\0z none due",
+    );
+}
+
+#[test]
+fn cuts_before_a_longer_length(rt: HostRuntime) {
+    check(
+        &rt,
+        Unsynced(4),
+        &[Write(0, "abcd"), SetLen(2), SetLen(3), Read(1)],
+        ".w . .cc .r/b\0 none due",
+    );
+}
+
+#[test]
+fn cuts_before_a_sync(rt: HostRuntime) {
+    check(
+        &rt,
+        Unsynced(5),
+        &[
+            Write(0, "abcd"),
+            SetLen(3),
+            SetLen(2),
+            Sync,
+            Read(0),
+            Read(1),
+        ],
+        ".w . . .cs .r/ab !r/\0\0 none due",
+    );
+}
+
+#[test]
+fn keeps_a_cut_due_that_fails(rt: HostRuntime) {
+    check(
+        &rt,
+        Unsynced(1),
+        &[Write(0, "abcd"), SetLen(2), Sync, Sync],
+        ".w . !c - due",
+    );
+}
+
+#[test]
+fn reads_only_what_is_not_cut(rt: HostRuntime) {
+    check(
+        &rt,
+        Unsynced(2),
+        &[Write(0, "abcd"), SetLen(3), Read(2), Read(1)],
+        ".w . !/\0\0 .r/bc due",
+    );
+}
+
+#[test]
+fn hands_nothing_on_that_ends_past_the_most_bytes(rt: HostRuntime) {
+    check(
+        &rt,
+        UpTo(4, 9),
+        &[
+            Write(0, "abcd"),
+            Write(3, "ef"),
+            Write(4, "x"),
+            SetLen(5),
+            SetLen(2),
+            Write(4, "x"),
+            SetLen(4),
+            Sync,
+            Read(0),
+        ],
+        ".w ! ! ! . ! .cc .s .r/ab none due",
+    );
+}
+
+#[test]
+fn hands_no_sync_on_after_a_read_beside_a_digest(rt: HostRuntime) {
+    check(
+        &rt,
+        Unsynced(3),
+        &[ReadBesideDigest, Sync],
+        ".wsr/ab . none due",
+    );
 }
 
 const FOLDER: &str = "lazy_disk_test";
@@ -305,20 +352,60 @@ fn kept<D: Disk>(disk: &mut D, bytes: &[u8]) -> io::Result<usize>
     disk.len()
 }
 
+// Whether both files are as long as what is written to them.
+fn both_keep<D: Disk>(files: &mut Files<D>) -> io::Result<bool>
+    requires log { IsTrue (D.Disk.is_usable files.old.log) }
+    requires db { IsTrue (D.Disk.is_usable files.old.db) }
+{
+    Ok(kept(&mut files.log, b"log")? == 3 && kept(&mut files.db, b"db")? == 2)
+}
+
+// Whether both files have what was written to them.
+fn both_have<D: Disk>(files: &mut Files<D>) -> io::Result<bool>
+    requires log { IsTrue (D.Disk.is_usable files.old.log) }
+    requires db { IsTrue (D.Disk.is_usable files.old.db) }
+{
+    let (mut log, mut db) = ([0; 3], [0; 2]);
+    files.log.read_at(0, &mut log)?;
+    files.db.read_at(0, &mut db)?;
+    Ok(log == *b"log" && db == *b"db")
+}
+
+// What is done of the files once they are opened.
+#[derive(Clone, Copy)]
+enum Turn {
+    Keep,
+    Have,
+}
+
+fn took_turn<D: Disk + Drop>(files: Files<D>, turn: Turn) -> io::Result<bool> {
+    let mut files = files;
+    if !files.may_be_used() {
+        return Ok(false);
+    }
+    match turn {
+        Turn::Keep => both_keep(&mut files),
+        Turn::Have => both_have(&mut files),
+    }
+}
+
+fn took_settled_turn<S: Start>(files: Files<FileFrom<S>>, turn: Turn) -> io::Result<bool>
+    requires { IsFresh true files.log × IsFresh false files.db }
+{
+    took_turn(settled_files(files), turn)
+}
+
+fn opened(rt: &HostRuntime, turn: Turn) -> Result<bool, Fail> {
+    Ok(took_settled_turn(open(rt, PATH, Unknown)?, turn)?)
+}
+
 #[test]
 fn keeps_what_is_written_to_the_files_of_a_database(rt: HostRuntime) -> Result<(), Fail> {
     let _ = fs::remove_dir_all(&rt, FOLDER);
     fs::create_dir(&rt, FOLDER)?;
-    let Files { mut log, mut db } = settled_files(open(&rt, PATH, Unknown)?);
-    let lengths = (kept(&mut log, b"log")?, kept(&mut db, b"db")?);
-    drop((log, db));
-    assert_eq!(rt; lengths, (3, 2));
-    let Files { mut log, mut db } = settled_files(open(&rt, PATH, Unknown)?);
-    let (mut of_log, mut of_db) = ([0; 3], [0; 2]);
-    log.read_at(0, &mut of_log)?;
-    db.read_at(0, &mut of_db)?;
-    drop((log, db));
+    assert!(rt; opened(&rt, Turn::Keep)?);
+    let is_there = opened(&rt, Turn::Have)?;
     fs::remove_dir_all(&rt, FOLDER)?;
-    assert_eq!(rt; (of_log, of_db), (*b"log", *b"db"));
+    assert!(rt; is_there);
     Ok(())
 }
