@@ -4,7 +4,7 @@
 Usage: tests/git/git_bridge.py [PROGRAM [PART [PLAYS [FIRST]]]]   (default: crates/hookhost/out/hookhost, all parts, 200 plays from 1 on)
 
 PART is `plays`, `kills`, or a part of a case's name.
-First what docs/GIT.md promises, case by case (tests/git/git_bridge_cases.py, .._fixes.py, .._runs.py, .._calls.py, .._served.py, .._keeping.py and .._share.py), and what
+First what docs/GIT.md promises, case by case (tests/git/git_bridge_cases.py, .._fixes.py, .._runs.py, .._calls.py, .._served.py, .._keeping.py, .._share.py and .._tools.py), and what
 README.md shows (tests/git/git_bridge_readme.py). Then random repositories beside copies of them in which pre-commit is the hook
 (tests/git/git_bridge_plays.py), and kills (tests/git/git_bridge_kills.py).
 """
@@ -25,6 +25,7 @@ from git_bridge_repository import Wrong, environment
 from git_bridge_runs import CASES as RUNS
 from git_bridge_served import CASES as SERVED
 from git_bridge_share import CASES as SHARED
+from git_bridge_tools import CASES as TOOLS
 
 PART = sys.argv[2] if len(sys.argv) > 2 else ""
 PLAYS, FIRST = int(sys.argv[3]) if len(sys.argv) > 3 else 200, int(sys.argv[4]) if len(sys.argv) > 4 else 1
@@ -50,7 +51,7 @@ def in_folder(action):
 
 def run_cases():
     """How many cases there were, and how many failed."""
-    chosen = [case for case in (*CASES, *FIXES, *RUNS, *CALLS, *SERVED, *KEEPING, *SHARED, readme_session) if PART in case.__name__]
+    chosen = [case for case in (*CASES, *FIXES, *RUNS, *CALLS, *SERVED, *KEEPING, *SHARED, *TOOLS, readme_session) if PART in case.__name__]
     failed = [case.__name__ for case in chosen if in_folder(case)]
     for name in failed:
         print(f"git_bridge: FAILED: case {name}")

@@ -13,7 +13,7 @@ import time
 from git_bridge_repository import BLANKS, BRIDGE, Repository, Wrong, check, content, names_hook, same, shell
 
 # What the script starts. Each is found in a folder of its own first, where a script stands that counts.
-COMMANDS = ["awk", "cat", "chmod", "cmp", "cp", "find", "flock", "git", "ln", "mkdir", "mv", "rm", "sed", "tr", "wc", "hookhost"]
+COMMANDS = ["awk", "cat", "chmod", "cmp", "cp", "find", "flock", "git", "ln", "mkdir", "mv", "readlink", "rm", "sed", "stat", "tr", "wc", "hookhost"]
 COUNTING = """#!/bin/sh
 echo x >> "$KILL_COUNT"
 [ "$({wc} -l < "$KILL_COUNT")" -lt "$KILL_AT" ] || kill -9 "-$KILL_GROUP"
@@ -132,6 +132,14 @@ def counting_commands(top, env):
     return {"PATH": folder + ":" + env["PATH"], "HOOKHOST": os.path.join(folder, "hookhost"), "KILL_COUNT": os.path.join(top, "count")}
 
 
+def killed_before(git, counting, at):
+    """How a run ends that is killed before the command of this number, if it starts so many."""
+    if os.path.exists(counting["KILL_COUNT"]):
+        os.remove(counting["KILL_COUNT"])
+    words = ["sh", "-c", 'export KILL_GROUP=$$; exec "$0" run', BRIDGE]
+    return subprocess.run(words, cwd=git.folder, env=git.env | {"NO_LINKS": ""} | counting | {"KILL_AT": str(at)}, stdin=subprocess.DEVNULL, capture_output=True, start_new_session=True, timeout=60)
+
+
 def killed_before_each_command(top, env):
     killed_before_commands(top, env, 1)
 
@@ -147,10 +155,7 @@ def killed_before_commands(top, env, distance, *hooks):
     before, whole, over = first.working_files(), Whole(first), set()
     for at in range(1, MOST_COMMANDS, distance):
         git, links = copied(first, os.path.join(top, f"killed {at}")), "" if at % 2 else "none"
-        if os.path.exists(counting["KILL_COUNT"]):
-            os.remove(counting["KILL_COUNT"])
-        words = ["sh", "-c", 'export KILL_GROUP=$$; exec "$0" run', BRIDGE]
-        done = subprocess.run(words, cwd=git.folder, env=env | counting | {"KILL_AT": str(at), "NO_LINKS": links}, stdin=subprocess.DEVNULL, capture_output=True, start_new_session=True, timeout=60)
+        done = killed_before(git, counting | {"NO_LINKS": links}, at)
         if done.returncode != -signal.SIGKILL:
             check(40 < content(counting["KILL_COUNT"]).count(b"x") < at, f"the script isn't killed before command {at}")
             over.add(links)
@@ -160,6 +165,26 @@ def killed_before_commands(top, env, distance, *hooks):
             go_on(git, before, whole, random.Random(at))
         except Wrong as wrong:
             raise Wrong(f"killed before command {at}: {wrong}") from None
+        shutil.rmtree(git.folder)
+    raise Wrong("the script starts ever more commands")
+
+
+def killed_while_a_tool_changes(top, env):
+    """No answer of the tool before is taken by the next run."""
+    counting, tool = counting_commands(top, env), os.path.join(top, "tools/mylint")
+    env = env | {"PATH": os.path.dirname(tool) + ":" + env["PATH"]}
+    first = Repository.made(os.path.join(top, "first"), env, "--template=")
+    first.configure("id: lint, name: Lint, language: system, entry: mylint, files: 'txt$'")
+    first.add("a.txt", "a\n")
+    first.write(tool, "#!/bin/sh\n", 0o755)
+    for answered in (0, 1):
+        same("the first runs", first.bridge("run", "--verbose").out.splitlines()[-1], f"answered from the cache: {answered}")
+    first.write(tool, "#!/bin/sh\nexit 1\n", 0o755)
+    for at in range(1, MOST_COMMANDS, DISTANCE // 2):
+        git = copied(first, os.path.join(top, f"killed {at}"))
+        if killed_before(git, counting | {"PATH": counting["PATH"].replace(":", f":{os.path.dirname(tool)}:", 1)}, at).returncode != -signal.SIGKILL:
+            return
+        same(f"the run after a kill before command {at}", run_again(git).status, 1)
         shutil.rmtree(git.folder)
     raise Wrong("the script starts ever more commands")
 
@@ -187,4 +212,4 @@ def killed_at_random(top, env):
         shutil.rmtree(git.folder)
 
 
-KILLS = [killed_before_each_command, killed_while_a_hook_calls_git, killed_at_random]
+KILLS = [killed_before_each_command, killed_while_a_hook_calls_git, killed_while_a_tool_changes, killed_at_random]
