@@ -33,8 +33,10 @@ PART, ROOT = (sys.argv + ["", "", ""])[2:4]
 PLACES = {
     "bin/hookhost": (0o755, "crates/hookhost/out/hookhost"),
     "bin/hookhost-git": (0o755, "git/hookhost-git"),
+    "bin/hookhost-reads": (0o755, "git/hookhost-reads"),
     "share/man/man1/hookhost.1": (0o644, "share/hookhost.1"),
     "share/man/man1/hookhost-git.1": (0o644, "share/hookhost-git.1"),
+    "share/man/man1/hookhost-reads.1": (0o644, "share/hookhost-reads.1"),
     "share/bash-completion/completions/hookhost": (0o644, "share/hookhost.bash"),
     "share/bash-completion/completions/hookhost-git": (0o644, "share/hookhost-git.bash"),
     "share/zsh/site-functions/_hookhost": (0o644, "share/_hookhost"),
@@ -185,7 +187,7 @@ def any_folder_will_do(desk):
 
 def pages_are_found(desk):
     desk.install()
-    for name in ["hookhost", "hookhost-git"]:
+    for name in ["hookhost", "hookhost-git", "hookhost-reads"]:
         page = content(desk.at(f"share/man/man1/{name}.1")).decode()
         same("title", re.search(r"^\.TH (\S+) (\S+)", page, re.MULTILINE).groups(), (name.upper().replace("-", r"\-"), "1"))
         check(f"\n{name.replace('-', chr(92) + '-')} \\- " in page, f"the page of {name} has no line for apropos")
@@ -437,6 +439,7 @@ def packages_have_all(desk):
     about = fields(deb)
     same("fields", (about["Package"], about["Version"], about["Architecture"]), ("hookhost", version, ARCHITECTURE))
     same("what it depends on", about["Depends"], f"libc6 (>= {libc_of(PROGRAM)}), git (>= 1:2.22)")
+    same("what it suggests, for hookhost-reads", about["Suggests"], "python3, strace")
     held = members_of_deb(desk, deb)
     for place, (mode, source) in PLACES.items():
         place = place.replace("zsh/site-functions", "zsh/vendor-completions")
