@@ -3,7 +3,7 @@
 
 Usage: tests/git/git_bridge.py [PROGRAM [PART [PLAYS [FIRST]]]]   (default: crates/hookhost/out/hookhost, all parts, 200 plays from 1 on)
 
-PART is `plays`, `kills`, or a part of a case's name.
+PART is `cases`, `plays`, `kills`, or a part of a case's name.
 First what docs/GIT.md promises, case by case (tests/git/git_bridge_cases.py, .._fixes.py, .._runs.py, .._calls.py, .._served.py, .._keeping.py, .._share.py, .._tools.py and .._partial.py), and what
 README.md shows (tests/git/git_bridge_readme.py). Then random repositories beside copies of them in which pre-commit is the hook
 (tests/git/git_bridge_plays.py), and kills (tests/git/git_bridge_kills.py).
@@ -52,7 +52,8 @@ def in_folder(action):
 
 def run_cases():
     """How many cases there were, and how many failed."""
-    chosen = [case for case in (*CASES, *FIXES, *RUNS, *CALLS, *SERVED, *KEEPING, *SHARED, *TOOLS, *PARTIAL, readme_session) if PART in case.__name__]
+    cases = (*CASES, *FIXES, *RUNS, *CALLS, *SERVED, *KEEPING, *SHARED, *TOOLS, *PARTIAL, readme_session)
+    chosen = [case for case in cases if PART == "cases" or PART in case.__name__]
     failed = [case.__name__ for case in chosen if in_folder(case)]
     for name in failed:
         print(f"git_bridge: FAILED: case {name}")

@@ -2,7 +2,10 @@
 """Plays the commands on a repository with the built program: files with hard names, files and folders that can't be used,
 several programs at once, kills, limits to what is remembered, and how often the disk is waited for.
 
-Usage: tests/host/host.py [KILLS [PROGRAM [STORE_TRIAL]]]   (default: 30 kills of each command, and the built programs)
+Usage: tests/host/host.py [--kills | --no-kills] [KILLS [PROGRAM [STORE_TRIAL]]]   (default: 30 kills of each command, and the built
+programs)
+
+--kills plays the topics of kills alone, --no-kills the others: so they can be played side by side.
 
 What one program alone prints stands in tests/sessions/. Here stands what no session can make: names that no text file
 keeps, another user, fifos, programs side by side. Each kill is a SIGKILL at a random moment of a command on a copy of a
@@ -15,6 +18,9 @@ import sys
 import tempfile
 
 sys.path.insert(0, os.path.abspath(f"{__file__}/../../shared"))
+OPTIONS = [word for word in sys.argv if word.startswith("--")]
+# The modules below read the other words by their place.
+sys.argv = [word for word in sys.argv if word not in OPTIONS]
 import host_answers
 import host_at_once
 import host_calls
@@ -31,13 +37,17 @@ import host_unusable
 import host_version_1
 from host_program import Wrong
 
-TOPICS = [host_names, host_unusable, host_folder, host_checkout, host_calls, host_at_once, host_kills, host_put_kills, host_log, host_files,
-          host_runs, host_answers, host_limit, host_version_1]
+KILLS = [host_kills, host_put_kills, host_limit, host_version_1]
+OTHERS = [host_names, host_unusable, host_folder, host_checkout, host_calls, host_at_once, host_log, host_files, host_runs, host_answers]
+TOPICS = {"": OTHERS + KILLS, "--no-kills": OTHERS, "--kills": KILLS}
 
 
 def main():
+    chosen = TOPICS.get("".join(OPTIONS))
+    if chosen is None:
+        sys.exit("host: the options are --kills and --no-kills, one of them at most")
     passed, failed = 0, 0
-    for case in (case for topic in TOPICS for case in topic.CASES):
+    for case in (case for topic in chosen for case in topic.CASES):
         with tempfile.TemporaryDirectory() as folder:
             try:
                 case(folder)
