@@ -52,7 +52,7 @@ KNOWN = {
     "fgrep": ("fgrep -c data", "a.xml"), "flake8": ("flake8", "main.py"), "grep": ("grep -c data", "a.xml"), "isort": ("isort --check-only", "main.py"),
     "mdl": ("mdl", "a.md"), "mypy": ("mypy", "main.py"), "perlcritic": ("perlcritic --quiet", "a.pl"), "perltidy": ("perltidy", "a.pl"), "podchecker": ("podchecker", "a.pod"),
     "printf": ("printf a", "a.md"), "pycodestyle": ("pycodestyle", "main.py"), "pydocstyle": ("pydocstyle", "main.py"), "pyflakes3": ("pyflakes3", "main.py"),
-    "pylint": ("pylint --score=n", "main.py"), "sed": ("sed -n p", "a.md"), "shellcheck": ("shellcheck -x", "run.sh"), "tidy": ("tidy -q -e", "a.xml"),
+    "pylint": ("pylint --score=n", "main.py"), "pyupgrade": ("pyupgrade --py38-plus", "main.py"), "sed": ("sed -n p", "a.md"), "shellcheck": ("shellcheck -x", "run.sh"), "tidy": ("tidy -q -e", "a.xml"),
     "true": ("'true'", "a.md"), "tsc": ("tsc", "main.ts"), "yamllint": ("yamllint", "a.yaml"),
     # Of these not all are installed where the tests run.
     "autoflake": ("autoflake --check", "main.py"), "autopep8": ("autopep8 --diff", "main.py"), "checkbashisms": ("checkbashisms", "run.sh"),
