@@ -644,7 +644,7 @@ def other_shells(top, env):
 
 
 def shellcheck(top, env):
-    done = subprocess.run(["shellcheck", "--shell=sh", BRIDGE], capture_output=True, env=env, timeout=60)
+    done = subprocess.run(["shellcheck", "--shell=sh", BRIDGE], capture_output=True, env=env, timeout=600)
     same("shellcheck", (done.returncode, done.stdout), (0, b""))
     git = repository(top, env)
     same("run", git.bridge("run").status, 0)
