@@ -240,7 +240,8 @@ class SideBySide:
     def next(self, is_making):
         """The script that is to be begun now, if any."""
         processors = len(os.sched_getaffinity(0))
-        ready = [part for part in self.left if part.programs <= self.made]
+        # A script whose program never comes is begun in the end, and fails.
+        ready = [part for part in self.left if not is_making or part.programs <= self.made]
         is_free = not is_making and len(self.running) < processors or len(self.running) < 2 * processors and self.idleness.is_there()
         return ready[0] if ready and is_free else None
 
