@@ -40,14 +40,14 @@ LIMITS = [
     ("[command of a hook](#the-parts-of-a-command), with its names", "{} bytes", "hook_run", "most_command_bytes", 0),
     ("[command of a hook](#the-parts-of-a-command), with its names", "{} names", "hook_run", "most_names", 0),
     ("output of a child", "1 MiB ({} bytes)", "child_port", "most_output_bytes", 0),
-    ("staged tree of a store", "{} files", "repo_store", "most_files", 0),
-    ("staged tree of a store", "8 MiB ({} bytes) together", "repo_store", "most_tree_path_bytes", 0),
-    ("commits of a store", "{}", "repo_store", "most_commits", 0),
-    ("remembered answers of a store", "{}", "repo_store", "most_answers", 0),
+    ("staged tree of a store", "{} files", "store_faults", "most_files", 0),
+    ("staged tree of a store", "8 MiB ({} bytes) together", "store_faults", "most_tree_path_bytes", 0),
+    ("commits of a store", "{}", "store_faults", "most_commits", 0),
+    ("remembered answers of a store", "{}", "store_faults", "most_answers", 0),
     ("remembered answers of a store", "{}", "command_line", "most_limit", 0),
-    ("remembered answers of a store", "{} in a new store", "repo_store", "first_limit", 0),
+    ("remembered answers of a store", "{} in a new store", "store_faults", "first_limit", 0),
     ("number that tells how lately an answer was used", "{}", "repo_store", "greatest_tick", 0),
-    ("exit code of a remembered answer", "{}", "repo_store", "most_status", 0),
+    ("exit code of a remembered answer", "{}", "store_faults", "most_status", 0),
 ]
 # The constants of command_line with what the help of a command says, and the enum whose refusals the command prints.
 HELP = {"TRY_HELP": "TryFault", "CHECK_HELP": "ConfigKind"}

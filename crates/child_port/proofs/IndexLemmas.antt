@@ -12,7 +12,7 @@ use Rattle.child_port.specs.Indexes.{AreIndexesOf, indexed_path, is_indexed}
 use Rattle.child_port.specs.Seen.{is_seen_path, plain_word}
 use Rattle.child_port.specs.SeenLemmas.{files_where}
 use Rattle.hook_base.specs.declared.file.File.{File}
-use Rattle.hook_base.specs.declared.memory.OutOfMemory.{OutOfMemory}
+use Rattle.owned_lists.specs.declared.memory.OutOfMemory.{OutOfMemory}
 use Rattle.hook_base.specs.Rising.{IsBelow, IsBelowAll}
 use Rattle.hook_base.specs.RisingLemmas.{above_differs, below_all_filter, below_differs, bytes_same, greater_from_below, path_itself}
 use Rattle.hook_base.specs.TreeLemmas.{put_row-gap}

@@ -7,9 +7,9 @@ use hook_base::{Bytes, Content, FileEntry, Mode, OutOfMemory, RepoPath, Text, Tr
 use hook_config::{Config, read_config};
 use hook_run::run_hooks;
 use process_children::{ProcessChildren, Trouble};
-use repo_store::FIRST_LIMIT;
 use result_book::{Book, ListBook};
 use std::alloc::Global;
+use store_faults::FIRST_LIMIT;
 use trial_rows::{Row, Stop, number_of, only, text_of};
 
 /// A tree, the children that run on it, and what runs of hooks remember of these.

@@ -8,16 +8,16 @@ use Rattle.sqlite.specs.State.{State, Survives}
 use Rattle.sqlite.proofs.StateLemmas.{survives_weaker}
 use Rattle.hook_base.specs.declared.file.Mode.{Mode}
 use Rattle.hook_base.specs.Trees.{entry_of, put_file}
-use Rattle.repo_store.specs.declared.fault.StoreFault.{StoreFault}
-use Rattle.repo_store.specs.declared.fault.StoreFault.TheVariants as store
+use Rattle.store_faults.specs.declared.fault.StoreFault.{StoreFault}
+use Rattle.store_faults.specs.declared.fault.StoreFault.TheVariants as store
 use Rattle.repo_store.specs.Contents.{Collides}
-use Rattle.repo_store.specs.Faults.{IsRefusal}
-use Rattle.repo_store.specs.Limits.{Fits, IsSmall}
+use Rattle.store_faults.specs.Faults.{IsRefusal}
+use Rattle.store_faults.specs.Limits.{Fits, IsSmall}
 use Rattle.repo_store.specs.Kept.{Kept, accepting, forgetting, limiting, staging, unstaging}
 use Rattle.repo_store.specs.Shown.{IsOneTransaction, Leaves, LeavesOnly, Shown}
 use Rattle.result_book.specs.Calls.{AfterForget}
 use Rattle.result_book.specs.Contents.{count_of, with_rows}
-use Rattle.result_book.specs.StoreBooks.{remembered_by, row_of}
+use Rattle.repo_store.specs.StoreBooks.{remembered_by, row_of}
 use Rattle.commit_flow.specs.declared.command.Command.{Command}
 use Rattle.commit_flow.specs.declared.command.Command.TheVariants.{Add, Remove, Accept, Forget}
 use Rattle.commit_flow.specs.declared.host_refusal.HostRefusal.{HostRefusal}

@@ -7,7 +7,7 @@ use Rattle.hook_config.specs.declared.configuration.Config.{Config}
 use Rattle.hook_config.specs.declared.stage.Stage.{Stage}
 use Rattle.hook_run.specs.OneAnswer.{OneAnswer}
 use Rattle.hook_run.specs.Parts.{Part}
-use Rattle.repo_store.specs.Limits.{IsSmall, most_commits}
+use Rattle.store_faults.specs.Limits.{IsSmall, most_commits}
 use Rattle.repo_store.specs.Repository.{Repository, with_new_commit}
 use Rattle.commit_flow.specs.declared.command.Command.TheVariants.{Commit}
 use Rattle.commit_flow.specs.declared.course.Course.{Course}

@@ -14,7 +14,7 @@ use Rattle.hook_run.specs.Parts.{Part}
 use Rattle.repo_store.specs.Kept.{Kept, committing, setting}
 use Rattle.repo_store.specs.Repository.{Repository, with_new_commit}
 use Rattle.repo_store.specs.Shown.{Leaves, Shown}
-use Rattle.result_book.specs.StoreBooks.{IsAtRest, MayRemember, remembered_by}
+use Rattle.repo_store.specs.StoreBooks.{IsAtRest, MayRemember, remembered_by}
 use Rattle.result_book.specs.Told.{AddsTold}
 use Rattle.commit_flow.specs.declared.command.Command.{Command}
 use Rattle.commit_flow.specs.declared.command.Command.TheVariants.{Commit}

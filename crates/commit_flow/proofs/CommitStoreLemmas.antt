@@ -17,11 +17,11 @@ use Rattle.hook_config.specs.declared.stage.Stage.{Stage}
 use Rattle.hook_run.specs.declared.run_refusal.RunRefusal.TheVariants as run
 use Rattle.hook_run.specs.Parts.{Part}
 use Rattle.store_tables.specs.declared.rows.CommitRow.{CommitRow}
-use Rattle.repo_store.specs.declared.fault.StoreFault.{StoreFault}
-use Rattle.repo_store.specs.declared.fault.StoreFault.TheVariants as store
-use Rattle.repo_store.specs.Faults.{IsRefusal}
+use Rattle.store_faults.specs.declared.fault.StoreFault.{StoreFault}
+use Rattle.store_faults.specs.declared.fault.StoreFault.TheVariants as store
+use Rattle.store_faults.specs.Faults.{IsRefusal}
 use Rattle.repo_store.specs.Kept.{FixCollides, HasLarge, Kept, committing, setting}
-use Rattle.repo_store.specs.Limits.{IsSmall, most_commits}
+use Rattle.store_faults.specs.Limits.{IsSmall, most_commits}
 use Rattle.repo_store.specs.Repository.{Commit as Entry, Repository, last_tree, staged_changes, with_fixes, with_new_commit}
 use Rattle.repo_store.specs.Rows.{commit_rows}
 use Rattle.repo_store.specs.Shown.{IsOneTransaction, Leaves, LeavesOnly, Shown}

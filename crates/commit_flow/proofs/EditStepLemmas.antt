@@ -5,7 +5,7 @@ use Rattle.sqlite.specs.Held.{Held, state}
 use Rattle.sqlite.specs.State.{Survives}
 use Rattle.sqlite.proofs.StateLemmas.{survives_weaker}
 use Rattle.hook_base.specs.declared.file.Mode.{Mode}
-use Rattle.repo_store.specs.declared.fault.StoreFault.TheVariants as store
+use Rattle.store_faults.specs.declared.fault.StoreFault.TheVariants as store
 use Rattle.repo_store.specs.declared.staging_edit.StagingEdit.{StagingEdit}
 use Rattle.repo_store.specs.declared.staging_edit.StagingEdit.TheVariants as staging
 use Rattle.repo_store.specs.declared.staging_refusal.StagingFault.{StagingFault}

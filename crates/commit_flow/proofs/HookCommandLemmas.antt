@@ -16,7 +16,7 @@ use Rattle.repo_store.specs.Repository.{Repository}
 use Rattle.repo_store.specs.Shown.{Leaves, Shown}
 use Rattle.repo_store.proofs.AlikeLemmas.{left_alike}
 use Rattle.result_book.specs.Contents.{HaveRow, Holds}
-use Rattle.result_book.specs.StoreBooks.{IsAtRest, LeavesRepository, MayRemember, remembered_by, row_of}
+use Rattle.repo_store.specs.StoreBooks.{IsAtRest, LeavesRepository, MayRemember, remembered_by, row_of}
 use Rattle.result_book.specs.Told.{AddsTold}
 use Rattle.commit_flow.specs.declared.command.Command.{Command}
 use Rattle.commit_flow.specs.declared.host_refusal.HostRefusal.{HostRefusal}

@@ -8,7 +8,7 @@ use Rattle.hook_config.specs.declared.configuration.Config.{Config}
 use Rattle.hook_config.specs.declared.stage.Stage.TheVariants as stage
 use Rattle.result_book.specs.CallLemmas.{have_none}
 use Rattle.result_book.specs.Contents.{Contents, with_rows}
-use Rattle.result_book.specs.StoreBooks.{remembered_by, row_of}
+use Rattle.repo_store.specs.StoreBooks.{remembered_by, row_of}
 use Rattle.repo_store.specs.Answers.{KeptAnswer}
 use Rattle.result_book.specs.Told.{AddsTold, IsTold}
 use Rattle.result_book.specs.ToldLemmas.{adds-then, told-adds}

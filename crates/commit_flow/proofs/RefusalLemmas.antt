@@ -1,9 +1,9 @@
 -- What stops hooks, from what refuses their run.
 use Rattle.std.proofs.Common.{◌≡◌, ◌≢◌, refl}
-use Rattle.repo_store.specs.declared.fault.StoreFault.{StoreFault}
-use Rattle.repo_store.specs.declared.fault.StoreFault.TheVariants as store
+use Rattle.store_faults.specs.declared.fault.StoreFault.{StoreFault}
+use Rattle.store_faults.specs.declared.fault.StoreFault.TheVariants as store
 use Rattle.result_book.specs.declared.book_fault.BookFault.TheVariants as book
-use Rattle.result_book.specs.StoreBooks.{RefusesAnswers}
+use Rattle.repo_store.specs.StoreBooks.{RefusesAnswers}
 use Rattle.hook_run.specs.declared.run_refusal.RunRefusal.{RunRefusal}
 use Rattle.hook_run.specs.declared.run_refusal.RunRefusal.TheVariants as run
 use Rattle.hook_run.specs.Refusals.{IsOfBook}

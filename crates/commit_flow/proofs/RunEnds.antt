@@ -5,12 +5,12 @@ use Rattle.hook_base.specs.declared.change.Change.{Change}
 use Rattle.hook_base.specs.declared.file.File.{File}
 use Rattle.child_port.specs.declared.answer.Outcome.{Outcome}
 use Rattle.hook_run.specs.Moments.{Moment, moment}
-use Rattle.repo_store.specs.declared.fault.StoreFault.{StoreFault}
-use Rattle.repo_store.specs.Faults.{IsRefusal}
+use Rattle.store_faults.specs.declared.fault.StoreFault.{StoreFault}
+use Rattle.store_faults.specs.Faults.{IsRefusal}
 use Rattle.repo_store.specs.Kept.{FixCollides, HasLarge, Kept, setting}
 use Rattle.repo_store.specs.Repository.{staged_changes}
 use Rattle.repo_store.specs.Shown.{Shown}
-use Rattle.result_book.specs.StoreBooks.{IsAtRest, MayRemember, remembered_by}
+use Rattle.repo_store.specs.StoreBooks.{IsAtRest, MayRemember, remembered_by}
 use Rattle.result_book.specs.Told.{AddsTold}
 use Rattle.commit_flow.specs.declared.command.Command.TheVariants.{Run}
 use Rattle.commit_flow.specs.declared.host_ask.HostAsk.{HostAsk}

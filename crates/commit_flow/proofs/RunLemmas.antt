@@ -8,7 +8,7 @@ use Rattle.child_port.specs.declared.answer.Outcome.{Outcome}
 use Rattle.hook_config.specs.declared.configuration.Config.{Config}
 use Rattle.result_book.specs.declared.book_fault.BookFault.{BookFault}
 use Rattle.result_book.specs.ToldLemmas.{adds-none}
-use Rattle.result_book.specs.StoreBooks.{RefusesAnswers}
+use Rattle.repo_store.specs.StoreBooks.{RefusesAnswers}
 use Rattle.hook_run.specs.declared.hooks_run.HooksRun.{HooksRun}
 use Rattle.hook_run.specs.declared.run_ask.RunAsk.{RunAsk}
 use Rattle.hook_run.specs.declared.run_out.RunOut.{RunOut}
@@ -21,9 +21,9 @@ use Rattle.hook_run.specs.Moments.{Moment}
 use Rattle.hook_run.specs.Parts.{Part, all_parts}
 use Rattle.hook_run.specs.Refusals.{IsOfBook}
 use Rattle.hook_run.specs.RunOuts.{IsCountedRun, IsStoppedRun}
-use Rattle.repo_store.specs.declared.fault.StoreFault.{StoreFault}
-use Rattle.repo_store.specs.declared.fault.StoreFault.TheVariants as store
-use Rattle.repo_store.specs.Faults.{IsRefusal}
+use Rattle.store_faults.specs.declared.fault.StoreFault.{StoreFault}
+use Rattle.store_faults.specs.declared.fault.StoreFault.TheVariants as store
+use Rattle.store_faults.specs.Faults.{IsRefusal}
 use Rattle.repo_store.specs.Kept.{FixCollides, HasLarge, Kept, setting}
 use Rattle.repo_store.specs.Repository.{Repository, staged_changes}
 use Rattle.commit_flow.specs.declared.command.Command.TheVariants.{Run}

@@ -15,7 +15,7 @@ use Rattle.repo_store.specs.Shown.{Shown, Stands}
 use Rattle.result_book.specs.CallLemmas.{have_none}
 use Rattle.result_book.specs.Contents.{Contents}
 use Rattle.result_book.specs.Told.{AddsTold}
-use Rattle.result_book.specs.StoreBooks.{IsAtRest, MayRemember, remembered_by}
+use Rattle.repo_store.specs.StoreBooks.{IsAtRest, MayRemember, remembered_by}
 use Rattle.commit_flow.specs.declared.command.Command.{Command}
 use Rattle.commit_flow.specs.declared.command.Command.TheVariants.{Run, Commit, Forget}
 use Rattle.commit_flow.specs.declared.host_ask.HostAsk.{HostAsk}

@@ -5,7 +5,7 @@ use Rattle.hook_base.specs.declared.path_fault.PathFault.{PathFault}
 use Rattle.hook_base.specs.Paths.{path_fault}
 use Rattle.hook_run.specs.Parts.{Part}
 use Rattle.repo_store.specs.Clashes.{Clashes}
-use Rattle.repo_store.specs.Limits.{Fits, IsSmall}
+use Rattle.store_faults.specs.Limits.{Fits, IsSmall}
 use Rattle.repo_store.specs.Repository.{Repository}
 use Rattle.commit_flow.specs.declared.command.Command.{Command}
 use Rattle.commit_flow.specs.declared.command.Command.TheVariants.{Add, Remove, Accept, Run, Commit, Forget}

@@ -14,7 +14,7 @@ use Rattle.repo_store.specs.Repository.{Repository}
 use Rattle.repo_store.specs.Shown.{Leaves, Shown}
 use Rattle.repo_store.proofs.AlikeLemmas.{left_alike}
 use Rattle.result_book.specs.Contents.{Contents, HaveRow}
-use Rattle.result_book.specs.StoreBooks.{MayRemember, remembered_by, row_of}
+use Rattle.repo_store.specs.StoreBooks.{MayRemember, remembered_by, row_of}
 use Rattle.result_book.specs.Told.{IsTold}
 use Rattle.result_book.specs.ToldLemmas.{told-adds}
 use Rattle.commit_flow.specs.declared.command.Command.{Command}

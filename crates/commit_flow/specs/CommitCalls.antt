@@ -10,7 +10,7 @@ use Rattle.hook_config.specs.declared.configuration.Config.{Config}
 use Rattle.hook_config.specs.declared.stage.Stage.{Stage}
 use Rattle.hook_config.specs.declared.stage.Stage.TheVariants as stage
 use Rattle.result_book.specs.declared.book_fault.BookFault.{BookFault}
-use Rattle.result_book.specs.StoreBooks.{RefusesAnswers}
+use Rattle.repo_store.specs.StoreBooks.{RefusesAnswers}
 use Rattle.hook_run.specs.declared.reuse.Reuse.TheVariants as reuse
 use Rattle.hook_run.specs.declared.run_ask.RunAsk.{RunAsk}
 use Rattle.hook_run.specs.declared.run_refusal.RunRefusal.{RunRefusal}
@@ -21,7 +21,7 @@ use Rattle.hook_run.specs.Parts.{Part, all_parts}
 use Rattle.hook_run.specs.Refusals.{IsOfBook}
 use Rattle.hook_run.specs.RunOuts.{IsBegun, NeedsChild}
 use Rattle.repo_store.specs.Kept.{FixCollides, Kept}
-use Rattle.repo_store.specs.Limits.{IsSmall, most_commits}
+use Rattle.store_faults.specs.Limits.{IsSmall, most_commits}
 use Rattle.repo_store.specs.Repository.{Repository}
 use Rattle.repo_store.specs.Shown.{Leaves, LeavesOnly, Shown, Stands}
 use Rattle.commit_flow.specs.declared.commit.Through.{Through}

@@ -15,10 +15,10 @@ use Rattle.hook_run.specs.Answers.{AreAnswered, AreAnsweredSoFar}
 use Rattle.hook_run.specs.Moments.{Moment}
 use Rattle.hook_run.specs.Parts.{AllTold, Part}
 use Rattle.hook_run.specs.RunOuts.{IsBegun, NeedsChild}
-use Rattle.repo_store.specs.declared.fault.StoreFault.{StoreFault}
-use Rattle.repo_store.specs.declared.fault.StoreFault.TheVariants.{Sql, TooLarge}
+use Rattle.store_faults.specs.declared.fault.StoreFault.{StoreFault}
+use Rattle.store_faults.specs.declared.fault.StoreFault.TheVariants.{Sql, TooLarge}
 use Rattle.repo_store.specs.Kept.{FixCollides, Kept}
-use Rattle.repo_store.specs.Limits.{IsSmall}
+use Rattle.store_faults.specs.Limits.{IsSmall}
 use Rattle.repo_store.specs.Repository.{Repository}
 use Rattle.commit_flow.specs.declared.command.Command.TheVariants.{Commit}
 use Rattle.commit_flow.specs.declared.course.Course.{Course}

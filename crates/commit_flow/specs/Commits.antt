@@ -4,11 +4,11 @@ use Rattle.hook_base.specs.Trees.{changes_between}
 use Rattle.hook_config.specs.declared.configuration.Config.{Config}
 use Rattle.hook_config.specs.declared.stage.Stage.{Stage}
 use Rattle.hook_config.specs.declared.stage.Stage.TheVariants as stage
-use Rattle.result_book.specs.StoreBooks.{RefusesAnswers}
+use Rattle.repo_store.specs.StoreBooks.{RefusesAnswers}
 use Rattle.hook_run.specs.declared.run_refusal.RunRefusal.TheVariants.{NoSuchHook}
 use Rattle.hook_run.specs.Parts.{Part, all_parts}
 use Rattle.hook_run.specs.Refusals.{IsOfBook}
-use Rattle.repo_store.specs.Limits.{IsSmall, most_commits}
+use Rattle.store_faults.specs.Limits.{IsSmall, most_commits}
 use Rattle.repo_store.specs.Repository.{Repository, last_tree, with_new_commit}
 use Rattle.commit_flow.specs.declared.host_refusal.HostRefusal.{HostRefusal}
 use Rattle.commit_flow.specs.declared.host_refusal.HostRefusal.TheVariants.{OutOfMemory, TooLarge, TooMany, NoConfig, BadConfig, NothingStaged, EmptyMessage}

@@ -4,12 +4,12 @@ use Rattle.std.specs.Prelude.{ℕ, List, codes, Option, None, Some}
 use Rattle.hook_base.specs.declared.path_fault.PathFault.{PathFault}
 use Rattle.hook_base.specs.declared.path_fault.PathFault.TheVariants as path
 use Rattle.hook_base.specs.PathFaults.{number_of as path_number_of}
-use Rattle.repo_store.specs.declared.fault.StoreFault.{StoreFault}
-use Rattle.repo_store.specs.declared.fault.StoreFault.TheVariants as store
+use Rattle.store_faults.specs.declared.fault.StoreFault.{StoreFault}
+use Rattle.store_faults.specs.declared.fault.StoreFault.TheVariants as store
 use Rattle.repo_store.specs.declared.staging_refusal.StagingFault.{StagingFault}
 use Rattle.repo_store.specs.declared.staging_refusal.StagingFault.TheVariants as staging
 use Rattle.repo_store.specs.declared.staging_refusal.StagingRefusal.{StagingRefusal}
-use Rattle.repo_store.specs.Faults.{number_of as store_number_of}
+use Rattle.store_faults.specs.Faults.{number_of as store_number_of}
 use Rattle.result_book.specs.declared.book_fault.BookFault.{BookFault}
 use Rattle.result_book.specs.declared.book_fault.BookFault.TheVariants as book
 use Rattle.hook_run.specs.declared.run_refusal.RunRefusal.{RunRefusal}

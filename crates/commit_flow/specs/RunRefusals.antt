@@ -1,7 +1,7 @@
 -- Why a run on the staged files is refused, and what stops the hooks of runs and commits alike.
 use Rattle.hook_config.specs.declared.configuration.Config.{Config}
-use Rattle.repo_store.specs.declared.fault.StoreFault.{StoreFault}
-use Rattle.repo_store.specs.declared.fault.StoreFault.TheVariants.{Sql, TooLarge}
+use Rattle.store_faults.specs.declared.fault.StoreFault.{StoreFault}
+use Rattle.store_faults.specs.declared.fault.StoreFault.TheVariants.{Sql, TooLarge}
 use Rattle.repo_store.specs.Repository.{Repository}
 use Rattle.commit_flow.specs.declared.host_ask.HostAsk.{HostAsk}
 use Rattle.commit_flow.specs.declared.host_refusal.HostRefusal.{HostRefusal}

@@ -12,8 +12,8 @@ use Rattle.hook_run.specs.Answers.{AreAnswered, AreAnsweredSoFar, AreReused}
 use Rattle.hook_run.specs.Moments.{Moment}
 use Rattle.hook_run.specs.Parts.{AllTold, Part, all_parts}
 use Rattle.hook_run.specs.RunOuts.{IsBegun, IsRunOut, NeedsChild}
-use Rattle.repo_store.specs.declared.fault.StoreFault.{StoreFault}
-use Rattle.repo_store.specs.declared.fault.StoreFault.TheVariants.{TooLarge}
+use Rattle.store_faults.specs.declared.fault.StoreFault.{StoreFault}
+use Rattle.store_faults.specs.declared.fault.StoreFault.TheVariants.{TooLarge}
 use Rattle.repo_store.specs.Kept.{FixCollides, HasLarge, Kept}
 use Rattle.repo_store.specs.Repository.{Repository}
 use Rattle.commit_flow.specs.declared.command.Command.TheVariants.{Run}

@@ -14,7 +14,7 @@ use Rattle.repo_store.specs.Repository.{Repository}
 use Rattle.repo_store.specs.Shown.{Leaves, LeavesOnly, Shown, Stands}
 use Rattle.result_book.specs.Calls.{AfterForget}
 use Rattle.result_book.specs.Contents.{Contents}
-use Rattle.result_book.specs.StoreBooks.{LeavesRepository, MayRemember, remembered_by}
+use Rattle.repo_store.specs.StoreBooks.{LeavesRepository, MayRemember, remembered_by}
 use Rattle.result_book.specs.Told.{AddsTold}
 use Rattle.commit_flow.specs.declared.command.Command.{Command}
 use Rattle.commit_flow.specs.declared.command.Command.TheVariants.{Forget}

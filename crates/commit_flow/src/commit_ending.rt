@@ -5,7 +5,7 @@ ghost use Rattle.child_port.specs.Telling.{SameTells};
 ghost use Rattle.hook_base.specs.Trees.{changes_between};
 ghost use Rattle.repo_store.specs.AllOrNothing.{IsAllOrNothing};
 ghost use Rattle.repo_store.specs.Kept.{setting};
-ghost use Rattle.result_book.specs.StoreBooks.{IsAtRest, MayRemember, RefusesAnswers, remembered_by};
+ghost use Rattle.repo_store.specs.StoreBooks.{IsAtRest, MayRemember, RefusesAnswers, remembered_by};
 ghost use Rattle.hook_run.specs.Moments.{moment};
 ghost use Rattle.commit_flow.specs.CommitCalls.{IsOneChange, IsPostOver, IsRunStopped, IsUnfixed};
 ghost use Rattle.commit_flow.specs.CommitStages.{ask_in};

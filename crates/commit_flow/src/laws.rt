@@ -11,7 +11,7 @@ ghost use Rattle.hook_run.specs.Parts.{Part, faults_of};
 ghost use Rattle.repo_store.specs.Kept.{Kept};
 ghost use Rattle.repo_store.specs.Repository.{Repository};
 ghost use Rattle.repo_store.specs.Shown.{Leaves};
-ghost use Rattle.result_book.specs.StoreBooks.{remembered_by};
+ghost use Rattle.repo_store.specs.StoreBooks.{remembered_by};
 ghost use Rattle.sqlite_trees.specs.Tree.{Trees};
 ghost use Rattle.commit_flow.specs.declared.command.Command.{Command};
 ghost use Rattle.commit_flow.specs.declared.host_refusal.HostRefusal.{HostRefusal};

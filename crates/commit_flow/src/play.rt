@@ -4,7 +4,7 @@ ghost use Rattle.std.specs.Prelude.{◌≡◌, [], IfOk, OnErr};
 ghost use Rattle.child_port.specs.Telling.{SameTells};
 ghost use Rattle.hook_run.specs.Moments.{moment};
 ghost use Rattle.repo_store.specs.Shown.{Stands};
-ghost use Rattle.result_book.specs.StoreBooks.{remembered_by};
+ghost use Rattle.repo_store.specs.StoreBooks.{remembered_by};
 ghost use Rattle.commit_flow.specs.declared.command.Command.TheVariants.{Add, Remove, Accept, Run, Commit, Forget};
 ghost use Rattle.commit_flow.specs.Commands.{reply_of_ending};
 ghost use Rattle.commit_flow.specs.Plays.{HasForgotten, IsPlay};

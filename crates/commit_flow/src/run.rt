@@ -2,7 +2,7 @@
 
 ghost use Rattle.std.specs.Prelude.{◌≡◌, IfOk, IfErr};
 ghost use Rattle.child_port.specs.Telling.{SameTells};
-ghost use Rattle.result_book.specs.StoreBooks.{IsAtRest, MayRemember, remembered_by};
+ghost use Rattle.repo_store.specs.StoreBooks.{IsAtRest, MayRemember, remembered_by};
 ghost use Rattle.hook_run.specs.Moments.{moment};
 ghost use Rattle.commit_flow.specs.declared.command.Command.TheVariants.{Run};
 ghost use Rattle.commit_flow.specs.Commands.{reply_of};

@@ -10,7 +10,7 @@ use Rattle.hook_config.specs.declared.stage.Stage.TheVariants.{PreCommit}
 use Rattle.hook_config.specs.Configuration.{configuration_of}
 use Rattle.hook_config.specs.Gives.{UnlessLeftOpen}
 use Rattle.hook_config.specs.Refusals.{TellsTooLarge}
-use Rattle.repo_store.specs.Limits.{first_limit}
+use Rattle.store_faults.specs.Limits.{first_limit}
 use Rattle.result_book.specs.Contents.{Contents, nothing}
 use Rattle.hook_run.specs.Moments.{moment}
 use Rattle.hook_run.specs.declared.reuse.Reuse.TheVariants.{All}

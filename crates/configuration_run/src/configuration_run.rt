@@ -15,10 +15,10 @@ use child_port::Children;
 use hook_base::Tree;
 use hook_config::{Config, read_config};
 use hook_run::{RunOut, RunRefusal, run_hooks};
-use repo_store::FIRST_LIMIT;
 use result_book::ListBook;
 use std::alloc::Global;
 use std::io::{Read, Write};
+use store_faults::FIRST_LIMIT;
 use text_output::{Unwritten, write_out};
 
 /// Reads a configuration, runs the hooks of the stage `pre-commit` on the tree with all its files as candidates, and

@@ -36,7 +36,7 @@ mode_decides Executable Executable = (λ h. refl, λ h. refl)
 abbrev file_row : List ℕ → Mode → List ℕ → File
 file_row path mode bytes = record { path = path; entry = record { mode = mode; bytes = bytes } }
 
-same_row : (p q : List ℕ) (m n : Mode) (x y : List ℕ) → p ≡ q → m ≡ n → x ≡ y → file_row p m x ≡ file_row q n y
+pub same_row : (p q : List ℕ) (m n : Mode) (x y : List ℕ) → p ≡ q → m ≡ n → x ≡ y → file_row p m x ≡ file_row q n y
 same_row p q m n x y path mode bytes = cc
 
 abbrev change_row : List ℕ → Option (List ℕ) → Change

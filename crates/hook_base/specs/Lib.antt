@@ -6,6 +6,8 @@ pub mod Paths
 pub mod Places
 pub mod Rising
 pub mod RisingLemmas
+pub mod SameFileLemmas
+pub mod SameFiles
 pub mod SharedFiles
 pub mod TreeLemmas
 pub mod Trees

@@ -3,10 +3,10 @@ use Rattle.std.proofs.Common.{◌≡◌, sym, subst, refl, inl, inr, ℕ, List, 
 use Rattle.sqlite_trees.specs.declared.store.Store.{Ghosts}
 use Rattle.repo_store.specs.AllOrNothing.{IsAllOrNothing}
 use Rattle.repo_store.specs.Kept.{Kept, accepting, limiting}
-use Rattle.repo_store.specs.Limits.{IsLimit}
+use Rattle.store_faults.specs.Limits.{IsLimit}
 use Rattle.repo_store.specs.Shown.{IsOneTransaction}
 use Rattle.result_book.specs.Contents.{count_of}
-use Rattle.result_book.specs.StoreBooks.{remembered_by}
+use Rattle.repo_store.specs.StoreBooks.{remembered_by}
 use Rattle.commit_flow.specs.AnswerLimits.{IsLimitRefusal}
 use Rattle.commit_flow.specs.declared.command.Command.TheVariants as command
 use Rattle.commit_flow.specs.declared.host_refusal.HostRefusal.{HostRefusal}

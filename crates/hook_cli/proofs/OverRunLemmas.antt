@@ -16,8 +16,8 @@ use Rattle.commit_flow.specs.declared.host_refusal.HostRefusal.TheVariants.{OutO
 use Rattle.commit_flow.specs.Commands.{reply_of, reply_of_ending}
 use Rattle.commit_flow.specs.Stops.{IsPlayedSafely}
 use Rattle.commit_flow.specs.KeptByHooks.{KeepsForCommit, KeepsForRun}
-use Rattle.result_book.specs.StoreBooks.{MayRemember, remembered_by}
-use Rattle.result_book.specs.RestLemmas.{rests_itself}
+use Rattle.repo_store.specs.StoreBooks.{MayRemember, remembered_by}
+use Rattle.repo_store.specs.RestLemmas.{rests_itself}
 use Rattle.commit_flow.specs.declared.host.Host.{Host}
 use Rattle.commit_flow.specs.declared.reply.Reply.TheVariants.{Refused}
 use Rattle.commit_flow.specs.Runs.{reuse_of}

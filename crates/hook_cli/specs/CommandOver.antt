@@ -14,7 +14,7 @@ use Rattle.repo_store.specs.Kept.{Kept, accepting, forgetting, limiting, staging
 use Rattle.repo_store.specs.Repository.{Repository, commit_at, fixed_bytes, last_tree, tree_at}
 use Rattle.repo_store.specs.Shown.{IsOneTransaction}
 use Rattle.result_book.specs.Contents.{count_of}
-use Rattle.result_book.specs.StoreBooks.{remembered_by}
+use Rattle.repo_store.specs.StoreBooks.{remembered_by}
 use Rattle.commit_flow.specs.declared.command.Command.{Command}
 use Rattle.commit_flow.specs.declared.command.Command.TheVariants as command
 use Rattle.commit_flow.specs.declared.commit_ending.CommitEnding.{CommitEnding}

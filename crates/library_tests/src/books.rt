@@ -1,16 +1,16 @@
 //! Tests of what no clause of `result_book` says: that the calls which take memory succeed, and what a key is and which row
 //! goes, by example.
 
-ghost use Rattle.repo_store.specs.Limits.{IsLimit};
+ghost use Rattle.store_faults.specs.Limits.{IsLimit};
 
 use crate::words::words_of;
 use child_port::{Answer, is_stray};
 use hook_base::{Bytes, Change, Changes, Content, FileEntry, Items, Mode, RepoPath, Text, Tree};
-use repo_store::FIRST_LIMIT;
 use result_book::{Book, ListBook};
 use std::alloc::Global;
 use std::process::Abort;
 use std::test::Fail;
+use store_faults::FIRST_LIMIT;
 
 // The files of these paths with the bytes after `=`. Those that are to be run have `*` before their path.
 fn tree_of(alloc: Global, files: &str) -> Result<Tree, Fail> {

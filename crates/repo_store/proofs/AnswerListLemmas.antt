@@ -15,7 +15,7 @@ use Rattle.repo_store.specs.AnswerLemmas.{found_among as found_for, is_for_decid
 use Rattle.repo_store.specs.Answers.{KeptAnswer, HaveOwnKeys, answer_for, have_one_key, is_for}
 use Rattle.repo_store.specs.Complete.{HasRecords, HaveDistinctDigests, HaveRecords}
 use Rattle.repo_store.specs.Index.{Key, key_of, keys_eq}
-use Rattle.repo_store.specs.Limits.{IsLimit}
+use Rattle.store_faults.specs.Limits.{IsLimit}
 use Rattle.repo_store.specs.ListedAnswers.{IsListed, IsNextTick, ListedAnswers, brought, entry_of, first_key, has_key, keyed, of_key, of_other_keys}
 use Rattle.repo_store.specs.Remembered.{TellsKey}
 use Rattle.repo_store.specs.SoundAnswers.{IsSoundAnswer}

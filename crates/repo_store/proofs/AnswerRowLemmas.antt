@@ -26,7 +26,7 @@ use Rattle.store_tables.specs.declared.rows.BlobRow.{BlobRow}
 use Rattle.repo_store.specs.Answers.{KeptAnswer}
 use Rattle.repo_store.specs.Complete.{HasRecords, HaveContents, HaveNewContents, HaveRecords, IsAmong}
 use Rattle.repo_store.specs.Contents.{Collides, has_content}
-use Rattle.repo_store.specs.Limits.{most_status}
+use Rattle.store_faults.specs.Limits.{most_status}
 use Rattle.repo_store.specs.RowRules.{AreSeen, HasKept, HaveKeptContents, HaveKeptNewContents, IsAnswerRow, is_kept, is_seen}
 use Rattle.repo_store.specs.Rows.{answer_row, blob_row}
 use Rattle.repo_store.specs.SharedAnswers.{IsWritten}

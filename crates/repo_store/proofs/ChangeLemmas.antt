@@ -11,7 +11,7 @@ use Rattle.hook_base.specs.declared.change.Change.{Change}
 use Rattle.hook_base.specs.Trees.{entry_of}
 use Rattle.repo_store.specs.Contents.{Collides, with_changes}
 use Rattle.repo_store.specs.Kept.{FixCollides, HasLarge}
-use Rattle.repo_store.specs.Limits.{IsSmall}
+use Rattle.store_faults.specs.Limits.{IsSmall}
 use Rattle.repo_store.specs.Repository.{staged_changes}
 use Rattle.repo_store.proofs.FixLemmas.{one_staged}
 

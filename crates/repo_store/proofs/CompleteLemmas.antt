@@ -19,7 +19,7 @@ use Rattle.repo_store.specs.Answers.{KeptAnswer}
 use Rattle.repo_store.specs.Complete.{HasRecords, HaveDistinctDigests, HaveContents, HaveNewContents, HaveRecords, IsAmong, IsComplete}
 use Rattle.repo_store.specs.Contents.{Collides, has_content, with_content, with_new, with_changes}
 use Rattle.repo_store.specs.Kept.{FixCollides, Kept, accepting, committing, forgetting, keeping, limiting, nothing_kept, setting, staging, unstaging}
-use Rattle.repo_store.specs.Limits.{Fits, IsLimit, most_commits}
+use Rattle.store_faults.specs.Limits.{Fits, IsLimit, most_commits}
 use Rattle.repo_store.specs.FromRows.{AreBare, with_file}
 use Rattle.repo_store.specs.Repository.{Commit, Repository, staged_changes}
 use Rattle.repo_store.specs.SoundAnswers.{IsSoundAnswer}

@@ -25,7 +25,7 @@ use Rattle.repo_store.specs.Complete.{IsComplete}
 use Rattle.repo_store.specs.declared.staging_refusal.StagingFault.{StagingFault}
 use Rattle.repo_store.specs.Edits.{AreEditable, IsEditFault, IsEditable, IsRefusedAt, all_edited, edited, entry_to_stage}
 use Rattle.repo_store.specs.Kept.{Kept}
-use Rattle.repo_store.specs.Limits.{path_bytes}
+use Rattle.store_faults.specs.Limits.{path_bytes}
 use Rattle.repo_store.specs.Lists.{file_of, fix_of}
 use Rattle.repo_store.specs.Repository.{Commit, Repository}
 use Rattle.repo_store.specs.RowRules.{AreStoreRows}

@@ -12,12 +12,12 @@ use Rattle.store_tables.specs.declared.rows.UseRow.{UseRow}
 use Rattle.store_tables.specs.Schema.{schema_with_uses, store_schema}
 use Rattle.store_tables.specs.Tables.{Tables}
 use Rattle.store_tables.specs.Uses.{as_store}
-use Rattle.repo_store.specs.declared.fault.StoreFault.{StoreFault}
-use Rattle.repo_store.specs.declared.fault.StoreFault.TheVariants.{NotAStore, Damaged, Sql, OutOfMemory, Collision, TooLarge, TooMany}
+use Rattle.store_faults.specs.declared.fault.StoreFault.{StoreFault}
+use Rattle.store_faults.specs.declared.fault.StoreFault.TheVariants.{NotAStore, Damaged, Sql, OutOfMemory, Collision, TooLarge, TooMany}
 use Rattle.repo_store.specs.Answers.{KeptAnswer}
 use Rattle.repo_store.specs.Bounded.{AreBoundedRows, HoldsStore, IsTick, key_of_answer, key_of_use}
 use Rattle.repo_store.specs.Complete.{IsComplete}
-use Rattle.repo_store.specs.Faults.{IsRefusal}
+use Rattle.store_faults.specs.Faults.{IsRefusal}
 use Rattle.repo_store.specs.FromRows.{IsSame}
 use Rattle.repo_store.specs.Index.{Key, key_of}
 use Rattle.repo_store.specs.Kept.{Kept}

@@ -23,8 +23,8 @@ use Rattle.store_tables.specs.declared.rows.EntryRow.{EntryRow}
 use Rattle.store_tables.specs.declared.rows.FixRow.{FixRow}
 use Rattle.store_tables.specs.declared.rows.MetaRow.{MetaRow}
 use Rattle.store_tables.specs.declared.rows.StagedRow.{StagedRow}
-use Rattle.repo_store.specs.declared.fault.StoreFault.{StoreFault}
-use Rattle.repo_store.specs.declared.fault.StoreFault.TheVariants.{NotAStore, Damaged, Sql, OutOfMemory, Collision, TooLarge, TooMany}
+use Rattle.store_faults.specs.declared.fault.StoreFault.{StoreFault}
+use Rattle.store_faults.specs.declared.fault.StoreFault.TheVariants.{NotAStore, Damaged, Sql, OutOfMemory, Collision, TooLarge, TooMany}
 use Rattle.repo_store.specs.Shared.{FileParts}
 use Rattle.repo_store.specs.declared.shared.SharedFix.{SharedFix}
 use Rattle.repo_store.specs.declared.table_rows.StoreRows.{StoreRows}
@@ -32,14 +32,14 @@ use Rattle.repo_store.specs.Answers.{KeptAnswer}
 use Rattle.repo_store.specs.Kept.{Kept}
 use Rattle.repo_store.specs.Sound.{IsSound}
 use Rattle.repo_store.specs.declared.shared.SharedCommit.{SharedCommit}
-use Rattle.repo_store.specs.Faults.{IsDamage}
+use Rattle.store_faults.specs.Faults.{IsDamage}
 use Rattle.repo_store.specs.Lists.{commit_of, file_of, fix_of, repository_of}
 use Rattle.repo_store.specs.FromRows.{AreBare, AreEntered, IsSame, rows_in, tables_with, with_file}
 use Rattle.repo_store.specs.Repository.{Commit}
 use Rattle.repo_store.specs.Rows.{answer_row, blob_row, commit_rows, entry_row, entry_rows, fix_at, fix_row, staged_row}
 use Rattle.repo_store.specs.RowRules.{AreCommitRows, AreStagedRows, IsAnswerRow, IsBlobRow, IsEntryRow, IsFileRow, IsFixRow, AreStoreRows, is_staged, number_in, numbers_from}
 use Rattle.store_tables.specs.declared.rows.CommitRow.{CommitRow}
-use Rattle.repo_store.specs.Limits.{Fits, IsSmall, most_commits}
+use Rattle.store_faults.specs.Limits.{Fits, IsSmall, most_commits}
 use Rattle.repo_store.proofs.SoundLemmas.{AreStaged, few}
 
 pub all_pushed : {X : Type 0} (P : X → Type 0) (xs : List X) (x : X) → AllByRecursion P xs → P x → AllByRecursion P (xs ++ x ∷ [])

@@ -41,7 +41,9 @@ pub mod SearchLemmas
 pub mod SoundLemmas
 pub mod StandLemmas
 pub mod StepLemmas
+pub mod StoreBookLemmas
 pub mod StoreFindLemmas
+pub mod StoreRowLemmas
 pub mod StoreUseLemmas
 pub mod TakeOverLemmas
 pub mod TakenLemmas

@@ -13,13 +13,13 @@ use Rattle.store_tables.specs.declared.rows.UseRow.{UseRow}
 use Rattle.store_tables.specs.Schema.{MoreTables, no_more, schema_with_uses, store_schema, store_with}
 use Rattle.store_tables.specs.Tables.{Tables, Holds, HoldsIn}
 use Rattle.store_tables.specs.Uses.{HoldsUses, HoldsWithUses, IsReadOfUses, as_store}
-use Rattle.repo_store.specs.declared.fault.StoreFault.{StoreFault}
-use Rattle.repo_store.specs.declared.fault.StoreFault.TheVariants.{NotAStore, Damaged, Sql, OutOfMemory, Collision, TooLarge, TooMany}
+use Rattle.store_faults.specs.declared.fault.StoreFault.{StoreFault}
+use Rattle.store_faults.specs.declared.fault.StoreFault.TheVariants.{NotAStore, Damaged, Sql, OutOfMemory, Collision, TooLarge, TooMany}
 use Rattle.repo_store.specs.declared.table_rows.TableRows.{TableRows}
 use Rattle.repo_store.specs.Bounded.{AreBoundedRows, AreVersionRows, HoldsNext, HoldsStore, key_cmp}
 use Rattle.repo_store.specs.Calls.{Rests}
 use Rattle.repo_store.specs.Complete.{AreAlike, IsComplete}
-use Rattle.repo_store.specs.Faults.{IsRefusal}
+use Rattle.store_faults.specs.Faults.{IsRefusal}
 use Rattle.repo_store.specs.FromRows.{AreRefused, AreTablesShown, IsSame, rows_in}
 use Rattle.repo_store.specs.Index.{key_of}
 use Rattle.repo_store.specs.Kept.{Kept, Mirror}

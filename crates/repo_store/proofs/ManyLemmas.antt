@@ -7,11 +7,11 @@ use Rattle.std.proofs.lemmas.List.Concat.{flat_map_single}
 use lib.Seq.{take-length}
 use Rattle.hook_base.specs.declared.file.File.{File}
 use Rattle.repo_store.specs.Contents.{Collides, with_content}
-use Rattle.repo_store.specs.declared.fault.StoreFault.{StoreFault}
-use Rattle.repo_store.specs.declared.fault.StoreFault.TheVariants.{OutOfMemory}
-use Rattle.repo_store.specs.Faults.{IsRefusal}
+use Rattle.store_faults.specs.declared.fault.StoreFault.{StoreFault}
+use Rattle.store_faults.specs.declared.fault.StoreFault.TheVariants.{OutOfMemory}
+use Rattle.store_faults.specs.Faults.{IsRefusal}
 use Rattle.repo_store.specs.KeptContents.{AreAllKept, IsStopped}
-use Rattle.repo_store.specs.Limits.{IsSmall}
+use Rattle.store_faults.specs.Limits.{IsSmall}
 use Rattle.repo_store.specs.Remembering.{AreSmall, SomeCollides, with_contents}
 use Rattle.repo_store.specs.WrittenAnswers.{contents_in_files}
 use Rattle.repo_store.proofs.FixLemmas.{content_before, refusal_weaker}

@@ -7,7 +7,7 @@ use Rattle.sqlite.proofs.Callers.{one_permutation}
 use Rattle.store_tables.specs.declared.rows.MetaRow.{MetaRow}
 use Rattle.repo_store.specs.Bounded.{AreVersionRows}
 use Rattle.repo_store.specs.FromRows.{HasLimit}
-use Rattle.repo_store.specs.Limits.{IsLimit}
+use Rattle.store_faults.specs.Limits.{IsLimit}
 use Rattle.repo_store.specs.Rows.{limit_row, version_row}
 use Rattle.repo_store.proofs.FromRowsLemmas.{perm_same}
 use Rattle.repo_store.proofs.RowRuleLemmas.{all_same}

@@ -3,7 +3,7 @@ use Rattle.std.proofs.Common.{◌≡◌, ◌≢◌, ◌⊎◌, ℕ, Bool, true, 
 use Rattle.hook_base.specs.declared.path_fault.PathFault.{PathFault}
 use Rattle.hook_base.specs.declared.path_fault.PathFault.TheVariants.{Empty, Absolute, DotPart, EmptyPart, TooLong, ControlByte, UnderGit, OutOfMemory}
 use Rattle.hook_base.specs.Paths.{path_fault}
-use Rattle.repo_store.specs.declared.fault.StoreFault.TheVariants.{OutOfMemory as Wanting}
+use Rattle.store_faults.specs.declared.fault.StoreFault.TheVariants.{OutOfMemory as Wanting}
 use Rattle.repo_store.specs.declared.staging_refusal.StagingFault.{StagingFault}
 use Rattle.repo_store.specs.declared.staging_refusal.StagingFault.TheVariants.{BadPath, Store}
 use Rattle.repo_store.specs.Edits.{of_path}

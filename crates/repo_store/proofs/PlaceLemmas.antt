@@ -24,7 +24,7 @@ use Rattle.hook_base.specs.Trees.{IsRising, path_of, put_row, remove_file, entry
 use Rattle.hook_base.specs.TreeLemmas.{put_row-at, put_row-gap, gap_within, at_within, entry_of-at, entry_of-gap, remove_file-at}
 use Rattle.hook_base.proofs.PlaceLemmas.{found}
 use Rattle.repo_store.specs.Shared.{FileParts}
-use Rattle.repo_store.specs.Limits.{Fits, path_bytes, most_files, most_tree_path_bytes}
+use Rattle.store_faults.specs.Limits.{Fits, path_bytes, most_files, most_tree_path_bytes}
 use Rattle.repo_store.specs.Lists.{entry_in, file_of}
 
 abbrev path_in : FileParts → List ℕ

@@ -22,7 +22,7 @@ use Rattle.repo_store.specs.Complete.{HaveContents, HaveNewContents, IsAmong, Is
 use Rattle.repo_store.specs.Contents.{has_content, with_content, with_new, with_changes}
 use Rattle.repo_store.specs.Index.{Key}
 use Rattle.repo_store.specs.Kept.{HasLarge, Kept, accepting, committing, forgetting, keeping, limiting, nothing_kept, setting, staging, unstaging}
-use Rattle.repo_store.specs.Limits.{IsSmall, most_content_bytes, most_tree_path_bytes}
+use Rattle.store_faults.specs.Limits.{IsSmall, most_content_bytes, most_tree_path_bytes}
 use Rattle.repo_store.specs.Repository.{Commit, staged_changes}
 use Rattle.repo_store.specs.Standing.{bringing}
 use Rattle.repo_store.specs.Rows.{blob_row, commit_rows, entry_row, entry_rows, fix_at, fix_row, mode_number, staged_row, tables_of}

@@ -8,7 +8,7 @@ use Rattle.hook_base.specs.declared.file.File.{File}
 use Rattle.hook_base.specs.declared.change.Change.{Change}
 use Rattle.hook_base.specs.Rising.{IsBelowAll}
 use Rattle.hook_base.specs.RisingLemmas.{path_cases, below_all_later, IsRisingBy-filter}
-use Rattle.repo_store.specs.Limits.{Fits, most_commits, most_files}
+use Rattle.store_faults.specs.Limits.{Fits, most_commits, most_files}
 use Rattle.repo_store.specs.Repository.{Commit, Repository, empty, with_staged, without_staged, with_new_commit, staged_changes, accepted}
 use Rattle.repo_store.specs.Sound.{IsSound}
 use Rattle.repo_store.proofs.PlaceLemmas.{fits_removed, fits_applied}

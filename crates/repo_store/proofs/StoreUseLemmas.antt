@@ -23,7 +23,7 @@ use Rattle.repo_store.specs.Remembering.{with_answer_row}
 use Rattle.repo_store.specs.Rows.{answer_row, limit_row, tables_of, with_blobs}
 use Rattle.repo_store.specs.Standing.{put_tables, surplus_of, without_key_row}
 use Rattle.repo_store.specs.UsesOf.{TellTheirKeys, without_all}
-use Rattle.repo_store.specs.declared.fault.StoreFault.{StoreFault}
+use Rattle.store_faults.specs.declared.fault.StoreFault.{StoreFault}
 use Rattle.repo_store.specs.Shown.{IsNumberedAnew, IsOneTransaction, Shown, Stands}
 use Rattle.repo_store.specs.Transactions.{IsCall}
 use Rattle.repo_store.specs.UsedAnswers.{in_front, with_answer_within}

@@ -15,16 +15,16 @@ use Rattle.store_tables.specs.declared.rows.AnswerRow.{AnswerRow}
 use Rattle.store_tables.specs.Schema.{store_schema}
 use Rattle.store_tables.specs.Tables.{AreKeyed, Holds, Tables, with_meta, with_new_meta}
 use Rattle.store_tables.specs.Uses.{as_store}
-use Rattle.repo_store.specs.declared.fault.StoreFault.{StoreFault}
+use Rattle.store_faults.specs.declared.fault.StoreFault.{StoreFault}
 use Rattle.repo_store.specs.Answers.{HaveOwnKeys, KeptAnswer}
 use Rattle.repo_store.specs.Bounded.{HoldsListed, HoldsNext, IsTakenOver}
 use Rattle.repo_store.specs.Calls.{Rests}
 use Rattle.repo_store.specs.Complete.{IsComplete}
-use Rattle.repo_store.specs.Faults.{IsRefusal}
+use Rattle.store_faults.specs.Faults.{IsRefusal}
 use Rattle.repo_store.specs.FromRows.{IsSame}
 use Rattle.repo_store.specs.Index.{Key, key_of}
 use Rattle.repo_store.specs.Kept.{Kept, Mirror, limiting}
-use Rattle.repo_store.specs.Limits.{first_limit}
+use Rattle.store_faults.specs.Limits.{first_limit}
 use Rattle.repo_store.specs.Opening.{AreListedAlone, IsFoundFirst, IsTakingOver}
 use Rattle.repo_store.specs.RowRules.{AreStoreRows, IsAnswerRow}
 use Rattle.repo_store.specs.Rows.{answer_row, blob_row, commit_rows, entry_rows, first_tables_of, fix_row, limit_row, staged_row, tables_of, version_row}

@@ -9,17 +9,17 @@ use Rattle.store_tables.specs.declared.rows.AnswerRow.{AnswerRow}
 use Rattle.store_tables.specs.declared.rows.MetaRow.{MetaRow}
 use Rattle.store_tables.specs.declared.rows.UseRow.{UseRow}
 use Rattle.store_tables.specs.Tables.{Tables}
-use Rattle.repo_store.specs.declared.fault.StoreFault.{StoreFault}
-use Rattle.repo_store.specs.declared.fault.StoreFault.TheVariants.{NotAStore, Damaged, Sql, OutOfMemory, Collision, TooLarge, TooMany}
+use Rattle.store_faults.specs.declared.fault.StoreFault.{StoreFault}
+use Rattle.store_faults.specs.declared.fault.StoreFault.TheVariants.{NotAStore, Damaged, Sql, OutOfMemory, Collision, TooLarge, TooMany}
 use Rattle.repo_store.specs.declared.table_rows.StoreRows.{StoreRows}
 use Rattle.repo_store.specs.Answers.{HaveOwnKeys, KeptAnswer}
 use Rattle.repo_store.specs.Bounded.{AreBoundedRows, AreVersionRows, key_cmp, key_of_answer, key_of_use}
 use Rattle.repo_store.specs.Complete.{HasRecords, IsComplete}
-use Rattle.repo_store.specs.Faults.{IsDamage}
+use Rattle.store_faults.specs.Faults.{IsDamage}
 use Rattle.repo_store.specs.FromRows.{AreRefused, AreRowsWithin, AreUsesFor, IsKeyBelow, IsSame, rows_in, tables_with}
 use Rattle.repo_store.specs.Index.{Key, key_of}
 use Rattle.repo_store.specs.Kept.{Kept, Mirror, limiting}
-use Rattle.repo_store.specs.Limits.{IsLimit}
+use Rattle.store_faults.specs.Limits.{IsLimit}
 use Rattle.repo_store.specs.RowRules.{AreFirstVersionRows, AreStoreRows}
 use Rattle.repo_store.specs.Rows.{answer_row, first_tables_of, first_version_row, limit_row, tables_of, version_row}
 use Rattle.repo_store.specs.SoundAnswers.{IsSoundAnswer}

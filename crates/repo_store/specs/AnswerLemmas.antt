@@ -1,6 +1,5 @@
 -- Lemmas: which answer is found for words and seen files, and what becomes of that after a use, a new answer or a new limit.
-use Rattle.std.specs.Prelude.{◌≡◌, ◌↔◌, ◌⊎◌, ℕ, zero, suc, ◌<◌, ◌≤◌, ◌&&◌, not, true, false, List, [], ◌∷◌, length, Option, None, Some, if◌then◌else◌, IsPermutation, refl}
-use Rattle.std.specs.Bool.{Decides}
+use Rattle.std.specs.Prelude.{◌≡◌, ◌↔◌, ◌⊎◌, ℕ, zero, suc, ◌<◌, ◌≤◌, not, true, false, List, [], ◌∷◌, length, Option, None, Some, if◌then◌else◌, IsPermutation, refl}
 use Rattle.std.specs.Cmp.Lexicographic.{bytes_decides, pointwise, pointwise_decides}
 use Rattle.std.specs.List.{AllByRecursion, Contains}
 use Rattle.std.specs.Str.{bytes_eq}
@@ -10,37 +9,17 @@ use Rattle.std.proofs.lemmas.List.Elements.{All-contains, All-from_recursion, re
 use Rattle.std.proofs.lemmas.List.Sorted.{All-permutation, Contains-permutation}
 use Rattle.sqlite_keyed.proofs.ListLemmas.{all-filter, ascending-filter}
 use Rattle.hook_base.specs.declared.file.File.{File}
-use Rattle.hook_base.specs.declared.file.Mode.{Mode}
-use Rattle.hook_base.specs.declared.file.Mode.TheVariants.{Plain, Executable}
-use Rattle.hook_base.specs.AlikeLemmas.{and_decides, same_decides}
-use Rattle.repo_store.specs.Answers.{KeptAnswer, HaveOwnKeys, answer_for, have_one_key, is_for, is_same_file, is_same_mode}
+use Rattle.hook_base.specs.AlikeLemmas.{and_decides}
+use Rattle.hook_base.specs.SameFileLemmas.{same_file_decides}
+use Rattle.hook_base.specs.SameFiles.{is_same_file}
+use Rattle.repo_store.specs.Answers.{KeptAnswer, HaveOwnKeys, answer_for, have_one_key, is_for}
 use Rattle.repo_store.specs.UsedAnswers.{in_front, in_front_if_any, used, with_answer_within, within_limit, without_key}
 
 -- ---- whether an answer is that of words and seen files
 
-mode_decides : (a b : Mode) → Decides (is_same_mode a b) (a ≡ b)
-mode_decides Plain Plain = (λ h. refl, λ h. refl)
-mode_decides Plain Executable = (λ h. cc, λ h. cc)
-mode_decides Executable Plain = (λ h. cc, λ h. cc)
-mode_decides Executable Executable = (λ h. refl, λ h. refl)
-
-abbrev file_with : List ℕ → Mode → List ℕ → File
-file_with path mode bytes = record { path = path; entry = record { mode = mode; bytes = bytes } }
-
-same_parts : (p q : List ℕ) (m n : Mode) (x y : List ℕ) → p ≡ q → m ≡ n → x ≡ y → file_with p m x ≡ file_with q n y
-same_parts p q m n x y path mode bytes = cc
-
-file_decides : (a b : File) → Decides (is_same_file a b) (a ≡ b)
-file_decides a b =
-    same_decides (is_same_file a b)
-    (and_decides (bytes_eq a.path b.path && is_same_mode a.entry.mode b.entry.mode) (bytes_eq a.entry.bytes b.entry.bytes) (and_decides (bytes_eq a.path b.path) (is_same_mode a.entry.mode b.entry.mode) (bytes_decides a.path b.path) (mode_decides a.entry.mode b.entry.mode))
-    (bytes_decides a.entry.bytes b.entry.bytes))
-    (λ h. same_parts a.path b.path a.entry.mode b.entry.mode a.entry.bytes b.entry.bytes h.0.0 h.0.1 h.1)
-    (λ h. ((ap (λ (file : File). file.path) h, ap (λ (file : File). file.entry.mode) h), ap (λ (file : File). file.entry.bytes) h))
-
 pub is_for_decides : (words : List (List ℕ)) (seen : List File) (answer : KeptAnswer) → (is_for words seen answer ≡ true) ↔ ((answer.words ≡ words) × (answer.seen ≡ seen))
 is_for_decides words seen answer =
-    and_decides (pointwise bytes_eq answer.words words) (pointwise is_same_file answer.seen seen) (pointwise_decides bytes_decides answer.words words) (pointwise_decides file_decides answer.seen seen)
+    and_decides (pointwise bytes_eq answer.words words) (pointwise is_same_file answer.seen seen) (pointwise_decides bytes_decides answer.words words) (pointwise_decides same_file_decides answer.seen seen)
 
 -- an answer is that of its own words and seen files
 pub is_for_itself : (answer : KeptAnswer) → is_for answer.words answer.seen answer ≡ true

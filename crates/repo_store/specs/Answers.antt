@@ -1,13 +1,12 @@
 -- What is remembered of the answers of children.
-use Rattle.std.specs.Prelude.{◌≡◌, ℕ, Bool, true, false, ◌&&◌, List, [], ◌∷◌, Option, None, Some, if◌then◌else◌, refl}
+use Rattle.std.specs.Prelude.{◌≡◌, ℕ, Bool, false, ◌&&◌, List, [], ◌∷◌, Option, None, Some, if◌then◌else◌, refl}
 use Rattle.std.specs.Cmp.Lexicographic.{pointwise}
 use Rattle.std.specs.Coded.{Coded, code_by, coded×, coded_ℕ, coded_list}
 use Rattle.std.specs.Str.{bytes_eq}
 use Rattle.sqlite_trees.specs.Tree.{IsAscending}
 use Rattle.hook_base.specs.declared.file.File.{File}
-use Rattle.hook_base.specs.declared.file.Mode.{Mode}
-use Rattle.hook_base.specs.declared.file.Mode.TheVariants.{Plain, Executable}
 use Rattle.hook_base.specs.declared.change.Change.{Change}
+use Rattle.hook_base.specs.SameFiles.{is_same_file}
 use Rattle.hook_base.specs.contracts.file.File as file
 use Rattle.hook_base.specs.contracts.change.Change as change
 
@@ -21,15 +20,6 @@ pub record KeptAnswer : Type 0 where
   pub status : ℕ
 
 -- ---- its key
-
-abbrev pub is_same_mode : Mode → Mode → Bool
-is_same_mode Plain Plain = true
-is_same_mode Plain Executable = false
-is_same_mode Executable Plain = false
-is_same_mode Executable Executable = true
-
-abbrev pub is_same_file : File → File → Bool
-is_same_file a b = bytes_eq a.path b.path && is_same_mode a.entry.mode b.entry.mode && bytes_eq a.entry.bytes b.entry.bytes
 
 -- the answer is that of these words and these seen files, with their modes and bytes
 abbrev pub is_for : List (List ℕ) → List File → KeptAnswer → Bool

@@ -15,7 +15,7 @@ use Rattle.store_tables.specs.Uses.{HoldsRows}
 use Rattle.repo_store.specs.Answers.{KeptAnswer}
 use Rattle.repo_store.specs.Index.{Key, key_of}
 use Rattle.repo_store.specs.Kept.{Kept}
-use Rattle.repo_store.specs.Limits.{IsLimit, first_limit}
+use Rattle.store_faults.specs.Limits.{IsLimit, first_limit}
 use Rattle.repo_store.specs.RowRules.{AreStoreRows}
 use Rattle.repo_store.specs.Rows.{first_tables_of, limit_row, tables_of, version_row}
 use Rattle.repo_store.specs.UsedAnswers.{within_limit}

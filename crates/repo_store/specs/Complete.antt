@@ -7,7 +7,7 @@ use Rattle.hook_base.specs.declared.change.Change.{Change}
 use Rattle.repo_store.specs.Answers.{KeptAnswer, HaveOwnKeys}
 use Rattle.repo_store.specs.Contents.{has_content}
 use Rattle.repo_store.specs.Kept.{Kept}
-use Rattle.repo_store.specs.Limits.{IsLimit}
+use Rattle.store_faults.specs.Limits.{IsLimit}
 use Rattle.repo_store.specs.Repository.{Commit}
 use Rattle.repo_store.specs.Sound.{IsSound}
 use Rattle.repo_store.specs.SoundAnswers.{IsSoundAnswer}

@@ -8,7 +8,7 @@ use Rattle.hook_base.specs.declared.path_fault.PathFault.{PathFault}
 use Rattle.hook_base.specs.declared.path_fault.PathFault.TheVariants as path
 use Rattle.hook_base.specs.Paths.{path_fault}
 use Rattle.hook_base.specs.Trees.{entry_of, put_file}
-use Rattle.repo_store.specs.declared.fault.StoreFault.TheVariants.{OutOfMemory, Sql}
+use Rattle.store_faults.specs.declared.fault.StoreFault.TheVariants.{OutOfMemory, Sql}
 use Rattle.repo_store.specs.declared.staging_edit.StagingEdit.{StagingEdit}
 use Rattle.repo_store.specs.declared.staging_edit.StagingEdit.TheVariants.{Add, Remove}
 use Rattle.repo_store.specs.declared.staging_refusal.StagingFault.{StagingFault}
@@ -16,9 +16,9 @@ use Rattle.repo_store.specs.declared.staging_refusal.StagingFault.TheVariants.{B
 use Rattle.repo_store.specs.declared.staging_refusal.StagingRefusal.{StagingRefusal}
 use Rattle.repo_store.specs.Clashes.{Clashes}
 use Rattle.repo_store.specs.Contents.{Collides}
-use Rattle.repo_store.specs.Faults.{IsRefusal}
+use Rattle.store_faults.specs.Faults.{IsRefusal}
 use Rattle.repo_store.specs.Kept.{Kept, staging, unstaging}
-use Rattle.repo_store.specs.Limits.{Fits, IsSmall}
+use Rattle.store_faults.specs.Limits.{Fits, IsSmall}
 use Rattle.repo_store.specs.RowRules.{IsPathText}
 
 -- the fault that a fault of a path is: want of memory is the store's

@@ -12,8 +12,8 @@ use Rattle.store_tables.specs.declared.rows.UseRow.{UseRow}
 use Rattle.store_tables.specs.Tables.{Tables, Stored, AreKeyed, meta_cells, blob_cells, staged_cells, fix_cells, commit_cells, entry_cells, answer_cells}
 use Rattle.sqlite_trees.specs.Tree.{Trees}
 use Rattle.sqlite_rules.specs.Edit.{have_rowids}
-use Rattle.repo_store.specs.declared.fault.StoreFault.{StoreFault}
-use Rattle.repo_store.specs.declared.fault.StoreFault.TheVariants.{NotAStore, Damaged, Sql, OutOfMemory, Collision, TooLarge, TooMany}
+use Rattle.store_faults.specs.declared.fault.StoreFault.{StoreFault}
+use Rattle.store_faults.specs.declared.fault.StoreFault.TheVariants.{NotAStore, Damaged, Sql, OutOfMemory, Collision, TooLarge, TooMany}
 use Rattle.repo_store.specs.declared.table_rows.StoreRows.{StoreRows}
 use Rattle.repo_store.specs.declared.table_rows.TableRows.{TableRows}
 use Rattle.repo_store.specs.Repository.{Commit}
@@ -22,7 +22,7 @@ use Rattle.repo_store.specs.Rows.{commit_rows, entry_rows, limit_row, tables_of,
 use Rattle.repo_store.specs.Answers.{KeptAnswer}
 use Rattle.repo_store.specs.Bounded.{IsTick, key_cmp, key_of_answer, key_of_use}
 use Rattle.repo_store.specs.Index.{key_of}
-use Rattle.repo_store.specs.Limits.{IsLimit}
+use Rattle.store_faults.specs.Limits.{IsLimit}
 use Rattle.repo_store.specs.RowRules.{AreStoreRows}
 
 -- the tables of a store with these rows, of which `meta` says this

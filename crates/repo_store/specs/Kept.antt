@@ -9,7 +9,7 @@ use Rattle.hook_base.specs.contracts.change.Change as change
 use Rattle.hook_base.specs.declared.file.FileEntry.{FileEntry}
 use Rattle.repo_store.specs.Answers.{KeptAnswer, answer_code}
 use Rattle.repo_store.specs.Contents.{with_content, with_changes, Collides}
-use Rattle.repo_store.specs.Limits.{IsSmall, first_limit}
+use Rattle.store_faults.specs.Limits.{IsSmall, first_limit}
 use Rattle.repo_store.specs.UsedAnswers.{used, within_limit}
 use Rattle.repo_store.specs.Repository.{Commit, Repository, empty, with_staged, without_staged, with_new_commit, accepted, with_fixes, staged_changes}
 

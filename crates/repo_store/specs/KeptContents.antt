@@ -6,10 +6,10 @@ use Rattle.sha2.specs.Sha256.{sha256}
 use Rattle.hook_base.specs.declared.file.File.{File}
 use Rattle.answer_records.specs.Limits.{IsStorable}
 use Rattle.answer_records.specs.Records.{seen_of_files, seen_record}
-use Rattle.repo_store.specs.declared.fault.StoreFault.{StoreFault}
+use Rattle.store_faults.specs.declared.fault.StoreFault.{StoreFault}
 use Rattle.repo_store.specs.Complete.{HaveContents, IsAmong}
 use Rattle.repo_store.specs.Contents.{has_digest}
-use Rattle.repo_store.specs.Faults.{IsRefusal}
+use Rattle.store_faults.specs.Faults.{IsRefusal}
 use Rattle.repo_store.specs.Remembering.{AreSmall, SomeCollides, with_contents}
 
 -- all of these were kept, in their order

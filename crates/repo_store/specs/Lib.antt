@@ -9,13 +9,11 @@ pub mod Clashes
 pub mod Complete
 pub mod Contents
 pub mod Edits
-pub mod Faults
 pub mod FileRefs
 pub mod FromRows
 pub mod Index
 pub mod Kept
 pub mod KeptContents
-pub mod Limits
 pub mod ListedAnswers
 pub mod Lists
 pub mod Log
@@ -23,6 +21,7 @@ pub mod Opening
 pub mod Remembered
 pub mod Remembering
 pub mod Repository
+pub mod RestLemmas
 pub mod RowRules
 pub mod Rows
 pub mod Shared
@@ -32,6 +31,7 @@ pub mod Shown
 pub mod Sound
 pub mod SoundAnswers
 pub mod Standing
+pub mod StoreBooks
 pub mod Transactions
 pub mod Unfit
 pub mod UsedAnswers

@@ -7,7 +7,7 @@ use Rattle.std.specs.Option.{option_map_or}
 use Rattle.hook_base.specs.declared.file.File.{File}
 use Rattle.repo_store.specs.Answers.{KeptAnswer, answer_code, answer_for}
 use Rattle.repo_store.specs.Index.{Key, key_of, keys_eq}
-use Rattle.repo_store.specs.Limits.{IsLimit}
+use Rattle.store_faults.specs.Limits.{IsLimit}
 use Rattle.repo_store.specs.UsesOf.{greatest_tick}
 
 -- The answers, the most recently used first, how many there may be, and the tick that the next use gets.

@@ -7,7 +7,7 @@ use Rattle.hook_base.specs.declared.change.Change.{Change}
 use Rattle.repo_store.specs.Shared.{FileParts}
 use Rattle.repo_store.specs.declared.shared.SharedFix.{SharedFix}
 use Rattle.repo_store.specs.declared.shared.SharedCommit.{SharedCommit}
-use Rattle.repo_store.specs.Limits.{path_bytes}
+use Rattle.store_faults.specs.Limits.{path_bytes}
 use Rattle.repo_store.specs.Repository.{Commit, Repository}
 use Rattle.repo_store.specs.Sound.{IsSound}
 

@@ -11,11 +11,11 @@ use Rattle.sqlite.specs.Held.{Held, state}
 use Rattle.sqlite.specs.State.{HasCleanDisk, IsUnchanged, KeepsCommit, Survives}
 use Rattle.store_tables.specs.Schema.{MoreTables, schema_with_uses, store_with}
 use Rattle.store_tables.specs.Tables.{AreKeyed, Holds}
-use Rattle.repo_store.specs.declared.fault.StoreFault.{StoreFault}
+use Rattle.store_faults.specs.declared.fault.StoreFault.{StoreFault}
 use Rattle.repo_store.specs.Bounded.{HoldsNext, HoldsStore, IsTakenOver, key_cmp}
 use Rattle.repo_store.specs.Calls.{Rests}
 use Rattle.repo_store.specs.Complete.{AreAlike}
-use Rattle.repo_store.specs.Faults.{IsRefusal}
+use Rattle.store_faults.specs.Faults.{IsRefusal}
 use Rattle.repo_store.specs.Index.{key_of}
 use Rattle.repo_store.specs.Kept.{Kept, Mirror}
 use Rattle.repo_store.specs.Rows.{first_tables_of}

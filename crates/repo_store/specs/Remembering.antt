@@ -7,7 +7,7 @@ use Rattle.answer_records.specs.Records.{seen_of_files, seen_record, words_recor
 use Rattle.repo_store.specs.Answers.{KeptAnswer}
 use Rattle.repo_store.specs.Contents.{Collides, has_digest, with_content}
 use Rattle.repo_store.specs.Kept.{Kept}
-use Rattle.repo_store.specs.Limits.{IsSmall}
+use Rattle.store_faults.specs.Limits.{IsSmall}
 use Rattle.repo_store.specs.UsedAnswers.{with_answer_within}
 use Rattle.repo_store.specs.WrittenAnswers.{contents_for, contents_of_key}
 use Rattle.store_tables.specs.declared.rows.AnswerRow.{AnswerRow}

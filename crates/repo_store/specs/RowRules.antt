@@ -15,7 +15,7 @@ use Rattle.store_tables.specs.declared.rows.CommitRow.{CommitRow}
 use Rattle.store_tables.specs.declared.rows.EntryRow.{EntryRow}
 use Rattle.store_tables.specs.declared.rows.AnswerRow.{AnswerRow}
 use Rattle.store_tables.specs.Tables.{Tables}
-use Rattle.repo_store.specs.Limits.{IsSmall, most_commits, most_files, most_status, most_tree_path_bytes}
+use Rattle.store_faults.specs.Limits.{IsSmall, most_commits, most_files, most_status, most_tree_path_bytes}
 use Rattle.repo_store.specs.Rows.{first_version_row}
 
 -- ---- single rows

@@ -11,7 +11,7 @@ use Rattle.repo_store.specs.declared.lists.staging.Before.{Before}
 use Rattle.repo_store.specs.Accepted.{with_entry_at}
 use Rattle.repo_store.specs.Edits.{edited, entry_to_stage}
 use Rattle.repo_store.specs.Kept.{Kept}
-use Rattle.repo_store.specs.Limits.{path_bytes}
+use Rattle.store_faults.specs.Limits.{path_bytes}
 use Rattle.repo_store.specs.Lists.{entry_in, file_of, fix_of}
 
 -- what a path has from now on, or that it has nothing

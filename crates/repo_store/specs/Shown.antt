@@ -6,7 +6,7 @@ use Rattle.sqlite_trees.specs.Tree.{Trees}
 use Rattle.sqlite.specs.Held.{Held, held_code, state}
 use Rattle.sqlite.specs.State.{HasCleanDisk, Survives}
 use Rattle.store_tables.specs.Uses.{as_store}
-use Rattle.repo_store.specs.declared.fault.StoreFault.{StoreFault}
+use Rattle.store_faults.specs.declared.fault.StoreFault.{StoreFault}
 use Rattle.repo_store.specs.Bounded.{HoldsStore, IsTakenOver}
 use Rattle.sqlite.specs.Effect.{Database}
 use Rattle.repo_store.specs.Complete.{IsComplete}

@@ -2,7 +2,7 @@
 use Rattle.std.specs.Prelude.{◌≤◌, length}
 use Rattle.std.specs.List.{AllByRecursion}
 use Rattle.hook_base.specs.Trees.{IsRising, IsRisingChanges}
-use Rattle.repo_store.specs.Limits.{Fits, most_commits, most_files}
+use Rattle.store_faults.specs.Limits.{Fits, most_commits, most_files}
 use Rattle.repo_store.specs.Repository.{Commit, Repository}
 
 -- the trees and the fixes are in the order of their paths; the staged files, the fixes and the commits are within their

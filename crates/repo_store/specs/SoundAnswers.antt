@@ -8,7 +8,7 @@ use Rattle.hook_base.specs.Trees.{IsRising, IsRisingChanges, entry_of}
 use Rattle.answer_records.specs.Limits.{IsStorable}
 use Rattle.answer_records.specs.Reading.{IsTreePath}
 use Rattle.repo_store.specs.Answers.{KeptAnswer}
-use Rattle.repo_store.specs.Limits.{most_status}
+use Rattle.store_faults.specs.Limits.{most_status}
 use Rattle.repo_store.specs.WrittenAnswers.{written_changes, written_seen, written_words}
 
 -- each of the changes is of one of the files

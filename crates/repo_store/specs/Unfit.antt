@@ -7,8 +7,8 @@ use Rattle.store_tables.specs.declared.rows.UseRow.{UseRow}
 use Rattle.store_tables.specs.Schema.{schema_with_uses, store_schema}
 use Rattle.store_tables.specs.Tables.{Tables, Holds, Stored, meta_cells}
 use Rattle.store_tables.specs.Uses.{HoldsWithUses}
-use Rattle.repo_store.specs.declared.fault.StoreFault.{StoreFault}
-use Rattle.repo_store.specs.declared.fault.StoreFault.TheVariants.{NotAStore, Damaged, Sql, OutOfMemory, Collision, TooLarge, TooMany}
+use Rattle.store_faults.specs.declared.fault.StoreFault.{StoreFault}
+use Rattle.store_faults.specs.declared.fault.StoreFault.TheVariants.{NotAStore, Damaged, Sql, OutOfMemory, Collision, TooLarge, TooMany}
 use Rattle.repo_store.specs.Bounded.{AreBoundedRows, AreVersionRows}
 use Rattle.repo_store.specs.RowRules.{AreFirstVersionRows, AreStoreRows}
 

@@ -3,7 +3,7 @@
 ghost use Rattle.std.specs.Prelude.{◌≡◌, map, IfOk};
 ghost use Rattle.hook_base.specs.Trees.{IsRising, IsRisingChanges, apply_changes};
 ghost use Rattle.repo_store.specs.Accepted.{IsAccepted, accepted_files};
-ghost use Rattle.repo_store.specs.Limits.{Fits, path_bytes as path_bytes_of};
+ghost use Rattle.store_faults.specs.Limits.{Fits, path_bytes as path_bytes_of};
 ghost use Rattle.repo_store.specs.Lists.{file_of, fix_of};
 
 use crate::few_fixes::{files_with_fix, settle_all};

@@ -8,7 +8,7 @@ ghost use Rattle.hook_base.specs.Trees.{IsRising, IsRisingChanges};
 ghost use Rattle.answer_records.specs.Reading.{IsChangesRecord, IsSeenRecord, IsWordsRecord};
 ghost use Rattle.answer_records.specs.Records.{changed_of_changes, changes_record, seen_of_files, seen_record, words_record};
 ghost use Rattle.repo_store.specs.AnswerRefs.{copied_answer};
-ghost use Rattle.repo_store.specs.Faults.{IsRefusal};
+ghost use Rattle.store_faults.specs.Faults.{IsRefusal};
 ghost use Rattle.repo_store.specs.KeptContents.{AreAllKept, IsStopped};
 ghost use Rattle.repo_store.specs.Lists.{file_of, fix_of};
 ghost use Rattle.repo_store.specs.Remembering.{AreSmall, SomeCollides};

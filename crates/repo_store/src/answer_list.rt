@@ -3,9 +3,9 @@
 ghost use Rattle.std.specs.Prelude.{◌≡◌, ◌≢◌, slice_get, ◌↔◌, ℕ, ◌+◌, ◌-◌, ◌<◌, ◌≤◌, ◌^◌, List, ◌∷◌, [], Some, IsTrue, length, take, drop, map, reverse, IfErr, IfNone, IfOk, IfSome, OnErr, OnOk};
 ghost use Rattle.std.specs.List.{AllByRecursion, Any, Contains};
 ghost use Rattle.repo_store.specs.Answers.{HaveOwnKeys, KeptAnswer};
-ghost use Rattle.repo_store.specs.Faults.{IsDamage};
+ghost use Rattle.store_faults.specs.Faults.{IsDamage};
 ghost use Rattle.repo_store.specs.Index as spec;
-ghost use Rattle.repo_store.specs.Limits.{IsLimit};
+ghost use Rattle.store_faults.specs.Limits.{IsLimit};
 ghost use Rattle.repo_store.specs.ListedAnswers as listed;
 ghost use Rattle.repo_store.specs.ListedAnswers.{IsNextTick, ListedAnswers, brought};
 ghost use Rattle.repo_store.specs.Remembered.{TellsKey};

@@ -7,7 +7,7 @@ ghost use Rattle.answer_records.specs.Records.{seen_file, seen_of_files, seen_re
 ghost use Rattle.repo_store.specs.AnswerRefs.{stored_answer};
 ghost use Rattle.repo_store.specs.Complete.{HaveContents, IsAmong};
 ghost use Rattle.repo_store.specs.Contents.{Collides, has_digest};
-ghost use Rattle.repo_store.specs.Faults.{IsRefusal};
+ghost use Rattle.store_faults.specs.Faults.{IsRefusal};
 ghost use Rattle.repo_store.specs.KeptContents.{AreKnownFiles, ArePlacedFiles, HavePlaces, IsKnownRecord, IsPlacedRecord};
 ghost use Rattle.repo_store.specs.Lists.{file_of};
 ghost use Rattle.repo_store.specs.Remembering.{AnyCollides};

@@ -4,18 +4,18 @@ ghost use Rattle.std.specs.Prelude.{◌≡◌, ◌≢◌, ◌+◌, ◌-◌, ◌<
 ghost use Rattle.std.specs.List.{Any};
 ghost use Rattle.sha2.specs.Sha256.{sha256};
 ghost use Rattle.repo_store.specs.Contents.{Collides, has_content, has_digest, with_content};
-ghost use Rattle.repo_store.specs.Faults.{IsDamage, IsRefusal};
-ghost use Rattle.repo_store.specs.Limits.{IsSmall};
+ghost use Rattle.store_faults.specs.Faults.{IsDamage, IsRefusal};
+ghost use Rattle.store_faults.specs.Limits.{IsSmall};
 ghost use Rattle.repo_store.specs.RowRules.{IsBlobRow};
 
 use crate::StoreFault;
-use crate::limits::MOST_CONTENT_BYTES;
 use hook_base::{Bytes, Content, OutOfMemory};
 use sha2::{Digest as _, Sha256};
 use sqlite::Error;
 use std::alloc::Global;
 use std::collections::HashMap;
 use std::marker::Model;
+use store_faults::MOST_CONTENT_BYTES;
 use store_tables::BlobRow;
 
 /// Contents, each kept once and found by its digest. Contracts see the list of them, the oldest first.

@@ -9,8 +9,8 @@ ghost use Rattle.repo_store.specs.Transactions.{IsCall};
 ghost use Rattle.repo_store.specs.Kept.{nothing_kept};
 ghost use Rattle.sqlite.specs.Held.{state};
 
-use crate::limits::FIRST_LIMIT;
 use sqlite::{Alter, Connection, Error, Transaction};
+use store_faults::FIRST_LIMIT;
 use store_tables::{make_tables, make_uses, put_meta};
 
 fn make_in<S: Alter>(tx: &mut Transaction<'_, S>) -> Result<(), Error>

@@ -3,7 +3,7 @@
 ghost use Rattle.std.specs.Prelude.{◌≡◌, ◌++◌, ◌+◌, ◌<◌, ◌^◌, map, is_some, IfOk, OnOk, IsTrue};
 ghost use Rattle.hook_base.specs.Trees.{IsRising, IsRisingChanges, apply_change, apply_changes, entry_of, put_row, remove_file};
 ghost use Rattle.repo_store.specs.Accepted.{HaveSameFixed, file_at, files_with_fix};
-ghost use Rattle.repo_store.specs.Limits.{path_bytes as path_bytes_of};
+ghost use Rattle.store_faults.specs.Limits.{path_bytes as path_bytes_of};
 ghost use Rattle.repo_store.specs.Lists.{file_of, fix_of};
 
 use crate::files::{place_of, take_out};

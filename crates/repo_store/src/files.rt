@@ -6,12 +6,12 @@ ghost use Rattle.hook_base.specs.Paths.{IsRepoPath};
 ghost use Rattle.hook_base.specs.Places.{IsAt, IsGap};
 ghost use Rattle.hook_base.specs.declared.file.FileEntry.{FileEntry};
 ghost use Rattle.hook_base.specs.Trees.{IsRising, entry_of, put_file, put_row, remove_file};
-ghost use Rattle.repo_store.specs.Limits.{Fits, path_bytes as path_bytes_of};
+ghost use Rattle.store_faults.specs.Limits.{Fits, path_bytes as path_bytes_of};
 ghost use Rattle.repo_store.specs.Lists.{file_of};
 
-use crate::limits::{MOST_FILES, MOST_TREE_PATH_BYTES};
 use crate::shared::{ListedFile, SharedCommit};
 use hook_base::{Bytes, OutOfMemory, RepoPath};
+use store_faults::{MOST_FILES, MOST_TREE_PATH_BYTES};
 
 /// Where a path stands in files that rise: at the file of an index, or before it.
 pub(crate) fn place_of(files: &[ListedFile], path: &RepoPath) -> Result<usize, usize>

@@ -7,21 +7,17 @@ ghost use Rattle.sqlite_trees.specs.Tree.{Trees};
 ghost use Rattle.store_tables.specs.Uses.{as_store};
 ghost use Rattle.repo_store.specs.Bounded.{HoldsStore};
 ghost use Rattle.repo_store.specs.Complete.{AreAlike, IsComplete};
-ghost use Rattle.repo_store.specs.declared.fault.StoreFault.{StoreFault};
-ghost use Rattle.repo_store.specs.declared.fault.StoreFault.TheVariants.{Damaged, NotAStore};
-ghost use Rattle.repo_store.specs.Faults.{IsRefusal};
+ghost use Rattle.store_faults.specs.declared.fault.StoreFault.{StoreFault};
+ghost use Rattle.store_faults.specs.declared.fault.StoreFault.TheVariants.{Damaged, NotAStore};
+ghost use Rattle.store_faults.specs.Faults.{IsRefusal};
 ghost use Rattle.repo_store.specs.Kept.{Kept, nothing_kept};
-ghost use Rattle.repo_store.specs.Limits.{first_limit, most_answers, most_commits, most_content_bytes, most_files, most_tree_path_bytes};
 ghost use Rattle.repo_store.specs.Rows.{tables_of};
 ghost use Rattle.repo_store.specs.Shown.{Leaves};
 ghost use Rattle.repo_store.specs.Unfit.{IsUnfit};
 ghost use Rattle.repo_store.specs.UsesOf.{greatest_tick};
 ghost use Rattle.repo_store.specs.RowRules.{AreStoreRows};
 
-use crate::limits::{
-    FIRST_LIMIT, GREATEST_TICK, MOST_ANSWERS, MOST_COMMITS, MOST_CONTENT_BYTES, MOST_FILES,
-    MOST_TREE_PATH_BYTES,
-};
+use crate::limits::GREATEST_TICK;
 
 /// A database holds one complete repository at most: if two stand in its tables, they have the same commits, staged files and
 /// fixes, the same remembered answers in one order, with one limit, and the same contents in some order. So trees that a crash
@@ -44,13 +40,7 @@ pub fn only_the_empty_store_is_like_it()
     ensures { (kept : Kept) → AreAlike nothing_kept kept → kept ≡ nothing_kept }
 {}
 
-/// The limits of the program are those that the contracts name.
-pub fn the_limits_are_those_of_the_contracts()
-    ensures contents { MOST_CONTENT_BYTES ≡ most_content_bytes }
-    ensures files { MOST_FILES ≡ most_files }
-    ensures paths { MOST_TREE_PATH_BYTES ≡ most_tree_path_bytes }
-    ensures commits { MOST_COMMITS ≡ most_commits }
-    ensures answers { MOST_ANSWERS ≡ most_answers }
-    ensures first { FIRST_LIMIT ≡ first_limit }
-    ensures ticks { GREATEST_TICK ≡ greatest_tick }
+/// The greatest tick of the program is that which the contracts name.
+pub fn the_greatest_tick_is_that_of_the_contracts()
+    ensures { GREATEST_TICK ≡ greatest_tick }
 {}

@@ -37,7 +37,6 @@ mod create;
 mod differences;
 mod digest;
 mod edits;
-mod fault;
 mod few_fixes;
 mod file_ref;
 mod files;
@@ -63,6 +62,7 @@ mod stage;
 mod staging_edit;
 mod staging_refusal;
 mod store;
+mod store_book;
 mod stored_answer;
 mod table_rows;
 mod take_over;
@@ -72,13 +72,14 @@ mod uses;
 
 pub use answer_ref::AnswerRef;
 pub use digest::Digest;
-pub use fault::StoreFault;
 pub use file_ref::FileRef;
-pub use limits::{
-    FIRST_LIMIT, MOST_ANSWERS, MOST_COMMITS, MOST_CONTENT_BYTES, MOST_FILES, MOST_TREE_PATH_BYTES,
-};
 pub use log_entry::LogEntry;
 pub use staging_edit::StagingEdit;
 pub use staging_refusal::{StagingFault, StagingRefusal};
 pub use store::Store;
+pub use store_book::StoreBook;
+pub use store_faults::{
+    FIRST_LIMIT, MOST_ANSWERS, MOST_COMMITS, MOST_CONTENT_BYTES, MOST_FILES, MOST_TREE_PATH_BYTES,
+    StoreFault,
+};
 pub use stored_answer::StoredAnswer;

@@ -1,24 +1,4 @@
-//! How much a store takes. `specs/Limits` has the same limits for the contracts; [`crate::laws`] says that they are the same.
-
-use hook_base::MOST_FILE_BYTES;
-
-/// The most bytes of a file's contents, and of a commit's message: 16 MiB.
-pub const MOST_CONTENT_BYTES: usize = MOST_FILE_BYTES;
-
-/// The most files of a staged tree, and so the most fixes.
-pub const MOST_FILES: usize = 100_000;
-
-/// The most bytes of the paths of a staged tree together: 8 MiB.
-pub const MOST_TREE_PATH_BYTES: usize = 8_388_608;
-
-/// The most commits.
-pub const MOST_COMMITS: usize = 100_000;
-
-/// The most answers that a store may be told to remember.
-pub const MOST_ANSWERS: u32 = 100_000;
-
-/// How many answers a new store remembers.
-pub const FIRST_LIMIT: u32 = 10_000;
+//! The limit of the program that no caller meets.
 
 /// The greatest tick of a use.
 pub(crate) const GREATEST_TICK: u64 = 4_611_686_018_427_387_904;

@@ -7,14 +7,14 @@ ghost use Rattle.store_tables.specs.Uses.{HoldsRows};
 ghost use Rattle.repo_store.specs.Answers.{HaveOwnKeys, KeptAnswer};
 ghost use Rattle.repo_store.specs.Bounded.{HoldsListed};
 ghost use Rattle.repo_store.specs.Index.{key_of};
-ghost use Rattle.repo_store.specs.Limits.{first_limit};
+ghost use Rattle.store_faults.specs.Limits.{first_limit};
 ghost use Rattle.repo_store.specs.Rows.{limit_row, version_row};
 ghost use Rattle.repo_store.specs.Transactions.{IsCall};
 ghost use Rattle.repo_store.specs.UsesOf.{TellTheirKeys, greatest_tick, key_rows, without_all, without_uses_of};
 
-use crate::limits::FIRST_LIMIT;
 use crate::uses::{drop_all_in, number_in};
 use sqlite::{Alter, Connection, Error, Transaction};
+use store_faults::FIRST_LIMIT;
 use store_tables::{make_uses, put_meta, replace_meta};
 
 // Makes the table of uses, numbers those of all keys, and takes out the answers under the first of these.

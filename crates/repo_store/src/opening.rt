@@ -7,7 +7,7 @@ ghost use Rattle.store_tables.specs.Schema.{schema_with_uses, store_schema};
 ghost use Rattle.repo_store.specs.Answers.{HaveOwnKeys};
 ghost use Rattle.repo_store.specs.Complete.{IsComplete};
 ghost use Rattle.repo_store.specs.Kept.{limiting};
-ghost use Rattle.repo_store.specs.Limits.{IsLimit, first_limit};
+ghost use Rattle.store_faults.specs.Limits.{IsLimit, first_limit};
 ghost use Rattle.repo_store.specs.ListedAnswers.{IsNextTick};
 ghost use Rattle.repo_store.specs.Opening.{AreListed, AreListedAlone, IsFoundFirst, IsFoundIn};
 ghost use Rattle.repo_store.specs.Rows.{first_tables_of, tables_of};
@@ -15,12 +15,12 @@ ghost use Rattle.repo_store.specs.RowRules.{AreStoreRows};
 ghost use Rattle.repo_store.specs.Standing.{TellKeys};
 
 use crate::StoreFault;
-use crate::fault::fault_of;
 use crate::from_rows::{first_lists_of, second_lists_of};
 use crate::lists::Lists;
 use crate::table_rows::read_tables;
 use sqlite::{Alter, Connection, Transaction};
 use std::alloc::Global;
+use store_faults::fault_of;
 use store_tables::{has_store_tables, has_uses_tables, read_uses_by_tick};
 
 /// Reads a store of version 1 inside a transaction, and changes nothing. All answers are in the lists, be they more than the limit

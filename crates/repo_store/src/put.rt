@@ -5,7 +5,7 @@ ghost use Rattle.std.specs.List.{AllByRecursion, Any};
 ghost use Rattle.store_tables.specs.Tables.{Tables};
 ghost use Rattle.repo_store.specs.Answers.{HaveOwnKeys, KeptAnswer};
 ghost use Rattle.repo_store.specs.Bounded.{HoldsListed};
-ghost use Rattle.repo_store.specs.Faults.{IsRefusal};
+ghost use Rattle.store_faults.specs.Faults.{IsRefusal};
 ghost use Rattle.repo_store.specs.Index.{key_of};
 ghost use Rattle.repo_store.specs.Remembered.{TellsKey};
 ghost use Rattle.repo_store.specs.Rows.{answer_row, with_blobs};
@@ -16,11 +16,11 @@ ghost use Rattle.repo_store.specs.UsedAnswers.{in_front, with_answer_within};
 ghost use Rattle.repo_store.specs.UsesOf.{greatest_tick};
 
 use crate::StoreFault;
-use crate::fault::fault_of;
 use crate::lists::Lists;
 use crate::remember::{remember_in_place_rows, remember_rows};
 use crate::shared_answer::SharedAnswer;
 use sqlite::{Alter, Connection, Error};
+use store_faults::fault_of;
 
 // Puts an answer in place of the one of its key.
 fn put_again<S: Alter>(

@@ -1,7 +1,7 @@
 //! Why changes of the staged files are refused, and at which of them.
 
 ghost use Rattle.std.specs.Prelude.{◌≡◌};
-ghost use Rattle.repo_store.specs.declared.fault.StoreFault.TheVariants.{OutOfMemory as Wanting};
+ghost use Rattle.store_faults.specs.declared.fault.StoreFault.TheVariants.{OutOfMemory as Wanting};
 ghost use Rattle.repo_store.specs.declared.staging_refusal.StagingFault.TheVariants.{Store};
 
 use crate::StoreFault;

@@ -19,12 +19,12 @@ ghost use Rattle.repo_store.specs.Clashes.{Clashes};
 ghost use Rattle.repo_store.specs.Complete.{AreAlike};
 ghost use Rattle.repo_store.specs.Contents.{Collides};
 ghost use Rattle.repo_store.specs.Edits.{AreEditable, IsStagingRefusal, all_edited};
-ghost use Rattle.repo_store.specs.Faults.{IsRefusal};
+ghost use Rattle.store_faults.specs.Faults.{IsRefusal};
 ghost use Rattle.repo_store.specs.FileRefs.{copied_file};
 ghost use Rattle.repo_store.specs.Kept.{FixCollides, HasLarge, Kept, accepting, committing, forgetting, keeping, limiting, nothing_kept, setting, staging, unstaging, using};
 ghost use Rattle.repo_store.specs.Index.{key_of};
 ghost use Rattle.repo_store.specs.Standing.{bringing};
-ghost use Rattle.repo_store.specs.Limits.{Fits, IsLimit, IsSmall, most_commits};
+ghost use Rattle.store_faults.specs.Limits.{Fits, IsLimit, IsSmall, most_commits};
 ghost use Rattle.repo_store.specs.Log.{log_from};
 ghost use Rattle.repo_store.specs.Remembering.{AnyCollides, AreSmall, HasPlacedKey, SomeCollides, remembering};
 ghost use Rattle.repo_store.specs.Repository.{Commit, commit_at, fixed_bytes, last_tree, staged_changes, tree_at};
@@ -39,7 +39,6 @@ use crate::blobs::keep_rows;
 use crate::commit::commit_rows;
 use crate::create::{has_no_tables, make};
 use crate::edits::edit_rows;
-use crate::fault::fault_of;
 use crate::fixes::set_rows;
 use crate::forget::forget_rows;
 use crate::limits::GREATEST_TICK;
@@ -57,6 +56,7 @@ use hook_base::{Change, Mode, OutOfMemory, RepoPath, Text, Tree};
 use sqlite::{Alter, Connection, Error, ErrorCode};
 use std::alloc::Global;
 use std::marker::Model;
+use store_faults::fault_of;
 
 /// A repository in a database: its commits, the staged files and the fixes, and the answers of children that are remembered, the
 /// most recently used first and no more than a limit.

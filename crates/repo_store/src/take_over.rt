@@ -11,13 +11,12 @@ ghost use Rattle.repo_store.specs.Rows.{tables_of};
 ghost use Rattle.repo_store.specs.RowRules.{AreStoreRows};
 
 use crate::StoreFault;
-use crate::fault::fault_of;
-use crate::limits::FIRST_LIMIT;
 use crate::lists::Lists;
 use crate::migrate::migrate_rows;
 use crate::opening::{has_first_tables, has_tables, read_first, read_store};
 use sqlite::{Alter, Connection};
 use std::alloc::Global;
+use store_faults::{FIRST_LIMIT, fault_of};
 
 // Reads a store of version 1, and migrates it in one transaction.
 fn take_over<S: Alter>(alloc: Global, conn: &mut Connection<S>) -> Result<Lists, StoreFault>

@@ -2,7 +2,7 @@
 
 ghost use Rattle.std.specs.Prelude.{◌≡◌, ◌≤◌, length, map, IfOk};
 ghost use Rattle.hook_base.specs.Trees.{IsRising};
-ghost use Rattle.repo_store.specs.Limits.{most_commits};
+ghost use Rattle.store_faults.specs.Limits.{most_commits};
 ghost use Rattle.repo_store.specs.Lists.{commit_of, file_of, fix_of};
 ghost use Rattle.repo_store.specs.Log.{log_from};
 

@@ -5,8 +5,8 @@ use Rattle.sqlite.specs.Opening.{is_open_error}
 use Rattle.sqlite.specs.declared.error.Error.{Error as DatabaseError}
 use Rattle.sqlite.specs.declared.error.Error.TheVariants.{SqliteFailure}
 use Rattle.sqlite.specs.declared.error.ErrorCode.TheVariants as code
-use Rattle.repo_store.specs.Faults.{fault_of}
-use Rattle.repo_store.specs.declared.fault.StoreFault.TheVariants.{NotAStore}
+use Rattle.store_faults.specs.Faults.{fault_of}
+use Rattle.store_faults.specs.declared.fault.StoreFault.TheVariants.{NotAStore}
 use Rattle.repository_files.specs.declared.database.Before.{Before}
 use Rattle.repository_files.specs.declared.folder.Found.{Found}
 use Rattle.repository_files.specs.declared.folder.Found.TheVariants.{Nothing, Empty, OneByte, Filled, Other}

@@ -14,7 +14,8 @@ use Rattle.hook_base.specs.declared.file.Mode.TheVariants.{Plain, Executable}
 use Rattle.hook_base.specs.Rising.{path_cmp}
 use Rattle.hook_base.specs.Trees.{entry_of, path_of}
 use Rattle.report_text.specs.Report.{line}
-use Rattle.repository_text.specs.StatusText.{change_line, change_line_at, in_order, is_same_entry, is_same_mode, paths_from, paths_of_both, status_text}
+use Rattle.hook_base.specs.SameFiles.{is_same_mode}
+use Rattle.repository_text.specs.StatusText.{change_line, change_line_at, in_order, is_same_entry, paths_from, paths_of_both, status_text}
 use Rattle.repository_text.specs.StatusWalk.{mark_of}
 use Rattle.repository_text.proofs.TextLemmas.{drop-none, drop-some, false_from_not}
 

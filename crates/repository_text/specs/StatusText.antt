@@ -1,22 +1,15 @@
 -- What `status` says: how the staged files differ from those of the last commit.
-use Rattle.std.specs.Prelude.{ℕ, Bool, true, false, ◌&&◌, if◌then◌else◌, List, [], ◌∷◌, ◌++◌, codes, map, Option, None, Some}
+use Rattle.std.specs.Prelude.{ℕ, Bool, ◌&&◌, if◌then◌else◌, List, [], ◌∷◌, ◌++◌, codes, map, Option, None, Some}
 use Rattle.std.specs.List.{flat_map}
 use Rattle.std.specs.Str.{bytes_eq}
 use Rattle.std.specs.declared.cmp.Ordering.{Ordering}
 use Rattle.std.specs.declared.cmp.Ordering.TheVariants.{Less, Equal, Greater}
 use Rattle.hook_base.specs.declared.file.File.{File}
 use Rattle.hook_base.specs.declared.file.FileEntry.{FileEntry}
-use Rattle.hook_base.specs.declared.file.Mode.{Mode}
-use Rattle.hook_base.specs.declared.file.Mode.TheVariants.{Plain, Executable}
 use Rattle.hook_base.specs.Rising.{path_cmp}
+use Rattle.hook_base.specs.SameFiles.{is_same_mode}
 use Rattle.hook_base.specs.Trees.{entry_of, path_of}
 use Rattle.report_text.specs.Report.{line}
-
-abbrev pub is_same_mode : Mode → Mode → Bool
-is_same_mode Plain Plain = true
-is_same_mode Plain Executable = false
-is_same_mode Executable Plain = false
-is_same_mode Executable Executable = true
 
 abbrev pub is_same_entry : FileEntry → FileEntry → Bool
 is_same_entry entry other = is_same_mode entry.mode other.mode && bytes_eq entry.bytes other.bytes

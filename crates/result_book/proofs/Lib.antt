@@ -1,3 +1,1 @@
 pub mod PlaceLemmas
-pub mod StoreBookLemmas
-pub mod StoreRowLemmas

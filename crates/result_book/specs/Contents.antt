@@ -6,8 +6,8 @@ use Rattle.std.specs.List.{find}
 use Rattle.std.specs.Str.{bytes_eq}
 use Rattle.child_port.specs.declared.answer.Answer.{Answer}
 use Rattle.hook_base.specs.declared.file.File.{File}
-use Rattle.repo_store.specs.Answers.{is_same_file}
-use Rattle.repo_store.specs.Limits.{IsLimit}
+use Rattle.hook_base.specs.SameFiles.{is_same_file}
+use Rattle.store_faults.specs.Limits.{IsLimit}
 use Rattle.result_book.specs.declared.book_row.BookRow.{BookRow}
 
 pub record Contents : Type 0 where

@@ -1,7 +1,7 @@
 -- Why a call of a book is refused: the numbers of the reasons, and which one a fault of the store is.
 use Rattle.std.specs.Prelude.{ℕ}
-use Rattle.repo_store.specs.declared.fault.StoreFault.{StoreFault}
-use Rattle.repo_store.specs.declared.fault.StoreFault.TheVariants as store
+use Rattle.store_faults.specs.declared.fault.StoreFault.{StoreFault}
+use Rattle.store_faults.specs.declared.fault.StoreFault.TheVariants as store
 use Rattle.result_book.specs.declared.book_fault.BookFault.{BookFault}
 use Rattle.result_book.specs.declared.book_fault.BookFault.TheVariants.{OutOfMemory, Store}
 

@@ -1,11 +1,14 @@
 -- Lemmas on rows with distinct keys.
 use Rattle.std.specs.Prelude.{◌≡◌, ◌↔◌, ℕ, true, false, List, [], ◌∷◌, Option, None, Some, refl}
+use Rattle.std.specs.Cmp.Lexicographic.{bytes_decides, pointwise, pointwise_decides}
+use Rattle.std.specs.Str.{bytes_eq}
 use Rattle.std.proofs.Common.{ap, sym, ◌∙◌, inl, inr, subst}
 use Rattle.std.proofs.lemmas.Bool.{false_from_ne_true}
 use Rattle.child_port.specs.declared.answer.Answer.{Answer}
 use Rattle.hook_base.specs.declared.file.File.{File}
-use Rattle.repo_store.specs.Answers.{KeptAnswer}
-use Rattle.repo_store.specs.AnswerLemmas.{is_for_decides}
+use Rattle.hook_base.specs.AlikeLemmas.{and_decides}
+use Rattle.hook_base.specs.SameFileLemmas.{same_file_decides}
+use Rattle.hook_base.specs.SameFiles.{is_same_file}
 use Rattle.result_book.specs.declared.book_row.BookRow.{BookRow}
 use Rattle.result_book.specs.Contents.{Contents, HasKey, HaveRow, LackRow, HaveDistinctKeys, Finds, is_row_for}
 
@@ -14,12 +17,9 @@ pub HaveDistinctKeys-prop : (rows : List BookRow) → IsProp (HaveDistinctKeys r
 HaveDistinctKeys-prop [] = Prim.hlevel tt
 HaveDistinctKeys-prop (row ∷ rows) = Prim.hlevel (HaveDistinctKeys-prop rows)
 
--- the row as a remembered answer, whose key alone counts
-abbrev as_kept : BookRow → KeptAnswer
-as_kept row = record { words = row.words; seen = row.seen; output = []; changes = []; status = 0 }
-
 pub row_decides : (words : List (List ℕ)) (seen : List File) (row : BookRow) → (is_row_for words seen row ≡ true) ↔ HasKey words seen row
-row_decides words seen row = is_for_decides words seen (as_kept row)
+row_decides words seen row =
+    and_decides (pointwise bytes_eq row.words words) (pointwise is_same_file row.seen seen) (pointwise_decides bytes_decides row.words words) (pointwise_decides same_file_decides row.seen seen)
 
 pub no_row_key : (words : List (List ℕ)) (seen : List File) (row : BookRow) → is_row_for words seen row ≡ false → ¬ HasKey words seen row
 no_row_key words seen row isnt key = let is = (row_decides words seen row).1 key in let never : true ≡ false = sym is ∙ isnt in absurd (cc)

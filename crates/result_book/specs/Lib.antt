@@ -5,7 +5,5 @@ pub mod Faults
 pub mod KeyLemmas
 pub mod OrderLemmas
 pub mod Places
-pub mod RestLemmas
-pub mod StoreBooks
 pub mod Told
 pub mod ToldLemmas

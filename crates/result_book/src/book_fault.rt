@@ -4,8 +4,8 @@ ghost use Rattle.std.specs.Prelude.{◌≡◌};
 ghost use Rattle.result_book.specs.Faults.{number_of};
 
 use hook_base::OutOfMemory as Refused;
-use repo_store::StoreFault;
 use std::alloc::{AllocError, AllocFailed};
+use store_faults::StoreFault;
 use thiserror::Error;
 
 /// Why a call of a book is refused. What the book remembers is as before the call.

@@ -12,10 +12,8 @@ mod book_row;
 pub mod laws;
 mod list_book;
 mod rows;
-mod store_book;
 
 pub use book::Book;
 pub use book_fault::BookFault;
 pub use book_row::BookRow;
 pub use list_book::ListBook;
-pub use store_book::StoreBook;

@@ -32,7 +32,7 @@ impl Model for ListBook {
 }
 
 impl ListBook {
-    ghost use Rattle.repo_store.specs.Limits.{IsLimit};
+    ghost use Rattle.store_faults.specs.Limits.{IsLimit};
     ghost use Rattle.result_book.specs.Contents.{nothing};
 
     /// A book that remembers nothing, and so many answers at most, from 1 to 100,000.

@@ -23,9 +23,9 @@ use child_port::{Children, Fault, FuseChildren};
 use hook_base::{Content, FileEntry, Items, RepoPath, Tree};
 use hook_config::{Config, Stage, read_config};
 use hook_run::{HooksRun, Reuse, RunAsk, RunOut, RunRefusal, run_hooks};
-use repo_store::{FIRST_LIMIT, MOST_ANSWERS, StoreFault};
 use result_book::{Book, BookFault};
 use std::alloc::Global;
+use store_faults::{FIRST_LIMIT, MOST_ANSWERS, StoreFault};
 use trial_rows::{Answer, Stop, Words, fault_of, mode_of, text_of};
 
 /// The files, the rows by which children answer, as their texts say them, and what is remembered.

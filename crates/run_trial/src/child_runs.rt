@@ -7,9 +7,9 @@ use child_port::{Children, FuseChildren, TableChildren, TableRow};
 use hook_base::{Change, Items, Tree};
 use hook_config::{Config, read_config};
 use hook_run::{Need, RunAsk, RunOut, RunPlan, RunRefusal, run_hooks};
-use repo_store::FIRST_LIMIT;
 use result_book::ListBook;
 use std::alloc::Global;
+use store_faults::FIRST_LIMIT;
 use trial_rows::{Answer, Stop, fault_of, number_of, row_of, text_of, verdict_of};
 
 // A run that a row asks for: of which configuration, over which children, and on which files.

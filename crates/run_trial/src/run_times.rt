@@ -6,9 +6,9 @@ use child_port::{Children, is_stray};
 use hook_base::{Bytes, Content, FileEntry, Items, Mode, RepoPath, Text, Tree};
 use hook_config::{Config, Stage, read_config};
 use hook_run::{HooksRun, Reuse, RunAsk, RunOut, run_hooks};
-use repo_store::MOST_ANSWERS;
 use result_book::{Book, ListBook};
 use std::alloc::Global;
+use store_faults::MOST_ANSWERS;
 use trial_rows::{Answer, Stop, number_of};
 
 /// `first_runs CONFIGURATION FILES SIZE COUNT`: so many runs on so many files of so many bytes, each over a book that

@@ -1,7 +1,7 @@
 //! The rows of the tables, as they are read. The ranges are those of a store that isn't damaged; a row that is read may be
 //! out of them.
 
-use hook_base::Bytes;
+use owned_lists::Bytes;
 
 /// A number that the store keeps about itself, as the version of its tables.
 #[derive(Debug, Drop)]

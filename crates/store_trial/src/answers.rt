@@ -2,7 +2,7 @@
 //! of children does, in `children`.
 
 ghost use Rattle.std.specs.Prelude.{IfOk};
-ghost use Rattle.repo_store.specs.Limits.{IsLimit};
+ghost use Rattle.store_faults.specs.Limits.{IsLimit};
 
 use crate::answer::Answer;
 use crate::bulk::number;

@@ -2,7 +2,7 @@
 
 ghost use Rattle.std.specs.Prelude.{◌≡◌, map, IfOk, IfErr, OnOk};
 ghost use Rattle.std.specs.List.{AllByRecursion};
-ghost use Rattle.repo_store.specs.Faults.{IsDamage};
+ghost use Rattle.store_faults.specs.Faults.{IsDamage};
 ghost use Rattle.repo_store.specs.RowRules.{IsBlobRow};
 ghost use Rattle.repo_store.specs.Rows.{blob_row};
 

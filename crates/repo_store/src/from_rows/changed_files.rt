@@ -7,7 +7,7 @@ ghost use Rattle.answer_records.specs.declared.changed_file.ChangedFile.{Changed
 ghost use Rattle.answer_records.specs.Reading.{IsChangesRecord};
 ghost use Rattle.answer_records.specs.Records.{changed_file, changed_of_changes};
 ghost use Rattle.repo_store.specs.Complete.{HaveNewContents, IsAmong};
-ghost use Rattle.repo_store.specs.Faults.{IsDamage};
+ghost use Rattle.store_faults.specs.Faults.{IsDamage};
 ghost use Rattle.repo_store.specs.Lists.{fix_of};
 ghost use Rattle.repo_store.specs.RowRules.{HasKept, HaveKeptNewContents, is_kept};
 ghost use Rattle.repo_store.specs.Rows.{blob_row};

@@ -5,7 +5,7 @@ ghost use Rattle.sha2.specs.Sha256.{sha256};
 ghost use Rattle.hook_base.specs.Rising.{IsBelow as IsBelowPath};
 ghost use Rattle.repo_store.specs.Complete.{IsAmong};
 ghost use Rattle.repo_store.specs.Contents.{Collides};
-ghost use Rattle.repo_store.specs.Faults.{IsDamage};
+ghost use Rattle.store_faults.specs.Faults.{IsDamage};
 ghost use Rattle.repo_store.specs.Lists.{file_of};
 ghost use Rattle.repo_store.specs.Rows.{blob_row, mode_number, staged_row};
 ghost use Rattle.repo_store.specs.RowRules.{IsFileRow, IsPathText, is_kept};

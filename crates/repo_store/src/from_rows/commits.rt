@@ -5,9 +5,9 @@ ghost use Rattle.std.specs.List.{AllByRecursion};
 ghost use Rattle.store_tables.specs.Rowids.{IsBelow, IsRising as IsRisingNumbers};
 ghost use Rattle.hook_base.specs.Trees.{IsRising};
 ghost use Rattle.repo_store.specs.Complete.{HaveContents};
-ghost use Rattle.repo_store.specs.Faults.{IsDamage};
+ghost use Rattle.store_faults.specs.Faults.{IsDamage};
 ghost use Rattle.repo_store.specs.FromRows.{AreBare, AreEntered, with_file};
-ghost use Rattle.repo_store.specs.Limits.{IsSmall};
+ghost use Rattle.store_faults.specs.Limits.{IsSmall};
 ghost use Rattle.repo_store.specs.Lists.{commit_of, file_of};
 ghost use Rattle.repo_store.specs.Repository.{Commit};
 ghost use Rattle.repo_store.specs.RowRules.{AreCommitRows, IsEntryRow, IsNumbered, number_in};
@@ -17,10 +17,10 @@ use super::columns::file_at;
 use super::staged::add_file;
 use crate::StoreFault;
 use crate::contents::Contents;
-use crate::limits::{MOST_COMMITS, MOST_CONTENT_BYTES};
 use crate::shared::{ListedFile, SharedCommit};
 use sqlite::Error;
 use std::alloc::Global;
+use store_faults::{MOST_COMMITS, MOST_CONTENT_BYTES};
 use store_tables::{CommitRow, EntryRow};
 
 // Whether the number of a commit is above the last.

@@ -6,7 +6,7 @@ ghost use Rattle.hook_base.specs.declared.change.Change.{Change};
 ghost use Rattle.hook_base.specs.Rising.{IsBelow as IsBelowPath};
 ghost use Rattle.hook_base.specs.Trees.{IsRising, IsRisingChanges};
 ghost use Rattle.repo_store.specs.Complete.{HaveNewContents, IsAmong};
-ghost use Rattle.repo_store.specs.Faults.{IsDamage};
+ghost use Rattle.store_faults.specs.Faults.{IsDamage};
 ghost use Rattle.repo_store.specs.Lists.{file_of, fix_of};
 ghost use Rattle.repo_store.specs.RowRules.{IsFixRow, IsMarked};
 ghost use Rattle.repo_store.specs.Rows.{blob_row, fix_at, fix_row, staged_row};

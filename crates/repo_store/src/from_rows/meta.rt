@@ -3,10 +3,10 @@
 ghost use Rattle.std.specs.Prelude.{◌≡◌, ◌↔◌, ℕ, ◌∷◌, [], pos, IsPermutation, IfNone, IfSome, IsTrue};
 ghost use Rattle.repo_store.specs.Bounded.{AreVersionRows};
 ghost use Rattle.repo_store.specs.FromRows.{HasLimit};
-ghost use Rattle.repo_store.specs.Limits.{IsLimit};
+ghost use Rattle.store_faults.specs.Limits.{IsLimit};
 ghost use Rattle.repo_store.specs.Rows.{first_version_row, limit_row, version_row};
 
-use crate::limits::MOST_ANSWERS;
+use store_faults::MOST_ANSWERS;
 use store_tables::MetaRow;
 
 fn is_number(value: i64, number: i64) -> bool

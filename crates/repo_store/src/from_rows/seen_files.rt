@@ -6,7 +6,7 @@ ghost use Rattle.answer_records.specs.declared.seen_file.SeenFile.{SeenFile};
 ghost use Rattle.answer_records.specs.Reading.{IsSeenRecord};
 ghost use Rattle.answer_records.specs.Records.{seen_file, seen_of_files};
 ghost use Rattle.repo_store.specs.Complete.{HaveContents, IsAmong};
-ghost use Rattle.repo_store.specs.Faults.{IsDamage};
+ghost use Rattle.store_faults.specs.Faults.{IsDamage};
 ghost use Rattle.repo_store.specs.Lists.{file_of};
 ghost use Rattle.repo_store.specs.RowRules.{HasKept, HaveKeptContents, is_kept};
 ghost use Rattle.repo_store.specs.Rows.{blob_row};

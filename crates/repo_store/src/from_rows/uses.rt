@@ -5,7 +5,7 @@ ghost use Rattle.std.specs.List.{AllByRecursion};
 ghost use Rattle.store_tables.specs.declared.rows.UseRow.{UseRow};
 ghost use Rattle.repo_store.specs.Answers.{HaveOwnKeys, KeptAnswer};
 ghost use Rattle.repo_store.specs.Bounded.{IsTick, key_of_use};
-ghost use Rattle.repo_store.specs.Faults.{IsDamage};
+ghost use Rattle.store_faults.specs.Faults.{IsDamage};
 ghost use Rattle.repo_store.specs.FromRows.{AreMoved, AreUsesFor, HaveTicks, tick_of};
 ghost use Rattle.repo_store.specs.Index.{key_of};
 ghost use Rattle.repo_store.specs.ListedAnswers.{IsNextTick};

@@ -4,7 +4,7 @@ ghost use Rattle.std.specs.Prelude.{◌≡◌, ℕ, List, map, IfOk, IfErr};
 ghost use Rattle.sha2.specs.Sha256.{sha256};
 ghost use Rattle.answer_records.specs.Reading.{IsWordsRecord};
 ghost use Rattle.repo_store.specs.Complete.{IsAmong};
-ghost use Rattle.repo_store.specs.Faults.{IsDamage};
+ghost use Rattle.store_faults.specs.Faults.{IsDamage};
 ghost use Rattle.repo_store.specs.RowRules.{HasKept};
 ghost use Rattle.repo_store.specs.Rows.{blob_row};
 

@@ -5,17 +5,17 @@ ghost use Rattle.std.specs.Prelude.{◌≡◌, ◌++◌, ◌∷◌, [], map, tak
 ghost use Rattle.hook_base.specs.Trees.{entry_of};
 ghost use Rattle.repo_store.specs.declared.staging_edit.StagingEdit.TheVariants.{Add, Remove};
 ghost use Rattle.repo_store.specs.Edits.{AreEditable, IsAddFault, IsEditFault, IsEditable, IsRemoveFault, IsStageable, IsStagingRefusal, IsTakeable, all_edited, edited, mode_to_stage};
-ghost use Rattle.repo_store.specs.Limits.{path_bytes};
+ghost use Rattle.store_faults.specs.Limits.{path_bytes};
 ghost use Rattle.repo_store.specs.Lists.{file_of, fix_of};
 ghost use Rattle.repo_store.specs.SharedEdits.{IsBefore, IsLonger, edit_of, made_edit, made_edits};
 ghost use Rattle.repo_store.specs.Sound.{IsSound};
 
 use super::Lists;
-use crate::limits::MOST_CONTENT_BYTES;
 use crate::shared::{ListedFile, SharedFix};
 use crate::shared_edit::SharedEdit;
 use crate::{StagingEdit, StagingFault, StagingRefusal, StoreFault};
 use hook_base::{Mode, OutOfMemory, RepoPath};
+use store_faults::MOST_CONTENT_BYTES;
 
 /// What is put back where an edit is refused: the staged files with the bytes of their paths together, the fixes, and how many
 /// contents were kept.

@@ -1,7 +1,7 @@
 use Rattle.std.proofs.Common.{◌∙◌, ap, refl, subst}
 use Rattle.std.proofs.lemmas.Result.{err_from_is_err_and}
 use Rattle.hook_base.specs.Trees.{changes_between}
-use Rattle.result_book.specs.StoreBooks.{remembered_by}
+use Rattle.repo_store.specs.StoreBooks.{remembered_by}
 use Rattle.hook_run.specs.Moments.{moment}
 use Rattle.repo_store.specs.Kept.{Kept}
 use Rattle.repo_store.specs.Repository.{Repository, with_new_commit}

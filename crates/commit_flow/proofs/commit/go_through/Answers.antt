@@ -1,5 +1,5 @@
-use Rattle.result_book.specs.RestLemmas.{rests_itself}
-use Rattle.result_book.specs.StoreBooks.{MayRemember, remembered_by}
+use Rattle.repo_store.specs.RestLemmas.{rests_itself}
+use Rattle.repo_store.specs.StoreBooks.{MayRemember, remembered_by}
 use Rattle.commit_flow.proofs.LeftLemmas.{left_same}
 use Rattle.commit_flow.proofs.commit.go_through.Goals as goal
 

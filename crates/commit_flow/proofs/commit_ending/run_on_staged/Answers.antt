@@ -1,11 +1,11 @@
 use Rattle.std.proofs.Common.{[]}
 use Rattle.std.proofs.lemmas.Result.{err_from_is_err_and}
 use Rattle.hook_config.specs.declared.stage.Stage.TheVariants.{PostCommit}
-use Rattle.result_book.specs.StoreBooks.{MayRemember, RefusesAnswers, remembered_by}
+use Rattle.repo_store.specs.StoreBooks.{MayRemember, RefusesAnswers, remembered_by}
 use Rattle.hook_run.specs.Moments.{moment}
 use Rattle.commit_flow.specs.CommitStages.{ask_in}
 use Rattle.commit_flow.proofs.StagesLemmas.{stopped_for_memory}
-use Rattle.result_book.specs.RestLemmas.{rests_itself}
+use Rattle.repo_store.specs.RestLemmas.{rests_itself}
 use Rattle.commit_flow.proofs.LeftLemmas.{left_same}
 use Rattle.commit_flow.proofs.commit_ending.run_on_staged.Goals as goal
 

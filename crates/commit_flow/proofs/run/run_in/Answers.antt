@@ -1,9 +1,9 @@
 use Rattle.std.proofs.Common.{◌∙◌, List, ap, refl, subst}
 use Rattle.std.proofs.lemmas.Result.{err_from_is_err_and}
 use Rattle.hook_base.specs.declared.change.Change.{Change}
-use Rattle.result_book.specs.StoreBooks.{remembered_by}
+use Rattle.repo_store.specs.StoreBooks.{remembered_by}
 use Rattle.hook_run.specs.Moments.{moment}
-use Rattle.repo_store.specs.Faults.{IsRefusal}
+use Rattle.store_faults.specs.Faults.{IsRefusal}
 use Rattle.repo_store.specs.Kept.{FixCollides, HasLarge, Kept, setting}
 use Rattle.repo_store.specs.Repository.{Repository, staged_changes}
 use Rattle.commit_flow.specs.Refusals.{of_store}

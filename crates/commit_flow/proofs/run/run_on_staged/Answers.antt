@@ -1,9 +1,9 @@
 use Rattle.std.proofs.Common.{refl}
 use Rattle.std.proofs.lemmas.Result.{err_from_is_err_and}
-use Rattle.result_book.specs.StoreBooks.{MayRemember, remembered_by}
+use Rattle.repo_store.specs.StoreBooks.{MayRemember, remembered_by}
 use Rattle.hook_run.specs.Moments.{moment}
 use Rattle.commit_flow.proofs.RunLemmas.{run_refused_if, staged_if, unready}
-use Rattle.result_book.specs.RestLemmas.{rests_itself}
+use Rattle.repo_store.specs.RestLemmas.{rests_itself}
 use Rattle.commit_flow.proofs.LeftLemmas.{left_same}
 use Rattle.commit_flow.proofs.run.run_on_staged.Goals as goal
 

@@ -4,7 +4,7 @@ use Rattle.std.proofs.lemmas.List.{map-append, take_all, take_more}
 use Rattle.std.proofs.lemmas.Option.{get_or_from_slice_get}
 use Rattle.std.proofs.lemmas.Result.{err_from_is_err_and}
 use Rattle.hook_base.specs.declared.file.File.{File}
-use Rattle.repo_store.specs.declared.fault.StoreFault.TheVariants.{OutOfMemory}
+use Rattle.store_faults.specs.declared.fault.StoreFault.TheVariants.{OutOfMemory}
 use Rattle.repo_store.specs.KeptContents.{AreAllKept, IsStopped}
 use Rattle.repo_store.specs.Lists.{file_of}
 use Rattle.repo_store.proofs.ManyLemmas.{files_flat, kept_more, stopped_at, stopped_there}

@@ -6,7 +6,7 @@ use Rattle.answer_records.specs.Reading.{IsChangesRecord, IsSeenRecord, IsWordsR
 use Rattle.answer_records.specs.Records.{changed_of_changes, changes_record, seen_of_files, seen_record, words_record}
 use Rattle.repo_store.specs.AnswerRefs.{copied_answer}
 use Rattle.repo_store.specs.KeptContents.{AreAllKept, IsStopped}
-use Rattle.repo_store.specs.Limits.{most_status}
+use Rattle.store_faults.specs.Limits.{most_status}
 use Rattle.repo_store.specs.Lists.{file_of, fix_of}
 use Rattle.repo_store.specs.SharedAnswers.{answer_of}
 use Rattle.repo_store.specs.WrittenAnswers.{contents_in_changes, contents_in_files, records_of}

@@ -7,7 +7,7 @@ use Rattle.store_tables.specs.Uses.{HoldsRows}
 use Rattle.store_tables.proofs.MakeLemmas.{made_then, stopped}
 use Rattle.store_tables.proofs.UsesStepLemmas.{step_as_made}
 use Rattle.repo_store.specs.Bounded.{HoldsNext}
-use Rattle.repo_store.specs.Limits.{first_limit}
+use Rattle.store_faults.specs.Limits.{first_limit}
 use Rattle.repo_store.specs.Kept.{nothing_kept}
 use Rattle.repo_store.specs.Rows.{limit_row, version_row}
 use Rattle.repo_store.proofs.BoundedLemmas.{bare_as_made, holds_nothing, made_as}

@@ -3,7 +3,7 @@ use Rattle.hook_base.specs.declared.file.FileEntry.{FileEntry}
 use Rattle.hook_base.specs.Places.{IsAt, IsGap}
 use Rattle.hook_base.specs.TreeLemmas.{entry_of-gap}
 use Rattle.repo_store.specs.Shared.{FileParts}
-use Rattle.repo_store.specs.Limits.{path_bytes}
+use Rattle.store_faults.specs.Limits.{path_bytes}
 use Rattle.repo_store.specs.Lists.{file_of}
 use Rattle.repo_store.proofs.FewLemmas.{within_held}
 use Rattle.repo_store.proofs.PlaceLemmas.{bytes_at, held_set}

@@ -1,7 +1,7 @@
 use Rattle.std.proofs.Common.{◌≡◌, ◌+◌, map, drop}
 use Rattle.hook_base.specs.Trees.{IsRising, IsRisingChanges, apply_changes}
 use Rattle.repo_store.specs.Accepted.{HaveSameFixed}
-use Rattle.repo_store.specs.Limits.{path_bytes}
+use Rattle.store_faults.specs.Limits.{path_bytes}
 use Rattle.repo_store.specs.Lists.{file_of, fix_of}
 use Rattle.repo_store.proofs.few_fixes.settle_all.Given as goal
 

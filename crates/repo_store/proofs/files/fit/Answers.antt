@@ -5,7 +5,7 @@ use Rattle.std.proofs.lemmas.List.Sums.{sum_by_more_le}
 use lib.ListN.{get_or-map}
 use Rattle.hook_base.specs.declared.file.File.{File}
 use Rattle.repo_store.specs.Shared.{FileParts}
-use Rattle.repo_store.specs.Limits.{path_bytes}
+use Rattle.store_faults.specs.Limits.{path_bytes}
 use Rattle.repo_store.specs.Lists.{file_of}
 use Rattle.repo_store.proofs.files.fit.Goals as goal
 

@@ -1,5 +1,5 @@
 use Rattle.std.proofs.Common.{◌≡◌, ◌+◌, map, take}
-use Rattle.repo_store.specs.Limits.{path_bytes, most_tree_path_bytes}
+use Rattle.store_faults.specs.Limits.{path_bytes, most_tree_path_bytes}
 use Rattle.repo_store.specs.Lists.{file_of}
 use Rattle.repo_store.proofs.files.fit.Given as goal
 

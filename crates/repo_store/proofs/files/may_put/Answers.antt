@@ -1,7 +1,7 @@
 use Rattle.std.proofs.Common.{◌+◌, length, map, refl, arith}
 use borrow.Author.Tests.{ltb-true}
 use Rattle.std.proofs.lemmas.List.{length-map}
-use Rattle.repo_store.specs.Limits.{most_files}
+use Rattle.store_faults.specs.Limits.{most_files}
 use Rattle.repo_store.specs.Lists.{file_of}
 use Rattle.repo_store.proofs.PlaceLemmas.{fits_at, fits_gap, full_gap}
 use Rattle.repo_store.proofs.files.may_put.Goals as goal

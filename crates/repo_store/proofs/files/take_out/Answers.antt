@@ -3,7 +3,7 @@ use Rattle.std.proofs.lemmas.List.{length-map}
 use Rattle.hook_base.specs.Places.{IsAt, IsGap}
 use Rattle.hook_base.specs.TreeLemmas.{at_within, remove_file-gap}
 use Rattle.repo_store.specs.Shared.{FileParts}
-use Rattle.repo_store.specs.Limits.{path_bytes}
+use Rattle.store_faults.specs.Limits.{path_bytes}
 use Rattle.repo_store.specs.Lists.{file_of}
 use Rattle.repo_store.proofs.PlaceLemmas.{held_remove, less_bytes}
 use Rattle.repo_store.proofs.files.take_out.Goals as goal

@@ -3,7 +3,7 @@ use Rattle.store_tables.specs.declared.rows.MetaRow.{MetaRow}
 use Rattle.store_tables.specs.declared.rows.UseRow.{UseRow}
 use Rattle.repo_store.specs.Bounded.{AreVersionRows}
 use Rattle.repo_store.specs.FromRows.{AreRowsWithin, HasLimit}
-use Rattle.repo_store.specs.Faults.{IsDamage}
+use Rattle.store_faults.specs.Faults.{IsDamage}
 use Rattle.repo_store.specs.Rows.{limit_row, version_row}
 use Rattle.repo_store.proofs.VersionLemmas.{rules_at, second_refused, second_same}
 use Rattle.repo_store.proofs.from_rows.second_lists_of.Goals as goal

@@ -5,7 +5,7 @@ use Rattle.store_tables.specs.Tables.{AreKeyed, Holds, Tables, with_meta, with_n
 use Rattle.store_tables.specs.Uses.{HoldsRows}
 use Rattle.store_tables.proofs.MakeLemmas.{made_then, stopped}
 use Rattle.store_tables.proofs.UsesStepLemmas.{replaced_as_made, step_as_made}
-use Rattle.repo_store.specs.Limits.{first_limit}
+use Rattle.store_faults.specs.Limits.{first_limit}
 use Rattle.repo_store.specs.Rows.{limit_row, version_row}
 use Rattle.repo_store.specs.UsesOf.{key_rows, without_all, without_uses_of}
 use Rattle.repo_store.proofs.migrate.mark_in.Goals as goal

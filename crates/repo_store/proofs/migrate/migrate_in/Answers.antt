@@ -4,7 +4,7 @@ use Rattle.store_tables.specs.Tables.{AreKeyed, Holds, with_meta, with_new_meta}
 use Rattle.store_tables.specs.Uses.{HoldsRows}
 use Rattle.repo_store.specs.Bounded.{HoldsListed}
 use Rattle.repo_store.specs.Index.{Key, key_of}
-use Rattle.repo_store.specs.Limits.{first_limit}
+use Rattle.store_faults.specs.Limits.{first_limit}
 use Rattle.repo_store.specs.Rows.{limit_row, version_row}
 use Rattle.repo_store.specs.UsesOf.{key_rows, without_all, without_uses_of}
 use Rattle.repo_store.proofs.BoundedLemmas.{made_as}

@@ -3,7 +3,7 @@ use Rattle.sqlite.specs.Effect.{Database}
 use Rattle.store_tables.specs.Tables.{AreKeyed, Holds, with_meta, with_new_meta}
 use Rattle.repo_store.specs.Bounded.{HoldsListed}
 use Rattle.repo_store.specs.Index.{key_of}
-use Rattle.repo_store.specs.Limits.{first_limit}
+use Rattle.store_faults.specs.Limits.{first_limit}
 use Rattle.repo_store.specs.Rows.{limit_row, version_row}
 use Rattle.repo_store.specs.UsesOf.{greatest_tick, without_all}
 use Rattle.repo_store.proofs.BoundedLemmas.{made_as}

@@ -1,10 +1,10 @@
 use Rattle.std.proofs.Common.{◌≡◌, ◌+◌, ◌-◌, length, subst, sym, ◌∙◌, arith}
 use Rattle.std.proofs.lemmas.List.{length-drop}
 use Rattle.std.proofs.lemmas.Result.{err_from_is_err_and}
-use Rattle.repo_store.specs.declared.fault.StoreFault.TheVariants.{OutOfMemory}
+use Rattle.store_faults.specs.declared.fault.StoreFault.TheVariants.{OutOfMemory}
 use Rattle.repo_store.specs.Complete.{IsComplete}
 use Rattle.repo_store.specs.Kept.{Kept}
-use Rattle.repo_store.specs.Limits.{IsLimit, first_limit}
+use Rattle.store_faults.specs.Limits.{IsLimit, first_limit}
 use Rattle.repo_store.specs.RowRules.{AreStoreRows}
 use Rattle.repo_store.specs.Rows.{tables_of}
 use Rattle.repo_store.proofs.StoreUseLemmas.{key_count}

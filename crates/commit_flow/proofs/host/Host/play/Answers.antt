@@ -1,7 +1,7 @@
 use Rattle.std.proofs.Common.{◌≡◌, ◌∙◌, ◌+◌, ◌<◌, ◌∷◌, ◌++◌, [], refl, sym, ap, arith, length, rules, take}
 use Rattle.std.proofs.lemmas.List.{take_all, take_more}
 use Rattle.child_port.specs.TellingLemmas.{SameTells-trans}
-use Rattle.result_book.specs.StoreBooks.{remembered_by}
+use Rattle.repo_store.specs.StoreBooks.{remembered_by}
 use Rattle.hook_run.specs.Moments.{moment}
 use Rattle.commit_flow.specs.declared.command.Command.{Command}
 use Rattle.commit_flow.proofs.SafeLemmas.{none_safely, one_more_safely, play_of_safe, safe_stands}

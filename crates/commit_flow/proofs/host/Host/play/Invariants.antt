@@ -1,6 +1,6 @@
 use Rattle.std.specs.Prelude.{◌≡◌, take, length, vec_len, vec_capacity}
 use Rattle.child_port.specs.Telling.{SameTells}
-use Rattle.result_book.specs.StoreBooks.{remembered_by}
+use Rattle.repo_store.specs.StoreBooks.{remembered_by}
 use Rattle.hook_run.specs.Moments.{moment}
 use Rattle.commit_flow.specs.StoppedPlays.{IsSafePlay}
 use Rattle.commit_flow.proofs.host.Host.play.Given as goal

@@ -2,7 +2,7 @@ use Rattle.std.proofs.Common.{◌≡◌, map, ap, subst, ◌∙◌, arith}
 use Rattle.hook_base.specs.Trees.{apply_changes}
 use Rattle.repo_store.specs.Accepted.{IsAccepted}
 use Rattle.repo_store.specs.declared.accepted.Accepted.{Accepted}
-use Rattle.repo_store.specs.Limits.{path_bytes}
+use Rattle.store_faults.specs.Limits.{path_bytes}
 use Rattle.repo_store.specs.Lists.{file_of, fix_of}
 use Rattle.repo_store.proofs.PlaceLemmas.{fits_applied}
 use Rattle.repo_store.proofs.accepted.Accepted.put_into.Goals as goal

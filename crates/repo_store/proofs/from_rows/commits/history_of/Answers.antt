@@ -3,7 +3,7 @@ use Rattle.std.proofs.lemmas.Grind.{common_steps}
 use Rattle.std.proofs.lemmas.Result.{err_from_is_err_and}
 use Rattle.std.specs.Vec.Iter.{into_iter_items}
 use Rattle.store_tables.specs.Rowids.{IsRising as IsRisingNumbers}
-use Rattle.repo_store.specs.Limits.{most_commits}
+use Rattle.store_faults.specs.Limits.{most_commits}
 use Rattle.repo_store.specs.RowRules.{number_in}
 use Rattle.repo_store.proofs.FromRowsLemmas.{AreNumbered, bare_more, commits_obey, history_broken, history_more, numbered_more}
 use Rattle.repo_store.proofs.from_rows.commits.history_of.Goals as goal

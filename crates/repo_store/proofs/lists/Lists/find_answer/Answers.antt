@@ -5,7 +5,7 @@ use Rattle.std.specs.Option.{option_map}
 use Rattle.answer_records.specs.Records.{words_record}
 use Rattle.repo_store.specs.AnswerRefs.{stored_answer}
 use Rattle.repo_store.specs.Answers.{KeptAnswer}
-use Rattle.repo_store.specs.Faults.{IsRefusal}
+use Rattle.store_faults.specs.Faults.{IsRefusal}
 use Rattle.repo_store.specs.Index.{Key, key_of}
 use Rattle.repo_store.specs.Kept.{Mirror}
 use Rattle.repo_store.specs.KeptContents.{AreKnownFiles, ArePlacedFiles, IsKnownRecord, IsPlacedRecord}

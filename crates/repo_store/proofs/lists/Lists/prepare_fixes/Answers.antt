@@ -1,7 +1,7 @@
 use Rattle.std.proofs.Common.{◌≤◌, List, length, sym, subst}
 use Rattle.hook_base.specs.declared.change.Change.{Change}
 use Rattle.hook_base.specs.Trees.{IsRisingChanges}
-use Rattle.repo_store.specs.Limits.{most_files}
+use Rattle.store_faults.specs.Limits.{most_files}
 use Rattle.repo_store.proofs.SoundLemmas.{fixes_fit, fixes_rise}
 use Rattle.repo_store.proofs.lists.Lists.prepare_fixes.Goals as goal
 

@@ -4,7 +4,7 @@ use Rattle.std.proofs.lemmas.Bool.{and_parts}
 use Rattle.hook_base.specs.declared.file.FileEntry.{FileEntry}
 use Rattle.hook_base.specs.Trees.{put_file}
 use Rattle.repo_store.specs.Kept.{Mirror, Kept}
-use Rattle.repo_store.specs.Limits.{Fits, path_bytes}
+use Rattle.store_faults.specs.Limits.{Fits, path_bytes}
 use Rattle.repo_store.specs.Lists.{repository_of}
 use Rattle.repo_store.specs.Repository.{with_staged}
 use Rattle.repo_store.specs.Sound.{IsSound}

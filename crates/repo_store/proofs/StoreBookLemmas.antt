@@ -12,7 +12,7 @@ use Rattle.sqlite_trees.specs.declared.store.Store.{Ghosts}
 use Rattle.sqlite.specs.Held.{state}
 use Rattle.sqlite.specs.State.{HasCleanDisk}
 use Rattle.sqlite.proofs.StateLemmas.{survives_weaker}
-use Rattle.repo_store.specs.declared.fault.StoreFault.{StoreFault}
+use Rattle.store_faults.specs.declared.fault.StoreFault.{StoreFault}
 use Rattle.repo_store.specs.declared.stored_answer.StoredAnswer.{StoredAnswer}
 use Rattle.repo_store.specs.AllOrNothing.{IsAllOrNothing}
 use Rattle.repo_store.specs.AnswerRefs.{stored_answer}
@@ -31,9 +31,9 @@ use Rattle.repo_store.proofs.AlikeLemmas.{left_alike}
 use Rattle.result_book.specs.Calls.{AfterFind, AfterForget, AfterPut, brought, with_row}
 use Rattle.result_book.specs.Contents.{Contents, Finds, IsBook, count_of, with_rows}
 use Rattle.result_book.specs.OrderLemmas.{after_found, after_putting}
-use Rattle.result_book.specs.RestLemmas.{rests_itself, rests_on}
-use Rattle.result_book.specs.StoreBooks.{IsAtRest, LeavesRepository, MayLeave, MayRemember, answer_in, given_answer, remembered_by, row_of}
-use Rattle.result_book.proofs.StoreRowLemmas.{distinct_rows, has_from, lacks_from, rows_put, rows_used}
+use Rattle.repo_store.specs.RestLemmas.{rests_itself, rests_on}
+use Rattle.repo_store.specs.StoreBooks.{IsAtRest, LeavesRepository, MayLeave, MayRemember, answer_in, given_answer, remembered_by, row_of}
+use Rattle.repo_store.proofs.StoreRowLemmas.{distinct_rows, has_from, lacks_from, rows_put, rows_used}
 
 -- ---- what is found
 

@@ -2,8 +2,8 @@ use Rattle.std.proofs.Common.{subst, sym}
 use Rattle.child_port.specs.declared.answer.Answer.{Answer}
 use Rattle.repo_store.specs.AnswerRefs.{copied_answer}
 use Rattle.repo_store.specs.SoundAnswers.{KeepToSeen}
-use Rattle.result_book.proofs.StoreBookLemmas.{after_put, keeps_from, left_put, rest_put}
-use Rattle.result_book.proofs.store_book.StoreAnyBook.put.Goals as goal
+use Rattle.repo_store.proofs.StoreBookLemmas.{after_put, keeps_from, left_put, rest_put}
+use Rattle.repo_store.proofs.store_book.StoreAnyBook.put.Goals as goal
 
 pub answer_put-requires : goal.answer_put-requires
 answer_put-requires g c = subst (λ (answer : Answer). KeepToSeen answer.changes c.args.seen.now) (sym c.handed.ensures) (keeps_from c.args.seen.now c.args.answer.now c.requires.keeps_to_seen)

@@ -10,7 +10,7 @@ use Rattle.result_book.specs.declared.book_row.BookRow.{BookRow}
 use Rattle.result_book.specs.Calls.{brought_rows, new_row}
 use Rattle.result_book.specs.Contents.{HaveDistinctKeys, HaveRow, LackRow, other_rows, row_for}
 use Rattle.result_book.specs.OrderLemmas.{all_others}
-use Rattle.result_book.specs.StoreBooks.{given_answer, row_of}
+use Rattle.repo_store.specs.StoreBooks.{given_answer, row_of}
 
 key_of : (words : List (List ℕ)) (seen : List File) (kept : KeptAnswer) → is_for words seen kept ≡ true → (kept.words ≡ words) × (kept.seen ≡ seen)
 key_of words seen kept is = (is_for_decides words seen kept).0 is

@@ -1,6 +1,6 @@
-use Rattle.result_book.proofs.StoreBookLemmas.{within_rows}
-use Rattle.result_book.proofs.StoreRowLemmas.{distinct_rows}
-use Rattle.result_book.proofs.store_book.StoreAnyBook.len.Goals as goal
+use Rattle.repo_store.proofs.StoreBookLemmas.{within_rows}
+use Rattle.repo_store.proofs.StoreRowLemmas.{distinct_rows}
+use Rattle.repo_store.proofs.store_book.StoreAnyBook.len.Goals as goal
 
 pub returns-clause-within : goal.returns-clause-within
 returns-clause-within g c = within_rows c.args.self.now.kept c.answers_len.ensures.few

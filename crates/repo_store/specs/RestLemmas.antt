@@ -7,7 +7,7 @@ use Rattle.sqlite.specs.Held.{state}
 use Rattle.sqlite.specs.State.{State, Survives}
 use Rattle.sqlite.proofs.StateLemmas.{survives_then}
 use Rattle.repo_store.specs.Shown.{Shown}
-use Rattle.result_book.specs.StoreBooks.{IsAtRest, LeavesRepository}
+use Rattle.repo_store.specs.StoreBooks.{IsAtRest, LeavesRepository}
 
 survives_itself : (s : State) (P : Trees → Type 0) → Survives s s P
 survives_itself s P = record { clean = omega arith; shield = λ shielded. shielded; counts = omega arith; limit = refl; closes = λ _ is_open. inl is_open; crash = λ _ trees may. inl may }

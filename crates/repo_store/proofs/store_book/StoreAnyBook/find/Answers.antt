@@ -1,7 +1,7 @@
-use Rattle.result_book.proofs.StoreBookLemmas.{after_use, finds_from, left_found, rest_found}
-use Rattle.result_book.specs.StoreBooks.{remembered_by}
+use Rattle.repo_store.proofs.StoreBookLemmas.{after_use, finds_from, left_found, rest_found}
+use Rattle.repo_store.specs.StoreBooks.{remembered_by}
 use Rattle.std.proofs.Common.{ap}
-use Rattle.result_book.proofs.store_book.StoreAnyBook.find.Goals as goal
+use Rattle.repo_store.proofs.store_book.StoreAnyBook.find.Goals as goal
 
 pub returns-in_err-found-clause-left : goal.returns-in_err-found-clause-left
 returns-in_err-found-clause-left g c =

@@ -1,12 +1,12 @@
 //! A store as a book.
 
 ghost use Rattle.std.specs.Prelude.{◌≡◌, option_map};
-ghost use Rattle.result_book.specs.StoreBooks.{answer_by, answer_in};
+ghost use Rattle.repo_store.specs.StoreBooks.{answer_by, answer_in};
 
-use crate::{Book, BookFault};
+use crate::{AnswerRef, Store, StoredAnswer};
 use child_port::Answer;
 use hook_base::{Text, Tree};
-use repo_store::{AnswerRef, Store, StoredAnswer};
+use result_book::{Book, BookFault};
 use sqlite::Alter;
 
 /// A book that is kept in the store of a repository, and outlives the process: it is the store itself, with the store's limit. Each
@@ -16,8 +16,8 @@ use sqlite::Alter;
 pub type StoreBook<S> = Store<S>;
 
 impl<S: Alter> Book for Store<S> {
-    ghost use Rattle.result_book.specs.StoreBooks.{IsAtRest, MayRemember, RefusesAnswers, remembered_by};
-    ghost use Rattle.result_book.specs.RestLemmas.{rests_itself, rests_on};
+    ghost use Rattle.repo_store.specs.StoreBooks.{IsAtRest, MayRemember, RefusesAnswers, remembered_by};
+    ghost use Rattle.repo_store.specs.RestLemmas.{rests_itself, rests_on};
 
     ghost contents = { λ shown. remembered_by shown.kept };
 

@@ -1,7 +1,7 @@
 use Rattle.std.proofs.Common.{ap}
-use Rattle.result_book.specs.StoreBooks.{remembered_by}
-use Rattle.result_book.proofs.StoreBookLemmas.{after_forgetting, left_forgotten, rest_forgotten}
-use Rattle.result_book.proofs.store_book.StoreAnyBook.forget.Goals as goal
+use Rattle.repo_store.specs.StoreBooks.{remembered_by}
+use Rattle.repo_store.proofs.StoreBookLemmas.{after_forgetting, left_forgotten, rest_forgotten}
+use Rattle.repo_store.proofs.store_book.StoreAnyBook.forget.Goals as goal
 
 pub returns-in_err-count-clause-left : goal.returns-in_err-count-clause-left
 returns-in_err-count-clause-left g c = left_forgotten g.S.Store c.args.self.now c.answers_forget.new.self c.answers_forget.result c.answers_forget.ensures.transaction

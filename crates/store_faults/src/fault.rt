@@ -36,7 +36,7 @@ pub enum StoreFault {
 
 impl StoreFault {
     ghost use Rattle.std.specs.Prelude.{◌≡◌};
-    ghost use Rattle.repo_store.specs.Faults.{name_of, number_of};
+    ghost use Rattle.store_faults.specs.Faults.{name_of, number_of};
 
     /// The number of the refusal, from 1 to 7.
     pub fn number(&self) -> u8
@@ -71,7 +71,7 @@ impl StoreFault {
 
 impl From<sqlite::Error> for StoreFault {
     ghost use Rattle.std.specs.Prelude.{◌≡◌};
-    ghost use Rattle.repo_store.specs.Faults.{fault_of};
+    ghost use Rattle.store_faults.specs.Faults.{fault_of};
 
     ghost from_gives = { λ error fault. fault ≡ fault_of error };
 
@@ -83,7 +83,7 @@ impl From<sqlite::Error> for StoreFault {
 
 impl From<OutOfMemory> for StoreFault {
     ghost use Rattle.std.specs.Prelude.{◌≡◌};
-    ghost use Rattle.repo_store.specs.declared.fault.StoreFault.TheVariants.{OutOfMemory as Wanting};
+    ghost use Rattle.store_faults.specs.declared.fault.StoreFault.TheVariants.{OutOfMemory as Wanting};
 
     ghost from_gives = { λ _ fault. fault ≡ Wanting };
 
@@ -94,7 +94,7 @@ impl From<OutOfMemory> for StoreFault {
 
 impl From<RecordFault> for StoreFault {
     ghost use Rattle.std.specs.Prelude.{◌≡◌};
-    ghost use Rattle.repo_store.specs.Faults.{record_fault};
+    ghost use Rattle.store_faults.specs.Faults.{record_fault};
 
     ghost from_gives = { λ refused fault. fault ≡ record_fault refused };
 
@@ -109,7 +109,7 @@ impl From<RecordFault> for StoreFault {
 
 impl From<AllocError> for StoreFault {
     ghost use Rattle.std.specs.Prelude.{◌≡◌};
-    ghost use Rattle.repo_store.specs.declared.fault.StoreFault.TheVariants.{OutOfMemory};
+    ghost use Rattle.store_faults.specs.declared.fault.StoreFault.TheVariants.{OutOfMemory};
 
     ghost from_gives = { λ _ fault. fault ≡ OutOfMemory };
 
@@ -120,7 +120,7 @@ impl From<AllocError> for StoreFault {
 
 impl<T: Drop> From<AllocFailed<T>> for StoreFault {
     ghost use Rattle.std.specs.Prelude.{◌≡◌};
-    ghost use Rattle.repo_store.specs.declared.fault.StoreFault.TheVariants.{OutOfMemory};
+    ghost use Rattle.store_faults.specs.declared.fault.StoreFault.TheVariants.{OutOfMemory};
 
     ghost from_gives = { λ _ fault. fault ≡ OutOfMemory };
 
@@ -130,11 +130,11 @@ impl<T: Drop> From<AllocFailed<T>> for StoreFault {
 }
 
 ghost use Rattle.std.specs.Prelude.{◌≡◌};
-ghost use Rattle.repo_store.specs.Faults.{IsRefusal};
-ghost use Rattle.repo_store.specs.Faults as spec;
+ghost use Rattle.store_faults.specs.Faults.{IsRefusal};
+ghost use Rattle.store_faults.specs.Faults as spec;
 
-// The fault that an error of the database is.
-pub(crate) fn fault_of(error: sqlite::Error) -> StoreFault
+/// The refusal that an error of the database is: want of memory is `OutOfMemory`, and every other error is `Sql`.
+pub fn fault_of(error: sqlite::Error) -> StoreFault
     ensures exact { result ≡ spec.fault_of error }
     ensures why { IsRefusal ⊥ ⊥ ⊥ result }
 {
