@@ -4,7 +4,7 @@
 Usage: tests/git/hookhost_reads.py [PROGRAM [PART]]   (default: crates/hookhost/out/hookhost, and all cases; else those with PART in their names)
 
 Tools of Debian run over the tree of hookhost_reads_tools.py: without x_reads, then with what was printed, and then as known
-tools, of which no row may lack what its tool reads, but for DIFFERENCES there. The other cases run hooks of a line of shell.
+tools, of which no row may lack what its tool reads. The other cases run hooks of a line of shell.
 """
 import os
 import shutil
@@ -16,7 +16,7 @@ import time
 
 sys.path.insert(0, os.path.abspath(f"{__file__}/../../shared"))
 from git_bridge_repository import PROGRAM, Answer, Repository, Wrong, check, configuration, environment, same, shell
-from hookhost_reads_tools import DIFFERENCES, KNOWN, TELLING, TOLD, TREE, hooks_of, known_names
+from hookhost_reads_tools import KNOWN, TELLING, TOLD, TREE, hooks_of, known_names
 from places import TOP
 
 SCRIPT = os.path.join(TOP, "git/hookhost-reads")
@@ -108,11 +108,11 @@ def known_tools_have_what_they_read_in_their_keys(desk):
     print(f"hookhost_reads: {len(hooks)} tools of the table are installed, {len(lacking)} aren't", flush=True)
     for name, lines in told.items():
         found = [line for line in lines[1:] if line.partition(": ")[0] in ("reads", "looks at", "looks for") or ", where a new" in line]
-        same(f"what the row of {name} lacks", found, [line for line, _ in DIFFERENCES.get(name, [])])
+        same(f"what the row of {name} lacks", found, [])
 
 
-def a_row_that_lacks_a_file_is_a_false_passed(desk):
-    """isort takes a module as the project's own if a library of its name lies at the top, which its row doesn't find."""
+def a_library_at_the_top_starts_isort_again(desk):
+    """isort takes a module as the project's own if a library of its name lies at the top."""
     desk.lay({"a.py": "import attr\nimport our_party\n\nprint(attr, our_party)\n"}, "id: isort, name: isort, language: system, entry: isort --check-only --quiet, files: 'a.py'")
     store = os.path.join(desk.git.folder, "..", "store")
     shutil.copytree(desk.git.folder, store, ignore=shutil.ignore_patterns(".git"))
@@ -125,8 +125,7 @@ def a_row_that_lacks_a_file_is_a_false_passed(desk):
     same("the first run", run("run-files", "--cautious", "a.py").status, 0)
     open(os.path.join(store, "our_party.abi3.so"), "w", encoding="utf-8").close()
     run("add", ".")
-    same("from the cache", run("run-files", "--cautious", "a.py").status, 0)
-    same("afresh", run("run-files", "--cautious", "--fresh", "a.py").status, 1)
+    same("with the library", run("run-files", "--cautious", "a.py").status, 1)
 
 
 # ---- what hooks read
@@ -368,7 +367,7 @@ def what_keeps_it_from_working_is_told(desk):
 
 
 CASES = [
-    tools_without_and_with_x_reads, known_tools_have_what_they_read_in_their_keys, a_row_that_lacks_a_file_is_a_false_passed,
+    tools_without_and_with_x_reads, known_tools_have_what_they_read_in_their_keys, a_library_at_the_top_starts_isort_again,
     a_hook_that_reads_what_it_is_handed, each_kind_of_look_is_told, what_is_told_is_answered_from_the_cache, an_old_pattern_is_kept, an_old_pattern_counts,
     scripts_of_the_tree_are_tried, a_file_that_is_handed_with_others_is_read_alone, files_outside_are_told, hostile_names_are_quoted, many_files_become_one_pattern,
     hooks_that_fail_or_fix_are_told, a_hook_that_is_handed_nothing_sees_all, what_is_left_at_work_is_not_waited_for, a_hook_that_calls_git_is_told,

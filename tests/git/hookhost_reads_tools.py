@@ -59,12 +59,6 @@ KNOWN = {
     "docformatter": ("docformatter --check", "main.py"), "dos2unix": ("dos2unix --quiet", "a.md"), "flawfinder": ("flawfinder --quiet", "a.c"), "gofmt": ("gofmt -l", "a.md"),
     "proselint": ("proselint", "a.md"), "rubocop": ("rubocop", "a.md"), "shfmt": ("shfmt -d", "run.sh"), "unix2dos": ("unix2dos --quiet", "a.md"), "yapf3": ("yapf3 --diff", "main.py"),
 }
-# What the rows of the table lack, and why it is left so.
-DIFFERENCES = {
-    "isort": [(f"looks for: app.{end}", "a library in the tree's top makes a module of its name the project's own, and no row finds one there")
-              for end in ("abi3.so", "cpython-311-x86_64-linux-gnu.so", "so")],
-    "mdl": [(f"looks for: {name}.so", "ruby looks up the full paths of what is built into it, and loads none of them") for name in ("enumerator", "fiber")],
-}
 
 
 def known_names():

@@ -56,9 +56,10 @@ const BACKUPS: &str = r"\.bak$";
 const PERLTIDY: &str = r"(^|/)\.|(^|/)perltidy[^/]*$|\.(bak|DEBUG|ERR|LOG|TEE|tdy)$";
 
 // What settings may name, plugins are written in and imports lead to: each file in a folder, and at the top each file whose name
-// begins with a dot or has none, or ends as one of code, settings or lists of words. So documents at the top are left out.
+// begins with a dot or has none, or ends as one of code, compiled modules, settings or lists of words. So documents at the top
+// are left out.
 const PROJECT: &str =
-    r"/|^\.|^[^.]*$|\.([cm]?[jt]sx?|json5?|jsonc|ya?ml|toml|cfg|ini|conf|properties|xml|txt|in|lock|lst|dic|dict|words|pyi?|typed|rb|ru|gemspec|rake|p[lm]|t|(ba|da|k|z)?sh|bats|inc|env|vue|svelte|css|s[ac]ss|less|html?|mod|sum|hh?|hpp|cc?|cpp)$";
+    r"/|^\.|^[^.]*$|\.([cm]?[jt]sx?|json5?|jsonc|ya?ml|toml|cfg|ini|conf|properties|xml|txt|in|lock|lst|dic|dict|words|py[di]?|so|typed|rb|ru|gemspec|rake|p[lm]|t|(ba|da|k|z)?sh|bats|inc|env|vue|svelte|css|s[ac]ss|less|html?|mod|sum|hh?|hpp|cc?|cpp)$";
 
 const PROSELINT: &str = r"(^|/)\.|(^|/)proselint[^/]*$";
 

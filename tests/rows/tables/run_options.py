@@ -8,7 +8,7 @@ NOTHING = "^$"
 DOT = r"(^|/)\."
 PYTHON = r"(^|/)\.|\.(toml|cfg|ini)$"
 TOML = r"(^|/)\.|\.toml$"
-PROJECT = r"/|^\.|^[^.]*$|\.([cm]?[jt]sx?|json5?|jsonc|ya?ml|toml|cfg|ini|conf|properties|xml|txt|in|lock|lst|dic|dict|words|pyi?|typed|rb|ru|gemspec|rake|p[lm]|t|(ba|da|k|z)?sh|bats|inc|env|vue|svelte|css|s[ac]ss|less|html?|mod|sum|hh?|hpp|cc?|cpp)$"
+PROJECT = r"/|^\.|^[^.]*$|\.([cm]?[jt]sx?|json5?|jsonc|ya?ml|toml|cfg|ini|conf|properties|xml|txt|in|lock|lst|dic|dict|words|py[di]?|so|typed|rb|ru|gemspec|rake|p[lm]|t|(ba|da|k|z)?sh|bats|inc|env|vue|svelte|css|s[ac]ss|less|html?|mod|sum|hh?|hpp|cc?|cpp)$"
 HASKELL = r"(^|/)\.|\.cabal$|(^|/)(cabal\.project|fourmolu\.ya?ml|package\.yaml)"
 
 # The tools by the pattern of what they read besides their files.
