@@ -75,54 +75,132 @@ fn check_found(
     Ok(())
 }
 
-#[test]
-fn remembers_an_answer_until_it_forgets(rt: HostRuntime) -> Result<(), Fail> {
-    let alloc = rt.alloc();
-    let mut book = ListBook::new(alloc, FIRST_LIMIT);
-    let key = ("c", "a.txt=1");
-    check_found(&rt, alloc, &mut book, key, None)?;
-    assert_eq!(rt; book.len(), 0);
-    put(&rt, alloc, &mut book, key, "first")?;
-    check_found(&rt, alloc, &mut book, key, Some("first"))?;
-    check_found(&rt, alloc, &mut book, ("c", "a.txt=2"), None)?;
-    put(&rt, alloc, &mut book, key, "second")?;
-    check_found(&rt, alloc, &mut book, key, Some("second"))?;
-    assert_eq!(rt; book.len(), 1);
-    assert_eq!(rt; book.forget()?, 1);
-    check_found(&rt, alloc, &mut book, key, None)?;
-    assert_eq!(rt; (book.len(), book.forget()?), (0, 0));
+// What is asked of a book for these words and files, and how many answers it remembers then.
+#[derive(Clone, Copy)]
+enum Step {
+    Find((&'static str, &'static str), Option<&'static str>),
+    Put((&'static str, &'static str), &'static str),
+    Len(u64),
+    // So many were forgotten.
+    Forget(u64),
+}
+
+use Step::{Find, Forget, Len, Put};
+
+fn check_step(rt: &impl Abort, alloc: Global, book: &mut ListBook, step: Step) -> Result<(), Fail> {
+    match step {
+        Find(key, output) => check_found(rt, alloc, book, key, output)?,
+        Put(key, output) => put(rt, alloc, book, key, output)?,
+        Len(count) => assert_eq!(rt; book.len(), count),
+        Forget(count) => assert_eq!(rt; book.forget()?, count),
+    }
+    Ok(())
+}
+
+fn check_steps(
+    rt: &impl Abort,
+    alloc: Global,
+    book: &mut ListBook,
+    steps: &[Step],
+) -> Result<(), Fail> {
+    for step in steps {
+        check_step(rt, alloc, book, *step)?;
+    }
     Ok(())
 }
 
 #[test]
+fn remembers_an_answer_until_it_forgets(rt: HostRuntime) -> Result<(), Fail> {
+    let key = ("c", "a.txt=1");
+    check_steps(
+        &rt,
+        rt.alloc(),
+        &mut ListBook::new(rt.alloc(), FIRST_LIMIT),
+        &[
+            Find(key, None),
+            Len(0),
+            Put(key, "first"),
+            Find(key, Some("first")),
+            Find(("c", "a.txt=2"), None),
+            Put(key, "second"),
+            Find(key, Some("second")),
+            Len(1),
+            Forget(1),
+            Find(key, None),
+            Len(0),
+            Forget(0),
+        ],
+    )
+}
+
+// Of the same words and files nothing is found yet, and then what was put. The second time another answer is put in its place.
+fn check_key(
+    rt: &impl Abort,
+    alloc: Global,
+    book: &mut ListBook,
+    key: (&'static str, &'static str),
+    before: Option<&'static str>,
+    output: &'static str,
+) -> Result<(), Fail> {
+    check_steps(rt, alloc, book, &[Find(key, before), Put(key, output)])
+}
+
+const KEYS: [(&str, &str); 10] = [
+    ("c", "a.txt=1"),
+    ("c", "a.txt=12"),
+    ("c", "*a.txt=1"),
+    ("c", "a.txt=1 b.txt=1"),
+    ("c", "a.txt=1 c.txt=1"),
+    ("d", "a.txt=1"),
+    ("c d", "a.txt=1"),
+    ("d c", "a.txt=1"),
+    ("cd", "a.txt=1"),
+    ("", "a.txt=1"),
+];
+
+#[test]
 fn tells_keys_apart(rt: HostRuntime) -> Result<(), Fail> {
-    let alloc = rt.alloc();
-    let mut book = ListBook::new(alloc, FIRST_LIMIT);
-    let keys = [
-        ("c", "a.txt=1"),
-        ("c", "a.txt=12"),
-        ("c", "*a.txt=1"),
-        ("c", "a.txt=1 b.txt=1"),
-        ("c", "a.txt=1 c.txt=1"),
-        ("d", "a.txt=1"),
-        ("c d", "a.txt=1"),
-        ("d c", "a.txt=1"),
-        ("cd", "a.txt=1"),
-        ("", "a.txt=1"),
-    ];
-    for key in keys {
-        check_found(&rt, alloc, &mut book, key, None)?;
-        put(&rt, alloc, &mut book, key, key.0)?;
+    let mut book = ListBook::new(rt.alloc(), FIRST_LIMIT);
+    for key in KEYS {
+        check_key(&rt, rt.alloc(), &mut book, key, None, key.0)?;
     }
     assert_eq!(rt; book.len(), 10);
-    for key in keys {
-        check_found(&rt, alloc, &mut book, key, Some(key.0))?;
-        put(&rt, alloc, &mut book, key, key.1)?;
+    for key in KEYS {
+        check_key(&rt, rt.alloc(), &mut book, key, Some(key.0), key.1)?;
     }
-    for key in keys {
-        check_found(&rt, alloc, &mut book, key, Some(key.1))?;
+    for key in KEYS {
+        check_found(&rt, rt.alloc(), &mut book, key, Some(key.1))?;
     }
     assert_eq!(rt; book.forget()?, 10);
+    Ok(())
+}
+
+fn play_word(rt: &impl Abort, alloc: Global, book: &mut ListBook, word: &str) -> Result<(), Fail> {
+    match word.strip_suffix("?") {
+        Some(word) => check_found(rt, alloc, book, (word, "a.txt=1"), Some(word)),
+        None => put(rt, alloc, book, (word, "a.txt=1"), word),
+    }
+}
+
+fn play_line(rt: &impl Abort, alloc: Global, book: &mut ListBook, line: &str) -> Result<(), Fail> {
+    for word in line.split_whitespace() {
+        play_word(rt, alloc, book, word)?;
+    }
+    Ok(())
+}
+
+// Each word of a line is found, or none is.
+fn check_line(
+    rt: &impl Abort,
+    alloc: Global,
+    book: &mut ListBook,
+    line: &str,
+    are_kept: bool,
+) -> Result<(), Fail> {
+    for word in line.split_whitespace() {
+        let wanted = if are_kept { Some(word) } else { None };
+        check_found(rt, alloc, book, (word, "a.txt=1"), wanted)?;
+    }
     Ok(())
 }
 
@@ -139,45 +217,56 @@ fn check_play(
     requires { IsLimit limit }
 {
     let mut book = ListBook::new(alloc, limit);
-    for word in line.split_whitespace() {
-        match word.strip_suffix("?") {
-            Some(word) => check_found(rt, alloc, &mut book, (word, "a.txt=1"), Some(word))?,
-            None => put(rt, alloc, &mut book, (word, "a.txt=1"), word)?,
-        }
-    }
-    for word in kept.split_whitespace() {
-        check_found(rt, alloc, &mut book, (word, "a.txt=1"), Some(word))?;
-    }
-    for word in gone.split_whitespace() {
-        check_found(rt, alloc, &mut book, (word, "a.txt=1"), None)?;
-    }
-    assert_eq!(rt;
-        book.len(),
-        kept.split_whitespace().count() as u64,
-        "{} of {}",
-        line,
-        limit
-    );
-    assert_eq!(rt; book.forget()?, kept.split_whitespace().count() as u64);
-    put(rt, alloc, &mut book, ("z", "a.txt=1"), "z")?;
-    check_found(rt, alloc, &mut book, ("z", "a.txt=1"), Some("z"))
+    play_line(rt, alloc, &mut book, line)?;
+    check_line(rt, alloc, &mut book, kept, true)?;
+    check_line(rt, alloc, &mut book, gone, false)?;
+    check_count(rt, alloc, &mut book, kept.split_whitespace().count() as u64)
+}
+
+// So many answers are remembered, and forgotten; one is remembered then again.
+fn check_count(
+    rt: &impl Abort,
+    alloc: Global,
+    book: &mut ListBook,
+    count: u64,
+) -> Result<(), Fail> {
+    let key = ("z", "a.txt=1");
+    check_steps(
+        rt,
+        alloc,
+        book,
+        &[
+            Len(count),
+            Forget(count),
+            Put(key, "z"),
+            Find(key, Some("z")),
+        ],
+    )
 }
 
 #[test]
 fn drops_the_least_recently_used(rt: HostRuntime) -> Result<(), Fail> {
-    let alloc = rt.alloc();
-    check_play(&rt, alloc, 1, "a", "a", "b")?;
-    check_play(&rt, alloc, 1, "a b", "b", "a")?;
-    check_play(&rt, alloc, 1, "a b b? b a", "a", "b")?;
-    check_play(&rt, alloc, 2, "a b", "a b", "c")?;
-    check_play(&rt, alloc, 2, "a b c", "b c", "a")?;
-    check_play(&rt, alloc, 2, "a b a? c", "a c", "b")?;
-    check_play(&rt, alloc, 2, "a b a c", "a c", "b")?;
-    check_play(&rt, alloc, 2, "a b b? c", "b c", "a")?;
-    check_play(&rt, alloc, 3, "a b c d", "b c d", "a")?;
-    check_play(&rt, alloc, 3, "a b c a? d", "c d a", "b")?;
-    check_play(&rt, alloc, 3, "a b c b? d", "b c d", "a")?;
-    check_play(&rt, alloc, 3, "a b c a? b? d e", "b d e", "a c")?;
-    check_play(&rt, alloc, 3, "a b c a? b? c? d", "b c d", "a")?;
-    check_play(&rt, alloc, 3, "a b b a? b c", "a b c", "d")
+    for (line, kept, gone) in [("a", "a", "b"), ("a b", "b", "a"), ("a b b? b a", "a", "b")] {
+        check_play(&rt, rt.alloc(), 1, line, kept, gone)?;
+    }
+    for (line, kept, gone) in [
+        ("a b", "a b", "c"),
+        ("a b c", "b c", "a"),
+        ("a b a? c", "a c", "b"),
+        ("a b a c", "a c", "b"),
+        ("a b b? c", "b c", "a"),
+    ] {
+        check_play(&rt, rt.alloc(), 2, line, kept, gone)?;
+    }
+    for (line, kept, gone) in [
+        ("a b c d", "b c d", "a"),
+        ("a b c a? d", "c d a", "b"),
+        ("a b c b? d", "b c d", "a"),
+        ("a b c a? b? d e", "b d e", "a c"),
+        ("a b c a? b? c? d", "b c d", "a"),
+        ("a b b a? b c", "a b c", "d"),
+    ] {
+        check_play(&rt, rt.alloc(), 3, line, kept, gone)?;
+    }
+    Ok(())
 }

@@ -34,11 +34,29 @@ fn paths_of(alloc: Global, paths: &str) -> Result<Vec<RepoPath>, Fail> {
     Ok(all)
 }
 
+// A child of these words, and of these further paths, sees the files of these paths, or all where it sees the whole tree.
+fn check_seen(
+    rt: &impl Abort,
+    alloc: Global,
+    tree: &Tree,
+    words: &str,
+    further: &str,
+    paths: &str,
+) -> Result<(), Fail> {
+    let words_read = words_of(alloc, words)?;
+    let further_read = paths_of(alloc, further)?;
+    let (words_read, further_read) = (words_read.as_slice(), further_read.as_slice());
+    let seen = seen_of(alloc, words_read, further_read, false, tree)?;
+    assert_eq!(rt; seen, tree_of(alloc, paths)?, "{words}, {further}");
+    let whole = seen_of(alloc, words_read, further_read, true, tree)?;
+    assert_eq!(rt; &whole, tree, "{words}, {further}, whole");
+    Ok(())
+}
+
 #[test]
 fn sees_the_files_that_its_words_name(rt: HostRuntime) -> Result<(), Fail> {
-    let alloc = rt.alloc();
     let all = "a.txt b.txt tools/lint.sh tools/lint.sh.txt x";
-    let tree = tree_of(alloc, all)?;
+    let tree = tree_of(rt.alloc(), all)?;
     for (words, paths) in [
         ("", ""),
         ("sh tools/lint.sh a.txt", "a.txt tools/lint.sh"),
@@ -63,20 +81,15 @@ fn sees_the_files_that_its_words_name(rt: HostRuntime) -> Result<(), Fail> {
         ),
         ("--config=a.txt B.TXT c.txt", ""),
     ] {
-        let words_read = words_of(alloc, words)?;
-        let seen = seen_of(alloc, words_read.as_slice(), &[], false, &tree)?;
-        assert_eq!(rt; seen, tree_of(alloc, paths)?, "{words}");
-        let whole = seen_of(alloc, words_read.as_slice(), &[], true, &tree)?;
-        assert_eq!(rt; whole, tree_of(alloc, all)?, "{words}, whole");
+        check_seen(&rt, rt.alloc(), &tree, words, "", paths)?;
     }
     Ok(())
 }
 
 #[test]
-fn sees_the_extra_files(rt: HostRuntime) -> Result<(), Fail> {
-    let alloc = rt.alloc();
-    let tree = tree_of(alloc, "a.txt b.txt lint.cfg tools/lint.sh")?;
-    for (words, extra, paths) in [
+fn sees_the_further_files(rt: HostRuntime) -> Result<(), Fail> {
+    let tree = tree_of(rt.alloc(), "a.txt b.txt lint.cfg tools/lint.sh")?;
+    for (words, further, paths) in [
         ("", "lint.cfg", "lint.cfg"),
         ("c a.txt", "lint.cfg", "a.txt lint.cfg"),
         ("c ./lint.cfg", "lint.cfg", "lint.cfg"),
@@ -108,24 +121,7 @@ fn sees_the_extra_files(rt: HostRuntime) -> Result<(), Fail> {
             "a.txt lint.cfg tools/lint.sh",
         ),
     ] {
-        let words_read = words_of(alloc, words)?;
-        let extra_read = paths_of(alloc, extra)?;
-        let seen = seen_of(
-            alloc,
-            words_read.as_slice(),
-            extra_read.as_slice(),
-            false,
-            &tree,
-        )?;
-        assert_eq!(rt; seen, tree_of(alloc, paths)?, "{words}, {extra}");
-        let whole = seen_of(
-            alloc,
-            words_read.as_slice(),
-            extra_read.as_slice(),
-            true,
-            &tree,
-        )?;
-        assert_eq!(rt; whole, tree, "{words}, {extra}, whole");
+        check_seen(&rt, rt.alloc(), &tree, words, further, paths)?;
     }
     Ok(())
 }
@@ -186,17 +182,21 @@ fn strays_where_it_changes_what_it_has_not_seen(rt: HostRuntime) -> Result<(), F
     Ok(())
 }
 
-// What became of a child of this word that sees the whole tree.
-fn told<C: Children>(
+// A child of this word that sees the whole tree ends so, and then so many calls and faults are counted.
+fn check_call<C: Children>(
     rt: &impl Abort,
+    alloc: Global,
     children: &mut C,
     word: &str,
     tree: &Tree,
-    alloc: Global,
-) -> Result<Outcome, Fail> {
+    wanted: (&Outcome, u64, u64),
+) -> Result<(), Fail> {
     let words = words_of(alloc, word)?;
     assert!(rt; children.calls() < u64::MAX);
-    Ok(children.run(words.as_slice(), tree, tree)?)
+    let outcome = children.run(words.as_slice(), tree, tree)?;
+    let counts = (children.calls(), children.faults());
+    assert_eq!(rt; (&outcome, counts.0, counts.1), wanted, "{word}");
+    Ok(())
 }
 
 // Children that answer `c` alone on this tree, and have told so many outcomes.
@@ -210,11 +210,37 @@ fn children_of(alloc: Global, tree: &Tree, calls: u64) -> Result<TableChildren, 
     Ok(TableChildren::with_calls(Items::from(rows), calls))
 }
 
+// Of three calls the one of this number fails so, and no other.
+fn check_kth(
+    rt: &impl Abort,
+    alloc: Global,
+    tree: &Tree,
+    done: &Outcome,
+    k: u64,
+    fault: Fault,
+) -> Result<(), Fail> {
+    let mut children = FuseChildren::new(children_of(alloc, tree, 7)?, k, fault);
+    assert_eq!(rt; (children.calls(), children.faults()), (7, 0));
+    let failed = Outcome::Failed(fault);
+    for call in 1..4 {
+        let outcome = if call == k { &failed } else { done };
+        let faults = u64::from(k != 0 && k <= call);
+        check_call(
+            rt,
+            alloc,
+            &mut children,
+            "c",
+            tree,
+            (outcome, 7 + call, faults),
+        )?;
+    }
+    Ok(())
+}
+
 #[test]
 fn fails_its_kth_call_alone(rt: HostRuntime) -> Result<(), Fail> {
-    let alloc = rt.alloc();
-    let tree = tree_of(alloc, "a.txt")?;
-    let done = Outcome::Done(answer_of(alloc, "a.txt=new")?);
+    let tree = tree_of(rt.alloc(), "a.txt")?;
+    let done = Outcome::Done(answer_of(rt.alloc(), "a.txt=new")?);
     for fault in [
         Fault::NotStarted,
         Fault::WaitFailed,
@@ -223,16 +249,7 @@ fn fails_its_kth_call_alone(rt: HostRuntime) -> Result<(), Fail> {
         Fault::ScratchFailed,
     ] {
         for k in 0..5 {
-            let mut children = FuseChildren::new(children_of(alloc, &tree, 7)?, k, fault);
-            assert_eq!(rt; (children.calls(), children.faults()), (7, 0));
-            for call in 1..4 {
-                let outcome = told(&rt, &mut children, "c", &tree, alloc)?;
-                let failed = Outcome::Failed(fault);
-                let wanted = if call == k { &failed } else { &done };
-                assert_eq!(rt; &outcome, wanted, "call {call}, k {k}");
-                let faults = u64::from(k != 0 && k <= call);
-                assert_eq!(rt; (children.calls(), children.faults()), (7 + call, faults));
-            }
+            check_kth(&rt, rt.alloc(), &tree, &done, k, fault)?;
         }
     }
     Ok(())
@@ -240,18 +257,17 @@ fn fails_its_kth_call_alone(rt: HostRuntime) -> Result<(), Fail> {
 
 #[test]
 fn keeps_the_failed_call_from_the_inner_children(rt: HostRuntime) -> Result<(), Fail> {
-    let alloc = rt.alloc();
-    let tree = tree_of(alloc, "a.txt")?;
-    let inner = FuseChildren::new(children_of(alloc, &tree, 0)?, 2, Fault::WaitFailed);
+    let tree = tree_of(rt.alloc(), "a.txt")?;
+    let done = Outcome::Done(answer_of(rt.alloc(), "a.txt=new")?);
+    let inner = FuseChildren::new(children_of(rt.alloc(), &tree, 0)?, 2, Fault::WaitFailed);
     let mut children = FuseChildren::new(inner, 1, Fault::Signal);
     for (word, wanted) in [
-        ("c", Outcome::Failed(Fault::Signal)),
-        ("c", Outcome::Done(answer_of(alloc, "a.txt=new")?)),
-        ("c", Outcome::Failed(Fault::WaitFailed)),
-        ("d", Outcome::Failed(Fault::NotStarted)),
+        ("c", (&Outcome::Failed(Fault::Signal), 1, 1)),
+        ("c", (&done, 2, 1)),
+        ("c", (&Outcome::Failed(Fault::WaitFailed), 3, 2)),
+        ("d", (&Outcome::Failed(Fault::NotStarted), 4, 3)),
     ] {
-        assert_eq!(rt; told(&rt, &mut children, word, &tree, alloc)?, wanted);
+        check_call(&rt, rt.alloc(), &mut children, word, &tree, wanted)?;
     }
-    assert_eq!(rt; (children.calls(), children.faults()), (4, 3));
     Ok(())
 }
