@@ -50,15 +50,27 @@ fn names_of(alloc: Global, text: &str) -> Result<Vec<Text>, Stop> {
 pub(crate) fn tree_of(alloc: Global, files: &[Vec<u8>]) -> Result<Tree, Stop> {
     let mut tree = Tree::new(alloc);
     for file in files {
-        let (line, contents) = text_of(file.as_slice())?
-            .split_once('\n')
-            .ok_or(Stop::BadLine)?;
-        let (mode, path) = line.split_once(' ').ok_or(Stop::BadLine)?;
-        let bytes = Content::copy_of(alloc, contents.as_bytes())?;
-        let mode = mode_of(mode)?;
-        tree.put(RepoPath::read(alloc, path)?, FileEntry { mode, bytes })?;
+        put_text(alloc, &mut tree, file.as_slice())?;
     }
     Ok(tree)
+}
+
+fn put_text(alloc: Global, tree: &mut Tree, file: &[u8]) -> Result<(), Stop> {
+    let (line, contents) = text_of(file)?.split_once('\n').ok_or(Stop::BadLine)?;
+    let (mode, path) = line.split_once(' ').ok_or(Stop::BadLine)?;
+    put_file(alloc, tree, mode_of(mode)?, path, contents)
+}
+
+fn put_file(
+    alloc: Global,
+    tree: &mut Tree,
+    mode: Mode,
+    path: &str,
+    contents: &str,
+) -> Result<(), Stop> {
+    let bytes = Content::copy_of(alloc, contents.as_bytes())?;
+    tree.put(RepoPath::read(alloc, path)?, FileEntry { mode, bytes })?;
+    Ok(())
 }
 
 fn mode_of(word: &str) -> Result<Mode, Stop> {

@@ -13,7 +13,7 @@
 //! of the table, so that the last one that is held was used last.
 
 ghost use Rattle.std.specs.Prelude.{IfOk};
-ghost use Rattle.repo_store.specs.Limits.{IsLimit};
+ghost use Rattle.store_faults.specs.Limits.{IsLimit};
 
 use crate::book_told::{with_ran, with_remembered};
 use crate::child_runs::table_of;

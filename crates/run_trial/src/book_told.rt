@@ -6,6 +6,7 @@ use child_port::TableRow;
 use hook_base::Tree;
 use hook_run::{RunOut, RunRefusal};
 use result_book::{Book, BookFault};
+use std::alloc::Global;
 use trial_rows::{Answer, Stop, row_of, text_of, verdict_of};
 
 pub(crate) fn with_ran(
@@ -48,11 +49,15 @@ pub(crate) fn with_remembered(answer: Answer, play: &mut BookPlay) -> Result<Ans
     play.book.fuse(0, BookFault::OutOfMemory);
     let mut answer = answer.shown(play.book.len()).text(" remembered:");
     for text in play.rows.as_slice() {
-        let row = row_of(answer.alloc(), text_of(text.as_slice())?)?;
-        let word = word_of(&mut play.book, &row)?;
+        let word = word_of_text(answer.alloc(), &mut play.book, text.as_slice())?;
         answer = answer.text(word);
     }
     Ok(answer.text("\n"))
+}
+
+fn word_of_text(alloc: Global, book: &mut impl Book, text: &[u8]) -> Result<&'static str, Stop> {
+    let row = row_of(alloc, text_of(text)?)?;
+    word_of(book, &row)
 }
 
 fn word_of(book: &mut impl Book, row: &TableRow) -> Result<&'static str, Stop> {

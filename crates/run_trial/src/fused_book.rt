@@ -16,7 +16,7 @@ pub(crate) struct FusedBook {
 
 impl FusedBook {
     ghost use Rattle.std.specs.Prelude.{◌≡◌};
-    ghost use Rattle.repo_store.specs.Limits.{IsLimit};
+    ghost use Rattle.store_faults.specs.Limits.{IsLimit};
 
     /// A book of a limit that remembers nothing, none of whose calls is refused.
     pub(crate) fn new(alloc: Global, limit: u32) -> FusedBook

@@ -2,7 +2,7 @@
 //! started, how many answers are remembered in the end, and the report of the last run.
 
 use crate::quiet_children::{QuietChildren, quiet_answer};
-use child_port::{Children, is_stray};
+use child_port::{Answer as ChildAnswer, Children, is_stray};
 use hook_base::{Bytes, Content, FileEntry, Items, Mode, RepoPath, Text, Tree};
 use hook_config::{Config, Stage, read_config};
 use hook_run::{HooksRun, Reuse, RunAsk, RunOut, run_hooks};
@@ -67,11 +67,12 @@ pub(crate) fn runs_of_each(alloc: Global, arguments: &[Vec<u8>]) -> Result<Answe
     let [configuration, contents, count] = arguments else {
         return Err(Stop::BadLine);
     };
+    let (contents, count) = (
+        number_of(contents.as_slice())?,
+        number_of(count.as_slice())?,
+    );
     let mut times = Times::new(alloc, configuration.as_slice())?;
-    let contents = number_of(contents.as_slice())?;
-    for _ in 0..number_of(count.as_slice())? {
-        times.run_each(contents)?;
-    }
+    times.run_all(contents, count)?;
     Ok(times.told())
 }
 
@@ -97,6 +98,13 @@ impl Times {
             }),
             Err(_) => Err(Stop::BadLine),
         }
+    }
+
+    fn run_all(&mut self, contents: u32, count: u32) -> Result<(), Stop> {
+        for _ in 0..count {
+            self.run_each(contents)?;
+        }
+        Ok(())
     }
 
     fn run(&mut self, tree: &Tree) -> Result<(), Stop> {
@@ -146,12 +154,16 @@ fn ask_of(alloc: Global, tree: &Tree) -> Result<RunAsk, Stop> {
 fn tree_of(alloc: Global, files: u32, size: u32) -> Result<Tree, Stop> {
     let mut tree = Tree::new(alloc);
     for number in 0..files {
-        let path = format!(in alloc; "f/{number:05}.txt")?;
-        let bytes = vec![in alloc; b'x'; size as usize]?;
-        let bytes = Content::new(alloc, Bytes::from(bytes))?;
-        put_file(alloc, &mut tree, path.as_str(), bytes)?;
+        put_sized(alloc, &mut tree, number, size)?;
     }
     Ok(tree)
+}
+
+fn put_sized(alloc: Global, tree: &mut Tree, number: u32, size: u32) -> Result<(), Stop> {
+    let path = format!(in alloc; "f/{number:05}.txt")?;
+    let bytes = vec![in alloc; b'x'; size as usize]?;
+    let bytes = Content::new(alloc, Bytes::from(bytes))?;
+    put_file(alloc, tree, path.as_str(), bytes)
 }
 
 // The file `a.txt`, which holds a number.
@@ -171,15 +183,31 @@ fn put_file(alloc: Global, tree: &mut Tree, path: &str, bytes: Content) -> Resul
 
 // Puts an answer for each of so many contents of `a.txt`.
 fn fill(alloc: Global, book: &mut ListBook, rows: u32) -> Result<(), Stop> {
+    let words = filled_words(alloc)?;
+    let answer = quiet_answer(alloc);
+    for number in 0..rows {
+        put_number(alloc, book, words.as_slice(), &answer, number)?;
+    }
+    Ok(())
+}
+
+fn filled_words(alloc: Global) -> Result<Vec<Text>, Stop> {
     let mut words = Vec::new(alloc);
     words.push(Text::copy_of(alloc, "c")?)?;
     words.push(Text::copy_of(alloc, "a.txt")?)?;
-    let answer = quiet_answer(alloc);
-    for number in 0..rows {
-        let seen = numbered_tree(alloc, number)?;
-        if is_stray(&answer, &seen) || book.put(words.as_slice(), &seen, &answer).is_err() {
-            return Err(Stop::OutOfMemory);
-        }
+    Ok(words)
+}
+
+fn put_number(
+    alloc: Global,
+    book: &mut ListBook,
+    words: &[Text],
+    answer: &ChildAnswer,
+    number: u32,
+) -> Result<(), Stop> {
+    let seen = numbered_tree(alloc, number)?;
+    if is_stray(answer, &seen) || book.put(words, &seen, answer).is_err() {
+        return Err(Stop::OutOfMemory);
     }
     Ok(())
 }
