@@ -76,6 +76,8 @@ REPOSITORY_HELP = {
 REPOSITORY_REFUSALS = ["StoreFault", "HostRefusal"]
 # The columns of a line of help, at most.
 WIDEST = 84
+# Tags that no table gives.
+TAGS_OF_ALL = ["file", "executable", "non-executable", "text", "binary"]
 # The tables of tags by the head of their first column, and the constants of the code.
 TAG_TABLES = {"name": "NAMES", "extension": "EXTENSIONS", "interpreter": "INTERPRETERS"}
 
@@ -300,6 +302,14 @@ def wrong_tags(reference):
             yield f"the row of {row[0]!r} in {constant} differs"
 
 
+def wrong_tag_words():
+    """How the tags that explain knows differ from those that the tables give and those that each file has."""
+    body = re.search(r"fn tag_words\(\).*?\n}\n", read("crates", "configuration_explain", "src", "known_words.rt"), re.DOTALL)[0]
+    known, given = re.findall(r'"([^"]+)"', body), {tag for constant in TAG_TABLES.values() for _, tags in rows_of_code(constant) for tag in tags}
+    for tag in {*known} ^ {*given, *TAGS_OF_ALL}:
+        yield f"the tag {tag} isn't in both of tables.rt and tag_words"
+
+
 def defined(text):
     """The words that a file of specs/ defines, and the types of the code that it uses."""
     # What stands in a block is read as if it stood in none.
@@ -385,6 +395,7 @@ def main():
         *wrong_configuration(reference), *wrong_tags(reference),
     ]]
     wrong += [f"docs/DEFINITIONS.md: {each}" for each in wrong_definitions(definitions)]
+    wrong += [f"crates/configuration_explain: {each}" for each in wrong_tag_words()]
     wrong += wrong_version()
     for each in wrong:
         print(f"FAILED {each}")

@@ -25,6 +25,7 @@ import host_answers
 import host_at_once
 import host_calls
 import host_checkout
+import host_explain
 import host_files
 import host_folder
 import host_kills
@@ -38,7 +39,7 @@ import host_version_1
 from host_program import Wrong
 
 KILLS = [host_kills, host_put_kills, host_limit, host_version_1]
-OTHERS = [host_names, host_unusable, host_folder, host_checkout, host_calls, host_at_once, host_log, host_files, host_runs, host_answers]
+OTHERS = [host_names, host_unusable, host_folder, host_checkout, host_calls, host_at_once, host_log, host_files, host_runs, host_explain, host_answers]
 TOPICS = {"": OTHERS + KILLS, "--no-kills": OTHERS, "--kills": KILLS}
 
 

@@ -3,7 +3,7 @@
 //! The contracts cite `specs/CommandLine.antt`.
 
 ghost use Rattle.std.specs.Prelude.{◌≡◌, ◌∷◌, IfOk, [], codes, false};
-ghost use Rattle.clap.specs.Words.{app_of, new_rule, rule_of};
+ghost use Rattle.clap.specs.Words.{app_of, new_app, new_rule, rule_of};
 ghost use Rattle.clap.specs.declared.builder.Command.TheViews.{out-Command as fields_of};
 ghost use Rattle.command_line.specs.CommandLine.{accept_app, add_app, cat_app, check_app, chmod_rule, commit_app, commit_rule, explain_app, fixes_app, flag_rule, forget_app, hookhost_app, hookhost_base, init_app, limit_rule, log_app, memory_app, message_rule, only_rule, optional_words_rule, paths_from_rule, remove_app, run_app, run_files_app, run_files_with_options_app, run_with_options_app, show_app, stage_rule, status_app, try_app, with_choice, with_commands, word_rule, words_rule};
 
@@ -153,51 +153,63 @@ fn init_command<'a>(alloc: Global, help: HelpLength) -> Command<'a>
     ensures app { app_of result ≡ init_app }
     ensures local { (fields_of result).has_globals ≡ false }
 {
-    Command::new(alloc, "init")
-        .about("Makes a new repository in the current folder")
-        .override_usage("hookhost init")
-        .after_help(help.of(INIT_HELP))
+    command(
+        alloc,
+        "init",
+        "Makes a new repository in the current folder",
+        "hookhost init",
+        help.of(INIT_HELP),
+    )
 }
 
 fn try_command<'a>(alloc: Global, help: HelpLength) -> Result<Command<'a>, AllocError>
     ensures app { IfOk result (λ command. app_of command ≡ try_app) }
     ensures local { IfOk result (λ command. (fields_of command).has_globals ≡ false) }
 {
-    Command::new(alloc, "try")
-        .about("Runs the hooks of a configuration on files, and prints the report")
-        .override_usage("hookhost try <CONFIG> <PATH>...")
-        .after_help(help.of(TRY_HELP))
-        .arg(word(
-            alloc,
-            "CONFIG",
-            "The configuration, as a .pre-commit-config.yaml",
-        ))?
-        .arg(words(alloc, "PATH", "The files to run the hooks on"))
+    command(
+        alloc,
+        "try",
+        "Runs the hooks of a configuration on files, and prints the report",
+        "hookhost try <CONFIG> <PATH>...",
+        help.of(TRY_HELP),
+    )
+    .arg(word(
+        alloc,
+        "CONFIG",
+        "The configuration, as a .pre-commit-config.yaml",
+    ))?
+    .arg(words(alloc, "PATH", "The files to run the hooks on"))
 }
 
 fn check_command<'a>(alloc: Global, help: HelpLength) -> Command<'a>
     ensures app { app_of result ≡ check_app }
     ensures local { (fields_of result).has_globals ≡ false }
 {
-    Command::new(alloc, "check")
-        .about("Prints how many hooks .pre-commit-config.yaml has, and its ignored keys")
-        .override_usage("hookhost check")
-        .after_help(help.of(CHECK_HELP))
+    command(
+        alloc,
+        "check",
+        "Prints how many hooks .pre-commit-config.yaml has, and its ignored keys",
+        "hookhost check",
+        help.of(CHECK_HELP),
+    )
 }
 
 fn explain_command<'a>(alloc: Global, help: HelpLength) -> Result<Command<'a>, AllocError>
     ensures app { IfOk result (λ command. app_of command ≡ explain_app) }
     ensures local { IfOk result (λ command. (fields_of command).has_globals ≡ false) }
 {
-    Command::new(alloc, "explain")
-        .about("Says why a configuration is refused, or what its hooks will do")
-        .override_usage("hookhost explain [FILE]")
-        .after_help(help.of(EXPLAIN_HELP))
-        .arg(optional_word(
-            alloc,
-            "FILE",
-            "The configuration; without it .pre-commit-config.yaml",
-        ))
+    command(
+        alloc,
+        "explain",
+        "Says why a configuration is refused, or what its hooks will do",
+        "hookhost explain [FILE]",
+        help.of(EXPLAIN_HELP),
+    )
+    .arg(optional_word(
+        alloc,
+        "FILE",
+        "The configuration, - for standard input; else .pre-commit-config.yaml",
+    ))
 }
 
 /// `add [--chmod=MODE] [--paths-from=FILE] [PATH..]`.
@@ -205,17 +217,20 @@ pub(crate) fn add_command<'a>(alloc: Global, help: HelpLength) -> Result<Command
     ensures app { IfOk result (λ command. app_of command ≡ add_app) }
     ensures local { IfOk result (λ command. (fields_of command).has_globals ≡ false) }
 {
-    Command::new(alloc, "add")
-        .about("Stages files of the current folder")
-        .override_usage("hookhost add [--chmod=+x] (<PATH>... | --paths-from=<FILE>)")
-        .after_help(help.of(ADD_HELP))
-        .arg(chmod(alloc))?
-        .arg(paths_from(alloc))?
-        .arg(optional_words(
-            alloc,
-            "PATH",
-            "The files, each of which is staged at this path, and folders of files",
-        ))
+    command(
+        alloc,
+        "add",
+        "Stages files of the current folder",
+        "hookhost add [--chmod=+x] (<PATH>... | --paths-from=<FILE>)",
+        help.of(ADD_HELP),
+    )
+    .arg(chmod(alloc))?
+    .arg(paths_from(alloc))?
+    .arg(optional_words(
+        alloc,
+        "PATH",
+        "The files, each of which is staged at this path, and folders of files",
+    ))
 }
 
 /// `rm [--paths-from=FILE] [PATH..]`.
@@ -223,26 +238,32 @@ pub(crate) fn remove_command<'a>(alloc: Global, help: HelpLength) -> Result<Comm
     ensures app { IfOk result (λ command. app_of command ≡ remove_app) }
     ensures local { IfOk result (λ command. (fields_of command).has_globals ≡ false) }
 {
-    Command::new(alloc, "rm")
-        .about("Takes paths out of the staged files")
-        .override_usage("hookhost rm (<PATH>... | --paths-from=<FILE>)")
-        .after_help(help.of(REMOVE_HELP))
-        .arg(paths_from(alloc))?
-        .arg(optional_words(
-            alloc,
-            "PATH",
-            "The paths of staged files, and folders of such",
-        ))
+    command(
+        alloc,
+        "rm",
+        "Takes paths out of the staged files",
+        "hookhost rm (<PATH>... | --paths-from=<FILE>)",
+        help.of(REMOVE_HELP),
+    )
+    .arg(paths_from(alloc))?
+    .arg(optional_words(
+        alloc,
+        "PATH",
+        "The paths of staged files, and folders of such",
+    ))
 }
 
 fn status_command<'a>(alloc: Global, help: HelpLength) -> Command<'a>
     ensures app { app_of result ≡ status_app }
     ensures local { (fields_of result).has_globals ≡ false }
 {
-    Command::new(alloc, "status")
-        .about("Prints which staged files differ from those of the last commit")
-        .override_usage("hookhost status")
-        .after_help(help.of(STATUS_HELP))
+    command(
+        alloc,
+        "status",
+        "Prints which staged files differ from those of the last commit",
+        "hookhost status",
+        help.of(STATUS_HELP),
+    )
 }
 
 /// `run [--all-files] [--hook-stage=STAGE] [--fresh] [--cautious] [--verbose] [ID]`.
@@ -262,17 +283,20 @@ fn run_with_options<'a>(alloc: Global, help: HelpLength) -> Result<Command<'a>, 
     ensures app { IfOk result (λ command. app_of command ≡ run_with_options_app) }
     ensures local { IfOk result (λ command. (fields_of command).has_globals ≡ false) }
 {
-    let command = Command::new(alloc, "run")
-        .about("Runs the hooks of the staged configuration on staged files, and prints the report")
-        .override_usage(RUN_USAGE)
-        .after_help(help.of(RUN_HELP))
-        .arg(flag(
-            alloc,
-            "all-files",
-            "Takes all staged files, not only those that differ from the last commit",
-        ))?
-        .arg(stage(alloc))?
-        .arg(fresh(alloc))?;
+    let command = command(
+        alloc,
+        "run",
+        "Runs the hooks of the staged configuration on staged files, and prints the report",
+        RUN_USAGE,
+        help.of(RUN_HELP),
+    )
+    .arg(flag(
+        alloc,
+        "all-files",
+        "Takes all staged files, not only those that differ from the last commit",
+    ))?
+    .arg(stage(alloc))?
+    .arg(fresh(alloc))?;
     with_choice(alloc, command)
 }
 
@@ -308,13 +332,16 @@ fn run_files_with_options<'a>(alloc: Global, help: HelpLength) -> Result<Command
     ensures app { IfOk result (λ command. app_of command ≡ run_files_with_options_app) }
     ensures local { IfOk result (λ command. (fields_of command).has_globals ≡ false) }
 {
-    let command = Command::new(alloc, "run-files")
-        .about("Runs the hooks of the staged configuration on the named staged files")
-        .override_usage(RUN_FILES_USAGE)
-        .after_help(help.of(RUN_FILES_HELP))
-        .arg(only(alloc))?
-        .arg(stage(alloc))?
-        .arg(fresh(alloc))?;
+    let command = command(
+        alloc,
+        "run-files",
+        "Runs the hooks of the staged configuration on the named staged files",
+        RUN_FILES_USAGE,
+        help.of(RUN_FILES_HELP),
+    )
+    .arg(only(alloc))?
+    .arg(stage(alloc))?
+    .arg(fresh(alloc))?;
     with_choice(alloc, command)
 }
 
@@ -322,36 +349,45 @@ fn fixes_command<'a>(alloc: Global, help: HelpLength) -> Command<'a>
     ensures app { app_of result ≡ fixes_app }
     ensures local { (fields_of result).has_globals ≡ false }
 {
-    Command::new(alloc, "fixes")
-        .about("Prints the fixes, which accept applies to the staged files")
-        .override_usage("hookhost fixes")
-        .after_help(help.of(FIXES_HELP))
+    command(
+        alloc,
+        "fixes",
+        "Prints the fixes, which accept applies to the staged files",
+        "hookhost fixes",
+        help.of(FIXES_HELP),
+    )
 }
 
 fn accept_command<'a>(alloc: Global, help: HelpLength) -> Command<'a>
     ensures app { app_of result ≡ accept_app }
     ensures local { (fields_of result).has_globals ≡ false }
 {
-    Command::new(alloc, "accept")
-        .about("Applies the fixes to the staged files, and prints how many there were")
-        .override_usage("hookhost accept")
-        .after_help(help.of(ACCEPT_HELP))
+    command(
+        alloc,
+        "accept",
+        "Applies the fixes to the staged files, and prints how many there were",
+        "hookhost accept",
+        help.of(ACCEPT_HELP),
+    )
 }
 
 fn commit_command<'a>(alloc: Global, help: HelpLength) -> Result<Command<'a>, AllocError>
     ensures app { IfOk result (λ command. app_of command ≡ commit_app) }
     ensures local { IfOk result (λ command. (fields_of command).has_globals ≡ false) }
 {
-    Command::new(alloc, "commit")
-        .about("Commits the staged files, through the hooks of a commit")
-        .override_usage("hookhost commit [--no-verify] -m <TEXT>")
-        .after_help(help.of(COMMIT_HELP))
-        .arg(flag(
-            alloc,
-            "no-verify",
-            "Leaves out the hooks of pre-commit and commit-msg",
-        ))?
-        .arg(message(alloc))
+    command(
+        alloc,
+        "commit",
+        "Commits the staged files, through the hooks of a commit",
+        "hookhost commit [--no-verify] -m <TEXT>",
+        help.of(COMMIT_HELP),
+    )
+    .arg(flag(
+        alloc,
+        "no-verify",
+        "Leaves out the hooks of pre-commit and commit-msg",
+    ))?
+    .arg(message(alloc))
 }
 
 /// `cat [--fixed] [--commit=N] PATH`.
@@ -359,27 +395,33 @@ pub(crate) fn cat_command<'a>(alloc: Global, help: HelpLength) -> Result<Command
     ensures app { IfOk result (λ command. app_of command ≡ cat_app) }
     ensures local { IfOk result (λ command. (fields_of command).has_globals ≡ false) }
 {
-    Command::new(alloc, "cat")
-        .about("Prints the bytes of a staged file, of its fix or of a commit's file")
-        .override_usage("hookhost cat [--fixed | --commit=<N>] <PATH>")
-        .after_help(help.of(CAT_HELP))
-        .arg(flag(
-            alloc,
-            "fixed",
-            "Prints the bytes that accept would stage in place of them",
-        ))?
-        .arg(commit_number(alloc))?
-        .arg(word(alloc, "PATH", "The path of the file"))
+    command(
+        alloc,
+        "cat",
+        "Prints the bytes of a staged file, of its fix or of a commit's file",
+        "hookhost cat [--fixed | --commit=<N>] <PATH>",
+        help.of(CAT_HELP),
+    )
+    .arg(flag(
+        alloc,
+        "fixed",
+        "Prints the bytes that accept would stage in place of them",
+    ))?
+    .arg(commit_number(alloc))?
+    .arg(word(alloc, "PATH", "The path of the file"))
 }
 
 fn log_command<'a>(alloc: Global, help: HelpLength) -> Command<'a>
     ensures app { app_of result ≡ log_app }
     ensures local { (fields_of result).has_globals ≡ false }
 {
-    Command::new(alloc, "log")
-        .about("Prints the commits, the newest first")
-        .override_usage("hookhost log")
-        .after_help(help.of(LOG_HELP))
+    command(
+        alloc,
+        "log",
+        "Prints the commits, the newest first",
+        "hookhost log",
+        help.of(LOG_HELP),
+    )
 }
 
 /// `show N`.
@@ -387,11 +429,14 @@ pub(crate) fn show_command<'a>(alloc: Global, help: HelpLength) -> Result<Comman
     ensures app { IfOk result (λ command. app_of command ≡ show_app) }
     ensures local { IfOk result (λ command. (fields_of command).has_globals ≡ false) }
 {
-    Command::new(alloc, "show")
-        .about("Prints a commit's message and its paths")
-        .override_usage("hookhost show <N>")
-        .after_help(help.of(SHOW_HELP))
-        .arg(word(alloc, "N", "The commit's number"))
+    command(
+        alloc,
+        "show",
+        "Prints a commit's message and its paths",
+        "hookhost show <N>",
+        help.of(SHOW_HELP),
+    )
+    .arg(word(alloc, "N", "The commit's number"))
 }
 
 /// `memory [--limit=N]`.
@@ -399,21 +444,44 @@ pub(crate) fn memory_command<'a>(alloc: Global, help: HelpLength) -> Result<Comm
     ensures app { IfOk result (λ command. app_of command ≡ memory_app) }
     ensures local { IfOk result (λ command. (fields_of command).has_globals ≡ false) }
 {
-    Command::new(alloc, "memory")
-        .about("Prints how many answers of hooks' commands are remembered, or limits them")
-        .override_usage("hookhost memory [--limit=<N>]")
-        .after_help(help.of(MEMORY_HELP))
-        .arg(limit(alloc))
+    command(
+        alloc,
+        "memory",
+        "Prints how many answers of hooks' commands are remembered, or limits them",
+        "hookhost memory [--limit=<N>]",
+        help.of(MEMORY_HELP),
+    )
+    .arg(limit(alloc))
 }
 
 fn forget_command<'a>(alloc: Global, help: HelpLength) -> Command<'a>
     ensures app { app_of result ≡ forget_app }
     ensures local { (fields_of result).has_globals ≡ false }
 {
-    Command::new(alloc, "forget")
-        .about("Forgets the remembered answers, and prints how many there were")
-        .override_usage("hookhost forget")
-        .after_help(help.of(FORGET_HELP))
+    command(
+        alloc,
+        "forget",
+        "Forgets the remembered answers, and prints how many there were",
+        "hookhost forget",
+        help.of(FORGET_HELP),
+    )
+}
+
+// A command without values, with what help says of it, how it is called, and more about it.
+fn command<'a>(
+    alloc: Global,
+    name: &'a str,
+    about: &'a str,
+    usage: &'a str,
+    help: &'a str,
+) -> Command<'a>
+    ensures app { app_of result ≡ new_app name.entry.now }
+    ensures local { (fields_of result).has_globals ≡ false }
+{
+    Command::new(alloc, name)
+        .about(about)
+        .override_usage(usage)
+        .after_help(help)
 }
 
 // A value of one word.

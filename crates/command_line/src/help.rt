@@ -112,6 +112,7 @@ none of its words names can't be seen: hookhost run --fresh shows it.
 Examples:
   hookhost explain
   hookhost explain templates/hooks.yaml
+  git show HEAD:.pre-commit-config.yaml | hookhost explain -
 
 Exit status:
    0  the configuration was taken

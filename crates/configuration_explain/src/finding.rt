@@ -57,8 +57,8 @@ pub(crate) struct Finding<'n> {
 }
 
 impl<'n> Finding<'n> {
-    // A table.
-    fn of_table(owner: Owner, repository: usize, table: &'n Node) -> Self {
+    /// A table.
+    pub(crate) fn of_table(owner: Owner, repository: usize, table: &'n Node) -> Self {
         Finding {
             owner,
             repository,
@@ -71,8 +71,8 @@ impl<'n> Finding<'n> {
         }
     }
 
-    // What stands at a key of the table.
-    fn at_key(self, key: &'static str, wanted: Wanted) -> Self {
+    /// What stands at a key of the table.
+    pub(crate) fn at_key(self, key: &'static str, wanted: Wanted) -> Self {
         Finding {
             owner: self.owner,
             repository: self.repository,
@@ -85,8 +85,8 @@ impl<'n> Finding<'n> {
         }
     }
 
-    // An item of the list that it is.
-    fn at_item(self, item: usize, value: &'n Node, wanted: Wanted) -> Self {
+    /// An item of the list that it is.
+    pub(crate) fn at_item(self, item: usize, value: &'n Node, wanted: Wanted) -> Self {
         Finding {
             owner: self.owner,
             repository: self.repository,
@@ -96,6 +96,36 @@ impl<'n> Finding<'n> {
             instead: "",
             value: Some(value),
             wanted,
+        }
+    }
+
+    /// The table as a hook that is one too many.
+    pub(crate) fn surplus(self) -> Self {
+        Finding {
+            owner: self.owner,
+            repository: self.repository,
+            table: self.table,
+            key: "",
+            item: 0,
+            instead: "",
+            value: None,
+            wanted: Wanted::Fewer,
+        }
+    }
+
+    /// Whether the other is of the same value, or of the same key that is missing.
+    pub(crate) fn is_of_same(self, other: Finding<'_>) -> bool {
+        self.owner == other.owner
+            && self.repository == other.repository
+            && self.key == other.key
+            && self.item == other.item
+    }
+
+    /// The items of the list that it is, none where it is no list.
+    pub(crate) fn items(self) -> &'n [Node] {
+        match self.value {
+            Some(value) => items_in(value),
+            None => &[],
         }
     }
 
@@ -174,16 +204,7 @@ fn word_in_hook<'n>(hook: Finding<'n>, kind: ConfigKind) -> Finding<'n> {
         ConfigKind::BadArgs => first_item(hook.at_key("args", Wanted::Texts), Wanted::Argument),
         ConfigKind::BadLanguage => hook.at_key("language", Wanted::Language),
         ConfigKind::BadEntry => hook.at_key("entry", Wanted::Command),
-        _ => Finding {
-            owner: hook.owner,
-            repository: hook.repository,
-            table: hook.table,
-            key: "",
-            item: 0,
-            instead: "",
-            value: None,
-            wanted: Wanted::Fewer,
-        },
+        _ => hook.surplus(),
     }
 }
 
@@ -201,13 +222,16 @@ fn first_misfit<'n>(table: Finding<'n>) -> Option<Finding<'n>> {
 }
 
 fn misfit_at<'n>(table: Finding<'n>, key: &'static str, kind: KeyKind) -> Option<Finding<'n>> {
+    misfit(table.at_key(key, wanted_by(kind)?))
+}
+
+/// What a key wants, nothing where it is ignored.
+pub(crate) fn wanted_by(kind: KeyKind) -> Option<Wanted> {
     match kind {
-        KeyKind::RequiredText | KeyKind::Text | KeyKind::Pattern => {
-            misfit(table.at_key(key, Wanted::Text))
-        }
-        KeyKind::RequiredList => misfit(table.at_key(key, Wanted::List)),
-        KeyKind::Texts => misfit(table.at_key(key, Wanted::Texts)),
-        KeyKind::Truth => misfit(table.at_key(key, Wanted::Truth)),
+        KeyKind::RequiredText | KeyKind::Text | KeyKind::Pattern => Some(Wanted::Text),
+        KeyKind::RequiredList => Some(Wanted::List),
+        KeyKind::Texts => Some(Wanted::Texts),
+        KeyKind::Truth => Some(Wanted::Truth),
         KeyKind::Ignored => None,
     }
 }
@@ -222,7 +246,8 @@ fn misfit<'n>(at: Finding<'n>) -> Option<Finding<'n>> {
     }
 }
 
-fn is_of_kind(value: &Node, wanted: Wanted) -> bool {
+/// Whether the value is of the kind that is wanted.
+pub(crate) fn is_of_kind(value: &Node, wanted: Wanted) -> bool {
     match wanted {
         Wanted::Text => text_in(value).is_some(),
         Wanted::Truth => is_truth(value),
@@ -257,7 +282,8 @@ fn unknown_item<'n>(list: Finding<'n>, wanted: Wanted) -> Option<Finding<'n>> {
     None
 }
 
-fn is_known(item: &Node, wanted: Wanted) -> bool {
+/// Whether the item is a text, and one that is wanted.
+pub(crate) fn is_known(item: &Node, wanted: Wanted) -> bool {
     match text_in(item) {
         None => false,
         Some(word) if wanted == Wanted::Stage => Stage::of_word(word).is_some(),
@@ -277,7 +303,8 @@ fn first_missing<'n>(table: Finding<'n>) -> Option<Finding<'n>> {
     None
 }
 
-fn is_required(kind: KeyKind) -> bool {
+/// Whether a table has to have a key of this kind.
+pub(crate) fn is_required(kind: KeyKind) -> bool {
     matches!(kind, KeyKind::RequiredText | KeyKind::RequiredList)
 }
 
@@ -315,7 +342,8 @@ fn remote<'n>(top: Finding<'n>) -> Finding<'n> {
     top
 }
 
-fn repository<'n>(index: usize, node: &'n Node) -> Finding<'n> {
+/// The repository of this index.
+pub(crate) fn repository<'n>(index: usize, node: &'n Node) -> Finding<'n> {
     let number = index.saturating_add(1);
     Finding::of_table(Owner::Repository(number), number, node)
 }
@@ -351,8 +379,11 @@ fn unsupported<'n>(hook: Finding<'n>) -> Finding<'n> {
     log
 }
 
-// The missing key with the first unknown one of its table that is near to it.
-fn with_instead<'n>(alloc: Global, missing: Finding<'n>) -> Result<Finding<'n>, AllocError> {
+/// The missing key with the first unknown one of its table that is near to it.
+pub(crate) fn with_instead<'n>(
+    alloc: Global,
+    missing: Finding<'n>,
+) -> Result<Finding<'n>, AllocError> {
     for (key, _) in rows_in(missing.table) {
         if !is_key(keys_of(missing.owner), key.as_str())
             && nearest(alloc, key.as_str(), &[missing.key])?.is_some()

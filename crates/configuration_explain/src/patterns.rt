@@ -1,6 +1,7 @@
-//! Which patterns `regex` refuses, and which paths two patterns let through.
+//! Which patterns `regex` refuses and which commands have no words, and which paths two patterns let through.
 
 use crate::tables::text_in;
+use arg_partition::{WordsFault, words};
 use builtin_hooks::{Grep, GrepFault};
 use hook_base::{OutOfMemory, Text};
 use path_select::{Pattern, PatternFault};
@@ -29,6 +30,15 @@ pub(crate) fn is_refused_entry(
         Err(GrepFault::NotAPattern) => Ok(true),
         Err(GrepFault::OutOfMemory) => Err(AllocError),
         _ => Ok(false),
+    }
+}
+
+/// Whether the text is no command: it can't be cut into words, has none, or its first is empty. `AllocError` where memory is refused.
+pub(crate) fn is_refused_command(alloc: Global, text: &str) -> Result<bool, AllocError> {
+    match words(alloc, text) {
+        Ok(words) => Ok(!matches!(words.as_slice(), [first, ..] if !first.is_empty())),
+        Err(WordsFault::OutOfMemory) => Err(AllocError),
+        Err(_) => Ok(true),
     }
 }
 

@@ -1,10 +1,12 @@
 //! What is said of a configuration that is refused.
 
 use crate::doubled::{Doubled, doubled_in};
-use crate::finding::finding_of;
+use crate::finding::{Finding, finding_of};
+use crate::findings::{MOST_FINDINGS, findings_in};
 use crate::marks::marks_in;
 use crate::own_line::{line_at, push_own_line};
-use crate::places::{Place, place_of};
+use crate::places::{Place, Placed, places_of};
+use crate::plain_text::{GOES_ON, goes_on};
 use crate::sentence::push_sentence;
 use crate::shown::{push_number, push_quoted, push_shown};
 use crate::yaml_sentence::{yaml_column, yaml_sentence};
@@ -19,7 +21,8 @@ pub(crate) struct NamedBytes<'b> {
     pub(crate) bytes: &'b [u8],
 }
 
-/// Puts where the fault is, what it is, and the line itself. `AllocError` where memory is refused.
+/// Puts where each fault is, what it is, and the line itself, in the order of the lines: the one of the YAML alone, or those of the
+/// configuration, of which this fault is one. `AllocError` where memory is refused.
 pub(crate) fn push_refused(
     alloc: Global,
     text: &mut String,
@@ -30,7 +33,7 @@ pub(crate) fn push_refused(
         return push_yaml_fault(alloc, text, file, fault);
     }
     match read(alloc, file.bytes) {
-        Ok(node) => push_configuration_fault(alloc, text, file, &node, fault),
+        Ok(node) => push_configuration_faults(alloc, text, file, &node, fault),
         Err(refused) if refused.kind == YamlKind::OutOfMemory => Err(AllocError),
         Err(other) => push_yaml_fault(alloc, text, file, other),
     }
@@ -80,7 +83,7 @@ fn push_plain_fault(
 ) -> Result<(), AllocError> {
     let line = line_at(alloc, file.bytes, fault.line)?;
     push_place(alloc, text, file.name, fault.line)?;
-    text.push_str(yaml_sentence(fault.kind, line.as_str()))?;
+    text.push_str(sentence_of(alloc, file.bytes, fault, line.as_str())?)?;
     text.push('\n')?;
     if fault.kind == YamlKind::TooLarge {
         return Ok(());
@@ -92,20 +95,61 @@ fn push_plain_fault(
     push_own_line(text, line.as_str(), place)
 }
 
-fn push_configuration_fault(
+// What is said of the fault in this line.
+fn sentence_of(
+    alloc: Global,
+    bytes: &[u8],
+    fault: YamlFault,
+    line: &str,
+) -> Result<&'static str, AllocError> {
+    let before = line_at(alloc, bytes, fault.line.saturating_sub(1))?;
+    if fault.kind == YamlKind::Layout && goes_on(before.as_str(), line) {
+        return Ok(GOES_ON);
+    }
+    Ok(yaml_sentence(fault.kind, line))
+}
+
+fn push_configuration_faults(
     alloc: Global,
     text: &mut String,
     file: NamedBytes<'_>,
     node: &Node,
     fault: ConfigFault,
 ) -> Result<(), AllocError> {
-    let finding = finding_of(alloc, node, fault)?;
-    let place = place_of(alloc, file.bytes, &finding)?;
-    push_place(alloc, text, file.name, place.line)?;
-    push_sentence(alloc, text, &finding)?;
+    let mut findings = findings_in(alloc, node)?;
+    let first = finding_of(alloc, node, fault)?;
+    if !findings
+        .as_slice()
+        .iter()
+        .any(|other| other.is_of_same(first))
+    {
+        findings.push(first)?;
+    }
+    for one in places_of(alloc, file.bytes, findings.as_slice())?.as_slice() {
+        push_finding(alloc, text, file, one)?;
+    }
+    push_more(text, findings.as_slice())
+}
+
+fn push_finding(
+    alloc: Global,
+    text: &mut String,
+    file: NamedBytes<'_>,
+    one: &Placed<'_>,
+) -> Result<(), AllocError> {
+    push_place(alloc, text, file.name, one.place.line)?;
+    push_sentence(alloc, text, &one.finding)?;
     text.push('\n')?;
-    let line = line_at(alloc, file.bytes, place.line)?;
-    push_own_line(text, line.as_str(), place)
+    let line = line_at(alloc, file.bytes, one.place.line)?;
+    push_own_line(text, line.as_str(), one.place)
+}
+
+// Says that not all faults were told, where there are too many.
+fn push_more(text: &mut String, findings: &[Finding<'_>]) -> Result<(), AllocError> {
+    if findings.len() < MOST_FINDINGS {
+        return Ok(());
+    }
+    text.push_str("no more than 100 faults are told at once\n")
 }
 
 // The name of the file and the line, before what is said of it.

@@ -4,13 +4,16 @@ use crate::ignored::push_ignored;
 use crate::marks::marks_in;
 use crate::never::push_never;
 use crate::refused::NamedBytes;
+use crate::selected::push_selected;
 use crate::shown::{push_number, push_shown};
 use crate::stages::{push_each_time, push_stages};
+use crate::warnings::push_warnings;
 use hook_base::{OutOfMemory, Text};
 use hook_config::ConfigWithNode;
 use std::alloc::{AllocError, Global};
 
-/// Puts how many hooks there are, those of each stage, the keys that are ignored, and what is to be said of when hooks run.
+/// Puts how many hooks there are, those of each stage, which files each gets, the keys that are ignored, what is to be said of when
+/// hooks run, and what may be meant otherwise.
 pub(crate) fn push_taken(
     alloc: Global,
     text: &mut String,
@@ -21,9 +24,11 @@ pub(crate) fn push_taken(
     let hooks = read.config.hooks.as_slice();
     push_head(alloc, text, file.name, hooks.len())?;
     push_stages(alloc, text, hooks)?;
+    push_selected(alloc, text, read)?;
     push_ignored_of(alloc, text, file.bytes, read)?;
     push_never(alloc, text, &read.config, paths)?;
     push_each_time(alloc, text, hooks)?;
+    push_warnings(alloc, text, read, paths)?;
     Ok(())
 }
 

@@ -75,6 +75,20 @@ pub(crate) fn read_staged<R: Files + AllocGlobal>(rt: &R, path: &Text) -> Result
     }
 }
 
+/// The word that stands for standard input.
+pub(crate) const STANDARD_INPUT: &str = "-";
+
+/// The bytes of a word's file, or of standard input, at most so many, as `read_up_to` reads them.
+pub(crate) fn read_word(rt: &HostRuntime, word: &str, most: usize) -> io::Result<Vec<u8>> {
+    if word == STANDARD_INPUT {
+        let mut bytes = Vec::new(rt.alloc());
+        rt.reader().take(most as u64).read_to_end(&mut bytes)?;
+        Ok(bytes)
+    } else {
+        read_up_to(rt, word, most)
+    }
+}
+
 /// The bytes of a file, at most so many. A fifo, a pipe with a name, isn't opened, since that would wait for its other end: the
 /// error is `ErrorKind::Unsupported`. A pipe without one is read, as a shell hands it on by `/dev/stdin` or `/dev/fd/63`.
 pub(crate) fn read_up_to<R: Files + AllocGlobal>(

@@ -5,14 +5,10 @@ ghost use Rattle.configuration_run.specs.declared.try_fault.TryFault.TheVariants
 ghost use Rattle.hookhost.specs.declared.stop.Stop.TheVariants.{NotText, Refused};
 ghost use Rattle.hookhost.specs.Stops.{IsStopOfItsList, IsStopOfNames};
 
-use crate::files::read_up_to;
+use crate::files::read_word;
 use crate::stop::Stop;
 use hook_base::{Items, MOST_FILE_BYTES, Text};
 use hook_cli::{FileChoice, PathSource, Update};
-use std::io::{self, Read};
-
-// The name that stands for standard input.
-const STANDARD_INPUT: &str = "-";
 
 /// The names that the file of `--paths-from` lists, in their order; none for an update without. A file that can't be read, or has
 /// more than 16 MiB, is `Stop::CannotUse`, names that aren't UTF-8 are `Stop::NotText`, and want of memory is
@@ -46,23 +42,10 @@ fn read_names(rt: &HostRuntime, from: &Text) -> Result<Items<Text>, Stop>
     ensures { IfErr result (IsStopOfNames from.now) }
 {
     let word = from.clone()?;
-    match read_list(rt, word.as_str()) {
+    match read_word(rt, word.as_str(), MOST_FILE_BYTES + 1) {
         Ok(bytes) if bytes.len() <= MOST_FILE_BYTES => names_in(rt, bytes.as_slice()),
         Ok(_) => Err(Stop::CannotUse(word)),
         Err(error) => Err(Stop::of_file(&error, word)),
-    }
-}
-
-// The bytes of the list, up to one past the limit.
-fn read_list(rt: &HostRuntime, from: &str) -> io::Result<Vec<u8>> {
-    if from == STANDARD_INPUT {
-        let mut bytes = Vec::new(rt.alloc());
-        rt.reader()
-            .take(MOST_FILE_BYTES as u64 + 1)
-            .read_to_end(&mut bytes)?;
-        Ok(bytes)
-    } else {
-        read_up_to(rt, from, MOST_FILE_BYTES + 1)
     }
 }
 

@@ -1,0 +1,138 @@
+//! What is taken, and may be meant otherwise.
+
+use crate::edits::nearest;
+use crate::hook_names::push_hook;
+use crate::known_words::{is_among, tag_words};
+use crate::sentence::push_meant;
+use crate::shown::{push_number, push_quoted};
+use crate::tool_settings::left_out;
+use hook_base::Text;
+use hook_config::{ConfigWithNode, Hook, Language, TagNames};
+use std::alloc::{AllocError, Global};
+
+/// Puts a line for each tag that no file has, each id that an earlier hook has, each known tool whose settings its `x_reads` leaves
+/// out, and each command that calls Git, where there are any. `AllocError` where memory is refused.
+pub(crate) fn push_warnings(
+    alloc: Global,
+    text: &mut String,
+    read: &ConfigWithNode,
+    paths: &[Text],
+) -> Result<(), AllocError> {
+    let mut warnings = Warnings {
+        alloc,
+        text: String::new(alloc),
+    };
+    let hooks = read.config.hooks.as_slice();
+    for (i, hook) in hooks.iter().enumerate() {
+        let number = i.saturating_add(1);
+        warnings.take_tags(number, hook)?;
+        warnings.take_id(number, hook, hooks)?;
+        warnings.take_reads(number, hook, left_out(alloc, read, number, hook, paths)?)?;
+        warnings.take_git(number, hook)?;
+    }
+    if !warnings.text.is_empty() {
+        text.push_str("warnings:\n")?;
+    }
+    text.push_str(warnings.text.as_str())
+}
+
+// The lines so far.
+#[derive(Drop)]
+struct Warnings {
+    alloc: Global,
+    text: String,
+}
+
+impl Warnings {
+    fn begin(&mut self, number: usize, hook: &Hook) -> Result<(), AllocError> {
+        self.text.push_str("  ")?;
+        push_hook(self.alloc, &mut self.text, number, hook.id.as_str())?;
+        self.text.push_str(": ")
+    }
+
+    fn take_tags(&mut self, number: usize, hook: &Hook) -> Result<(), AllocError> {
+        self.take_list(number, hook, &hook.types)?;
+        self.take_list(number, hook, &hook.types_or)?;
+        self.take_list(number, hook, &hook.exclude_types)
+    }
+
+    fn take_list(&mut self, number: usize, hook: &Hook, tags: &TagNames) -> Result<(), AllocError> {
+        for tag in tags.as_slice() {
+            if !is_among(tag_words(), tag.as_str()) {
+                self.take_tag(number, hook, tag.as_str())?;
+            }
+        }
+        Ok(())
+    }
+
+    fn take_tag(&mut self, number: usize, hook: &Hook, tag: &str) -> Result<(), AllocError> {
+        self.begin(number, hook)?;
+        self.text.push_str("no file has the tag ")?;
+        push_quoted(&mut self.text, tag)?;
+        if let Some(word) = nearest(self.alloc, tag, tag_words())? {
+            push_meant(&mut self.text, word)?;
+        }
+        self.text.push('\n')
+    }
+
+    fn take_id(&mut self, number: usize, hook: &Hook, hooks: &[Hook]) -> Result<(), AllocError> {
+        match first_of_id(hooks, hook.id.as_str()) {
+            Some(first) if first < number => {
+                self.begin(number, hook)?;
+                self.text.push_str("hook ")?;
+                push_number(self.alloc, &mut self.text, first)?;
+                self.text.push_str(" has the same id\n")
+            }
+            _ => Ok(()),
+        }
+    }
+
+    fn take_reads(
+        &mut self,
+        number: usize,
+        hook: &Hook,
+        path: Option<&str>,
+    ) -> Result<(), AllocError> {
+        let Some(path) = path else {
+            return Ok(());
+        };
+        self.begin(number, hook)?;
+        self.text.push_str("its `x_reads` leaves ")?;
+        push_quoted(&mut self.text, path)?;
+        self.text.push_str(" out, which its command may read\n")
+    }
+
+    fn take_git(&mut self, number: usize, hook: &Hook) -> Result<(), AllocError> {
+        if !calls_git(hook) {
+            return Ok(());
+        }
+        self.begin(number, hook)?;
+        self.text.push_str("its command calls Git, so in the hook of Git nothing is cached\n")
+    }
+}
+
+// The number of the first hook of an id.
+fn first_of_id(hooks: &[Hook], id: &str) -> Option<usize> {
+    for (i, hook) in hooks.iter().enumerate() {
+        if hook.id.as_str() == id {
+            return Some(i.saturating_add(1));
+        }
+    }
+    None
+}
+
+fn calls_git(hook: &Hook) -> bool {
+    match &hook.language {
+        Language::System(words) => { words.as_slice().iter().any(|word| names_git(word.as_str())) }
+        _ => false,
+    }
+}
+
+// Whether a piece of the word between blanks and signs of a shell is `git`.
+fn names_git(word: &str) -> bool {
+    word.split(is_between).any(|piece| piece == "git")
+}
+
+fn is_between(c: char) -> bool {
+    !(c.is_alphanumeric() || matches!(c, '-' | '_' | '.' | '/' | '=' | '~'))
+}
