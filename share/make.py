@@ -45,6 +45,8 @@ columns, else to 80."),
     ("HOOKHOST_TOP", "hookhost-git sets it to the top of the working tree, for hooks. Where it is set, no hint is given."),
     ("HOOKHOST_SCRATCH", "hookhost-git sets it to the folder in which the commands of hooks run, in place of .hookhost/scratch."),
     ("HOOKHOST_GIT_CALLS", "hookhost-git sets it to a file in which its own git notes calls that found no repository. A command that made one has \
+    ("HOOKHOST_LINKS", "names with colons between, as .venv:node_modules. The commands of hooks find a link of each name to what stands under it \
+in the folder of HOOKHOST_TOP, else in the current folder, but where a file of the run has the name. hookhost-git sets it to the names of hookhost.link."),
 given no answer: it is told as a fault, and never remembered."),
 ]
 SEE_ALSO = ["git(1)", "githooks(5)", "hookhost-git(1)", "sqlite3(1)"]

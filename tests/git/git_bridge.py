@@ -4,7 +4,7 @@
 Usage: tests/git/git_bridge.py [PROGRAM [PART [PLAYS [FIRST]]]]   (default: crates/hookhost/out/hookhost, all parts, 200 plays from 1 on)
 
 PART is `cases`, `plays`, `kills`, or a part of a case's name.
-First what docs/GIT.md promises, case by case (tests/git/git_bridge_cases.py, .._fixes.py, .._runs.py, .._calls.py, .._served.py, .._keeping.py, .._share.py, .._tools.py and .._partial.py), and what
+First what docs/GIT.md promises, case by case (tests/git/git_bridge_cases.py, .._fixes.py, .._runs.py, .._calls.py, .._served.py, .._keeping.py, .._share.py, .._tools.py, .._links.py and .._partial.py), and what
 README.md shows (tests/git/git_bridge_readme.py). Then random repositories beside copies of them in which pre-commit is the hook
 (tests/git/git_bridge_plays.py), and kills (tests/git/git_bridge_kills.py).
 """
@@ -19,6 +19,7 @@ from git_bridge_cases import CASES
 from git_bridge_fixes import CASES as FIXES
 from git_bridge_keeping import CASES as KEEPING
 from git_bridge_kills import KILLS
+from git_bridge_links import CASES as LINKS
 from git_bridge_partial import CASES as PARTIAL
 from git_bridge_plays import REASONS, Reasons, play, templates
 from git_bridge_readme import readme_session
@@ -52,7 +53,7 @@ def in_folder(action):
 
 def run_cases():
     """How many cases there were, and how many failed."""
-    cases = (*CASES, *FIXES, *RUNS, *CALLS, *SERVED, *KEEPING, *SHARED, *TOOLS, *PARTIAL, readme_session)
+    cases = (*CASES, *FIXES, *RUNS, *CALLS, *SERVED, *KEEPING, *SHARED, *TOOLS, *LINKS, *PARTIAL, readme_session)
     chosen = [case for case in cases if PART == "cases" or PART in case.__name__]
     failed = [case.__name__ for case in chosen if in_folder(case)]
     for name in failed:

@@ -11,7 +11,7 @@ REFUSED = ["git --git-dir=.git log", "git --git-dir .git log", "git --bare log",
 # Calls that have a repository made for them, where there is none yet, with which they say what they say in the working tree.
 SERVED = [
     "git grep -q secret", "git grep -q secret -- --no-index", "git grep --untracked -h a", "git-grep -q secret", "git ls-files", "git-ls-files a", "git status", "git diff a b", "git diff --cached --check",
-    "git diff -- --no-index", "git log", "git rev-parse --show-prefix", "git check-attr -a a", "git check-ignore a", "git apply a", "git blame a", "git hash-object a", "echo a | git hash-object --stdin",
+    "git diff -- --no-index", "git log", "git rev-parse --show-prefix", "git check-attr -a a", "git check-ignore a", "git apply a", "git blame -s a", "git hash-object a", "echo a | git hash-object --stdin",
     "git config user.name", "git config --local user.name", "git hash-object -w a", "git ls-remote", "git ls-remote origin", "git submodule status", "git bundle verify a", "git stash list",
     "git -C sub ls-files", "git -C sub -C .. ls-files", "git --no-pager -c a.b=c log", "git --work-tree=. status", "git -c alias.mine='!git ls-files' mine", "git nope", "sh -c 'cd sub && git status --short'",
     "env -u GIT_CEILING_DIRECTORIES git grep -q secret", "env GIT_CEILING_DIRECTORIES=/nowhere git status", "sh -c 'cd / && git -C \"$OLDPWD\" status'", "env GIT_WORK_TREE=. git status",

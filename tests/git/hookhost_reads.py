@@ -214,6 +214,20 @@ def files_outside_are_told(desk):
     same("told", desk.told("--files", "a", status=0)["cat"], [ALL_IN, 'outside: "~/a\\nb"', "outside: ~/many/1", "outside: ~/many/2", "outside: ~/many/3", "outside: ~/settings"])
 
 
+def what_links_lead_to_is_found(desk):
+    """And is none of the tree: no key lacks it."""
+    desk.lay({"a": "a\n", "rules": "r\n", ".gitignore": ".venv/\n"}, "id: lint, name: lint, language: system, entry: .venv/bin/lint, files: '^a$'")
+    desk.git.write(".venv/bin/lint", "#!/bin/sh\ncat .venv/words; test -e .venv/absent || cat rules\n", 0o755)
+    desk.git.write(".venv/words", "w\n")
+    told = desk.told(status=1)["lint"]
+    same("without a link", told, ["can't be tried: cannot start .venv/bin/lint: No such file or directory (os error 2)"])
+    desk.git.git("config", "hookhost.link", ".venv/")
+    told = desk.told(status=1)["lint"]
+    same("told", [line for line in told if not line.startswith("outside: ")], ["1 file missing from the key", "reads: rules", "x_reads: '^rules$'"])
+    check(any(line.startswith("outside: ") and line.endswith(".venv/words") for line in told), f"{told}")
+    same("what lies behind the link", sorted(os.listdir(os.path.join(desk.git.folder, ".venv"))), ["bin", "words"])
+
+
 def hostile_names_are_quoted(desk):
     names = ["a b", "it's", 'a"b', "a\\b", "[x]{1}(y)|z^$.+*?", "ä", "#", "a\u2028b", "-x"]
     tree = {"a": "a\n"} | dict.fromkeys(names, "a\n")
@@ -369,7 +383,7 @@ def what_keeps_it_from_working_is_told(desk):
 CASES = [
     tools_without_and_with_x_reads, known_tools_have_what_they_read_in_their_keys, a_library_at_the_top_starts_isort_again,
     a_hook_that_reads_what_it_is_handed, each_kind_of_look_is_told, what_is_told_is_answered_from_the_cache, an_old_pattern_is_kept, an_old_pattern_counts,
-    scripts_of_the_tree_are_tried, a_file_that_is_handed_with_others_is_read_alone, files_outside_are_told, hostile_names_are_quoted, many_files_become_one_pattern,
+    scripts_of_the_tree_are_tried, a_file_that_is_handed_with_others_is_read_alone, files_outside_are_told, what_links_lead_to_is_found, hostile_names_are_quoted, many_files_become_one_pattern,
     hooks_that_fail_or_fix_are_told, a_hook_that_is_handed_nothing_sees_all, what_is_left_at_work_is_not_waited_for, a_hook_that_calls_git_is_told,
     nothing_is_changed, a_repository_of_hookhost_is_looked_at, what_keeps_it_from_working_is_told,
 ]

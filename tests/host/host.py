@@ -30,6 +30,7 @@ import host_files
 import host_folder
 import host_kills
 import host_limit
+import host_links
 import host_log
 import host_names
 import host_put_kills
@@ -39,7 +40,7 @@ import host_version_1
 from host_program import Wrong
 
 KILLS = [host_kills, host_put_kills, host_limit, host_version_1]
-OTHERS = [host_names, host_unusable, host_folder, host_checkout, host_calls, host_at_once, host_log, host_files, host_runs, host_explain, host_answers]
+OTHERS = [host_names, host_unusable, host_folder, host_checkout, host_calls, host_at_once, host_log, host_files, host_runs, host_links, host_explain, host_answers]
 TOPICS = {"": OTHERS + KILLS, "--no-kills": OTHERS, "--kills": KILLS}
 
 

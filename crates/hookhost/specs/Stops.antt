@@ -151,17 +151,17 @@ IsStopOfItsList (Commit message no_verify) stop = ⊥
 IsStopOfItsList Forget stop = ⊥
 IsStopOfItsList (Limit limit) stop = ⊥
 
--- a variable of Git's hook, which names a file or the folder of children
+-- a variable which names a file, the folder of children, or what links in this folder lead to
 abbrev pub IsVariable : List ℕ → Type 0
-IsVariable word = (word ≡ codes "HOOKHOST_GIT_CALLS") ⊎ (word ≡ codes "HOOKHOST_SCRATCH")
+IsVariable word = (word ≡ codes "HOOKHOST_GIT_CALLS") ⊎ (word ≡ codes "HOOKHOST_SCRATCH") ⊎ (word ≡ codes "HOOKHOST_LINKS")
 
--- the variable isn't UTF-8, or memory was refused
+-- the variable isn't UTF-8 or names what can't be, or memory was refused
 abbrev pub IsStopOfVariable : List ℕ → Stop → Type 0
 IsStopOfVariable variable (CannotUse word) = word ≡ variable
 IsStopOfVariable variable (Refused fault) = fault ≡ OutOfMemory
 IsStopOfVariable variable stop = ⊥
 
--- the variable by which Git's hook names a file can't be used, or memory was refused
+-- a variable that children go by can't be used, or memory was refused
 abbrev pub IsStopOfChildren : Stop → Type 0
 IsStopOfChildren (CannotUse word) = IsVariable word
 IsStopOfChildren (Refused fault) = fault ≡ OutOfMemory

@@ -5,15 +5,13 @@ ghost use Rattle.hookhost.specs.Stops.{IsStopOfReading};
 
 use crate::stop::Stop;
 use hook_base::Text;
+use repository_files::FOLDER;
 use std::io::Read;
 use std::rt::Files;
 use std::{fs, io};
 
 // The folder of a repository of Git, at any depth.
 const GIT: &str = ".git";
-
-// The folder of the repository, which lies in the working folder.
-const HOOKHOST: &str = ".hookhost";
 
 // What is found below a folder.
 #[derive(Drop)]
@@ -65,7 +63,7 @@ fn walk<R: Files + AllocGlobal>(rt: &R, folder: &str, is_whole: bool) -> Result<
 }
 
 fn is_of_repository(path: &str) -> bool {
-    path == HOOKHOST || path.starts_with(".hookhost/")
+    path == FOLDER || path.starts_with(".hookhost/")
 }
 
 fn look_into<R: Files + AllocGlobal>(rt: &R, folder: &str, below: &mut Below) -> Result<(), Stop>
@@ -127,7 +125,7 @@ fn take_name<R: Files + AllocGlobal>(
     ensures { IfErr result IsStopOfReading }
 {
     let path = path_in(rt, folder, name)?;
-    if path.as_str() == HOOKHOST {
+    if path.as_str() == FOLDER {
         return Ok(());
     }
     match fs::symlink_metadata(rt, path.as_str()) {

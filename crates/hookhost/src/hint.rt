@@ -8,8 +8,9 @@ use std::io::IsTerminal;
 pub(crate) const FIXES: &str =
     "hint: hookhost fixes lists what hooks changed, hookhost accept stages it";
 
-// The variable of the environment that Git's hook sets: it says itself what comes next, in the words of Git.
-const TOP: &str = "HOOKHOST_TOP";
+/// The variable of the environment that Git's hook sets to the top of the working tree. It says itself what comes next, in the words
+/// of Git.
+pub(crate) const TOP: &str = "HOOKHOST_TOP";
 
 /// Says a hint on standard error where that is a terminal, and else nothing. Nothing either within Git's hook.
 pub(crate) fn hint(rt: &HostRuntime, text: &str) {

@@ -13,6 +13,7 @@ mod files;
 mod folder_files;
 mod hint;
 mod names;
+mod linked;
 mod refusal_hints;
 mod runs;
 mod shown_hooks;

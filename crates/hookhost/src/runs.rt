@@ -4,6 +4,7 @@ ghost use Rattle.std.specs.Prelude.{◌≡◌, IfErr, IfOk};
 ghost use Rattle.hookhost.specs.Stops.{IsStopOfChildren, IsStopOfVariable};
 ghost use Rattle.hookhost.specs.Works.{skipped_by};
 
+use crate::linked::linked;
 use crate::stop::Stop;
 use crate::terminal::terminal_of;
 use child_display::ShownChildren;
@@ -39,12 +40,14 @@ pub(crate) fn children_of(rt: &HostRuntime) -> Result<RealChildren, Stop>
         Some(folder) => folder,
         None => String::from_str(rt.alloc(), SCRATCH)?,
     };
-    let children = ProcessChildren::watching(rt.clone()?, folder, calls);
+    let links = linked(rt)?;
+    let mut children = ProcessChildren::watching(rt.clone()?, folder, calls);
+    children.link(links);
     Ok(ShownChildren::new(rt.alloc(), children, terminal_of(rt)))
 }
 
-// What the variable of this name names. There is nothing where it isn't set.
-fn named_by(
+/// What the variable of this name names. There is nothing where it isn't set.
+pub(crate) fn named_by(
     alloc: Global,
     variable: &str,
     found: Result<String, VarError>,
@@ -60,9 +63,13 @@ fn named_by(
 }
 
 /// The children of a run without a repository, of whose folder nothing is left at their end.
-pub(crate) fn passing_children(rt: &HostRuntime) -> Result<RealChildren, OutOfMemory> {
+pub(crate) fn passing_children(rt: &HostRuntime) -> Result<RealChildren, Stop>
+    ensures { IfErr result IsStopOfChildren }
+{
     let folder = String::from_str(rt.alloc(), SCRATCH)?;
-    let children = ProcessChildren::removed_at_end(rt.clone()?, folder);
+    let links = linked(rt)?;
+    let mut children = ProcessChildren::removed_at_end(rt.clone()?, folder);
+    children.link(links);
     Ok(ShownChildren::new(rt.alloc(), children, terminal_of(rt)))
 }
 

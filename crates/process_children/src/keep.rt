@@ -5,6 +5,7 @@ use crate::folders::{folder_at, shared_bytes};
 use crate::fresh::Fresh;
 use crate::known_files::KnownFiles;
 use crate::laid_folder::LaidFolder;
+use crate::links::{Wanted, last_name, make_link};
 use crate::own_files::OwnFiles;
 use crate::place::{standing, standing_scratch};
 use crate::search::belongs;
@@ -20,8 +21,8 @@ use std::io::ErrorKind;
 use std::os::unix::fs::{PermissionsExt, lchown};
 use std::{fs, io};
 
-/// Makes the folder, with its missing parents, and makes it hold the files of the tree, the folder `.git`, and nothing else. What is
-/// as it would be written stays; where that can't be told or mended, all of the folder is written anew. Of files that are known
+/// Makes the folder, with its missing parents, and makes it hold the files of the tree, the folder `.git`, the links that are wanted,
+/// and nothing else. What is as it would be written stays; where that can't be told or mended, all of the folder is written anew. Of files that are known
 /// none is read, and those are known afterwards that were read and can be.
 ///
 /// What is in the way where neither can be done, or where the folder or the one that it stands in is a link: then nothing
@@ -30,16 +31,16 @@ pub(crate) fn keep_as<'a, R: Files>(
     files: &R,
     alloc: Global,
     folder: &'a str,
-    tree: &Tree,
+    wanted: Wanted<'_>,
     known: &mut KnownFiles,
     piece: &mut [u8],
 ) -> Result<LaidFolder<'a>, Trouble> {
-    match settle(files, alloc, folder, tree, known, piece) {
+    match settle(files, alloc, folder, wanted, known, piece) {
         Ok(laid) => Ok(laid),
         Err(trouble) if is_want_of_memory(trouble.error()) => Err(trouble),
         Err(_trouble) => {
             empty(files, alloc, folder)?;
-            settle(files, alloc, folder, tree, known, piece)
+            settle(files, alloc, folder, wanted, known, piece)
         }
     }
 }
@@ -48,12 +49,12 @@ fn settle<'a, R: Files>(
     files: &R,
     alloc: Global,
     folder: &'a str,
-    tree: &Tree,
+    wanted: Wanted<'_>,
     known: &mut KnownFiles,
     piece: &mut [u8],
 ) -> Result<LaidFolder<'a>, Trouble> {
     let mut keeping = Keeping::begin(files, alloc, folder, known, piece)?;
-    match keeping.settle(tree, piece) {
+    match keeping.settle(wanted, piece) {
         Ok(()) => keeping.finish(),
         Err(trouble) => {
             keeping.trash.leave(files);
@@ -137,12 +138,24 @@ impl<'f, 'k, R: Files> Keeping<'f, 'k, R> {
         empty_trash(self.files, self.alloc, &mut self.trash)
     }
 
-    fn settle(&mut self, tree: &Tree, piece: &mut [u8]) -> Result<(), Trouble> {
+    fn settle(&mut self, wanted: Wanted<'_>, piece: &mut [u8]) -> Result<(), Trouble> {
+        let tree = wanted.tree;
         self.take_strays("", tree, Besides::TrashAndGit)?;
         let made = self.make_git_folder(tree);
         self.own.at(GIT_FOLDER, made)?;
+        self.make_links(wanted)?;
         self.settle_files(tree, piece)?;
         empty_trash(self.files, self.alloc, &mut self.trash)
+    }
+
+    // All of them anew: those of the last child, or what it put in their place, were strays.
+    fn make_links(&mut self, wanted: Wanted<'_>) -> Result<(), Trouble> {
+        for place in wanted.links {
+            let place = place.as_str();
+            let made = make_link(self.files, self.alloc, &mut self.own, wanted.tree, place);
+            self.own.at(last_name(place), made)?;
+        }
+        Ok(())
     }
 
     // Makes the folder `.git` anew, whatever stands there. Where the tree has files in it, it is settled as their folder.

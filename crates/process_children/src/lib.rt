@@ -1,10 +1,10 @@
 //! Children that are real processes: `ProcessChildren` is the trait `Children` over the system's programs and files.
 //!
-//! One call goes through four stations (`stations`). The scratch folder is made to hold the files of the tree, the folder `.git`, and
-//! nothing else (`keep`; `strays` and `trash` for what doesn't belong there, `fresh` for what is as it would be made). The words are
-//! started in it (`start`). Both outputs are read side by side to their ends, and the child is waited for (`outputs`,
-//! `ending`). The files are read back (`read_back`). The first fault decides, but that a call which was written down meanwhile
-//! goes before how the child ended.
+//! One call goes through four stations (`stations`). The scratch folder is made to hold the files of the tree, the folder `.git`, links
+//! to what is installed, and nothing else (`keep`; `strays` and `trash` for what doesn't belong there, `fresh` for what is as it
+//! would be made, `links`). The words are started in it (`start`). Both outputs are read side by side to their ends, and the child
+//! is waited for (`outputs`, `ending`). The files are read back (`read_back`). The first fault decides, but that a call which was
+//! written down meanwhile goes before how the child ended.
 //!
 //! Each file is found and opened in its folder, which is held open meanwhile (`own_files`, `held_folder`), so that no process
 //! can put a link or a fifo between a look and what is done there. The scratch folder itself is held while its child runs, and
@@ -34,6 +34,7 @@ mod input;
 mod keep;
 mod known_files;
 mod laid_folder;
+mod links;
 mod mark;
 mod outputs;
 mod own_files;

@@ -11,8 +11,8 @@ use hook_base::{OutOfMemory, Text, Tree};
 use std::fs::{File, Files};
 use std::process::{Processes, SystemProcess};
 
-/// Children that are real processes, each started in a scratch folder that holds the files of its tree, the folder `.git`, and
-/// nothing else.
+/// Children that are real processes, each started in a scratch folder that holds the files of its tree, the folder `.git`, links to
+/// what is installed ([`link`](ProcessChildren::link)), and nothing else.
 ///
 /// Their folder is taken for the first of them, and left when this value is dropped. Meanwhile a locked file stands beside
 /// it, which other processes go by.
@@ -61,6 +61,17 @@ impl<
             completed: 0,
             failed: 0,
         }
+    }
+
+    /// From now on a link to each of these places stands at the top of the scratch folder, under the name that the place ends with. There
+    /// is none where the tree has that name, or where nothing stands at the place. What is behind a link is no file of the tree: it isn't
+    /// followed, read back or removed, whatever a child puts in its place. The places are full paths, or lead there from the scratch
+    /// folder, and their names are different.
+    pub fn link(&mut self, places: Vec<String>)
+        ensures calls { ⟦<ProcessChildren<R> as Children>⟧.call_count self.new ≡ ⟦<ProcessChildren<R> as Children>⟧.call_count self.old }
+        ensures faults { ⟦<ProcessChildren<R> as Children>⟧.fault_count self.new ≡ ⟦<ProcessChildren<R> as Children>⟧.fault_count self.old }
+    {
+        self.stations.link(places);
     }
 
     /// Of each child from now on all files are read: none is taken for unchanged by its times. For trials of that.

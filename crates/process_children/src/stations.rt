@@ -5,6 +5,7 @@ use crate::ending::{Ending, ending_of};
 use crate::first_troubles::FirstTroubles;
 use crate::keep::keep_as;
 use crate::known_files::KnownFiles;
+use crate::links::Wanted;
 use crate::read_back::read_back;
 use crate::scratch_folder::{AtEnd, ScratchFolder};
 use crate::start::start;
@@ -25,6 +26,7 @@ pub(crate) struct Stations<R: Files<File = File> + AllocGlobal + Drop> {
     scratch: Option<ScratchFolder>,
     known: KnownFiles,
     calls: Option<String>,
+    links: Vec<String>,
     at_end: AtEnd,
     troubles: FirstTroubles,
 }
@@ -38,12 +40,14 @@ impl<R: Files<File = File> + AllocGlobal + Drop> Stations<R> {
         at_end: AtEnd,
     ) -> Stations<R> {
         let known = KnownFiles::new(runtime.alloc());
+        let links = Vec::new(runtime.alloc());
         Stations {
             runtime,
             folder,
             scratch: None,
             known,
             calls,
+            links,
             at_end,
             troubles: FirstTroubles::new(),
         }
@@ -52,6 +56,11 @@ impl<R: Files<File = File> + AllocGlobal + Drop> Stations<R> {
     /// From now on no file is known.
     pub(crate) fn read_everything(&mut self) {
         self.known = KnownFiles::none_ever(self.runtime.alloc());
+    }
+
+    /// From now on the folder of a child has links to these places.
+    pub(crate) fn link(&mut self, places: Vec<String>) {
+        self.links = places;
     }
 
     /// What was in the way first.
@@ -67,6 +76,7 @@ impl<R: Files<File = File> + AllocGlobal + Drop> Stations<R> {
             scratch,
             known: _,
             calls: _,
+            links: _,
             at_end,
             troubles: _,
         } = self;
@@ -110,7 +120,9 @@ impl<R: Files<File = File> + Processes<Started = SystemProcess> + AllocGlobal + 
         let mut piece = vec![in alloc; 0u8; PIECE_BYTES]?;
         let piece = piece.as_mut_slice();
         let (place, known) = (scratch.place(), &mut self.known);
-        let laid = keep_as(&self.runtime, alloc, place, tree, known, piece);
+        let links = self.links.as_slice();
+        let wanted = Wanted { tree, links };
+        let laid = keep_as(&self.runtime, alloc, place, wanted, known, piece);
         let mut laid = self.troubles.note_files(laid)?;
         self.known.child_starts(laid.found());
         let inside = at_place(alloc, place, laid.own.inside(""));

@@ -22,7 +22,7 @@ pub const LOCK: &str = ".hookhost/lock";
 pub const SCRATCH: &str = ".hookhost/scratch";
 
 /// The folder that holds them.
-pub(crate) const FOLDER: &str = ".hookhost";
+pub const FOLDER: &str = ".hookhost";
 
 // The last descriptor of a standard stream.
 const LAST_STREAM: i32 = 2;

@@ -18,7 +18,7 @@ mod repository_fault;
 
 pub use connect::DatabaseFile;
 pub use database::{Before, Database, DatabaseOver, leave_database, open_database, open_store};
-pub use folder::{LOCK, Lock, SCRATCH, STORE, look_at_store, take_lock};
+pub use folder::{FOLDER, LOCK, Lock, SCRATCH, STORE, look_at_store, take_lock};
 pub use kept_out::{keep_out_of_git, replace_ignore_file};
 pub use new_repository::init;
 pub use repository_fault::RepositoryFault;

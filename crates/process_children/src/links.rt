@@ -1,0 +1,44 @@
+//! Links at the top of the scratch folder, which lead to what is installed beside the files of a tree.
+
+use crate::own_files::OwnFiles;
+use crate::search::belongs;
+use hook_base::Tree;
+use std::alloc::Global;
+use std::fs::Files;
+use std::os::unix::fs::symlink;
+use std::{fs, io};
+
+/// What a scratch folder is to hold.
+#[derive(Clone, Copy, Debug)]
+pub(crate) struct Wanted<'a> {
+    /// The files.
+    pub tree: &'a Tree,
+    /// The places that links lead to, each of the name that its place ends with.
+    pub links: &'a [String],
+}
+
+/// The last name of a place.
+pub(crate) fn last_name(place: &str) -> &str {
+    match place.rsplit_once('/') {
+        Some((_, name)) => name,
+        None => place,
+    }
+}
+
+/// Makes a link of the name that a place ends with. None where the tree has that name, or where nothing stands at the place.
+/// What stood under the name is gone by now.
+pub(crate) fn make_link<R: Files>(
+    files: &R,
+    alloc: Global,
+    own: &mut OwnFiles<'_>,
+    tree: &Tree,
+    leads_to: &str,
+) -> io::Result<()> {
+    let name = last_name(leads_to);
+    let is_of_tree = belongs(alloc, tree, "", name.as_bytes())?;
+    if is_of_tree || fs::metadata(files, leads_to).is_err() {
+        return Ok(());
+    }
+    let place = own.place(name)?;
+    symlink(files, leads_to, place.as_str())
+}
