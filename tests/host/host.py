@@ -35,12 +35,13 @@ import host_log
 import host_names
 import host_put_kills
 import host_runs
+import host_tracked
 import host_unusable
 import host_version_1
 from host_program import Wrong
 
 KILLS = [host_kills, host_put_kills, host_limit, host_version_1]
-OTHERS = [host_names, host_unusable, host_folder, host_checkout, host_calls, host_at_once, host_log, host_files, host_runs, host_links, host_explain, host_answers]
+OTHERS = [host_names, host_unusable, host_folder, host_checkout, host_tracked, host_calls, host_at_once, host_log, host_files, host_runs, host_links, host_explain, host_answers]
 TOPICS = {"": OTHERS + KILLS, "--no-kills": OTHERS, "--kills": KILLS}
 
 

@@ -8,8 +8,10 @@ ghost use Rattle.hookhost.specs.Works.{IsWork};
 use crate::hint::{FIXES, hint, hint_undone, is_heard};
 use crate::names::names_of;
 use crate::refusal_hints::{Need, hint_need, need_of};
+use crate::runs::RealChildren;
 use crate::shown_hooks::show_staged_hooks;
 use crate::stop::{Stop, tell};
+use crate::tracked_store::distrust;
 use crate::trouble::tell_trouble;
 use crate::undone_fix::undone_fix;
 use crate::unstaged_words::{is_folder_of_none, unstaged_below, unstaged_by};
@@ -175,18 +177,33 @@ fn answer<S: Alter + Drop>(rt: &HostRuntime, work: Work, host: &mut Host<S>) -> 
             line,
             skip,
             children,
-        } => {
-            let (skip, mut children) = (skip.as_slice(), children);
-            show_staged_hooks(rt, &line, skip, host.store(), &mut children);
-            let status = call(rt, &line, &[], skip, host, &mut children);
-            if status != REFUSED {
-                tell_trouble(rt, &children);
-            }
-            status
-        }
+        } => answer_hooks(rt, &line, skip.as_slice(), children, host),
         Work::Stage(edits) => stage(rt, edits.as_slice(), host),
         Work::Unstage(words) => unstage(rt, words.as_slice(), host),
     }
+}
+
+// The call of a line that runs hooks.
+fn answer_hooks<S: Alter + Drop>(
+    rt: &HostRuntime,
+    line: &Line,
+    skip: &[Text],
+    children: RealChildren,
+    host: &mut Host<S>,
+) -> u8
+    requires { IsOverHost line.now }
+    ensures { (result ≡ 0) ⊎ (result ≡ 1) ⊎ (result ≡ 3) }
+{
+    if let Err(refusal) = distrust(rt, host) {
+        return tell(rt, &Stop::RefusedCommand(refusal));
+    }
+    let mut children = children;
+    show_staged_hooks(rt, line, skip, host.store(), &mut children);
+    let status = call(rt, line, &[], skip, host, &mut children);
+    if status != REFUSED {
+        tell_trouble(rt, &children);
+    }
+    status
 }
 
 // Takes out what the words name. Where the first names the working folder, and nothing is staged, that is refused first.

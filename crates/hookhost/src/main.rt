@@ -22,6 +22,7 @@ mod stop;
 mod stop_hints;
 mod terminal;
 mod trouble;
+mod tracked_store;
 mod undone_fix;
 mod unstaged_words;
 mod work;

@@ -1,0 +1,43 @@
+//! A store that Git tracks. It came with a checkout, so whoever wrote that may have written what the store remembers, and a few edits
+//! make it tell any hook as passed.
+
+use commit_flow::{Host, HostRefusal};
+use repository_files::{FOLDER, is_in_checkout};
+use sqlite::Alter;
+use std::alloc::{AllocError, Global};
+use std::io;
+use std::process::Command;
+
+// What is said where something was remembered.
+const NOT_TRUSTED: &str =
+    "hookhost: Git tracks .hookhost, or doesn't say: what is remembered there isn't used (git rm -r --cached .hookhost)";
+
+/// Forgets what the store remembers where Git tracks it, or where that can't be told, and says so. A refusal leaves all as it was.
+pub(crate) fn distrust<S: Alter + Drop>(
+    rt: &HostRuntime,
+    host: &mut Host<S>,
+) -> Result<(), HostRefusal> {
+    if host.remembered() > 0 && may_be_tracked(rt) {
+        let _count = host.forget()?;
+        let _said = rt.eprintln(NOT_TRUSTED);
+    }
+    Ok(())
+}
+
+fn may_be_tracked(rt: &HostRuntime) -> bool {
+    is_in_checkout(rt) && !is_untracked(rt, rt.alloc()).unwrap_or(false)
+}
+
+// Whether Git says that it tracks nothing in the folder of the repository.
+fn is_untracked(rt: &HostRuntime, alloc: Global) -> io::Result<bool> {
+    let ended = command_of(alloc)?.output(rt)?;
+    Ok(ended.status.success() && ended.stdout.is_empty())
+}
+
+fn command_of(alloc: Global) -> Result<Command, AllocError> {
+    let mut command = Command::new(alloc, "git")?;
+    for word in ["ls-files", "--cached", "--", FOLDER] {
+        let _command = command.arg(word)?;
+    }
+    Ok(command)
+}
