@@ -42,11 +42,13 @@ ENVIRONMENT = [
     ("COLUMNS", "Where standard error is a terminal, it shows a line for the command of a hook that is running, cut to so many \
 columns, else to 80."),
     ("TERM", ["With `TERM=dumb`, "]),
+    ("PRE_COMMIT_COLOR", "always or never: whether a report has colors. Else it has, where standard output is a terminal, TERM isn't dumb and NO_COLOR isn't set."),
+    ("NO_COLOR", "any text: no report has colors, unless PRE_COMMIT_COLOR is always."),
     ("HOOKHOST_TOP", "hookhost-git sets it to the top of the working tree, for hooks. Where it is set, no hint is given."),
-    ("HOOKHOST_SCRATCH", "hookhost-git sets it to the folder in which the commands of hooks run, in place of .hookhost/scratch."),
-    ("HOOKHOST_GIT_CALLS", "hookhost-git sets it to a file in which its own git notes calls that found no repository. A command that made one has \
     ("HOOKHOST_LINKS", "names with colons between, as .venv:node_modules. The commands of hooks find a link of each name to what stands under it \
 in the folder of HOOKHOST_TOP, else in the current folder, but where a file of the run has the name. hookhost-git sets it to the names of hookhost.link."),
+    ("HOOKHOST_SCRATCH", "hookhost-git sets it to the folder in which the commands of hooks run, in place of .hookhost/scratch."),
+    ("HOOKHOST_GIT_CALLS", "hookhost-git sets it to a file in which its own git notes calls that found no repository. A command that made one has \
 given no answer: it is told as a fault, and never remembered."),
 ]
 SEE_ALSO = ["git(1)", "githooks(5)", "hookhost-git(1)", "sqlite3(1)"]

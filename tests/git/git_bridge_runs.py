@@ -1,5 +1,6 @@
 """The words of `hookhost-git run`, what is cached, and what is told of configurations; for tests/git/git_bridge.py."""
 import os
+import re
 
 from git_bridge_repository import (BLANKS, CONFIGURATION, MOST_BYTES, PROGRAM, WORDS, Repository, check, configuration, content, holds_index, made, names_hook, names_in, not_made, quoted,
                                    refused, repository, same, shell)
@@ -145,6 +146,18 @@ def run_tells_what_was_cached(top, env):
     same("not told", (answer.status, names_in(answer), "cache" in answer.out), (0, [], False))
 
 
+def a_report_has_colors_where_they_are_asked_for(top, env):
+    git = repository(top, {**env, "PRE_COMMIT_COLOR": "always"}, "id: ends, name: Ends, language: system, entry: grep -c x, files: a, stages: [pre-commit]", "id: none, name: None, language: system, entry: 'true', files: nowhere")
+    git.add("a", "x\n")
+    answer = git.bridge("run")
+    found = re.findall("\33\\[([0-9;]+)m(\\w+)\33\\[m$", answer.out, re.MULTILINE)
+    same("the colors", (answer.status, found), (0, [("42", "Passed"), ("46;30", "Skipped")]))
+    plain = re.sub("\33\\[[0-9;]*m", "", answer.out)
+    for variables in ({"PRE_COMMIT_COLOR": "never"}, {"PRE_COMMIT_COLOR": "auto"}, {"PRE_COMMIT_COLOR": ""}):
+        git.env = {**env, **variables}
+        same(f"with {variables}", git.bridge("run").out, plain)
+
+
 def answers_of_an_earlier_version_are_forgotten(top, env):
     log = os.path.join(top, "log")
     git = repository(top, env, starts_hook(log, "x_reads: ''"))
@@ -242,5 +255,5 @@ def install_lists_stages(top, env):
 
 CASES = [
     run_takes_an_id, run_takes_files, run_takes_commits, a_failure_is_not_cached, a_hook_counts_each_file_as_read, run_tells_what_was_cached,
-    answers_of_an_earlier_version_are_forgotten, a_large_store_is_made_anew, an_older_program, a_refused_configuration_is_explained, install_lists_stages,
+    a_report_has_colors_where_they_are_asked_for, answers_of_an_earlier_version_are_forgotten, a_large_store_is_made_anew, an_older_program, a_refused_configuration_is_explained, install_lists_stages,
 ]

@@ -59,6 +59,8 @@ class Screen:
         self.wraps, self.pending = True, False
         # The row of the cursor whenever wrapping was turned on again: the lines that were shown.
         self.shown = []
+        # Each color with the text that has it, and the color of what comes next, with the cell where it begins.
+        self.colors, self.color = [], None
         self.left = b""
 
     def take(self, data):
@@ -87,6 +89,11 @@ class Screen:
         elif sequence == b"[K":
             self.rows[self.at[0]] = self.row()[:self.at[1]]
             self.pending = False
+        elif found := re.fullmatch(rb"\[([0-9;]*)m", sequence):
+            if self.color:
+                color, (row, column) = self.color
+                self.colors.append((color, "".join(self.rows[row][column:self.at[1]])))
+            self.color = (found[1].decode(), tuple(self.at)) if found[1] else None
         else:
             raise Wrong(f"the sequence {sequence!r} was not expected")
 
@@ -133,13 +140,13 @@ class Screen:
 class Played:
     """A program whose standard error is a terminal."""
 
-    def __init__(self, folder, words, columns=80, out_too=False, **variables):
+    def __init__(self, folder, words, columns=80, out_too=False, in_too=False, **variables):
         self.end, near = os.openpty()
         fcntl.ioctl(near, termios.TIOCSWINSZ, struct.pack("HHHH", 24, columns, 0, 0))
         environment = {name: text for name, text in os.environ.items() if name not in ("COLUMNS", "TERM", "SKIP")}
         environment.update({"TERM": "xterm", **variables})
         self.out = None if out_too else tempfile.TemporaryFile()
-        self.child = subprocess.Popen([PROGRAM, *words], cwd=folder, stdin=subprocess.DEVNULL, stdout=near if out_too else self.out, stderr=near, env=environment)
+        self.child = subprocess.Popen([PROGRAM, *words], cwd=folder, stdin=near if in_too else subprocess.DEVNULL, stdout=near if out_too else self.out, stderr=near, env=environment)
         os.close(near)
         self.screen, self.bytes = Screen(columns), b""
 
@@ -340,11 +347,42 @@ def nothing_is_shown_without_a_terminal():
     done = subprocess.run([PROGRAM, *words], cwd=folder, stdin=near, stdout=near, stderr=subprocess.PIPE, env={**os.environ, "TERM": "xterm"}, timeout=LIMIT)
     os.close(near)
     equal((done.returncode, done.stderr), (0, b""), "standard error")
-    equal(os.read(end, 65536).decode(), line("A", "Passed") + "\r\n", "standard output")
+    equal(os.read(end, 65536).decode(), line("A", "Passed").replace("Passed", "\33[42mPassed\33[m") + "\r\n", "standard output")
     os.close(end)
     with open("/dev/full", "wb") as full:
         done = subprocess.run([PROGRAM, *words], cwd=folder, stdin=subprocess.DEVNULL, stdout=subprocess.PIPE, stderr=full, timeout=LIMIT)
     equal((done.returncode, done.stdout.decode()), (0, line("A", "Passed") + "\n"), "where standard error takes nothing")
+
+
+def a_report_is_colored_where_a_terminal_shows_it():
+    """By how each hook ended, in the colors of pre-commit, and nothing else is."""
+    hooks = [hook("true", "A"), hook("sh -c 'echo x.Passed.; echo Failed; exit 3'", "B"), hook("true", "C", files="none"), hook("true", "D")]
+    folder, words = folder_of(hooks, ["a.txt"])
+    colors = [("42", "Passed"), ("41", "Failed"), ("46;30", "Skipped")]
+    plain = subprocess.run([PROGRAM, *words], cwd=folder, stdin=subprocess.DEVNULL, capture_output=True, timeout=LIMIT).stdout
+    check(b"\33" not in plain, "colors without a terminal")
+    for variables, wanted in (({}, True), ({"NO_COLOR": ""}, True), ({"NO_COLOR": "1"}, False), ({"PRE_COMMIT_COLOR": "never"}, False), ({"PRE_COMMIT_COLOR": "auto"}, True),
+                              ({"PRE_COMMIT_COLOR": "always", "NO_COLOR": "1"}, True), ({"TERM": "dumb"}, False)):
+        played = Played(folder, words, out_too=True, **variables)
+        equal(played.wait(), 1, "the exit status")
+        equal(played.screen.colors, [*colors, ("42", "Passed")] if wanted else [], f"the colors with {variables}")
+        equal(played.screen.all(), [text.rstrip() for text in plain.decode().split("\n")], f"the screen with {variables}")
+    forced = subprocess.run([PROGRAM, *words], cwd=folder, stdin=subprocess.DEVNULL, capture_output=True, timeout=LIMIT, env={**os.environ, "PRE_COMMIT_COLOR": "always"}).stdout
+    equal(re.sub(rb"\x1b\[[0-9;]*m", b"", forced), plain, "the bytes of a report in colors")
+    equal(re.findall(rb"\x1b\[([0-9;]+)m(\w+)\x1b\[m\n", forced), [(b"42", b"Passed"), (b"41", b"Failed"), (b"46;30", b"Skipped"), (b"42", b"Passed")], "the colors that are asked for")
+
+
+def the_report_alone_is_colored():
+    """A run, and a commit, of a repository are, with the hooks that are skipped as asked, and a file that `cat` prints isn't."""
+    folder, _ = folder_of([hook("true", "A", stages="[pre-commit]"), hook("true", "B", stages="[pre-commit]")], ["a.txt"])
+    os.rename(Path(folder, "c.yaml"), Path(folder, ".pre-commit-config.yaml"))
+    Path(folder, "a.txt").write_text("a.Passed\n")
+    says(folder, ["init"], 0, [])
+    says(folder, ["add", "a.txt", ".pre-commit-config.yaml"], 0, [])
+    for words, wanted in ((["run"], [("42", "Passed"), ("43;30", "Skipped")]), (["cat", "a.txt"], []), (["commit", "-m", "a.Passed"], [("42", "Passed"), ("43;30", "Skipped")]), (["show", "1"], [])):
+        played = Played(folder, words, out_too=True, SKIP="b")
+        equal(played.wait(), 0, "the exit status")
+        equal(played.screen.colors, wanted, f"the colors of {words!r}")
 
 
 def nothing_is_shown_on_a_dumb_terminal():
@@ -393,6 +431,18 @@ def a_hint_says_what_to_do_next():
     ]
     for words, status, lines in steps:
         says(folder, words, status, lines)
+
+
+def a_hint_says_what_is_waited_for():
+    """Without words, where standard input is a terminal too. The byte 4 ends the input."""
+    folder, _ = folder_of([hook("true")], ["a.txt"])
+    played = Played(folder, [], in_too=True)
+    while played.screen.text(0) != "hint: a configuration is read from standard input: hookhost --help says more":
+        check(played.read(), f"the terminal shows {played.screen.all()!r}")
+    os.write(played.end, b"\x04")
+    equal(played.wait(), 3, "the exit status")
+    equal(played.screen.all()[1:], ["hookhost: refused: 2 Config", ""], "the lines")
+    says(folder, [], 3, ["hookhost: refused: 2 Config"])
 
 
 def a_hint_names_the_folder_of_the_repository():
@@ -566,8 +616,9 @@ CASES = [
     names_hooks_that_start_a_file, names_no_hook_of_words_that_no_hook_has, names_the_hooks_of_runs_and_commits, stands_while_the_child_runs, is_cut_to_the_columns_that_are_said, is_one_line_on_a_terminal_that_says_nothing,
     what_columns_says_amiss_is_80, wide_characters_take_two_columns, control_characters_are_shown_as_question_marks, long_commands_are_one_line,
     parts_are_shown_one_by_one, what_a_child_prints_stays_off_the_terminal, a_report_on_the_same_terminal_stands_alone, nothing_is_shown_without_a_terminal,
+    a_report_is_colored_where_a_terminal_shows_it, the_report_alone_is_colored,
     nothing_is_shown_on_a_dumb_terminal, nothing_is_shown_of_hooks_without_children, a_terminal_that_goes_away_changes_nothing,
-    a_hint_says_what_to_do_next, a_hint_names_the_folder_of_the_repository, a_hint_says_where_a_configuration_is_explained,
+    a_hint_says_what_to_do_next, a_hint_says_what_is_waited_for, a_hint_names_the_folder_of_the_repository, a_hint_says_where_a_configuration_is_explained,
     no_hint_is_given_in_git_hooks, a_hint_says_that_a_fix_is_undone, what_is_in_the_way_of_files_is_told, what_cannot_be_started_is_told, a_killed_program_leaves_a_terminal_that_wraps, want_of_memory_for_the_line_loses_no_child,
 ]
 

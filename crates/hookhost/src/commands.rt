@@ -5,6 +5,7 @@ ghost use Rattle.hook_cli.specs.CommandOver.{IsOverHost};
 ghost use Rattle.hookhost.specs.Stops.{IsStopOfLookUp, IsStopOfOpening, IsStopOfUpdate};
 ghost use Rattle.hookhost.specs.Works.{IsWork};
 
+use crate::colored_report::{ColoredReport, wants_colors};
 use crate::hint::{FIXES, hint, hint_undone, is_heard};
 use crate::names::names_of;
 use crate::refusal_hints::{Need, hint_need, need_of};
@@ -285,6 +286,7 @@ fn call<S: Alter + Drop, C: Children>(
     requires { IsOverHost line.now }
     ensures { (result ≡ 0) ⊎ (result ≡ 1) ⊎ (result ≡ 3) }
 {
+    let is_colored = runs_hooks(line) && wants_colors(rt);
     command_over(
         rt.alloc(),
         line,
@@ -292,8 +294,16 @@ fn call<S: Alter + Drop, C: Children>(
         skip,
         host,
         children,
-        &mut io::writer(rt),
+        &mut ColoredReport::new(rt.alloc(), io::writer(rt), is_colored),
         &mut rt.stderr(),
+    )
+}
+
+// Whether the line prints a report.
+fn runs_hooks(line: &Line) -> bool {
+    matches!(
+        line,
+        Line::Update(Update::Run { .. } | Update::Commit { .. })
     )
 }
 

@@ -8,6 +8,10 @@ use std::io::IsTerminal;
 pub(crate) const FIXES: &str =
     "hint: hookhost fixes lists what hooks changed, hookhost accept stages it";
 
+/// What is waited for where no words are given.
+pub(crate) const WAITS: &str =
+    "hint: a configuration is read from standard input: hookhost --help says more";
+
 /// The variable of the environment that Git's hook sets to the top of the working tree. It says itself what comes next, in the words
 /// of Git.
 pub(crate) const TOP: &str = "HOOKHOST_TOP";

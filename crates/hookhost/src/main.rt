@@ -6,14 +6,15 @@ ghost use Rattle.std.specs.Prelude.{◌≡◌};
 ghost use Rattle.hookhost.specs.Stops.{status_of_run};
 
 mod build_stamp;
+mod colored_report;
 mod commands;
 mod explained;
 mod file_tree;
 mod files;
 mod folder_files;
 mod hint;
-mod names;
 mod linked;
+mod names;
 mod refusal_hints;
 mod runs;
 mod shown_hooks;
@@ -21,23 +22,25 @@ mod staged_words;
 mod stop;
 mod stop_hints;
 mod terminal;
-mod trouble;
 mod tracked_store;
+mod trouble;
 mod undone_fix;
 mod unstaged_words;
 mod work;
 
 use build_stamp::{build_line, end_of_program};
+use colored_report::{ColoredReport, wants_colors};
 use commands::{change, look_up};
 use explained::explain_file;
 use files::{read_configuration, read_tree};
+use hint::{WAITS, hint};
 use hook_base::{Items, Text, Tree};
 use hook_cli::{Line, Standalone, TryFault, check_text, line_of, try_over};
-use hook_config::{Stage, read_config_with_node};
+use hook_config::{Config, Stage, read_config_with_node};
 use repository_files::{init, replace_ignore_file};
 use runs::{RealChildren, passing_children};
 use shown_hooks::{AskedHooks, show_hooks};
-use std::io::{Read, Write};
+use std::io::{IsTerminal, Read, Write};
 use std::process::ExitCode;
 use std::rt::Files;
 use std::{env, io, mem};
@@ -67,6 +70,9 @@ fn run(rt: &HostRuntime) -> Result<u8, Stop> {
     match line_of_process(rt) {
         Ok(Some(line)) => do_line(rt, line),
         Ok(None) => {
+            if rt.reader().is_terminal() {
+                hint(rt, WAITS);
+            }
             replace_ignore_file(rt);
             let tree = Tree::new(rt.alloc());
             let passed = report(rt, &mut rt.reader(), &tree, passing_children(rt)?)?;
@@ -136,14 +142,17 @@ fn status_of_run(passed: bool) -> u8
 
 // `check`: reads the working folder's configuration, and prints how many hooks it has and which keys are ignored.
 fn check<R: Files + Print + AllocGlobal>(rt: &R) -> Result<(), Stop> {
-    let alloc = rt.alloc();
-    let bytes = read_configuration(rt, Text::copy_of(alloc, CONFIGURATION)?)?;
-    let read = read_config_with_node(alloc, bytes.as_slice())?;
-    let text = check_text(alloc, &read.config)?;
-    print(rt, text.as_slice()).map_err(|_| Stop::Refused(TryFault::Write))?;
+    let bytes = read_configuration(rt, Text::copy_of(rt.alloc(), CONFIGURATION)?)?;
+    let read = read_config_with_node(rt.alloc(), bytes.as_slice())?;
+    let checked = print_check(rt, &read.config);
     // The process ends next and its memory with it, so the nodes aren't freed one by one before.
     mem::forget(read);
-    Ok(())
+    checked
+}
+
+fn print_check<R: Print + AllocGlobal>(rt: &R, config: &Config) -> Result<(), Stop> {
+    let text = check_text(rt.alloc(), config)?;
+    print(rt, text.as_slice()).map_err(|_| Stop::Refused(TryFault::Write))
 }
 
 // `explain [FILE]`: says what is wrong with a configuration, or what its hooks will do.
@@ -201,7 +210,8 @@ fn report(
     children: RealChildren,
 ) -> Result<bool, Stop> {
     let mut children = children;
-    let passed = try_over(rt.alloc(), reader, &mut io::writer(rt), tree, &mut children);
+    let mut writer = ColoredReport::new(rt.alloc(), io::writer(rt), wants_colors(rt));
+    let passed = try_over(rt.alloc(), reader, &mut writer, tree, &mut children);
     if passed.is_ok() {
         tell_trouble(rt, &children);
     }

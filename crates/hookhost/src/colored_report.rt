@@ -1,0 +1,110 @@
+//! The report in colors, where a terminal shows it: how each hook ended stands at the end of its first line.
+
+use std::alloc::Global;
+use std::env::{self, VarError};
+use std::io::{self, IsTerminal, Write};
+
+// Says `always`, `never` or `auto`, as pre-commit's option `--color` does.
+const WHEN: &str = "PRE_COMMIT_COLOR";
+
+// Whoever sets it, to anything but the empty text, wants no colors.
+const NONE: &str = "NO_COLOR";
+
+// What is put behind a colored word.
+const PLAIN: &[u8] = b"\x1b[m";
+
+// The ends of lines that are colored, and how their word is, with the colors of pre-commit. Of two that fit the first counts.
+const ENDINGS: [(&[u8], &[u8], usize); 4] = [
+    (b".Passed", b"\x1b[42m", 6),
+    (b".Failed", b"\x1b[41m", 6),
+    (b"(no files to check)Skipped", b"\x1b[46;30m", 7),
+    (b".Skipped", b"\x1b[43;30m", 7),
+];
+
+/// Whether standard output wants colors: by `PRE_COMMIT_COLOR`, and else where it is a terminal that knows them and `NO_COLOR` isn't
+/// set.
+pub(crate) fn wants_colors(rt: &HostRuntime) -> bool {
+    match variable(rt, WHEN).as_str() {
+        "always" => true,
+        "never" => false,
+        _ => {
+            rt.stdout().is_terminal()
+                && variable(rt, NONE).is_empty()
+                && variable(rt, "TERM").as_str() != "dumb"
+        }
+    }
+}
+
+// A variable of the environment, empty where it isn't there or can't be read.
+fn variable(rt: &HostRuntime, name: &str) -> String {
+    match env::var(rt, name) {
+        Ok(text) => text,
+        Err(VarError::NotPresent | VarError::NotUnicode | VarError::OutOfMemory) => {
+            String::new(rt.alloc())
+        }
+    }
+}
+
+/// A writer that colors how hooks ended, in the lines that end within what it is handed at once.
+#[derive(Drop)]
+pub(crate) struct ColoredReport<W: Write + Drop> {
+    alloc: Global,
+    writer: W,
+    is_on: bool,
+}
+
+impl<W: Write + Drop> ColoredReport<W> {
+    /// The writer, with colors or without.
+    pub(crate) fn new(alloc: Global, writer: W, is_on: bool) -> Self {
+        ColoredReport {
+            alloc,
+            writer,
+            is_on,
+        }
+    }
+}
+
+impl<W: Write + Drop> Write for ColoredReport<W> {
+    fn write(&mut self, buf: &[u8]) -> io::Result<usize> {
+        if !self.is_on {
+            return self.writer.write(buf);
+        }
+        let colored = colored(self.alloc, buf)?;
+        self.writer.write_all(colored.as_slice())?;
+        Ok(buf.len())
+    }
+
+    fn flush(&mut self) -> io::Result<()> {
+        self.writer.flush()
+    }
+}
+
+fn colored(alloc: Global, text: &[u8]) -> io::Result<Vec<u8>> {
+    let mut colored = Vec::new(alloc);
+    for (i, line) in text.split(|byte| *byte == b'\n').enumerate() {
+        if i > 0 {
+            colored.push(b'\n')?;
+        }
+        push_line(&mut colored, line)?;
+    }
+    Ok(colored)
+}
+
+fn push_line(colored: &mut Vec<u8>, line: &[u8]) -> io::Result<()> {
+    for (end, color, word) in &ENDINGS {
+        if line.ends_with(*end) {
+            return push_ending(colored, line, *color, *word);
+        }
+    }
+    colored.extend_from_slice(line)?;
+    Ok(())
+}
+
+// The line, of which the last word has so many bytes and gets the color.
+fn push_ending(colored: &mut Vec<u8>, line: &[u8], color: &[u8], word: usize) -> io::Result<()> {
+    let (before, word) = line.split_at(line.len().saturating_sub(word));
+    for part in [before, color, word, PLAIN] {
+        colored.extend_from_slice(part)?;
+    }
+    Ok(())
+}
