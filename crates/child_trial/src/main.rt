@@ -56,21 +56,30 @@ fn is_set(rt: &HostRuntime, name: &str, wanted: &str) -> bool {
 }
 
 fn play(rt: &HostRuntime) -> Result<(), Stop> {
-    let mut words = env::args(rt)?;
-    let _program = words.next();
-    let Some(folder) = words.next() else {
-        return Err(Stop::BadLine);
-    };
     let alloc = rt.alloc();
-    let mut play = Play::new(alloc, children_of(rt, folder)?);
+    let mut play = Play::new(alloc, children_of(rt, folder_of(rt)?)?);
     for line in BufReader::new(alloc, rt.reader())?.lines(alloc) {
-        let row = Row::read(alloc, line?.as_str())?;
-        let answer = play.answer_of(&row)?;
-        let line = answer_line(alloc, answer.as_slice())?;
-        let mut writer = io::writer(rt);
-        writer.write_all(line.as_str().as_bytes())?;
-        writer.write_all(b"\n")?;
-        writer.flush()?;
+        play_line(rt, &mut play, line?.as_str())?;
     }
     Ok(())
+}
+
+fn folder_of(rt: &HostRuntime) -> Result<String, Stop> {
+    let mut words = env::args(rt)?;
+    let _program = words.next();
+    words.next().ok_or(Stop::BadLine)
+}
+
+fn play_line(rt: &HostRuntime, play: &mut Play, line: &str) -> Result<(), Stop> {
+    let row = Row::read(rt.alloc(), line)?;
+    let answer = play.answer_of(&row)?;
+    let line = answer_line(rt.alloc(), answer.as_slice())?;
+    Ok(print(rt, line.as_str())?)
+}
+
+fn print(rt: &HostRuntime, line: &str) -> io::Result<()> {
+    let mut writer = io::writer(rt);
+    writer.write_all(line.as_bytes())?;
+    writer.write_all(b"\n")?;
+    writer.flush()
 }

@@ -1,7 +1,7 @@
 //! The text of an outcome.
 
 use child_port::{Answer, Fault, Outcome};
-use hook_base::OutOfMemory;
+use hook_base::{Change, OutOfMemory};
 use std::alloc::{AllocError, Global};
 use trial_rows::Stop;
 
@@ -45,17 +45,21 @@ fn push_answer(alloc: Global, text: &mut String, answer: &Answer) -> Result<(), 
     text.push_str(format!(in alloc; "{status} =")?.as_str())?;
     text.push_str(hex::encode(alloc, answer.output.as_slice())?.as_str())?;
     for change in answer.changes.as_slice() {
-        text.push(' ')?;
-        text.push_str(hex::encode(alloc, change.path.as_str())?.as_str())?;
-        match &change.now {
-            Some(bytes) => {
-                text.push('=')?;
-                text.push_str(hex::encode(alloc, bytes.as_slice())?.as_str())?;
-            }
-            None => text.push('-')?,
-        }
+        push_change(alloc, text, change)?;
     }
     Ok(())
+}
+
+fn push_change(alloc: Global, text: &mut String, change: &Change) -> Result<(), AllocError> {
+    text.push(' ')?;
+    text.push_str(hex::encode(alloc, change.path.as_str())?.as_str())?;
+    match &change.now {
+        Some(bytes) => {
+            text.push('=')?;
+            text.push_str(hex::encode(alloc, bytes.as_slice())?.as_str())
+        }
+        None => text.push('-'),
+    }
 }
 
 fn fault_name(fault: Fault) -> &'static str {

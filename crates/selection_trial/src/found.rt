@@ -15,9 +15,12 @@ pub(crate) fn found(alloc: Global, arguments: &[Vec<u8>]) -> Result<Answer, Stop
         return Err(Stop::BadLine);
     };
     let pattern = pattern_of(alloc, pattern.as_slice())?;
-    let tree = tree_of(alloc, tree.as_slice())?;
-    let found = select_found(alloc, &pattern, &tree)?;
-    if selected_alone(alloc, &pattern, &tree)? == found {
+    found_in(alloc, &pattern, &tree_of(alloc, tree.as_slice())?)
+}
+
+fn found_in(alloc: Global, pattern: &Pattern, tree: &Tree) -> Result<Answer, Stop> {
+    let found = select_found(alloc, pattern, tree)?;
+    if selected_alone(alloc, pattern, tree)? == found {
         Ok(lines_of(alloc, found.as_slice()))
     } else {
         Err(Stop::TwoAnswers)

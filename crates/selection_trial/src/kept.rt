@@ -26,10 +26,16 @@ pub(crate) fn tags_after(alloc: Global, arguments: &[Vec<u8>]) -> Result<Answer,
     let [tree, changes, asked @ ..] = arguments else {
         return Err(Stop::BadLine);
     };
-    let tree = tree_of(alloc, tree.as_slice())?;
-    let changes = changes_of(alloc, changes.as_slice())?;
-    let followed = follow(alloc, &tree, changes.as_slice())?;
+    let followed = followed_of(alloc, tree.as_slice(), changes.as_slice())?;
     tags_shown(alloc, &followed, texts_of(alloc, asked)?.as_slice())
+}
+
+fn followed_of(alloc: Global, tree: &[u8], changes: &[u8]) -> Result<Followed, Stop>
+    ensures { IfOk result (λ followed. followed.tags ≡ tags_of_tree followed.tree) }
+{
+    let tree = tree_of(alloc, tree)?;
+    let changes = changes_of(alloc, changes)?;
+    Ok(follow(alloc, &tree, changes.as_slice())?)
 }
 
 fn follow(alloc: Global, old: &Tree, changes: &[Change]) -> Result<Followed, OutOfMemory>
