@@ -1,6 +1,6 @@
 //! The report in colors, where a terminal shows it: how each hook ended stands at the end of its first line.
 
-use std::alloc::Global;
+use std::alloc::{AllocError, Global};
 use std::env::{self, VarError};
 use std::io::{self, IsTerminal, Write};
 
@@ -69,7 +69,10 @@ impl<W: Write + Drop> Write for ColoredReport<W> {
         if !self.is_on {
             return self.writer.write(buf);
         }
-        let colored = colored(self.alloc, buf)?;
+        let Ok(colored) = colored(self.alloc, buf) else {
+            // Without memory for them the report has no colors.
+            return self.writer.write(buf);
+        };
         self.writer.write_all(colored.as_slice())?;
         Ok(buf.len())
     }
@@ -79,7 +82,7 @@ impl<W: Write + Drop> Write for ColoredReport<W> {
     }
 }
 
-fn colored(alloc: Global, text: &[u8]) -> io::Result<Vec<u8>> {
+fn colored(alloc: Global, text: &[u8]) -> Result<Vec<u8>, AllocError> {
     let mut colored = Vec::new(alloc);
     for (i, line) in text.split(|byte| *byte == b'\n').enumerate() {
         if i > 0 {
@@ -90,7 +93,7 @@ fn colored(alloc: Global, text: &[u8]) -> io::Result<Vec<u8>> {
     Ok(colored)
 }
 
-fn push_line(colored: &mut Vec<u8>, line: &[u8]) -> io::Result<()> {
+fn push_line(colored: &mut Vec<u8>, line: &[u8]) -> Result<(), AllocError> {
     for (end, color, word) in &ENDINGS {
         if line.ends_with(*end) {
             return push_ending(colored, line, *color, *word);
@@ -101,7 +104,12 @@ fn push_line(colored: &mut Vec<u8>, line: &[u8]) -> io::Result<()> {
 }
 
 // The line, of which the last word has so many bytes and gets the color.
-fn push_ending(colored: &mut Vec<u8>, line: &[u8], color: &[u8], word: usize) -> io::Result<()> {
+fn push_ending(
+    colored: &mut Vec<u8>,
+    line: &[u8],
+    color: &[u8],
+    word: usize,
+) -> Result<(), AllocError> {
     let (before, word) = line.split_at(line.len().saturating_sub(word));
     for part in [before, color, word, PLAIN] {
         colored.extend_from_slice(part)?;

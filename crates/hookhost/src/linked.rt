@@ -5,8 +5,9 @@ ghost use Rattle.hookhost.specs.Stops.{IsStopOfVariable};
 
 use crate::hint::TOP;
 use crate::runs::named_by;
-use crate::stop::Stop;
+use crate::stop::{Stop, is_memory};
 use hook_base::{OutOfMemory, PathFault, RepoPath, Text};
+use hook_cli::TryFault;
 use repository_files::FOLDER;
 use std::alloc::Global;
 use std::env;
@@ -35,6 +36,7 @@ fn top_of(rt: &HostRuntime) -> Result<String, Stop>
     }
     match env::current_dir(rt) {
         Ok(folder) => Ok(folder.into_string()),
+        Err(error) if is_memory(&error) => Err(Stop::Refused(TryFault::OutOfMemory)),
         Err(_error) => Err(unusable(rt.alloc())),
     }
 }

@@ -87,8 +87,8 @@ impl Stop {
     }
 }
 
-// Whether the program itself was refused memory: the system's own want of memory has a number.
-fn is_memory(error: &io::Error) -> bool
+/// Whether the program itself was refused memory: the system's own want of memory has a number.
+pub(crate) fn is_memory(error: &io::Error) -> bool
     ensures { IsTrue result ↔ IsNoMemory error.now }
 {
     error.kind() == io::ErrorKind::OutOfMemory && error.raw_os_error().is_none()

@@ -1,6 +1,7 @@
 //! A store that Git tracks. It came with a checkout, so whoever wrote that may have written what the store remembers, and a few edits
 //! make it tell any hook as passed.
 
+use crate::stop::is_memory;
 use commit_flow::{Host, HostRefusal};
 use repository_files::{FOLDER, is_in_checkout};
 use sqlite::Alter;
@@ -17,21 +18,34 @@ pub(crate) fn distrust<S: Alter + Drop>(
     rt: &HostRuntime,
     host: &mut Host<S>,
 ) -> Result<(), HostRefusal> {
-    if host.remembered() > 0 && may_be_tracked(rt) {
+    if host.remembered() > 0 && may_be_tracked(rt)? {
         let _count = host.forget()?;
         let _said = rt.eprintln(NOT_TRUSTED);
     }
     Ok(())
 }
 
-fn may_be_tracked(rt: &HostRuntime) -> bool {
-    is_in_checkout(rt) && !is_untracked(rt, rt.alloc()).unwrap_or(false)
+fn may_be_tracked(rt: &HostRuntime) -> Result<bool, HostRefusal> {
+    match is_in_checkout(rt) {
+        Ok(false) => Ok(false),
+        Err(error) if is_memory(&error) => Err(HostRefusal::OutOfMemory),
+        _ => is_told_tracked(rt),
+    }
 }
 
-// Whether Git says that it tracks nothing in the folder of the repository.
-fn is_untracked(rt: &HostRuntime, alloc: Global) -> io::Result<bool> {
-    let ended = command_of(alloc)?.output(rt)?;
-    Ok(ended.status.success() && ended.stdout.is_empty())
+// What Git says, or that it may be so where that can't be told.
+fn is_told_tracked(rt: &HostRuntime) -> Result<bool, HostRefusal> {
+    match is_tracked(rt) {
+        Ok(is_tracked) => Ok(is_tracked),
+        Err(error) if is_memory(&error) => Err(HostRefusal::OutOfMemory),
+        Err(_error) => Ok(true),
+    }
+}
+
+// Whether Git tracks anything in the folder of the repository, or fails.
+fn is_tracked(rt: &HostRuntime) -> io::Result<bool> {
+    let ended = command_of(rt.alloc())?.output(rt)?;
+    Ok(!(ended.status.success() && ended.stdout.is_empty()))
 }
 
 fn command_of(alloc: Global) -> Result<Command, AllocError> {

@@ -29,9 +29,10 @@ pub(crate) enum Checkout {
     Of(String),
 }
 
-/// Whether the working folder lies in a checkout of Git, or may do so: where that can't be told it counts as if it did.
-pub fn is_in_checkout<R: Files + AllocGlobal>(rt: &R) -> bool {
-    !matches!(find_checkout(rt), Ok(Checkout::None | Checkout::History))
+/// Whether the working folder lies in a checkout of Git. An error where that can't be told, as where what stands for the history is
+/// another user's, or where memory is refused.
+pub fn is_in_checkout<R: Files + AllocGlobal>(rt: &R) -> io::Result<bool> {
+    Ok(matches!(find_checkout(rt)?, Checkout::Of(_)))
 }
 
 /// Looks for the checkout in the working folder and in those above it. An error where that can't be told, as where what stands for
