@@ -43,6 +43,8 @@ REFUSED = re.compile(rb"(hookhost: (refused: \d+ \w+(?: \d+)?|cannot use [\x20-\
                      rb"(hookhost: (at [\x20-\x7e]+|commit \d+ was made)\n)*")
 REPORT = re.compile(rb"^(\w+)\.+(?:\(no files to check\))?(?:Passed|Failed|Skipped)$", re.MULTILINE)
 FAULT = b"\n- fault: "
+# What is said first if it can't be told whether Git tracks the store: what that remembers is forgotten.
+FORGOTTEN = b"hookhost: Git tracks .hookhost, or doesn't say: what is remembered there isn't used (git rm -r --cached .hookhost)\n"
 # What it says of a fault behind its report: what was in the way of files, and what could not be started.
 TROUBLES = re.compile(rb"(hookhost: (?!refused|cannot )[^\n]+: [^\n]+\n)?(hookhost: cannot start [^\n]*: [^\n]+\n)?")
 
@@ -157,7 +159,7 @@ class Scene:
 
     def __init__(self, program, folder, name, base, words, uses=0, behind=0):
         self.program, self.name, self.base, self.words = program, name, base, words
-        self.uses, self.behind = uses, behind
+        self.uses, self.behind, self.forgotten = uses, behind, None
         self.copies, self.by_faults, self.shown = os.path.join(folder, f"model-{name}"), {}, {}
         os.mkdir(self.copies)
         self.before = left_in(base)
@@ -190,6 +192,8 @@ class Scene:
     def judge(self, work, told):
         """What a command left that something stopped, or didn't, in a word. Then the same command is asked for once more, and has to do
         what it does where nothing stops it."""
+        if told.err.startswith(FORGOTTEN):
+            return "forgotten and " + self.where_forgotten().judge(work, told._replace(err=told.err.removeprefix(FORGOTTEN)))
         left = left_in(work)
         place, wanted, then = self.place_of(left, told)
         if left.repository is not None:
@@ -204,6 +208,16 @@ class Scene:
               f"{found.book!r:.900}, wanted {book!r:.900}, and a repository that is {is_it}the wanted one")
         self.check_folder(work)
         return place
+
+    def where_forgotten(self):
+        """The same command where nothing is remembered, of one that starts with something."""
+        check(self.before.answers, f"{self.name}: it forgets, and there is nothing to forget")
+        if self.forgotten is None:
+            folder = tempfile.mkdtemp(dir=self.copies)
+            base = self.copy(folder)
+            ended(told_by([self.program, "forget"], base), ["forget"])
+            self.forgotten = Scene(self.program, folder, self.name, base, self.words, self.uses, self.behind)
+        return self.forgotten
 
     def place_of(self, left, told):
         """Where a command left the repository, and what it says and leaves when it's asked for again."""

@@ -15,7 +15,8 @@ What is left has to be the repository before the command or the one after it, to
 remembered is that behind one of its transactions: each use and each put is one, and so is the migration of a store of version
 1, which leaves version 1 or version 2 with all that was there. A reply that tells of a commit, or of anything that was done,
 tells of what is there. Each answer that is remembered is one that a child told. The same command asked for once more, with
-nothing in its way, does what it does where nothing ever stopped it.
+nothing in its way, does what it does where nothing ever stopped it. A command that can't look for a checkout of
+Git says that it forgets what is remembered, and is then one in a repository that remembers nothing.
 
 Without --all it plays each call that changes something of `commit` and `accept`, of a run that uses answers, of a limit and
 of a migration, and of the others one in several, always the same ones. The log of a killed command holds a change that isn't
