@@ -22,8 +22,10 @@ _hookhost_git() {
       if [[ $before == --from-ref || $before == --to-ref || ( $before == = && $option == --*-ref ) ]]; then
         mapfile -t commits < <(git for-each-ref --format="%(refname:short)" 2> /dev/null)
         _hookhost_git_propose HEAD "${commits[@]}"
+      elif [[ $before == --color || ( $before == = && $option == --color ) ]]; then
+        _hookhost_git_propose auto always never
       elif [[ $word == -* && ! $ended ]]; then
-        _hookhost_git_propose -a --all-files --files --from-ref --to-ref --fresh -v --verbose --show-diff-on-failure -h --help
+        _hookhost_git_propose -a --all-files --files --from-ref --to-ref --fresh -v --verbose --show-diff-on-failure --color -h --help
       elif [[ $option == --files ]]; then
         _hookhost_git_propose_paths
       fi

@@ -37,4 +37,5 @@ complete -c hookhost-git -n '__hookhost_git_is run' -l to-ref -x -a '(__hookhost
 complete -c hookhost-git -n '__hookhost_git_is run' -l fresh -d 'Starts each command, also if its answer is cached'
 complete -c hookhost-git -n '__hookhost_git_is run' -s v -l verbose -d 'Prints what each hook printed, and how many were cached'
 complete -c hookhost-git -n '__hookhost_git_is run' -l show-diff-on-failure -d 'Prints what the hooks changed, if one failed'
+complete -c hookhost-git -n '__hookhost_git_is run' -l color -x -a 'auto always never' -d 'Colors how hooks ended'
 complete -c hookhost-git -n __hookhost_git_takes_files -F

@@ -4,7 +4,7 @@
 Usage: tests/git/git_bridge.py [PROGRAM [PART [PLAYS [FIRST]]]]   (default: crates/hookhost/out/hookhost, all parts, 200 plays from 1 on)
 
 PART is `cases`, `plays`, `kills`, or a part of a case's name.
-First what docs/GIT.md promises, case by case (tests/git/git_bridge_cases.py, .._fixes.py, .._runs.py, .._calls.py, .._served.py, .._keeping.py, .._share.py, .._tools.py, .._links.py and .._partial.py), and what
+First what docs/GIT.md promises, case by case (tests/git/git_bridge_cases.py, .._fixes.py, .._runs.py, .._calls.py, .._served.py, .._keeping.py, .._share.py, .._tools.py, .._links.py, .._partial.py and .._state.py), and what
 README.md shows (tests/git/git_bridge_readme.py). Then random repositories beside copies of them in which pre-commit is the hook
 (tests/git/git_bridge_plays.py), and kills (tests/git/git_bridge_kills.py).
 """
@@ -27,6 +27,7 @@ from git_bridge_repository import Wrong, environment
 from git_bridge_runs import CASES as RUNS
 from git_bridge_served import CASES as SERVED
 from git_bridge_share import CASES as SHARED
+from git_bridge_state import CASES as STATES
 from git_bridge_tools import CASES as TOOLS
 
 PART = sys.argv[2] if len(sys.argv) > 2 else ""
@@ -53,7 +54,7 @@ def in_folder(action):
 
 def run_cases():
     """How many cases there were, and how many failed."""
-    cases = (*CASES, *FIXES, *RUNS, *CALLS, *SERVED, *KEEPING, *SHARED, *TOOLS, *LINKS, *PARTIAL, readme_session)
+    cases = (*CASES, *FIXES, *RUNS, *CALLS, *SERVED, *KEEPING, *SHARED, *TOOLS, *LINKS, *PARTIAL, *STATES, readme_session)
     chosen = [case for case in cases if PART == "cases" or PART in case.__name__]
     failed = [case.__name__ for case in chosen if in_folder(case)]
     for name in failed:

@@ -22,7 +22,7 @@ READERS = [
     (["fish", "--no-execute"], FISH, "(\n"),
 ]
 COMMANDS = ["install", "uninstall", "run", "remove", "hook"]
-OPTIONS = ["--all-files", "--files", "--from-ref", "--fresh", "--help", "--show-diff-on-failure", "--to-ref", "--verbose", "-a", "-h", "-v"]
+OPTIONS = ["--all-files", "--color", "--files", "--from-ref", "--fresh", "--help", "--show-diff-on-failure", "--to-ref", "--verbose", "-a", "-h", "-v"]
 COMMITS = ["HEAD", "main", "side"]
 # A line up to the cursor, and what its last word may become.
 CASES_OF_SHELLS = [
@@ -38,6 +38,7 @@ CASES_OF_SHELLS = [
     ("hookhost-git run --from-ref main --to-ref s", ["side"]),
     ("hookhost-git run id --files m", ["my file.md"]),
     ("hookhost-git run --files 'my file.md' src/", ["src/main.c"]),
+    ("hookhost-git run --color a", ["always", "auto"]),
     ("hookhost-git nope ", []),
 ]
 

@@ -15,11 +15,13 @@ import sys
 import tempfile
 
 sys.path.insert(0, os.path.abspath(f"{__file__}/../../shared"))
-from git_bridge_repository import BRIDGE, Repository, Wrong, check, content, environment, quoted, same, shell
+from git_bridge_repository import BRIDGE, PROGRAM, Repository, Wrong, check, content, environment, quoted, same, shell
 
 PART = sys.argv[2] if len(sys.argv) > 2 else ""
 # What a running command shows, and what takes it away again.
 SHOWN = re.compile(r"(\r|\x1b\[[?0-9;]*[a-zA-Z])+(\[\d+\] [^\x1b\r\n]*)?")
+# How the end of a hook's line is colored, and what ends the color.
+COLORED = re.compile(r"\x1b\[([0-9;]+)m(Passed|Failed|Skipped)\x1b\[m$", re.MULTILINE)
 
 
 class Desk:
@@ -35,6 +37,11 @@ class Desk:
 
     def type(self, *words, **variables):
         """The exit status of a command at the terminal, and what it printed."""
+        status, text = self.type_for_colors(*words, **variables)
+        return status, SHOWN.sub("", text)
+
+    def type_for_colors(self, *words, **variables):
+        """The same with the colors, and with all else that a terminal doesn't print."""
         child, end = pty.fork()
         if child == 0:
             os.chdir(self.git.folder)
@@ -50,7 +57,7 @@ class Desk:
             printed += data
         os.close(end)
         status = os.waitstatus_to_exitcode(os.waitpid(child, 0)[1])
-        return status, SHOWN.sub("", printed.decode(errors="replace").replace("\r\n", "\n"))
+        return status, printed.decode(errors="replace").replace("\r\n", "\n")
 
     def commit(self, *words, **variables):
         """Whether a commit was made, and what was printed."""
@@ -213,7 +220,11 @@ def a_hook_that_names_no_repository_is_refused(desk):
     desk.git.add("a.txt", "secret\n")
     answer = desk.commit()
     not_made(answer, "secrets", "git --git-dir=.git grep -q secret")
-    check("plain....." not in answer[1] or "Passed" not in answer[1], f"a verdict is printed: {answer[1]!r}")
+    # At the terminal a hook's line stands as soon as the hook has ended, and then the last word is that nothing counts.
+    same("the line of the hook that is refused", re.findall("^secrets\\.+(?!Failed)[A-Z].*$", answer[1], re.MULTILINE), [])
+    says(answer[1].strip().splitlines()[-1], "hookhost-git: so nothing counts as checked")
+    elsewhere = desk.git.run(BRIDGE, "run")
+    same("what is printed where no terminal is", (elsewhere.status, elsewhere.out), (3, ""))
     same("what stays cached", desk.git.store("memory").out, "remembered: 0\n")
     made(desk.commit(SKIP="secrets"))
     desk.git.configure(system("fine", shell("git --version > /dev/null && git init --quiet x && git -C x status --short && git diff --no-index a.txt a.txt")))
@@ -311,6 +322,77 @@ def a_run_takes_names_and_options(desk):
     ends(desk.type(BRIDGE, "no", "such", "words"), 2)
 
 
+def lines_are_shown_as_hooks_end(desk):
+    """At a terminal, each once, and the report is the same as elsewhere."""
+    shown = '"${HOOKHOST_GIT_CALLS%/*}/shown"'
+    hooks = [system("first", shell("echo said by the first"), "verbose: true"), system("second", shell(f"grep -q 'said by the first' {shown} && grep -q '^first.*Passed' {shown} && ! grep -q '^second' {shown}"))]
+    desk.starts_with(*hooks, system("third", shell("echo said by the third; exit 1")))
+    desk.git.add("a.txt", "a\n")
+    # Elsewhere nothing is shown before all have ended, so the second hook fails.
+    plain = desk.git.bridge("run")
+    same("elsewhere", (plain.status, plain.out.count("Failed")), (1, 2))
+    for status, text in (desk.type(BRIDGE, "run"), desk.type("git", "commit", "--quiet", "-m", "m")):
+        check(status != 0, f"the third hook passes: {text!r}")
+        same("the lines of hooks", re.findall("^(first|second|third)\\.+(Passed|Failed)$", text, re.MULTILINE), [("first", "Passed"), ("second", "Passed"), ("third", "Failed")])
+        for part in ("said by the first", "said by the third", "- hook id: first", "- hook id: third", "- exit code: 1"):
+            same(f"how often {part!r} is printed in {text!r}", text.count(part), 1)
+    # With standard output elsewhere the report stands there, whole. The second hook's answer is cached by now.
+    status, text = desk.type("sh", "-c", f"{quoted(BRIDGE)} run > report")
+    same("the report in a file", (status, desk.git.read("report").decode()), (1, plain.out.replace("Failed\n- hook id: second\n- exit code: 1\n", "Passed\n")))
+    check("said by" not in text, f"it is at the terminal too: {text!r}")
+    # What follows from all hooks stands at the end.
+    desk.git.configure(*hooks)
+    status, text = desk.run("--verbose")
+    same("the last line", (status, text.rstrip().splitlines()[-1][:-1], text.count("- hook id: second")), (0, "answered from the cache: ", 1))
+
+
+def a_variable_of_ones_own_shows_nothing(desk):
+    desk.starts_with(system("fine", shell('! [ "${HOOKHOST_SHOWN##*/}" = mine ]')))
+    desk.git.add("a.txt", "a\n")
+    mine = os.path.join(desk.top, "mine")
+    same("run", desk.git.bridge("run", env={"HOOKHOST_SHOWN": mine}).status, 0)
+    ends(desk.run("--fresh", HOOKHOST_SHOWN=mine), 0, "fine....")
+    check(not os.path.exists(mine), "the report is written into a file of one's own")
+
+
+def colors_are_chosen(desk):
+    desk.starts_with(system("fine", "entry: 'true'"), system("none", "entry: 'true'", "files: nowhere"), system("left", "entry: 'true'"), system("ends", "entry: 'false'"))
+    desk.git.add("a.txt", "a\n")
+    desk.git.env["SKIP"] = "left"
+    wanted = [("42", "Passed"), ("46;30", "Skipped"), ("43;30", "Skipped"), ("41", "Failed")]
+    for words, variables, at_terminal, elsewhere in (
+        ([], {}, True, False), (["--color=auto"], {}, True, False), (["--color", "always"], {}, True, True), (["--color=never"], {}, False, False),
+        ([], {"NO_COLOR": "1"}, False, False), ([], {"TERM": "dumb"}, False, False), (["--color=always"], {"NO_COLOR": "1", "TERM": "dumb", "PRE_COMMIT_COLOR": "never"}, True, True),
+        ([], {"PRE_COMMIT_COLOR": "always", "NO_COLOR": "1"}, True, True), ([], {"PRE_COMMIT_COLOR": "never"}, False, False), (["--color=never"], {"PRE_COMMIT_COLOR": "always"}, False, False),
+        (["--color=always", "--color", "never"], {}, False, False), (["--files", "a.txt", "--color", "always", "--verbose"], {}, True, True),
+    ):
+        for answer, is_colored in ((desk.type_for_colors(BRIDGE, "run", *words, **variables), at_terminal), (desk.git.bridge("run", *words, env=variables), elsewhere)):
+            status, text = answer if isinstance(answer, tuple) else (answer.status, answer.out)
+            same(f"the colors with {words!r} and {variables!r}", (status, COLORED.findall(text)), (1, wanted if is_colored else []))
+            same(f"what is printed with {words!r} and {variables!r}", SHOWN.sub("", text).count("fine....."), 1)
+    for words in (["--color"], ["--color="], ["--color", "sometimes"], ["--color=Always"], ["--files", "a.txt", "--color"]):
+        ends(desk.run(*words), 2, "hookhost-git: --color takes auto, always or never, and not: ", "Usage: hookhost-git")
+
+
+def colors_of_a_diff(desk):
+    desk.starts_with(system("blanks", "entry: sed -i 's/ *$//'", "files: txt$"))
+    for words, is_colored in (([], False), (["--color=always"], True), (["--color=never"], False)):
+        desk.git.add("a.txt", "a  \n")
+        answer = desk.git.bridge("run", "--show-diff-on-failure", *words)
+        same(f"the diff with {words!r}", (answer.status, "\x1b[" in answer.out.partition("All changes made by hooks:")[2]), (1, is_colored))
+
+
+def a_program_without_colors_is_refused(desk):
+    desk.starts_with(system("fine", "entry: 'true'"))
+    desk.git.add("a.txt", "a\n")
+    desk.tool("older", f'case $* in "run --help") echo "Usage: hookhost run [--cautious] [--fresh]"; exit 2 ;; esac\nexec {quoted(PROGRAM)} "$@"\n')
+    program = os.path.join(desk.tools, "older")
+    for words in (["run"], ["run", "--color=never"], ["install"]):
+        ends(desk.type(BRIDGE, *words, HOOKHOST=program), 3, f"hookhost-git: hookhost is older than hookhost-git, which needs one that knows 'run --color': {program}\n")
+    not_made(desk.commit(HOOKHOST=program), "'run --color'")
+    made(desk.commit())
+
+
 def a_diff_is_shown_on_failure(desk):
     desk.starts_with(system("blanks", "entry: sed -i 's/ *$//'", "files: txt$"))
     desk.git.add("a.txt", "a  \n")
@@ -349,7 +431,7 @@ SESSIONS = [
     tools_find_the_top_of_a_tree, scripts_are_executable, a_lost_folder_removes_nothing, many_files_are_not_removed, a_fix_loses_no_text,
     what_is_left_out_does_not_pass, a_hook_that_calls_git_looks_at_the_commit, a_hook_that_names_no_repository_is_refused, what_cannot_be_started_is_named, variables_name_the_top,
     an_edit_of_a_configuration_file_counts, a_failure_is_not_cached, a_tool_is_installed_and_upgraded, a_second_commit_starts_nothing,
-    a_run_takes_names_and_options, a_diff_is_shown_on_failure, no_hint_leads_out_of_git, a_refused_configuration_is_explained, install_lists_stages,
+    a_run_takes_names_and_options, lines_are_shown_as_hooks_end, a_variable_of_ones_own_shows_nothing, colors_are_chosen, colors_of_a_diff, a_program_without_colors_is_refused, a_diff_is_shown_on_failure, no_hint_leads_out_of_git, a_refused_configuration_is_explained, install_lists_stages,
 ]
 
 

@@ -1,5 +1,6 @@
 """Cases of tests/host/host.py: a store that Git tracks came with a checkout, so nothing that it remembers is used."""
 import os
+import re
 import shutil
 import subprocess
 
@@ -24,10 +25,10 @@ def lay(folder, held):
 
 
 def cached(folder, **how):
-    """How many results of a run came from the cache, and what it says on standard error."""
+    """How many results of a run came from the cache, and what it says on standard error but how long hooks took."""
     status, out, err = run(folder, "run", "--all-files", "--verbose", **how)
     check(status in (0, 1), f"a run is answered {(status, out, err)!r}")
-    return int(out.rpartition(b"answered from the cache: ")[2].split()[0]), err
+    return int(out.rpartition(b"answered from the cache: ")[2].split()[0]), re.sub(rb"(?m)^duration: \S+ [0-9]+\.[0-9]{2}s\n", b"", err)
 
 
 def is_used_unless_git_tracks_it(folder):

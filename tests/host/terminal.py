@@ -236,8 +236,7 @@ def names_hooks_that_start_a_file():
     equal(played.screen.shown, ["[0] 1/4 B: sh b.sh 1 a.txt", "[1] 2/4 C: /usr/bin/env -S sh -u c.py a.txt", "[2] 3/4 D: sh c.py a.txt", "[3] 4/4 E: ./e.sh a.txt"], "the lines that were shown")
 
 
-def names_no_hook_of_words_that_no_hook_has():
-    # Without words the configuration comes by standard input, and is read once.
+def names_the_hooks_of_a_configuration_on_standard_input():
     end, near = os.openpty()
     done = subprocess.Popen([PROGRAM], cwd=folder_of([])[0], stdin=subprocess.PIPE, stdout=subprocess.DEVNULL, stderr=near, env={**os.environ, "TERM": "xterm"})
     os.close(near)
@@ -245,7 +244,12 @@ def names_no_hook_of_words_that_no_hook_has():
     screen = Screen(80)
     screen.take(os.read(end, 65536))
     os.close(end)
-    equal((done.returncode, screen.shown), (0, ["[0] true x"]), "the line")
+    equal((done.returncode, screen.shown), (0, ["[0] 1/1 A: true x"]), "the line")
+
+
+def names_each_of_hooks_with_the_same_words():
+    """The run says which hook a child is of, also if two have the same words and the first has no files."""
+    shows([hook("true", "A", files="none"), hook("true", "B", files="^a"), hook("true", "C", files="^b")], ["a.txt", "b.txt"], ["[0] 2/3 B: true a.txt", "[1] 3/3 C: true b.txt"])
 
 
 def names_the_hooks_of_runs_and_commits():
@@ -338,6 +342,83 @@ def a_report_on_the_same_terminal_stands_alone():
     equal(played.wait(), 1, "the exit status")
     equal(len(played.screen.shown), 3, "how many lines were shown")
     equal(played.screen.all(), [text.rstrip() for text in wanted.stdout.decode().split("\n")], "the screen")
+
+
+def waits_for(name):
+    return f"sh -c 'until [ -e {BASE}/{name} ]; do sleep 0.01; done'"
+
+
+def the_report_comes_as_hooks_end():
+    """What it says of a hook stands on the screen before the next one ends, in colors, and in the end the screen has the report alone."""
+    fails = hook("sh -c 'echo said; exit 3'", "B")
+    for number, (words, stages) in enumerate([(["try", "c.yaml", "a.txt"], ""), (["run"], ""), (["commit", "-m", "first"], "[pre-commit, commit-msg]")]):
+        hooks = [hook("true", "A"), hook("no", "F", files="none").replace("system", "fail"), fails, hook(waits_for(f"end-{number}"), "C", pass_filenames="false", always_run="true"), hook("true again", "D")]
+        hooks = [it + f"    stages: {stages}\n" for it in hooks] if stages else hooks
+        folder, _ = folder_of(hooks, ["a.txt"])
+        shutil.copy(Path(folder, "c.yaml"), Path(folder, ".pre-commit-config.yaml"))
+        for setting in (["init"], ["add", "."]):
+            says(folder, setting, 0, [])
+        played = Played(folder, words, out_too=True)
+        while len(played.screen.shown) < 3:
+            check(played.read(), f"{words!r} ended: {played.screen.all()!r}")
+        begun = [line("A", "Passed"), line("F", "(no files to check)Skipped"), line("B", "Failed"), "- hook id: b", "- exit code: 3", "", "said", ""]
+        equal(played.screen.all()[:len(begun)], begun, f"the screen while {words!r} runs")
+        equal(played.screen.colors, [("42", "Passed"), ("46;30", "Skipped"), ("41", "Failed")], f"the colors while {words!r} runs")
+        Path(BASE, f"end-{number}").touch()
+        equal(played.wait(), 1, f"the exit status of {words!r}")
+        equal(played.screen.all(), [*begun, line("C", "Passed"), line("D", "Passed"), ""], f"the screen after {words!r}")
+
+
+def the_report_comes_in_git_hooks():
+    """By a variable it is shown on standard error too, and what is shown there is noted in a file; standard output has all of it."""
+    folder, words = folder_of([hook("true", "A"), hook(waits_for("go-on"), "B", pass_filenames="false"), hook("true", "C")], ["a.txt"])
+    noted = Path(BASE, "noted")
+    noted.write_text("")
+    played = Played(folder, [*words[:1], "--color=always", *words[1:]], HOOKHOST_SHOWN=str(noted))
+    while len(played.screen.shown) < 2:
+        check(played.read(), f"it ended: {played.screen.all()!r}")
+    equal(played.screen.all()[0], line("A", "Passed"), "the screen while it runs")
+    Path(BASE, "go-on").touch()
+    equal(played.wait(), 0, "the exit status")
+    equal(played.printed(), noted.read_text(), "what is noted")
+    equal(re.sub("\x1b\\[[0-9;]*m", "", played.printed()), "".join(line(name, "Passed") + "\n" for name in "ABC"), "the report")
+    equal(played.screen.all(), [line(name, "Passed") for name in "ABC"] + [""], "the screen in the end")
+    # Without the file, and without a terminal, nothing is shown.
+    played = Played(folder, words, HOOKHOST_SHOWN=str(Path(BASE, "nowhere")))
+    equal((played.wait(), played.screen.all()), (0, [""]), "where the file isn't there")
+    noted.write_text("")
+    done = subprocess.run([PROGRAM, *words], cwd=folder, stdin=subprocess.DEVNULL, capture_output=True, timeout=LIMIT, env={**os.environ, "HOOKHOST_SHOWN": str(noted)})
+    equal((done.returncode, done.stderr, noted.read_text()), (0, b"", ""), "without a terminal")
+
+
+def a_verbose_run_tells_durations():
+    """Of each hook whose commands were started, on standard error, once it has ended; of no other."""
+    folder, _ = folder_of([hook("sleep 0.3", "A", pass_filenames="false"), hook("no", "F", files="none"), hook("sh -c 'exit 2'", "B"), hook("true", "C")], ["a.txt"])
+    os.rename(Path(folder, "c.yaml"), Path(folder, ".pre-commit-config.yaml"))
+    for setting in (["init"], ["add", "."]):
+        says(folder, setting, 0, [])
+    for words, told in ((["run", "--verbose"], ["a 0.3", "b 0.0", "c 0.0"]), (["run", "--verbose"], []), (["run", "--fresh"], []), (["run", "--fresh", "--verbose"], ["a 0.3", "b 0.0", "c 0.0"])):
+        done = subprocess.run([PROGRAM, *words], cwd=folder, stdin=subprocess.DEVNULL, capture_output=True, timeout=LIMIT)
+        found = done.stderr.decode().splitlines()
+        check(all(re.fullmatch(r"duration: [abc] [0-9]+\.[0-9]{2}s", text) for text in found), f"{words!r} tells {found!r}")
+        equal([text.split()[1] for text in found], [text.split()[0] for text in told], f"the hooks of which {words!r} tells")
+        for text, least in zip(found, told):
+            check(float(text.split()[2][:-1]) >= float(least.split()[1]), f"{words!r} tells {text!r}")
+
+
+def the_option_decides_on_colors():
+    folder, words = folder_of([hook("true", "A", stages="[pre-commit]")], ["a.txt"])
+    shutil.copy(Path(folder, "c.yaml"), Path(folder, ".pre-commit-config.yaml"))
+    for setting in (["init"], ["add", "."]):
+        says(folder, setting, 0, [])
+    for one in (["try", "c.yaml", "a.txt"], ["run"], ["run-files", "a.txt"], ["commit", "-m", "m"]):
+        for choice, variables, wanted in (("always", {"NO_COLOR": "1", "PRE_COMMIT_COLOR": "never"}, True), ("never", {"PRE_COMMIT_COLOR": "always"}, False), ("auto", {}, False), ("auto", {"PRE_COMMIT_COLOR": "always"}, True)):
+            copy = shutil.copytree(folder, tempfile.mkdtemp(dir=BASE), dirs_exist_ok=True)
+            done = subprocess.run([PROGRAM, one[0], f"--color={choice}", *one[1:]], cwd=copy, stdin=subprocess.DEVNULL, capture_output=True, timeout=LIMIT, env={**os.environ, **variables})
+            equal((done.returncode, b"\33[42mPassed\33[m\n" in done.stdout), (0, wanted), f"{one!r} with --color={choice} and {variables}")
+            equal(b"\33" in done.stdout, wanted, f"escapes of {one!r} with --color={choice} and {variables}")
+    played = Played(folder, ["run", "--color=never"], out_too=True)
+    equal((played.wait(), played.screen.colors), (0, []), "at a terminal")
 
 
 def nothing_is_shown_without_a_terminal():
@@ -613,10 +694,12 @@ def want_of_memory_for_the_line_loses_no_child():
 
 CASES = [
     shows_each_child_and_how_many_came_before, shows_none_where_an_answer_is_remembered, names_the_hooks_that_start_children_by_their_place,
-    names_hooks_that_start_a_file, names_no_hook_of_words_that_no_hook_has, names_the_hooks_of_runs_and_commits, stands_while_the_child_runs, is_cut_to_the_columns_that_are_said, is_one_line_on_a_terminal_that_says_nothing,
+    names_hooks_that_start_a_file, names_the_hooks_of_a_configuration_on_standard_input,
+    names_each_of_hooks_with_the_same_words, names_the_hooks_of_runs_and_commits, stands_while_the_child_runs, is_cut_to_the_columns_that_are_said, is_one_line_on_a_terminal_that_says_nothing,
     what_columns_says_amiss_is_80, wide_characters_take_two_columns, control_characters_are_shown_as_question_marks, long_commands_are_one_line,
     parts_are_shown_one_by_one, what_a_child_prints_stays_off_the_terminal, a_report_on_the_same_terminal_stands_alone, nothing_is_shown_without_a_terminal,
-    a_report_is_colored_where_a_terminal_shows_it, the_report_alone_is_colored,
+    a_report_is_colored_where_a_terminal_shows_it, the_report_alone_is_colored, the_report_comes_as_hooks_end, the_report_comes_in_git_hooks,
+    a_verbose_run_tells_durations, the_option_decides_on_colors,
     nothing_is_shown_on_a_dumb_terminal, nothing_is_shown_of_hooks_without_children, a_terminal_that_goes_away_changes_nothing,
     a_hint_says_what_to_do_next, a_hint_says_what_is_waited_for, a_hint_names_the_folder_of_the_repository, a_hint_says_where_a_configuration_is_explained,
     no_hint_is_given_in_git_hooks, a_hint_says_that_a_fix_is_undone, what_is_in_the_way_of_files_is_told, what_cannot_be_started_is_told, a_killed_program_leaves_a_terminal_that_wraps, want_of_memory_for_the_line_loses_no_child,

@@ -109,7 +109,7 @@ OF_PREPARED = (4, 1, 4, 1)
 OF_COMMAND = (4, 1)
 # How many allocations at the beginning and the end are refused, and how many between, of a command on a repository, most of
 # whose allocations open the store, and of a run that starts children.
-OF_STORE, OF_CHILDREN = (150, 300), (40, 160)
+OF_STORE, OF_CHILDREN = (220, 300), (40, 160)
 
 
 @dataclass

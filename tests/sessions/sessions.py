@@ -16,7 +16,7 @@ A session file holds cases. `== NAME` begins a case, in an empty folder. Within 
   -- stdin PATH     the file's content is, or the folder itself, which can't be read
   -- run WORD ..    runs `hookhost WORD ..`, the words cut as a shell cuts them
   -- run-bytes WORD ..   the same with Python's escapes, the words cut at blanks, for words that no text file keeps
-  -- stdout, -- stderr   what that command printed there, to the byte (nothing where left out)
+  -- stdout, -- stderr   what that command printed there, to the byte (nothing where left out); how long a hook took is N
   -- stdout bytes   the same of standard output with Python's escapes; line ends are as written
   -- stdout build   the same of standard output, and then the line that the end of the program's file says of its build
   -- shown in PATH  what it printed stands in that file of the repository, to the byte
@@ -38,6 +38,7 @@ in the scratch folder of the commands of hooks isn't looked at, nor is the folde
 """
 import fcntl
 import os
+import re
 import shlex
 import shutil
 import sqlite3
@@ -61,6 +62,8 @@ REPOSITORY = ("staged", "fixes", "commits", "entries")
 # What `meta` has in a store of an earlier version.
 EARLIER = [("version", 1)]
 CHANGING = ("init", "add", "rm", "accept", "run", "run-files", "commit", "forget")
+# A line that tells how long a hook took.
+DURATION = re.compile(rb"^(duration: .* )[0-9]+\.[0-9]{2}s$", re.MULTILINE)
 
 
 def unescaped(text):
@@ -208,7 +211,8 @@ def run(command):
         return f"what it printed isn't in {command['shown']}"
     if command["part"] is not None:
         return None if command["part"] in done.stderr else f"{command['part']!r} isn't in {done.stderr[:600]!r}"
-    return None if done.stderr == command["stderr"] else f"standard error {done.stderr[:600]!r}, wanted {command['stderr'][:600]!r}"
+    said = DURATION.sub(rb"\1N", done.stderr)
+    return None if said == command["stderr"] else f"standard error {said[:600]!r}, wanted {command['stderr'][:600]!r}"
 
 
 def look(kind, what, body):

@@ -2,7 +2,7 @@
 //!
 //! [`line_of_child`] is that line as bytes, and [`line_of_hook`] where it is known which hook the child is of. `ShownChildren` is
 //! the trait `Children` over other children, and shows the line of each while it runs; it tells what they tell. Which hook that is
-//! it knows of the [`ShownHook`]s that it is given. The contracts cite `specs/Lines.antt` and `specs/ShownHooks.antt`.
+//! the run says. The contracts cite `specs/Lines.antt`.
 #![tactic(auto)]
 
 mod columns;

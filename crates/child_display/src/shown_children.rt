@@ -4,9 +4,8 @@ ghost use Rattle.std.specs.Prelude.{◌≡◌};
 
 use crate::ShownHook;
 use crate::line::{clearing, line_of_child, line_of_hook};
-use crate::shown_hook::{hook_at, place_from};
-use child_port::{Children, Outcome};
-use hook_base::{Items, OutOfMemory, Text, Tree};
+use child_port::{Children, News, Outcome};
+use hook_base::{OutOfMemory, Text, Tree};
 use std::alloc::Global;
 use std::io::Write;
 
@@ -22,22 +21,21 @@ pub struct Terminal<W> {
 }
 
 /// Children that hand each call on to others, and show its command on a terminal while they run it, where there is one:
-/// the line of `line_of_child`, or of `line_of_hook` where a hook's words begin those of the child, which is cleared when the call
-/// has ended. What a terminal doesn't take isn't shown, and nothing where memory is refused.
+/// the line of `line_of_hook`, or of `line_of_child` where no run has said which hook its children are of, which is cleared when the
+/// call has ended. What a terminal doesn't take isn't shown, and nothing where memory is refused.
 #[derive(Debug, Drop)]
 pub struct ShownChildren<C: Children, W: Write> {
     inner: C,
     terminal: Option<Terminal<W>>,
-    hooks: Items<ShownHook>,
-    // The index of the hook that the last child was of. No later child is of one before it.
-    present: usize,
+    // The hook that the next child is of.
+    hook: Option<ShownHook>,
 }
 
 impl<C: Children, W: Write> ShownChildren<C, W> {
     ghost use Rattle.child_port.specs.Telling.{SameTells};
 
-    /// The children, shown on the terminal, or on none. Of hooks the line says nothing.
-    pub fn new(alloc: Global, inner: C, terminal: Option<Terminal<W>>) -> Self
+    /// The children, shown on the terminal, or on none.
+    pub fn new(inner: C, terminal: Option<Terminal<W>>) -> Self
         ensures tells { SameTells (C.tells inner) (⟦<ShownChildren<C, W> as Children>⟧.tells result) }
         ensures calls { ⟦<ShownChildren<C, W> as Children>⟧.call_count result ≡ C.call_count inner }
         ensures faults { ⟦<ShownChildren<C, W> as Children>⟧.fault_count result ≡ C.fault_count inner }
@@ -45,19 +43,8 @@ impl<C: Children, W: Write> ShownChildren<C, W> {
         ShownChildren {
             inner,
             terminal,
-            hooks: Items::new(alloc),
-            present: 0,
+            hook: None,
         }
-    }
-
-    /// From now on children may be of these hooks, which run in this order.
-    pub fn show_hooks(&mut self, hooks: Items<ShownHook>)
-        ensures tells { SameTells (⟦<ShownChildren<C, W> as Children>⟧.tells self.old) (⟦<ShownChildren<C, W> as Children>⟧.tells self.new) }
-        ensures calls { ⟦<ShownChildren<C, W> as Children>⟧.call_count self.new ≡ ⟦<ShownChildren<C, W> as Children>⟧.call_count self.old }
-        ensures faults { ⟦<ShownChildren<C, W> as Children>⟧.fault_count self.new ≡ ⟦<ShownChildren<C, W> as Children>⟧.fault_count self.old }
-    {
-        self.hooks = hooks;
-        self.present = 0;
     }
 
     /// The children themselves.
@@ -84,9 +71,7 @@ impl<C: Children, W: Write> Children for ShownChildren<C, W> {
         let Some(terminal) = &mut self.terminal else {
             return self.inner.run(words, tree, seen);
         };
-        let place = place_from(self.hooks.as_slice(), self.present, words);
-        self.present = place.unwrap_or(self.present);
-        terminal.show(hook_at(self.hooks.as_slice(), place), words, before);
+        terminal.show(self.hook.as_ref(), words, before);
         let outcome = self.inner.run(words, tree, seen);
         terminal.clear();
         outcome
@@ -98,6 +83,33 @@ impl<C: Children, W: Write> Children for ShownChildren<C, W> {
 
     fn faults(&self) -> u64 {
         self.inner.faults()
+    }
+
+    fn hears(&self) -> bool {
+        self.terminal.is_some()
+    }
+
+    fn hear(&mut self, news: News) {
+        let (
+            Some(terminal),
+            News::Hook {
+                place,
+                hooks,
+                name,
+                ..
+            },
+        ) = (&self.terminal, news)
+        else {
+            return;
+        };
+        self.hook = match Text::copy_of(terminal.alloc, name) {
+            Ok(name) => Some(ShownHook {
+                name,
+                place,
+                stage_hooks: hooks,
+            }),
+            Err(OutOfMemory) => None,
+        };
     }
 }
 

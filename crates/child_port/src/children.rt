@@ -1,6 +1,6 @@
 //! The trait of whatever starts children.
 
-use crate::Outcome;
+use crate::{News, Outcome};
 use hook_base::{OutOfMemory, Text, Tree};
 
 /// Whatever starts children and tells what became of each.
@@ -42,6 +42,19 @@ pub trait Children {
     /// How many of the outcomes that it has told were faults.
     fn faults(&self) -> u64
         ensures { result ≡ fault_count self.now };
+
+    /// Whether it hears what a run says of itself. Where it doesn't, as by default, nothing need be said.
+    fn hears(&self) -> bool {
+        false
+    }
+
+    /// Hears what a run says of itself while it goes on, and by default does nothing. It decides nothing: which outcomes it may
+    /// tell stays, and nothing counts as told.
+    fn hear(&mut self, _news: News)
+        ensures calls { call_count self.new ≡ call_count self.old }
+        ensures faults { fault_count self.new ≡ fault_count self.old }
+        ensures same { SameTells (tells self.old) (tells self.new) }
+    {}
 
     /// Each fault is one of the outcomes.
     ghost faults_at_most_calls: { (children : Self) → fault_count children ≤ call_count children };

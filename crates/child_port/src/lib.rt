@@ -1,7 +1,8 @@
 //! The children that a run starts: what one answers, how it can fail, and the trait `Children` of whatever starts them.
 //!
 //! `Outcome` is what became of one child, `Answer` what a completed one gave, `Fault` how it failed. [`seen_of`] says which
-//! files a child has seen, [`is_stray`] whether an answer changes others, and [`plain_word`] which path a word may be.
+//! files a child has seen, [`is_stray`] whether an answer changes others, and [`plain_word`] which path a word may be. `News` is what
+//! a run says of itself while it goes on.
 //! `TableChildren` answers by a table of `TableRow`s, and `FuseChildren` as others do but for one call. The contracts cite
 //! `specs/Telling.antt`, `specs/Outcomes.antt`, `specs/Seen.antt`, `specs/Tables.antt`, `specs/Fuses.antt` and
 //! `specs/Limits.antt`. [`laws`] says that the limit of the code is that of the definitions.
@@ -14,6 +15,7 @@ mod fuse;
 mod indexed_files;
 pub mod laws;
 mod limits;
+mod news;
 mod path_index;
 mod seen;
 mod seen_indexes;
@@ -27,6 +29,7 @@ pub use children::Children;
 pub use fault::Fault;
 pub use fuse::FuseChildren;
 pub use limits::MOST_OUTPUT_BYTES;
+pub use news::News;
 pub use seen::{is_stray, seen_of};
 pub use table::TableChildren;
 pub use table_row::TableRow;

@@ -54,20 +54,23 @@ module _ {Z : Type 0} where
   command-met (Some p) None name rows = cc
   command-met (Some p) (Some b) name rows = ap₂ (λ (n : Text) (r : List Row). Some (n, r)) (some-is _ _ name) (some-is _ _ rows)
 
--- ---- two values more
+-- ---- three values more
 
 or-false : (b : Bool) → (b || false) ≡ b
 or-false true = refl
 or-false false = refl
 
--- values that no command below takes too change nothing of whether there are such
-pub still-local : {E : Type 0} (old between : Command) (first second : Arg) (result : Result Command E) → AddsArg old first between
-    → first.global ≡ false → IfOk result (λ made. AddsArg between second made) → second.global ≡ false
+-- a value that no command below takes too changes nothing of whether there are such
+one-local : (old made : Command) (arg : Arg) → AddsArg old arg made → arg.global ≡ false → (out-Command made).has_globals ≡ (out-Command old).has_globals
+one-local old made arg adds local = adds.globals ∙ ap (λ (g : Bool). (out-Command old).has_globals || g) local ∙ or-false _
+
+-- and so do three
+pub still-local : {E : Type 0} (old between next : Command) (first second third : Arg) (result : Result Command E) → AddsArg old first between
+    → first.global ≡ false → AddsArg between second next → second.global ≡ false → IfOk result (λ made. AddsArg next third made) → third.global ≡ false
     → IfOk result (λ made. (out-Command made).has_globals ≡ (out-Command old).has_globals)
-still-local old between first second (Err error) adds local also locally = tt
-still-local old between first second (Ok made) adds local also locally =
-    also.globals ∙ ap (λ (g : Bool). (out-Command between).has_globals || g) locally ∙ or-false _
-    ∙ adds.globals ∙ ap (λ (g : Bool). (out-Command old).has_globals || g) local ∙ or-false _
+still-local old between next first second third (Err error) adds local also locally last last_local = tt
+still-local old between next first second third (Ok made) adds local also locally last last_local =
+    one-local next made third last last_local ∙ one-local between next second also locally ∙ one-local old between first adds local
 
 -- ---- the refusals
 

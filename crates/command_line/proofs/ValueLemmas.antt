@@ -12,11 +12,13 @@ use Rattle.clap.specs.declared.error.Error.{Error}
 use Rattle.clap.specs.declared.error.kind.ErrorKind.TheVariants.{InvalidValue}
 use Rattle.clap.proofs.ValueTestLemmas.{Accepts-accepts, accepts-Accepts}
 use Rattle.hook_base.specs.declared.file.Mode.TheVariants.{Executable}
+use Rattle.command_line.specs.declared.line.ColorChoice.{ColorChoice}
+use Rattle.command_line.specs.declared.line.ColorChoice.TheVariants.{Auto}
 use Rattle.command_line.specs.declared.line.FileVersion.{FileVersion}
 use Rattle.command_line.specs.declared.line.FileVersion.TheVariants.{Staged, Fixed, Committed}
 use Rattle.command_line.specs.declared.line.StageChoice.TheVariants.{PreCommit, Manual}
 use Rattle.command_line.specs.AnswerLimit.{IsAnswerLimit, most_limit}
-use Rattle.command_line.specs.CommandLine.{IsValueOf, limit_in, limit_number, mode_in, number_in, stage_in, value_fault, version_in}
+use Rattle.command_line.specs.CommandLine.{IsValueOf, color_in, limit_in, limit_number, mode_in, number_in, stage_in, value_fault, version_in}
 
 pub text_or : (found : Option (Bor (List ℕ))) (empty : Bor (List ℕ)) (text : List ℕ) (rows : Option (List ℕ))
     → empty.now ≡ [] → option_map (λ s. s.now) found ≡ rows → text ≡ (unwrap_or found empty).now → text ≡ unwrap_or rows []
@@ -179,6 +181,27 @@ stage-refused found given held value error known same is other another kind =
     let differs : bytes_eq value.now (codes "pre-commit") ≡ false = false_from_ne_true _ (λ e. other ((bytes_eq-Decides value.now (codes "pre-commit")).0 e)) in
     let differs_too : bytes_eq value.now (codes "manual") ≡ false = false_from_ne_true _ (λ e. another ((bytes_eq-Decides value.now (codes "manual")).0 e)) in
     rw (given-is found given held (Some value) known same is, differs, differs_too) kind
+
+-- ---- the color
+
+pub color-none : (found given : Option Text) (held : Option (Bor Text)) → option_map (λ s. s.now) held ≡ found → found ≡ given → held ≡ None
+    → color_in given ≡ Some Auto
+color-none found given held known same is = ap color_in (given-is found given held None known same is)
+
+-- one of the words that are taken, and what it asks for
+pub color-told : (word : Text) (asked : ColorChoice) (found given : Option Text) (held : Option (Bor Text)) (value : Bor Text) → color_in (Some word) ≡ Some asked
+    → option_map (λ s. s.now) held ≡ found → found ≡ given → held ≡ Some value → value.now ≡ word → color_in given ≡ Some asked
+color-told word asked found given held value taken known same is text =
+    ap color_in (given-is found given held (Some value) known same is ∙ ap (λ (t : Text). Some t) text) ∙ taken
+
+pub color-refused : (found given : Option Text) (held : Option (Bor Text)) (value : Bor Text) (error : Error) → option_map (λ s. s.now) held ≡ found
+    → found ≡ given → held ≡ Some value → value.now ≢ codes "auto" → value.now ≢ codes "always" → value.now ≢ codes "never"
+    → HasKind (InvalidValue ∷ []) error → HasKind (value_fault (color_in given)) error
+color-refused found given held value error known same is no_auto no_always no_never kind =
+    let differs : bytes_eq value.now (codes "auto") ≡ false = false_from_ne_true _ (λ e. no_auto ((bytes_eq-Decides value.now (codes "auto")).0 e)) in
+    let differs_too : bytes_eq value.now (codes "always") ≡ false = false_from_ne_true _ (λ e. no_always ((bytes_eq-Decides value.now (codes "always")).0 e)) in
+    let differs_last : bytes_eq value.now (codes "never") ≡ false = false_from_ne_true _ (λ e. no_never ((bytes_eq-Decides value.now (codes "never")).0 e)) in
+    rw (given-is found given held (Some value) known same is, differs, differs_too, differs_last) kind
 
 -- ---- a text that may be left out
 

@@ -15,6 +15,8 @@ use Rattle.hook_base.specs.declared.file.Mode.{Mode}
 use Rattle.hook_base.specs.declared.file.Mode.TheVariants.{Executable}
 use Rattle.command_line.specs.AnswerLimit.{most_limit}
 use Rattle.command_line.specs.MessageWords.{words_for_clap}
+use Rattle.command_line.specs.declared.line.ColorChoice.{ColorChoice}
+use Rattle.command_line.specs.declared.line.ColorChoice.TheVariants.{Auto, Always, Never}
 use Rattle.command_line.specs.declared.line.FileChoice.{FileChoice}
 use Rattle.command_line.specs.declared.line.FileChoice.TheVariants.{Changed, All, Named, Listed as ListedFiles}
 use Rattle.command_line.specs.declared.line.FileVersion.{FileVersion}
@@ -64,6 +66,10 @@ flag_rule name = record (new_rule name) { long = Some name; action = Some SetTru
 abbrev pub stage_rule : Rule
 stage_rule = record (new_rule (codes "hook-stage")) { long = Some (codes "hook-stage"); value_names = 1 }
 
+-- `--color=WHEN`, which may be left out
+abbrev pub color_rule : Rule
+color_rule = record (new_rule (codes "color")) { long = Some (codes "color"); value_names = 1 }
+
 -- `--only=ID`, which may be left out
 abbrev pub only_rule : Rule
 only_rule = record (new_rule (codes "only")) { long = Some (codes "only"); value_names = 1 }
@@ -83,9 +89,9 @@ message_rule = record (new_rule (codes "message")) { short = Some 109; value_nam
 abbrev pub init_app : App
 init_app = new_app (codes "init")
 
--- `try CONFIG PATH..`
+-- `try [--color=WHEN] CONFIG PATH..`
 abbrev pub try_app : App
-try_app = with_rule (with_rule (new_app (codes "try")) (word_rule (codes "CONFIG"))) (words_rule (codes "PATH"))
+try_app = with_rule (with_rule (with_rule (new_app (codes "try")) color_rule) (word_rule (codes "CONFIG"))) (words_rule (codes "PATH"))
 
 abbrev pub check_app : App
 check_app = new_app (codes "check")
@@ -105,11 +111,11 @@ remove_app = with_rule (with_rule (new_app (codes "rm")) paths_from_rule) (optio
 abbrev pub status_app : App
 status_app = new_app (codes "status")
 
--- behind the options of a run `[--cautious] [--verbose]`
+-- after the options of a run `[--cautious] [--verbose] [--color=WHEN]`
 abbrev pub with_choice : App → App
-with_choice app = with_rule (with_rule app (flag_rule (codes "cautious"))) (flag_rule (codes "verbose"))
+with_choice app = with_rule (with_rule (with_rule app (flag_rule (codes "cautious"))) (flag_rule (codes "verbose"))) color_rule
 
--- `run [--all-files] [--hook-stage=STAGE] [--fresh] [--cautious] [--verbose]`
+-- `run [--all-files] [--hook-stage=STAGE] [--fresh] [--cautious] [--verbose] [--color=WHEN]`
 abbrev pub run_with_options_app : App
 run_with_options_app =
     with_choice (with_rule (with_rule (with_rule (new_app (codes "run")) (flag_rule (codes "all-files"))) stage_rule) (flag_rule (codes "fresh")))
@@ -118,7 +124,7 @@ run_with_options_app =
 abbrev pub run_app : App
 run_app = with_rule run_with_options_app (new_rule (codes "ID"))
 
--- `run-files [--only=ID] [--hook-stage=STAGE] [--fresh] [--cautious] [--verbose]`
+-- `run-files [--only=ID] [--hook-stage=STAGE] [--fresh] [--cautious] [--verbose] [--color=WHEN]`
 abbrev pub run_files_with_options_app : App
 run_files_with_options_app =
     with_choice (with_rule (with_rule (with_rule (new_app (codes "run-files")) only_rule) stage_rule) (flag_rule (codes "fresh")))
@@ -133,9 +139,9 @@ fixes_app = new_app (codes "fixes")
 abbrev pub accept_app : App
 accept_app = new_app (codes "accept")
 
--- `commit [--no-verify] -m TEXT`
+-- `commit [--no-verify] [--color=WHEN] -m TEXT`
 abbrev pub commit_app : App
-commit_app = with_rule (with_rule (new_app (codes "commit")) (flag_rule (codes "no-verify"))) message_rule
+commit_app = with_rule (with_rule (with_rule (new_app (codes "commit")) (flag_rule (codes "no-verify"))) color_rule) message_rule
 
 -- `cat [--fixed] [--commit=N] PATH`
 abbrev pub cat_app : App
@@ -204,6 +210,13 @@ stage_in None = Some PreCommit
 stage_in (Some text) =
     if bytes_eq text (codes "pre-commit") then Some PreCommit else (if bytes_eq text (codes "manual") then Some Manual else None)
 
+-- when a report has colors, as `--color` asks for it, `auto` where nothing is asked for
+abbrev pub color_in : Option Text → Option ColorChoice
+color_in None = Some Auto
+color_in (Some text) =
+    if bytes_eq text (codes "auto") then Some Auto
+    else (if bytes_eq text (codes "always") then Some Always else (if bytes_eq text (codes "never") then Some Never else None))
+
 -- the staged files that `run` is about
 abbrev pub files_in : List Row → FileChoice
 files_in rows = if flag_in (codes "all-files") rows then All else Changed
@@ -242,8 +255,10 @@ paths_in rows = source_in (words_in (codes "PATH") rows) (first_of (codes "paths
 
 -- ---- what a line of words asks for
 
-abbrev pub try_line : List Row → Line
-try_line rows = line.Standalone (Try (word_in (codes "CONFIG") rows) (words_in (codes "PATH") rows))
+abbrev pub try_line : List Row → Option Line
+try_line rows =
+    option_map (λ (color : ColorChoice). line.Standalone (Try (word_in (codes "CONFIG") rows) (words_in (codes "PATH") rows) color))
+    (color_in (first_of (codes "color") rows))
 
 abbrev pub explain_line : List Row → Line
 explain_line rows = line.Standalone (Explain (first_of (codes "FILE") rows))
@@ -256,15 +271,19 @@ add_line rows =
 abbrev pub remove_line : List Row → Option Line
 remove_line rows = option_map (λ (paths : PathSource). line.Update (Remove paths)) (paths_in rows)
 
--- what `--cautious` and `--verbose` ask of a run
-abbrev pub choice_in : List Row → RunChoice
-choice_in rows = record { cautious = flag_in (codes "cautious") rows; verbose = flag_in (codes "verbose") rows }
+-- what `--cautious`, `--verbose` and `--color` ask of a run
+abbrev pub choice_in : List Row → Option RunChoice
+choice_in rows =
+    option_map
+    (λ (color : ColorChoice). record { cautious = flag_in (codes "cautious") rows; verbose = flag_in (codes "verbose") rows; color = color })
+    (color_in (first_of (codes "color") rows))
 
 abbrev pub run_line : List Row → Option Line
 run_line rows =
-    option_map
-    (λ (stage : StageChoice). line.Update (Run (files_in rows) (first_of (codes "ID") rows) stage (flag_in (codes "fresh") rows) (choice_in rows)))
-    (stage_in (first_of (codes "hook-stage") rows))
+    option_and_then
+    (λ (stage : StageChoice). option_map
+    (λ (choice : RunChoice). line.Update (Run (files_in rows) (first_of (codes "ID") rows) stage (flag_in (codes "fresh") rows) choice))
+    (choice_in rows)) (stage_in (first_of (codes "hook-stage") rows))
 
 -- the files that are named, in words or in a file
 abbrev pub named_in : PathSource → FileChoice
@@ -274,12 +293,15 @@ named_in (Listed from) = ListedFiles from
 abbrev pub run_files_line : List Row → Option Line
 run_files_line rows =
     option_and_then
-    (λ (paths : PathSource). option_map
-    (λ (stage : StageChoice). line.Update (Run (named_in paths) (first_of (codes "only") rows) stage (flag_in (codes "fresh") rows) (choice_in rows)))
-    (stage_in (first_of (codes "hook-stage") rows))) (paths_in rows)
+    (λ (paths : PathSource). option_and_then
+    (λ (stage : StageChoice). option_map
+    (λ (choice : RunChoice). line.Update (Run (named_in paths) (first_of (codes "only") rows) stage (flag_in (codes "fresh") rows) choice))
+    (choice_in rows)) (stage_in (first_of (codes "hook-stage") rows))) (paths_in rows)
 
-abbrev pub commit_line : List Row → Line
-commit_line rows = line.Update (Commit (word_in (codes "message") rows) (flag_in (codes "no-verify") rows))
+abbrev pub commit_line : List Row → Option Line
+commit_line rows =
+    option_map (λ (color : ColorChoice). line.Update (Commit (word_in (codes "message") rows) (flag_in (codes "no-verify") rows) color))
+    (color_in (first_of (codes "color") rows))
 
 abbrev pub cat_line : List Row → Option Line
 cat_line rows =
@@ -301,7 +323,7 @@ memory_line rows = option_map memory_by (limit_in (first_of (codes "limit") rows
 abbrev pub line_by : Text → List Row → Option Line
 line_by name rows =
     if bytes_eq name (codes "init") then Some (line.Standalone Init)
-    else (if bytes_eq name (codes "try") then Some (try_line rows)
+    else (if bytes_eq name (codes "try") then try_line rows
     else (if bytes_eq name (codes "check") then Some (line.Standalone Check)
     else (if bytes_eq name (codes "explain") then Some (explain_line rows)
     else (if bytes_eq name (codes "status") then Some (line.LookUp Status)
@@ -315,7 +337,7 @@ line_by name rows =
     else (if bytes_eq name (codes "run") then run_line rows
     else (if bytes_eq name (codes "run-files") then run_files_line rows
     else (if bytes_eq name (codes "accept") then Some (line.Update Accept)
-    else (if bytes_eq name (codes "commit") then Some (commit_line rows)
+    else (if bytes_eq name (codes "commit") then commit_line rows
     else (if bytes_eq name (codes "forget") then Some (line.Update Forget) else None))))))))))))))))
 
 -- what the words ask for that `clap` gets: a command with its values, as it finds them

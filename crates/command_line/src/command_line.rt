@@ -11,7 +11,8 @@ use crate::help_length::help_asked;
 use crate::message_words::around_message;
 use crate::paths::paths_of;
 use crate::values::{
-    flag_of, limit_of, maybe_text_of, mode_of, number_of, stage_of, text_of, texts_of, version_of,
+    color_of, flag_of, limit_of, maybe_text_of, mode_of, number_of, stage_of, text_of, texts_of,
+    version_of,
 };
 use crate::{FileChoice, Line, LookUp, PathSource, RunChoice, Standalone, Update};
 use clap::{ArgMatches, Error};
@@ -22,9 +23,9 @@ use std::alloc::{AllocError, Global};
 ///
 /// An error's text says what the words lack, or which value can't be taken, or is the help that they ask for. Its kind
 /// is `OutOfMemory` where memory was refused, the one that `clap` states for these words, or else `InvalidValue`: for
-/// another `--chmod` than `+x` or another `--hook-stage` than `pre-commit` and `manual`, for `--commit` beside `--fixed`, where
-/// the number of `show` or of `--commit` isn't one of 32 bits or that of `--limit` none from 1 to 100,000, or where there is neither
-/// a path nor `--paths-from`, or both.
+/// another `--chmod` than `+x`, another `--hook-stage` than `pre-commit` and `manual` or another `--color` than `auto`, `always` and
+/// `never`, for `--commit` beside `--fixed`, where the number of `show` or of `--commit` isn't one of 32 bits or that of `--limit`
+/// none from 1 to 100,000, or where there is neither a path nor `--paths-from`, or both.
 pub fn line_of<'a>(alloc: Global, words: &'a [&'a str]) -> Result<Line, Error>
     ensures line { IfOk result (λ line. line_asked (map (λ s. s.now) words.entry.now) ≡ Some line) }
     ensures fault { FailsBy (line_fault (map (λ s. s.now) words.entry.now)) result }
@@ -74,7 +75,7 @@ fn line_by(alloc: Global, name: &str, values: &ArgMatches<'_>) -> Result<Line, E
 {
     match name {
         "init" => Ok(Line::Standalone(Standalone::Init)),
-        "try" => Ok(try_line(alloc, values)?),
+        "try" => try_line(alloc, values),
         "check" => Ok(Line::Standalone(Standalone::Check)),
         "explain" => Ok(explain_line(alloc, values)?),
         "status" => Ok(Line::LookUp(LookUp::Status)),
@@ -88,18 +89,19 @@ fn line_by(alloc: Global, name: &str, values: &ArgMatches<'_>) -> Result<Line, E
         "run" => run_line(alloc, values),
         "run-files" => run_files_line(alloc, values),
         "accept" => Ok(Line::Update(Update::Accept)),
-        "commit" => Ok(commit_line(alloc, values)?),
+        "commit" => commit_line(alloc, values),
         "forget" => Ok(Line::Update(Update::Forget)),
         _ => unreachable!(),
     }
 }
 
-fn try_line(alloc: Global, values: &ArgMatches<'_>) -> Result<Line, AllocError>
-    ensures { IfOk result (λ line. line ≡ try_line (rows_of (found_of values.now))) }
+fn try_line(alloc: Global, values: &ArgMatches<'_>) -> Result<Line, Error>
+    ensures { IsValueOf (try_line (rows_of (found_of values.now))) result }
 {
     Ok(Line::Standalone(Standalone::Try {
         config: text_of(alloc, values, "CONFIG")?,
         paths: texts_of(alloc, values, "PATH")?,
+        color: color_of(alloc, "try", values)?,
     }))
 }
 
@@ -131,22 +133,25 @@ fn run_line(alloc: Global, values: &ArgMatches<'_>) -> Result<Line, Error>
     ensures { IsValueOf (run_line (rows_of (found_of values.now))) result }
 {
     let stage = stage_of(alloc, "run", values)?;
+    let options = choice_of(alloc, "run", values)?;
     Ok(Line::Update(Update::Run {
         files: files_of(values),
         only: maybe_text_of(alloc, values, "ID")?,
         stage,
         fresh: flag_of(values, "fresh"),
-        options: choice_of(values),
+        options,
     }))
 }
 
-fn choice_of(values: &ArgMatches<'_>) -> RunChoice
-    ensures { result ≡ choice_in (rows_of (found_of values.now)) }
+// What is asked of a run of the command of this name.
+fn choice_of(alloc: Global, command: &str, values: &ArgMatches<'_>) -> Result<RunChoice, Error>
+    ensures { IsValueOf (choice_in (rows_of (found_of values.now))) result }
 {
-    RunChoice {
+    Ok(RunChoice {
         cautious: flag_of(values, "cautious"),
         verbose: flag_of(values, "verbose"),
-    }
+        color: color_of(alloc, command, values)?,
+    })
 }
 
 fn files_of(values: &ArgMatches<'_>) -> FileChoice
@@ -164,12 +169,13 @@ fn run_files_line(alloc: Global, values: &ArgMatches<'_>) -> Result<Line, Error>
 {
     let paths = paths_of(alloc, "run-files", values)?;
     let stage = stage_of(alloc, "run-files", values)?;
+    let options = choice_of(alloc, "run-files", values)?;
     Ok(Line::Update(Update::Run {
         files: named_by(paths),
         only: maybe_text_of(alloc, values, "only")?,
         stage,
         fresh: flag_of(values, "fresh"),
-        options: choice_of(values),
+        options,
     }))
 }
 
@@ -182,12 +188,13 @@ fn named_by(paths: PathSource) -> FileChoice
     }
 }
 
-fn commit_line(alloc: Global, values: &ArgMatches<'_>) -> Result<Line, AllocError>
-    ensures { IfOk result (λ line. line ≡ commit_line (rows_of (found_of values.now))) }
+fn commit_line(alloc: Global, values: &ArgMatches<'_>) -> Result<Line, Error>
+    ensures { IsValueOf (commit_line (rows_of (found_of values.now))) result }
 {
     Ok(Line::Update(Update::Commit {
         message: text_of(alloc, values, "message")?,
         no_verify: flag_of(values, "no-verify"),
+        color: color_of(alloc, "commit", values)?,
     }))
 }
 

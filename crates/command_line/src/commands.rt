@@ -5,7 +5,7 @@
 ghost use Rattle.std.specs.Prelude.{◌≡◌, ◌∷◌, IfOk, [], codes, false};
 ghost use Rattle.clap.specs.Words.{app_of, new_app, new_rule, rule_of};
 ghost use Rattle.clap.specs.declared.builder.Command.TheViews.{out-Command as fields_of};
-ghost use Rattle.command_line.specs.CommandLine.{accept_app, add_app, cat_app, check_app, chmod_rule, commit_app, commit_rule, explain_app, fixes_app, flag_rule, forget_app, hookhost_app, hookhost_base, init_app, limit_rule, log_app, memory_app, message_rule, only_rule, optional_words_rule, paths_from_rule, remove_app, run_app, run_files_app, run_files_with_options_app, run_with_options_app, show_app, stage_rule, status_app, try_app, with_choice, with_commands, word_rule, words_rule};
+ghost use Rattle.command_line.specs.CommandLine.{accept_app, add_app, cat_app, check_app, chmod_rule, color_rule, commit_app, commit_rule, explain_app, fixes_app, flag_rule, forget_app, hookhost_app, hookhost_base, init_app, limit_rule, log_app, memory_app, message_rule, only_rule, optional_words_rule, paths_from_rule, remove_app, run_app, run_files_app, run_files_with_options_app, run_with_options_app, show_app, stage_rule, status_app, try_app, with_choice, with_commands, word_rule, words_rule};
 
 use crate::help::{CHECK_HELP, EXPLAIN_HELP, PROGRAM_HELP, TRY_HELP};
 use crate::help_length::HelpLength;
@@ -18,10 +18,10 @@ use clap::{Arg, ArgAction, Command};
 use std::alloc::{AllocError, Global};
 
 const RUN_USAGE: &str =
-    "hookhost run [--all-files] [--hook-stage=<STAGE>] [--fresh] [--cautious] [--verbose] [ID]";
+    "hookhost run [--all-files] [--hook-stage=<STAGE>] [--fresh] [--cautious] [--verbose] [--color=<WHEN>] [ID]";
 
 const RUN_FILES_USAGE: &str =
-    "hookhost run-files [--only=<ID>] [--hook-stage=<STAGE>] [--fresh] [--cautious] [--verbose] (<PATH>... | --paths-from=<FILE>)";
+    "hookhost run-files [--only=<ID>] [--hook-stage=<STAGE>] [--fresh] [--cautious] [--verbose] [--color=<WHEN>] (<PATH>... | --paths-from=<FILE>)";
 
 const CAUTIOUS_HELP: &str =
     "Counts every file as seen by a hook that doesn't say which, and takes no failure from the cache";
@@ -162,7 +162,8 @@ fn init_command<'a>(alloc: Global, help: HelpLength) -> Command<'a>
     )
 }
 
-fn try_command<'a>(alloc: Global, help: HelpLength) -> Result<Command<'a>, AllocError>
+/// `try [--color=WHEN] CONFIG PATH..`.
+pub(crate) fn try_command<'a>(alloc: Global, help: HelpLength) -> Result<Command<'a>, AllocError>
     ensures app { IfOk result (λ command. app_of command ≡ try_app) }
     ensures local { IfOk result (λ command. (fields_of command).has_globals ≡ false) }
 {
@@ -170,9 +171,10 @@ fn try_command<'a>(alloc: Global, help: HelpLength) -> Result<Command<'a>, Alloc
         alloc,
         "try",
         "Runs the hooks of a configuration on files, and prints the report",
-        "hookhost try <CONFIG> <PATH>...",
+        "hookhost try [--color=<WHEN>] <CONFIG> <PATH>...",
         help.of(TRY_HELP),
     )
+    .arg(color(alloc))?
     .arg(word(
         alloc,
         "CONFIG",
@@ -266,7 +268,7 @@ fn status_command<'a>(alloc: Global, help: HelpLength) -> Command<'a>
     )
 }
 
-/// `run [--all-files] [--hook-stage=STAGE] [--fresh] [--cautious] [--verbose] [ID]`.
+/// `run [--all-files] [--hook-stage=STAGE] [--fresh] [--cautious] [--verbose] [--color=WHEN] [ID]`.
 pub(crate) fn run_command<'a>(alloc: Global, help: HelpLength) -> Result<Command<'a>, AllocError>
     ensures app { IfOk result (λ command. app_of command ≡ run_app) }
     ensures local { IfOk result (λ command. (fields_of command).has_globals ≡ false) }
@@ -311,10 +313,11 @@ fn with_choice<'a>(alloc: Global, command: Command<'a>) -> Result<Command<'a>, A
             alloc,
             "verbose",
             "Prints the output of every hook, and how many answers came from the cache",
-        ))
+        ))?
+        .arg(color(alloc))
 }
 
-/// `run-files [--only=ID] [--hook-stage=STAGE] [--fresh] [--cautious] [--verbose] [--paths-from=FILE] [PATH..]`.
+/// `run-files [--only=ID] [--hook-stage=STAGE] [--fresh] [--cautious] [--verbose] [--color=WHEN] [--paths-from=FILE] [PATH..]`.
 pub(crate) fn run_files_command<'a>(
     alloc: Global,
     help: HelpLength,
@@ -371,7 +374,8 @@ fn accept_command<'a>(alloc: Global, help: HelpLength) -> Command<'a>
     )
 }
 
-fn commit_command<'a>(alloc: Global, help: HelpLength) -> Result<Command<'a>, AllocError>
+/// `commit [--no-verify] [--color=WHEN] -m TEXT`.
+pub(crate) fn commit_command<'a>(alloc: Global, help: HelpLength) -> Result<Command<'a>, AllocError>
     ensures app { IfOk result (λ command. app_of command ≡ commit_app) }
     ensures local { IfOk result (λ command. (fields_of command).has_globals ≡ false) }
 {
@@ -379,7 +383,7 @@ fn commit_command<'a>(alloc: Global, help: HelpLength) -> Result<Command<'a>, Al
         alloc,
         "commit",
         "Commits the staged files, through the hooks of a commit",
-        "hookhost commit [--no-verify] -m <TEXT>",
+        "hookhost commit [--no-verify] [--color=<WHEN>] -m <TEXT>",
         help.of(COMMIT_HELP),
     )
     .arg(flag(
@@ -387,6 +391,7 @@ fn commit_command<'a>(alloc: Global, help: HelpLength) -> Result<Command<'a>, Al
         "no-verify",
         "Leaves out the hooks of pre-commit and commit-msg",
     ))?
+    .arg(color(alloc))?
     .arg(message(alloc))
 }
 
@@ -584,6 +589,16 @@ fn stage<'a>(alloc: Global) -> Arg<'a>
         .long("hook-stage")
         .value_name("STAGE")
         .help("The stage whose hooks are run, pre-commit or manual; without it pre-commit")
+}
+
+fn color<'a>(alloc: Global) -> Arg<'a>
+    ensures rule { rule_of result ≡ color_rule }
+    ensures local { result.global ≡ false }
+{
+    Arg::new(alloc, "color")
+        .long("color")
+        .value_name("WHEN")
+        .help("Colors how hooks ended: always, never, or auto, at a terminal; without it auto")
 }
 
 fn only<'a>(alloc: Global) -> Arg<'a>

@@ -19,5 +19,6 @@ mod version;
 pub use answer_limit::AnswerLimit;
 pub use command_line::line_of;
 pub use line::{
-    FileChoice, FileVersion, Line, LookUp, PathSource, RunChoice, StageChoice, Standalone, Update,
+    ColorChoice, FileChoice, FileVersion, Line, LookUp, PathSource, RunChoice, StageChoice,
+    Standalone, Update,
 };

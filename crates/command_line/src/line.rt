@@ -25,6 +25,8 @@ pub enum Standalone {
         config: Text,
         /// The names of the files, one at least.
         paths: Items<Text>,
+        /// When the report has colors.
+        color: ColorChoice,
     },
     /// A reading of the working folder's configuration, and what it says.
     Check,
@@ -96,6 +98,8 @@ pub enum Update {
         message: Text,
         /// Whether the hooks of `pre-commit` and `commit-msg` are left out.
         no_verify: bool,
+        /// When the reports have colors.
+        color: ColorChoice,
     },
     /// All remembered answers are forgotten.
     Forget,
@@ -144,6 +148,19 @@ pub struct RunChoice {
     pub cautious: bool,
     /// Whether the output of each hook is printed, and how many answers came from the cache.
     pub verbose: bool,
+    /// When the report has colors.
+    pub color: ColorChoice,
+}
+
+/// When a report has colors, which tell how each hook ended.
+#[derive(Clone, Copy, Debug, PartialEq, Eq)]
+pub enum ColorChoice {
+    /// Where the environment or the terminal asks for them. It stands for an option that is left out too.
+    Auto,
+    /// Always, whatever the environment and the terminal ask for.
+    Always,
+    /// Never, whatever the environment and the terminal ask for.
+    Never,
 }
 
 /// A stage that a line may ask for.

@@ -5,13 +5,14 @@
 ghost use Rattle.std.specs.Prelude.{◌≡◌, ◌∷◌, IfOk, Some, [], codes, false, map};
 ghost use Rattle.clap.specs.Words.{HasKind, first_of, found_of, rows_of};
 ghost use Rattle.clap.specs.declared.error.kind.ErrorKind.TheVariants.{InvalidValue};
-ghost use Rattle.command_line.specs.CommandLine.{IsValueOf, flag_in, limit_in, limit_number, mode_in, number_in, stage_in, version_in, word_in, words_in};
+ghost use Rattle.command_line.specs.CommandLine.{IsValueOf, color_in, flag_in, limit_in, limit_number, mode_in, number_in, stage_in, version_in, word_in, words_in};
 
 use crate::commands::{
-    add_command, cat_command, memory_command, run_command, run_files_command, show_command,
+    add_command, cat_command, commit_command, memory_command, run_command, run_files_command,
+    show_command, try_command,
 };
 use crate::help_length::HelpLength;
-use crate::{AnswerLimit, FileVersion, StageChoice};
+use crate::{AnswerLimit, ColorChoice, FileVersion, StageChoice};
 use clap::error::ErrorKind;
 use clap::{ArgMatches, Command, Error};
 use hook_base::{Items, Mode, Text};
@@ -103,6 +104,24 @@ pub(crate) fn stage_of(
     }
 }
 
+/// When the report has colors, as `--color` asks for it. Another value than `auto`, `always` and `never` is an error, with the usage
+/// of the command of this name.
+pub(crate) fn color_of(
+    alloc: Global,
+    command: &str,
+    values: &ArgMatches<'_>,
+) -> Result<ColorChoice, Error>
+    ensures { IsValueOf (color_in (first_of (codes "color") (rows_of (found_of values.now)))) result }
+{
+    match values.get_str("color") {
+        None => Ok(ColorChoice::Auto),
+        Some("auto") => Ok(ColorChoice::Auto),
+        Some("always") => Ok(ColorChoice::Always),
+        Some("never") => Ok(ColorChoice::Never),
+        Some(text) => Err(color_error(alloc, command, text)),
+    }
+}
+
 /// The number of `show`. Another text is an error.
 pub(crate) fn number_of(alloc: Global, values: &ArgMatches<'_>) -> Result<u32, Error>
     ensures { IsValueOf (number_in (word_in (codes "N") (rows_of (found_of values.now)))) result }
@@ -184,7 +203,7 @@ fn stage_error(alloc: Global, command: &str, text: &str) -> Error
     ensures { HasKind (InvalidValue ∷ []) result }
 {
     match stage_message(alloc, text) {
-        Ok(message) => error_of(command_of_runs(alloc, command), message.as_str()),
+        Ok(message) => error_of(command_of_reports(alloc, command), message.as_str()),
         Err(refused) => Error::from(refused),
     }
 }
@@ -195,8 +214,26 @@ fn stage_message(alloc: Global, text: &str) -> Result<String, AllocError> {
     )
 }
 
-fn command_of_runs<'a>(alloc: Global, name: &str) -> Result<Command<'a>, AllocError> {
+fn color_error(alloc: Global, command: &str, text: &str) -> Error
+    ensures { HasKind (InvalidValue ∷ []) result }
+{
+    match color_message(alloc, text) {
+        Ok(message) => error_of(command_of_reports(alloc, command), message.as_str()),
+        Err(refused) => Error::from(refused),
+    }
+}
+
+fn color_message(alloc: Global, text: &str) -> Result<String, AllocError> {
+    format!(in alloc;
+        "invalid value '{text}' for '--color <WHEN>': only auto, always and never are allowed"
+    )
+}
+
+// The command of this name, one of those that print a report.
+fn command_of_reports<'a>(alloc: Global, name: &str) -> Result<Command<'a>, AllocError> {
     match name {
+        "try" => try_command(alloc, HelpLength::Short),
+        "commit" => commit_command(alloc, HelpLength::Short),
         "run-files" => run_files_command(alloc, HelpLength::Short),
         _ => run_command(alloc, HelpLength::Short),
     }

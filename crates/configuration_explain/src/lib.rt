@@ -17,6 +17,7 @@ mod explained_file;
 mod finding;
 mod findings;
 mod flow_words;
+mod git_calls;
 mod heads;
 mod hook_names;
 mod ignored;

@@ -1,4 +1,4 @@
-//! Which patterns `regex` refuses and which commands have no words, and which paths two patterns let through.
+//! Which patterns `regex` refuses and which commands have no words, and which paths patterns are found in.
 
 use crate::tables::text_in;
 use arg_partition::{WordsFault, words};
@@ -87,6 +87,13 @@ pub(crate) fn passes_any(
         }
     }
     Ok(false)
+}
+
+/// Whether the pattern is found in the path. `OutOfMemory` where memory is refused.
+pub(crate) fn finds(alloc: Global, pattern: &Pattern, path: &str) -> Result<bool, OutOfMemory> {
+    let regex = built(alloc, pattern)?;
+    let mut matcher = regex.matcher(alloc)?;
+    Ok(matcher.is_match(path))
 }
 
 fn passes(files: &mut Matcher<'_>, exclude: &mut Matcher<'_>, path: &str) -> bool {

@@ -11,7 +11,8 @@ use yaml_profile::Node;
 // What a hook has where its table doesn't say it.
 const EVERY_PATH: &str = "";
 
-const NO_PATH: &str = "^$";
+/// The pattern that is found in no path.
+pub(crate) const NO_PATH: &str = "^$";
 
 const EVERY_FILE: &str = "file";
 

@@ -43,6 +43,16 @@ pub(crate) fn push_quoted(text: &mut String, shown: &str) -> Result<(), AllocErr
     text.push('`')
 }
 
+/// Whether [`push_shown`] puts the text as it is, and all of it.
+pub(crate) fn is_shown_whole(shown: &str) -> bool {
+    for (i, c) in shown.chars().enumerate() {
+        if i >= MOST_SHOWN || c.is_control() || is_hidden(c) {
+            return false;
+        }
+    }
+    true
+}
+
 /// In how many columns the characters before this one are shown, where they are.
 pub(crate) fn columns_before(shown: &str, character: usize) -> Option<usize> {
     let mut columns = 0usize;

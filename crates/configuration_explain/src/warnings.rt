@@ -1,17 +1,18 @@
 //! What is taken, and may be meant otherwise.
 
 use crate::edits::nearest;
+use crate::git_calls::{calls_git, names_git_state, push_git_reads};
 use crate::hook_names::push_hook;
 use crate::known_words::{is_among, tag_words};
 use crate::sentence::push_meant;
 use crate::shown::{push_number, push_quoted};
 use crate::tool_settings::left_out;
 use hook_base::Text;
-use hook_config::{ConfigWithNode, Hook, Language, TagNames};
+use hook_config::{ConfigWithNode, Hook, TagNames};
 use std::alloc::{AllocError, Global};
 
 /// Puts a line for each tag that no file has, each id that an earlier hook has, each known tool whose settings its `x_reads` leaves
-/// out, and each command that calls Git, where there are any. `AllocError` where memory is refused.
+/// out, and each command that calls Git where its `x_reads` doesn't name Git's state. `AllocError` where memory is refused.
 pub(crate) fn push_warnings(
     alloc: Global,
     text: &mut String,
@@ -35,6 +36,9 @@ pub(crate) fn push_warnings(
     }
     text.push_str(warnings.text.as_str())
 }
+
+const NOT_CACHED: &str =
+    "its command calls Git, so in the hook of Git nothing is cached, unless x_reads names Git's state: ";
 
 // The lines so far.
 #[derive(Drop)]
@@ -103,11 +107,13 @@ impl Warnings {
     }
 
     fn take_git(&mut self, number: usize, hook: &Hook) -> Result<(), AllocError> {
-        if !calls_git(hook) {
+        if !calls_git(hook) || names_git_state(self.alloc, hook)? {
             return Ok(());
         }
         self.begin(number, hook)?;
-        self.text.push_str("its command calls Git, so in the hook of Git nothing is cached\n")
+        self.text.push_str(NOT_CACHED)?;
+        push_git_reads(&mut self.text, hook.x_reads.as_pattern().as_str())?;
+        self.text.push('\n')
     }
 }
 
@@ -119,20 +125,4 @@ fn first_of_id(hooks: &[Hook], id: &str) -> Option<usize> {
         }
     }
     None
-}
-
-fn calls_git(hook: &Hook) -> bool {
-    match &hook.language {
-        Language::System(words) => { words.as_slice().iter().any(|word| names_git(word.as_str())) }
-        _ => false,
-    }
-}
-
-// Whether a piece of the word between blanks and signs of a shell is `git`.
-fn names_git(word: &str) -> bool {
-    word.split(is_between).any(|piece| piece == "git")
-}
-
-fn is_between(c: char) -> bool {
-    !(c.is_alphanumeric() || matches!(c, '-' | '_' | '.' | '/' | '=' | '~'))
 }

@@ -84,7 +84,7 @@ IsOneCall (Add paths mode) = IsOneWord paths
 IsOneCall (Remove paths) = IsOneWord paths
 IsOneCall (Run files only stage fresh choice) = IsNamed files
 IsOneCall Accept = Unit {0}
-IsOneCall (Commit message no_verify) = Unit {0}
+IsOneCall (Commit message no_verify color) = Unit {0}
 IsOneCall Forget = Unit {0}
 IsOneCall (Limit limit) = Unit {0}
 
@@ -311,7 +311,7 @@ IsUpdated g tells counts old new (Remove paths) bytes skip out err ending = IsRe
 IsUpdated g tells counts old new (Run files only stage fresh choice) bytes skip out err ending =
     IsRunOverHost g tells counts old new (ask_of files only stage fresh choice skip) out err ending
 IsUpdated g tells counts old new Accept bytes skip out err ending = IsAcceptOver g old new out err ending
-IsUpdated g tells counts old new (Commit message no_verify) bytes skip out err ending =
+IsUpdated g tells counts old new (Commit message no_verify color) bytes skip out err ending =
     IsCommitOverHost g tells counts old new message no_verify skip out err ending
 IsUpdated g tells counts old new Forget bytes skip out err ending = IsForgetOver g old new out err ending
 IsUpdated g tells counts old new (Limit limit) bytes skip out err ending = IsLimitOver g old new limit out err ending
@@ -325,7 +325,7 @@ IsEnded g tells counts old new (line.Update update) bytes skip out err ending = 
 -- the update runs no hooks
 abbrev pub IsHookless : Update → Type 0
 IsHookless (Run files only stage fresh choice) = ⊥
-IsHookless (Commit message no_verify) = ⊥
+IsHookless (Commit message no_verify color) = ⊥
 IsHookless update = Unit {0}
 
 -- the line runs no hooks

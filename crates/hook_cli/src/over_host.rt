@@ -110,7 +110,11 @@ fn updated<S: Alter, C: Children, O: Write, E: Write>(
             run(alloc, ask, host, children, out, err)
         }
         Update::Accept => accept(host, out, err),
-        Update::Commit { message, no_verify } => commit(
+        Update::Commit {
+            message,
+            no_verify,
+            ..
+        } => commit(
             alloc,
             message.as_str(),
             *no_verify,

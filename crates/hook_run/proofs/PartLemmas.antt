@@ -234,3 +234,10 @@ stopped-back_to tells others same reuse from to plan refusal it = record {
   needs = λ is. ((it.needs is).0, so-far-back_to-last tells others same reuse from to it.last it.answered ∙ (it.needs is).1, (it.needs is).2);
   spent = it.spent;
 }
+
+-- ---- two moments that are the same
+
+-- what holds at a moment holds at one with the same counts
+pub at-moment : (P : Moment → Type 0) (calls calls' faults faults' : ℕ) (remembered : Contents) → calls ≡ calls' → faults ≡ faults' → P (moment calls faults remembered) → P (moment calls' faults' remembered)
+at-moment P calls calls' faults faults' remembered same-calls same-faults holds =
+    subst (λ count. P (moment count faults' remembered)) same-calls (subst (λ count. P (moment calls count remembered)) same-faults holds)

@@ -31,10 +31,16 @@ use Rattle.hook_run.specs.Parts.{ArePartsOf, Part}
 use Rattle.hook_run.specs.PartsEnding.{ending_of_parts}
 use Rattle.hook_run.specs.Plans.{AtHook, AtPart, Completes, GoesOn, GoesOnAt, Plan, ending_of_gathered, hooks_after, left_at, nothing_gathered, progress_with}
 
--- the hooks are those that the run goes through, and the candidates those that pass the patterns of the configuration
+-- the names of all hooks that the run goes through
+abbrev pub names_in : Course → List (List ℕ)
+names_in course = map (λ hook. hook.now.name) course.hooks.items
+
+-- the hooks are those that the run goes through, the candidates those that pass the patterns of the configuration, and the columns
+-- those that the hooks' names need
 pub record IsCourse (course : Course) : Type 0 where
   pub asked : map (λ hook. hook.now) course.hooks.items ≡ hooks_of_run course.config.now course.ask.now
   pub passing : ArePassing course.config.now.files course.config.now.exclude course.ask.now.candidates course.among
+  pub columns : course.columns ≡ columns_of (names_in course)
 
 -- the hooks from a place on
 abbrev pub hooks_from : Course → ℕ → List Hook
@@ -101,10 +107,6 @@ IsStored config ask done (Waits waiting) = IsSeenOn done.tree waiting
 IsStored config ask done (Over report) = report ≡ report_text (names_of_run config ask) done.results
 
 -- ---- the columns of the report
-
--- the names of all hooks that the run goes through
-abbrev pub names_in : Course → List (List ℕ)
-names_in course = map (λ hook. hook.now.name) course.hooks.items
 
 -- the name is one of those that the columns are made for
 abbrev pub FitsName : Course → List ℕ → Type 0

@@ -13,11 +13,10 @@ use crate::begun::Begun;
 use crate::candidate_files::CandidateFiles;
 use crate::course::Course;
 use crate::progress::{Progress, progress_with};
-use crate::report::report_of;
 use crate::standing::Standing;
 use hook_base::{Bytes, OutOfMemory};
 use hook_config::{Config, Hook};
-use report_text::Ending;
+use report_text::{Ending, hook_texts};
 use std::alloc::Global;
 
 /// The plan of the hooks from this place on, behind those that are done.
@@ -101,7 +100,7 @@ fn over<'a>(
     ensures from { IfOk result (IsPlanFrom course.entry done place) }
     ensures within { IfOk result (λ plan. most_left plan ≤ most_of_hooks (hooks_from course.entry place) done.tree) }
 {
-    let report = report_of(alloc, course.hooks.as_slice(), done.results.as_slice())?;
+    let report = hook_texts(alloc, course.columns, done.results.as_slice())?;
     Ok(RunPlan {
         course,
         done,

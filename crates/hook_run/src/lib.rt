@@ -38,6 +38,7 @@ pub mod laws;
 mod limits;
 mod modified;
 mod need;
+mod news;
 mod part_answer;
 mod part_outcome;
 mod plan;

@@ -14,7 +14,7 @@ use crate::begun::Begun;
 use crate::candidate_files::CandidateFiles;
 use crate::course::Course;
 use crate::progress::{Progress, files_after, progress_after, progress_with};
-use crate::report::has_passed;
+use crate::report::{columns_of, has_passed};
 use crate::standing::Standing;
 use crate::waiting::Waiting;
 use crate::work::{Work, go_on, work_with};
@@ -193,11 +193,13 @@ fn plan_of<'a>(
     let among = Candidates::passing(alloc, top_files, top_exclude, candidates)?;
     let files = CandidateFiles::of(alloc, candidates, tree)?;
     let tree = tree.copy()?;
+    let columns = columns_of(alloc, hooks.as_slice())?;
     let course = Course {
         config,
         ask,
         hooks,
         among,
+        columns,
     };
     let done = Progress {
         results: Items::new(alloc),

@@ -1,13 +1,13 @@
-//! The report of a run, and whether it passed.
+//! The columns of a run's report, and whether it passed.
 
-ghost use Rattle.std.specs.Prelude.{◌≡◌, ◌+◌, ◌≤◌, All, IfOk, length, map};
+ghost use Rattle.std.specs.Prelude.{◌≡◌, ◌≤◌, All, IfOk, length, map};
 ghost use Rattle.hook_config.specs.Limits.{most_text_bytes};
 ghost use Rattle.hook_run.specs.StageRun.{has_passed};
-ghost use Rattle.report_text.specs.Report.{columns_of, report_text, width_of};
+ghost use Rattle.report_text.specs.Report.{columns_of};
 
 use hook_base::OutOfMemory;
 use hook_config::Hook;
-use report_text::{HookResult, columns, hook_texts};
+use report_text::{HookResult, columns};
 use std::alloc::Global;
 
 /// Whether no hook failed.
@@ -17,18 +17,12 @@ pub fn has_passed(results: &[HookResult]) -> bool
     results.iter().all(|hook| !hook.ending.is_failed())
 }
 
-/// The report of these results in the columns that the names of these hooks need. Each result has one of the names.
-pub fn report_of(
-    alloc: Global,
-    hooks: &[&Hook],
-    results: &[HookResult],
-) -> Result<Vec<u8>, OutOfMemory>
-    requires { All (λ one. width_of one.name + 30 ≤ columns_of (map (λ hook. hook.now.name) hooks.now)) results.now }
-    ensures { IfOk result (λ report. report.items ≡ report_text (map (λ hook. hook.now.name) hooks.now) results.now) }
+/// The columns of the report of a run that goes through these hooks.
+pub(crate) fn columns_of(alloc: Global, hooks: &[&Hook]) -> Result<usize, OutOfMemory>
+    ensures { IfOk result (λ columns. columns ≡ columns_of (map (λ hook. hook.now.name) hooks.now)) }
 {
     let names = names_of(alloc, hooks)?;
-    let columns = columns(names.as_slice());
-    hook_texts(alloc, columns, results)
+    Ok(columns(names.as_slice()))
 }
 
 fn names_of<'a>(alloc: Global, hooks: &[&'a Hook]) -> Result<Vec<&'a str>, OutOfMemory>

@@ -1,17 +1,21 @@
 //! A run over children and what is remembered of their answers.
 
-ghost use Rattle.std.specs.Prelude.{◌≡◌, ◌↔◌, ◌⊎◌, ◌+◌, ◌-◌, ◌^◌, min, IfOk, IfErr, true};
+ghost use Rattle.std.specs.Prelude.{◌≡◌, ◌↔◌, ◌⊎◌, ◌+◌, ◌-◌, ◌^◌, ◌∷◌, [], min, IfOk, IfErr, true};
 ghost use Rattle.child_port.specs.Telling.{SameTells};
 ghost use Rattle.result_book.specs.Contents.{Contents};
 ghost use Rattle.result_book.specs.Told.{AddsTold};
+ghost use Rattle.hook_run.specs.Answers.{AreAnswered};
 ghost use Rattle.hook_run.specs.Asks.{names_no_hook};
 ghost use Rattle.hook_run.specs.ChildFaults.{child_faults};
 ghost use Rattle.hook_run.specs.Moments.{moment};
-ghost use Rattle.hook_run.specs.PlanRuns.{IsPlanRun, IsPlanStopped, one_if};
+ghost use Rattle.hook_run.specs.PlanRuns.{IsPartStopped, IsPlanRun, IsPlanStopped, one_if, part_of};
+ghost use Rattle.hook_run.specs.Plans.{need_of};
 ghost use Rattle.hook_run.specs.Refusals.{IsOfBook};
 ghost use Rattle.hook_run.specs.RunOuts.{IsCountedRun, IsRunOver, IsStoppedRun};
 
+use crate::news::tell_news;
 use crate::part_answer::answer_part;
+use crate::part_outcome::PartOutcome;
 use crate::{HooksRun, Need, Reuse, RunAsk, RunPlan, RunRefusal};
 use child_port::Children;
 use hook_base::Tree;
@@ -70,15 +74,42 @@ fn run_plan<C: Children, B: Book>(
 {
     let mut plan = plan;
     let mut reused = 0;
+    let mut ended = 0;
     'parts: while plan.next() == Need::Child {
-        let came = answer_part(children, book, reuse, &plan)?;
+        let came = answer_told(children, book, reuse, &plan, &mut ended)?;
         reused = reused_with(reused, came.reused);
         plan = plan.tell_marked(came.outcome, came.unsteady)?;
     }
+    let _all = tell_news(children, &plan, ended);
     Ok(HooksRun {
         out: plan.finish(),
         reused,
     })
+}
+
+// What comes of the part that the plan needs, as `answer_part` says. How the run stands is said first, and how many hooks have ended
+// is noted.
+fn answer_told<C: Children, B: Book>(
+    children: &mut C,
+    book: &mut B,
+    reuse: Reuse,
+    plan: &RunPlan,
+    ended: &mut usize,
+) -> Result<PartOutcome, RunRefusal>
+    requires { need_of plan.now ≡ Need.Child }
+    ensures answered { IfOk result (λ came. AreAnswered (C.tells children.old) reuse (moment (C.call_count children.old) (C.fault_count children.old) (B.contents book.old)) (moment (C.call_count children.new) (C.fault_count children.new) (B.contents book.new)) (part_of plan.now came ∷ [])) }
+    ensures reused { IfOk result (λ came. C.call_count children.new + one_if came.reused ≡ C.call_count children.old + 1) }
+    ensures stopped { IfErr result (IsPartStopped (C.tells children.old) reuse (moment (C.call_count children.old) (C.fault_count children.old) (B.contents book.old)) (moment (C.call_count children.new) (C.fault_count children.new) (B.contents book.new)) plan.now) }
+    ensures refused { IfErr result (IsOfBook B.refuses) }
+    ensures left { (left : Contents) → B.leaves book.new left → B.leaves book.old left ⊎ AddsTold (C.tells children.old) (B.contents book.old) left }
+    ensures rest { B.rests book.old book.new }
+    ensures same { SameTells (C.tells children.old) (C.tells children.new) }
+{
+    *ended = tell_news(children, plan, *ended);
+    match answer_part(children, book, reuse, plan) {
+        Ok(came) => Ok(came),
+        Err(refusal) => Err(refusal),
+    }
 }
 
 // How many parts were answered from what is remembered, with one more that was or wasn't.

@@ -2,13 +2,14 @@
 
 use hook_base::{Mode, Text};
 use hook_cli::{
-    FileChoice, FileVersion, Line, LookUp, PathSource, RunChoice, StageChoice, Standalone, Update,
-    line_of,
+    ColorChoice, FileChoice, FileVersion, Line, LookUp, PathSource, RunChoice, StageChoice,
+    Standalone, Update, line_of,
 };
 use std::alloc::Global;
 use trial_rows::{Answer, Stop, texts_of};
 
 /// `line_of WORD..`: the command with its words, a line each, of a run behind its stage, its files and how it is made; or the kind of `clap`'s error, and its text.
+/// A color that isn't `auto` stands at the end of the first line.
 pub(crate) fn asked(alloc: Global, arguments: &[Vec<u8>]) -> Result<Answer, Stop> {
     let words = texts_of(alloc, arguments)?;
     match line_of(alloc, words.as_slice()) {
@@ -33,8 +34,13 @@ fn told(answer: Answer, line: &Line) -> Answer {
 fn told_alone(answer: Answer, asked: &Standalone) -> Answer {
     match asked {
         Standalone::Init => answer.text("init\n"),
-        Standalone::Try { config, paths } => {
-            with_lines(with_line(answer.text("try\n"), config), paths.as_slice())
+        Standalone::Try {
+            config,
+            paths,
+            color,
+        } => {
+            let answer = answer.texts(&["try", word_of_color(*color), "\n"]);
+            with_lines(with_line(answer, config), paths.as_slice())
         }
         Standalone::Check => answer.text("check\n"),
         Standalone::Explain { file } => with_name(answer.text("explain\n"), file),
@@ -71,10 +77,14 @@ fn told_update(answer: Answer, update: &Update) -> Answer {
             with_files(answer, files)
         }
         Update::Accept => answer.text("accept\n"),
-        Update::Commit { message, no_verify } => with_line(
-            answer.text(word_of_commit(*no_verify)),
+        Update::Commit {
             message,
-        ),
+            no_verify,
+            color,
+        } => {
+            let words = [word_of_commit(*no_verify), word_of_color(*color), "\n"];
+            with_line(answer.texts(&words), message)
+        }
         Update::Forget => answer.text("forget\n"),
         Update::Limit(limit) => answer.text("limit ").shown(limit.number()).text("\n"),
     }
@@ -105,9 +115,9 @@ fn with_paths(answer: Answer, paths: &PathSource) -> Answer {
 
 fn word_of_commit(no_verify: bool) -> &'static str {
     if no_verify {
-        "commit unverified\n"
+        "commit unverified"
     } else {
-        "commit\n"
+        "commit"
     }
 }
 
@@ -116,7 +126,16 @@ fn with_how(answer: Answer, fresh: bool, options: RunChoice) -> Answer {
     let fresh = if fresh { " fresh" } else { "" };
     let cautious = if options.cautious { " cautious" } else { "" };
     let verbose = if options.verbose { " verbose" } else { "" };
-    answer.texts(&[fresh, cautious, verbose, "\n"])
+    let color = word_of_color(options.color);
+    answer.texts(&[fresh, cautious, verbose, color, "\n"])
+}
+
+fn word_of_color(color: ColorChoice) -> &'static str {
+    match color {
+        ColorChoice::Auto => "",
+        ColorChoice::Always => " color always",
+        ColorChoice::Never => " color never",
+    }
 }
 
 fn word_of_stage(stage: StageChoice) -> &'static str {

@@ -15,8 +15,8 @@ use crate::host_writers::HabitWriter;
 use crate::turn_children::TurnChildren;
 use hook_base::{Items, Text};
 use hook_cli::{
-    AnswerLimit, FileVersion, Line, LookUp, PathSource, RunChoice, Update, command_over,
-    skip_list_of,
+    AnswerLimit, ColorChoice, FileVersion, Line, LookUp, PathSource, RunChoice, Update,
+    command_over, skip_list_of,
 };
 use std::alloc::Global;
 use std::mem;
@@ -107,6 +107,7 @@ fn update_of(alloc: Global, command: &str, words: &mut Words<'_>) -> Result<Upda
         "commit" => Ok(Update::Commit {
             message: Text::copy_of(alloc, words.text()?)?,
             no_verify: is_unverified(words)?,
+            color: ColorChoice::Auto,
         }),
         "forget" => Ok(Update::Forget),
         "limit" => Ok(Update::Limit(asked_limit(words)?)),
@@ -129,6 +130,7 @@ fn run_of(alloc: Global, words: &mut Words<'_>) -> Result<Update, Stop>
         options: RunChoice {
             cautious: how.cautious,
             verbose: how.verbose,
+            color: ColorChoice::Auto,
         },
     })
 }

@@ -147,13 +147,14 @@ IsStopOfItsList (Add paths mode) stop = IsStopOfSource paths stop
 IsStopOfItsList (Remove paths) stop = IsStopOfSource paths stop
 IsStopOfItsList (Run files only stage fresh options) stop = IsStopOfChoice files stop
 IsStopOfItsList Accept stop = ⊥
-IsStopOfItsList (Commit message no_verify) stop = ⊥
+IsStopOfItsList (Commit message no_verify color) stop = ⊥
 IsStopOfItsList Forget stop = ⊥
 IsStopOfItsList (Limit limit) stop = ⊥
 
--- a variable which names a file, the folder of children, or what links in this folder lead to
+-- a variable which names a file, the folder of children, what links in this folder lead to, or the file that stands for Git's state
 abbrev pub IsVariable : List ℕ → Type 0
-IsVariable word = (word ≡ codes "HOOKHOST_GIT_CALLS") ⊎ (word ≡ codes "HOOKHOST_SCRATCH") ⊎ (word ≡ codes "HOOKHOST_LINKS")
+IsVariable word =
+    (word ≡ codes "HOOKHOST_GIT_CALLS") ⊎ (word ≡ codes "HOOKHOST_SCRATCH") ⊎ (word ≡ codes "HOOKHOST_LINKS") ⊎ (word ≡ codes "HOOKHOST_GIT_STATE")
 
 -- the variable isn't UTF-8 or names what can't be, or memory was refused
 abbrev pub IsStopOfVariable : List ℕ → Stop → Type 0
@@ -180,7 +181,7 @@ IsStopOfWork (Add paths mode) stop = IsStopOfStaging stop
 IsStopOfWork (Remove paths) stop = ⊥
 IsStopOfWork (Run files only stage fresh options) stop = IsStopOfHooks stop
 IsStopOfWork Accept stop = ⊥
-IsStopOfWork (Commit message no_verify) stop = IsStopOfHooks stop
+IsStopOfWork (Commit message no_verify color) stop = IsStopOfHooks stop
 IsStopOfWork Forget stop = ⊥
 IsStopOfWork (Limit limit) stop = ⊥
 

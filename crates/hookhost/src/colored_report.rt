@@ -1,8 +1,14 @@
 //! The report in colors, where a terminal shows it: how each hook ended stands at the end of its first line.
 
+use crate::heard_children::SharedReport;
+use crate::runs::RealChildren;
+use crate::shown_report::ShownReport;
+use hook_cli::ColorChoice;
 use std::alloc::{AllocError, Global};
+use std::cell::RefCell;
 use std::env::{self, VarError};
-use std::io::{self, IsTerminal, Write};
+use std::io::{self, IsTerminal, Printer, Write};
+use std::rc::Rc;
 
 // Says `always`, `never` or `auto`, as pre-commit's option `--color` does.
 const WHEN: &str = "PRE_COMMIT_COLOR";
@@ -21,17 +27,45 @@ const ENDINGS: [(&[u8], &[u8], usize); 4] = [
     (b".Skipped", b"\x1b[43;30m", 7),
 ];
 
-/// Whether standard output wants colors: by `PRE_COMMIT_COLOR`, and else where it is a terminal that knows them and `NO_COLOR` isn't
-/// set.
-pub(crate) fn wants_colors(rt: &HostRuntime) -> bool {
-    match variable(rt, WHEN).as_str() {
-        "always" => true,
-        "never" => false,
-        _ => {
-            rt.stdout().is_terminal()
-                && variable(rt, NONE).is_empty()
-                && variable(rt, "TERM").as_str() != "dumb"
-        }
+/// Whether the report wants colors: by the choice, else by `PRE_COMMIT_COLOR`, and else where standard output is a terminal that
+/// knows them and `NO_COLOR` isn't set.
+pub(crate) fn wants_colors(rt: &HostRuntime, choice: ColorChoice) -> bool {
+    match choice {
+        ColorChoice::Always => true,
+        ColorChoice::Never => false,
+        ColorChoice::Auto => match variable(rt, WHEN).as_str() {
+            "always" => true,
+            "never" => false,
+            _ => knows_colors(rt),
+        },
+    }
+}
+
+fn knows_colors(rt: &HostRuntime) -> bool {
+    rt.stdout().is_terminal()
+        && variable(rt, NONE).is_empty()
+        && variable(rt, "TERM").as_str() != "dumb"
+}
+
+/// What writes the report of a run of these children, which show it while it comes.
+pub(crate) fn report_writer<'r>(
+    rt: &'r HostRuntime,
+    color: ColorChoice,
+    children: &mut RealChildren,
+) -> ColoredReport<Printer<'r, HostRuntime>> {
+    let is_colored = wants_colors(rt, color);
+    let shown = match ShownReport::at_terminal(rt, is_colored) {
+        Some(report) => Rc::new(rt.alloc(), RefCell::new(report)).ok(),
+        None => None,
+    };
+    if let Some(shown) = &shown {
+        children.show_report(shown.clone().ok());
+    }
+    ColoredReport {
+        alloc: rt.alloc(),
+        writer: io::writer(rt),
+        is_on: is_colored,
+        shown,
     }
 }
 
@@ -45,35 +79,42 @@ fn variable(rt: &HostRuntime, name: &str) -> String {
     }
 }
 
-/// A writer that colors how hooks ended, in the lines that end within what it is handed at once.
+/// A writer that colors how hooks ended, in the lines that end within what it is handed at once. It leaves out what is shown there by
+/// then.
 #[derive(Drop)]
 pub(crate) struct ColoredReport<W: Write + Drop> {
     alloc: Global,
     writer: W,
     is_on: bool,
+    shown: Option<SharedReport>,
 }
 
 impl<W: Write + Drop> ColoredReport<W> {
-    /// The writer, with colors or without.
-    pub(crate) fn new(alloc: Global, writer: W, is_on: bool) -> Self {
-        ColoredReport {
-            alloc,
-            writer,
-            is_on,
+    // Writes the rest of a text of which a part may be shown there.
+    fn write_rest(&mut self, text: &[u8]) -> io::Result<()> {
+        let Some(shown) = &self.shown else {
+            return self.writer.write_all(text);
+        };
+        match shown.try_borrow_mut() {
+            Ok(mut shown) => self.writer.write_all(shown.rest(text)),
+            Err(_) => self.writer.write_all(text),
         }
     }
 }
 
 impl<W: Write + Drop> Write for ColoredReport<W> {
     fn write(&mut self, buf: &[u8]) -> io::Result<usize> {
-        if !self.is_on {
+        if !self.is_on && self.shown.is_none() {
             return self.writer.write(buf);
         }
-        let Ok(colored) = colored(self.alloc, buf) else {
+        if self.is_on {
             // Without memory for them the report has no colors.
-            return self.writer.write(buf);
-        };
-        self.writer.write_all(colored.as_slice())?;
+            if let Ok(colored) = colored(self.alloc, buf) {
+                self.write_rest(colored.as_slice())?;
+                return Ok(buf.len());
+            }
+        }
+        self.write_rest(buf)?;
         Ok(buf.len())
     }
 
@@ -82,7 +123,8 @@ impl<W: Write + Drop> Write for ColoredReport<W> {
     }
 }
 
-fn colored(alloc: Global, text: &[u8]) -> Result<Vec<u8>, AllocError> {
+/// The text with the ends of its lines in colors.
+pub(crate) fn colored(alloc: Global, text: &[u8]) -> Result<Vec<u8>, AllocError> {
     let mut colored = Vec::new(alloc);
     for (i, line) in text.split(|byte| *byte == b'\n').enumerate() {
         if i > 0 {

@@ -5,12 +5,11 @@ ghost use Rattle.hook_cli.specs.CommandOver.{IsOverHost};
 ghost use Rattle.hookhost.specs.Stops.{IsStopOfLookUp, IsStopOfOpening, IsStopOfUpdate};
 ghost use Rattle.hookhost.specs.Works.{IsWork};
 
-use crate::colored_report::{ColoredReport, wants_colors};
+use crate::colored_report::report_writer;
 use crate::hint::{FIXES, hint, hint_undone, is_heard};
 use crate::names::names_of;
 use crate::refusal_hints::{Need, hint_need, need_of};
 use crate::runs::RealChildren;
-use crate::shown_hooks::show_staged_hooks;
 use crate::stop::{Stop, tell};
 use crate::tracked_store::distrust;
 use crate::trouble::tell_trouble;
@@ -20,7 +19,7 @@ use crate::work::{Work, work_of};
 use child_port::{Children, TableChildren};
 use commit_flow::{Host, HostRefusal, StagingEdit};
 use hook_base::{Items, OutOfMemory, RepoPath, Text};
-use hook_cli::{Line, LookUp, PathSource, Update, command_over, stage_over};
+use hook_cli::{ColorChoice, Line, LookUp, PathSource, Update, command_over, stage_over};
 use repo_store::Store;
 use repository_files::{
     Before, DatabaseOver, Lock, keep_out_of_git, leave_database, look_at_store, open_database,
@@ -29,7 +28,7 @@ use repository_files::{
 use sqlite::{Alter, Connection};
 use sqlite_disk::Disk;
 use std::alloc::Global;
-use std::io;
+use std::io::{self, Write};
 
 // The exit status of a command that is done.
 const DONE: u8 = 0;
@@ -199,8 +198,12 @@ fn answer_hooks<S: Alter + Drop>(
         return tell(rt, &Stop::RefusedCommand(refusal));
     }
     let mut children = children;
-    show_staged_hooks(rt, line, skip, host.store(), &mut children);
-    let status = call(rt, line, &[], skip, host, &mut children);
+    let (color, verbose) = shows_of(line);
+    if verbose {
+        children.tell_durations();
+    }
+    let mut writer = report_writer(rt, color, &mut children);
+    let status = call(rt, line, &[], skip, host, &mut children, &mut writer);
     if status != REFUSED {
         tell_trouble(rt, &children);
     }
@@ -242,7 +245,8 @@ fn answer_line<S: Alter + Drop>(
     match removed_below(alloc, line, host.store()) {
         Ok(edits) if edits.is_empty() => {
             let mut children = TableChildren::new(Items::new(alloc));
-            call(rt, line, bytes, &[], host, &mut children)
+            let mut writer = io::writer(rt);
+            call(rt, line, bytes, &[], host, &mut children, &mut writer)
         }
         edits => stage_if_known(rt, edits, host),
     }
@@ -275,18 +279,18 @@ fn removed_word(line: &Line) -> Option<&Text> {
     }
 }
 
-fn call<S: Alter + Drop, C: Children>(
+fn call<S: Alter + Drop, C: Children, W: Write>(
     rt: &HostRuntime,
     line: &Line,
     bytes: &[u8],
     skip: &[Text],
     host: &mut Host<S>,
     children: &mut C,
+    writer: &mut W,
 ) -> u8
     requires { IsOverHost line.now }
     ensures { (result ≡ 0) ⊎ (result ≡ 1) ⊎ (result ≡ 3) }
 {
-    let is_colored = runs_hooks(line) && wants_colors(rt);
     command_over(
         rt.alloc(),
         line,
@@ -294,17 +298,18 @@ fn call<S: Alter + Drop, C: Children>(
         skip,
         host,
         children,
-        &mut ColoredReport::new(rt.alloc(), io::writer(rt), is_colored),
+        writer,
         &mut rt.stderr(),
     )
 }
 
-// Whether the line prints a report.
-fn runs_hooks(line: &Line) -> bool {
-    matches!(
-        line,
-        Line::Update(Update::Run { .. } | Update::Commit { .. })
-    )
+// The colors that the report of a line that runs hooks is to have, and whether it is to say how long their commands took.
+fn shows_of(line: &Line) -> (ColorChoice, bool) {
+    match line {
+        Line::Update(Update::Run { options, .. }) => (options.color, options.verbose),
+        Line::Update(Update::Commit { color, .. }) => (*color, false),
+        _ => (ColorChoice::Auto, false),
+    }
 }
 
 fn stage_if_known<S: Alter + Drop>(

@@ -12,12 +12,14 @@ mod explained;
 mod file_tree;
 mod files;
 mod folder_files;
+mod git_state;
+mod heard_children;
 mod hint;
 mod linked;
 mod names;
 mod refusal_hints;
 mod runs;
-mod shown_hooks;
+mod shown_report;
 mod staged_words;
 mod stop;
 mod stop_hints;
@@ -29,17 +31,16 @@ mod unstaged_words;
 mod work;
 
 use build_stamp::{build_line, end_of_program};
-use colored_report::{ColoredReport, wants_colors};
+use colored_report::report_writer;
 use commands::{change, look_up};
 use explained::explain_file;
 use files::{read_configuration, read_tree};
 use hint::{WAITS, hint};
 use hook_base::{Items, Text, Tree};
-use hook_cli::{Line, Standalone, TryFault, check_text, line_of, try_over};
-use hook_config::{Config, Stage, read_config_with_node};
+use hook_cli::{ColorChoice, Line, Standalone, TryFault, check_text, line_of, try_over};
+use hook_config::{Config, read_config_with_node};
 use repository_files::{init, replace_ignore_file};
 use runs::{RealChildren, passing_children};
-use shown_hooks::{AskedHooks, show_hooks};
 use std::io::{IsTerminal, Read, Write};
 use std::process::ExitCode;
 use std::rt::Files;
@@ -75,7 +76,8 @@ fn run(rt: &HostRuntime) -> Result<u8, Stop> {
             }
             replace_ignore_file(rt);
             let tree = Tree::new(rt.alloc());
-            let passed = report(rt, &mut rt.reader(), &tree, passing_children(rt)?)?;
+            let children = passing_children(rt)?;
+            let passed = report(rt, &mut rt.reader(), &tree, children, ColorChoice::Auto)?;
             Ok(status_of_run(passed))
         }
         Err(Stop::Usage(error)) => version_or_usage(rt, error),
@@ -124,7 +126,11 @@ fn do_alone(rt: &HostRuntime, asked: Standalone) -> Result<u8, Stop> {
             init(rt).map_err(Stop::NoNewRepository)?;
             Ok(DONE)
         }
-        Standalone::Try { config, paths } => try_files(rt, config, paths),
+        Standalone::Try {
+            config,
+            paths,
+            color,
+        } => try_files(rt, config, paths, color),
         Standalone::Check => {
             check(rt).map_err(Stop::of_check)?;
             Ok(DONE)
@@ -173,9 +179,14 @@ fn print<R: Print>(rt: &R, text: &[u8]) -> io::Result<()> {
 }
 
 // `try CONFIG PATH..`: the first word whose file can't be used decides, and the run comes last.
-fn try_files(rt: &HostRuntime, config: Text, paths: Items<Text>) -> Result<u8, Stop> {
+fn try_files(
+    rt: &HostRuntime,
+    config: Text,
+    paths: Items<Text>,
+    color: ColorChoice,
+) -> Result<u8, Stop> {
     let name = config.clone()?;
-    match try_over_files(rt, config, paths) {
+    match try_over_files(rt, config, paths, color) {
         Err(Stop::Refused(TryFault::Config(fault))) => {
             let status = tell(rt, &Stop::Refused(TryFault::Config(fault)));
             hint_refused_file(rt, name.as_str());
@@ -185,18 +196,17 @@ fn try_files(rt: &HostRuntime, config: Text, paths: Items<Text>) -> Result<u8, S
     }
 }
 
-fn try_over_files(rt: &HostRuntime, config: Text, paths: Items<Text>) -> Result<bool, Stop> {
+fn try_over_files(
+    rt: &HostRuntime,
+    config: Text,
+    paths: Items<Text>,
+    color: ColorChoice,
+) -> Result<bool, Stop> {
     let bytes = read_configuration(rt, config)?;
     let tree = read_tree(rt, paths)?;
     replace_ignore_file(rt);
-    let mut children = passing_children(rt)?;
-    let asked = AskedHooks {
-        stages: &[Stage::PreCommit],
-        only: None,
-        skip: &[],
-    };
-    show_hooks(rt, bytes.as_slice(), &asked, &tree, &mut children);
-    let passed = report(rt, &mut bytes.as_slice(), &tree, children)?;
+    let children = passing_children(rt)?;
+    let passed = report(rt, &mut bytes.as_slice(), &tree, children, color)?;
     // As above, of the files.
     mem::forget(tree);
     Ok(passed)
@@ -208,9 +218,10 @@ fn report(
     reader: &mut impl Read,
     tree: &Tree,
     children: RealChildren,
+    color: ColorChoice,
 ) -> Result<bool, Stop> {
     let mut children = children;
-    let mut writer = ColoredReport::new(rt.alloc(), io::writer(rt), wants_colors(rt));
+    let mut writer = report_writer(rt, color, &mut children);
     let passed = try_over(rt.alloc(), reader, &mut writer, tree, &mut children);
     if passed.is_ok() {
         tell_trouble(rt, &children);

@@ -4,6 +4,8 @@ ghost use Rattle.std.specs.Prelude.{◌≡◌, IfErr, IfOk};
 ghost use Rattle.hookhost.specs.Stops.{IsStopOfChildren, IsStopOfVariable};
 ghost use Rattle.hookhost.specs.Works.{skipped_by};
 
+use crate::git_state::git_state;
+use crate::heard_children::HeardChildren;
 use crate::linked::linked;
 use crate::stop::Stop;
 use crate::terminal::terminal_of;
@@ -27,11 +29,11 @@ const GIT_CALLS: &str = "HOOKHOST_GIT_CALLS";
 const SCRATCH_FOLDER: &str = "HOOKHOST_SCRATCH";
 
 /// Children that are processes, which a terminal shows.
-pub(crate) type RealChildren = ShownChildren<ProcessChildren<HostRuntime>, Stderr>;
+pub(crate) type RealChildren = HeardChildren<ShownChildren<ProcessChildren<HostRuntime>, Stderr>>;
 
 /// The children of a run on the repository, of which none has run yet. They run in the folder that the variable of Git's hook
 /// names, else in that of the repository. If a variable names a file of calls, none of them is told as done that called Git there.
-/// A variable that isn't UTF-8 is `Stop::CannotUse`.
+/// If one names the file that stands for Git's state, each is told whether it has seen that. A variable that isn't UTF-8 is `Stop::CannotUse`.
 pub(crate) fn children_of(rt: &HostRuntime) -> Result<RealChildren, Stop>
     ensures { IfErr result IsStopOfChildren }
 {
@@ -41,9 +43,22 @@ pub(crate) fn children_of(rt: &HostRuntime) -> Result<RealChildren, Stop>
         None => String::from_str(rt.alloc(), SCRATCH)?,
     };
     let links = linked(rt)?;
+    let state = git_state(rt)?;
     let mut children = ProcessChildren::watching(rt.clone()?, folder, calls);
     children.link(links);
-    Ok(ShownChildren::new(rt.alloc(), children, terminal_of(rt)))
+    if let Some(path) = state {
+        children.tell_state(path);
+    }
+    Ok(shown(rt, children)?)
+}
+
+// The children, of which a terminal shows which is running.
+fn shown(
+    rt: &HostRuntime,
+    children: ProcessChildren<HostRuntime>,
+) -> Result<RealChildren, OutOfMemory> {
+    let shown = ShownChildren::new(children, terminal_of(rt));
+    Ok(HeardChildren::new(rt.clone()?, shown))
 }
 
 /// What the variable of this name names. There is nothing where it isn't set.
@@ -70,7 +85,7 @@ pub(crate) fn passing_children(rt: &HostRuntime) -> Result<RealChildren, Stop>
     let links = linked(rt)?;
     let mut children = ProcessChildren::removed_at_end(rt.clone()?, folder);
     children.link(links);
-    Ok(ShownChildren::new(rt.alloc(), children, terminal_of(rt)))
+    Ok(shown(rt, children)?)
 }
 
 /// The ids and aliases of the hooks that are skipped, in the variable of the environment.

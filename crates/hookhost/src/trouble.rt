@@ -14,7 +14,7 @@ const CANNOT_START: &str = "hookhost: cannot start ";
 /// first, each with the system's error there. Nothing of what was in no child's way, of a word without a letter, or if memory is
 /// refused.
 pub(crate) fn tell_trouble(rt: &HostRuntime, children: &RealChildren) {
-    let children = children.children();
+    let children = children.children().children();
     tell(rt, AT, children.trouble());
     tell(rt, CANNOT_START, children.unstarted());
 }

@@ -79,10 +79,18 @@ pub(crate) fn work_of(rt: &HostRuntime, update: Update, names: Items<Text>) -> R
             line: Line::Update(Update::Accept),
             bytes: Vec::new(rt.alloc()),
         }),
-        Update::Commit { message, no_verify } => {
+        Update::Commit {
+            message,
+            no_verify,
+            color,
+        } => {
             let (skip, children) = hook_needs(rt).map_err(Stop::of_command)?;
             Ok(Work::HookCall {
-                line: Line::Update(Update::Commit { message, no_verify }),
+                line: Line::Update(Update::Commit {
+                    message,
+                    no_verify,
+                    color,
+                }),
                 skip,
                 children,
             })

@@ -4,7 +4,7 @@
 use child_display::{
     ShownChildren, ShownHook, Terminal, clearing, columns_of, line_of_child, line_of_hook,
 };
-use child_port::{Answer, Children, Fault, FuseChildren, Outcome, TableChildren, TableRow};
+use child_port::{Answer, Children, Fault, FuseChildren, News, Outcome, TableChildren, TableRow};
 use hook_base::{Bytes, Changes, Items, OutOfMemory, Text, Tree};
 use std::alloc::Global;
 use std::io;
@@ -115,7 +115,7 @@ fn play<W: Write + Drop>(
     alloc: Global,
     terminal: Option<Terminal<W>>,
 ) -> Result<(), Fail> {
-    let mut children = ShownChildren::new(alloc, children_of(alloc)?, terminal);
+    let mut children = ShownChildren::new(children_of(alloc)?, terminal);
     let tree = Tree::new(alloc);
     let words = words_of(alloc, &["c", "x"])?;
     for (outcome, calls, faults) in [
@@ -169,17 +169,11 @@ fn tells_the_same_without_a_terminal_or_with_a_broken_one(rt: HostRuntime) -> Re
     )
 }
 
-fn hook_of(
-    alloc: Global,
-    name: &str,
-    place: usize,
-    words: &[&str],
-) -> Result<ShownHook, OutOfMemory> {
+fn hook_of(alloc: Global, name: &str, place: usize) -> Result<ShownHook, OutOfMemory> {
     Ok(ShownHook {
         name: Text::copy_of(alloc, name)?,
         place,
         stage_hooks: 12,
-        words: words_of(alloc, words)?,
     })
 }
 
@@ -194,7 +188,7 @@ fn names_a_hook_before_the_words(rt: HostRuntime) -> Result<(), Fail> {
         ("a\nb\u{1b}", 80, "[4] 3/12 a?b?: c x"),
         ("日本", 11, "[4] 3/12 日"),
     ] {
-        let hook = hook_of(alloc, name, 3, &["c"])?;
+        let hook = hook_of(alloc, name, 3)?;
         let line = line_of_hook(alloc, &hook, words.as_slice(), 4, columns)?;
         let wanted = format!(in alloc; "\u{1b}[?7l{shown}\u{1b}[?7h")?;
         assert_eq!(rt; line.as_str(), wanted.as_str());
@@ -202,44 +196,29 @@ fn names_a_hook_before_the_words(rt: HostRuntime) -> Result<(), Fail> {
     Ok(())
 }
 
-fn hooks(alloc: Global) -> Result<Items<ShownHook>, OutOfMemory> {
-    let mut hooks = Vec::new(alloc);
-    for (place, (name, words)) in [
-        ("B", ["b"].as_slice()),
-        ("C", ["c"].as_slice()),
-        ("C of x", ["c", "x"].as_slice()),
-        ("D", ["d"].as_slice()),
-        ("E", ["d"].as_slice()),
-    ]
-    .into_iter()
-    .enumerate()
-    {
-        hooks.push(hook_of(alloc, name, place + 1, words)?)?;
-    }
-    Ok(Items::from(hooks))
-}
-
-// Runs children of the hooks, one after another.
-fn run_hooks<W: Write + Drop>(
+// Runs a child before a run says anything, and then children of two hooks.
+fn run_heard<W: Write + Drop>(
     rt: &impl Abort,
     alloc: Global,
     terminal: Terminal<W>,
 ) -> Result<(), Fail> {
     let table = TableChildren::with_calls(Items::new(alloc), 0);
-    let mut children = ShownChildren::new(alloc, table, Some(terminal));
-    children.show_hooks(hooks(alloc)?);
+    let mut children = ShownChildren::new(table, Some(terminal));
+    assert!(rt; children.hears());
     let tree = Tree::new(alloc);
-    for words in [
-        ["c", "a"].as_slice(),
-        ["c", "x"].as_slice(),
-        ["c", "x", "y"].as_slice(),
-        ["b"].as_slice(),
-        ["c"].as_slice(),
-        ["d", "x"].as_slice(),
-        ["d", "y"].as_slice(),
-        ["c", "x"].as_slice(),
-    ] {
-        let words = words_of(alloc, words)?;
+    for (place, name) in [(0, ""), (2, "C"), (2, "C"), (12, "D")] {
+        if place > 0 {
+            let hooks = 12;
+            let id = "c";
+            children.hear(News::Hook {
+                place,
+                hooks,
+                id,
+                name,
+            });
+            children.hear(News::Report(b"C...Passed\n"));
+        }
+        let words = words_of(alloc, &["c", "a"])?;
         assert!(rt; children.calls() < u64::MAX);
         let _outcome = children.run(words.as_slice(), &tree, &tree)?;
     }
@@ -247,10 +226,10 @@ fn run_hooks<W: Write + Drop>(
 }
 
 #[test]
-fn goes_forward_through_the_hooks(rt: HostRuntime) -> Result<(), Fail> {
+fn names_the_hook_that_the_run_says(rt: HostRuntime) -> Result<(), Fail> {
     let alloc = rt.alloc();
     let mut told = Vec::new(alloc);
-    run_hooks(
+    run_heard(
         &rt,
         alloc,
         Terminal {
@@ -261,14 +240,10 @@ fn goes_forward_through_the_hooks(rt: HostRuntime) -> Result<(), Fail> {
     )?;
     let mut wanted = String::new(alloc);
     for shown in [
-        "[0] 2/12 C: c a",
-        "[1] 3/12 C of x: c x",
-        "[2] 3/12 C of x: c x y",
-        "[3] b",
-        "[4] c",
-        "[5] 4/12 D: d x",
-        "[6] 4/12 D: d y",
-        "[7] c x",
+        "[0] c a",
+        "[1] 2/12 C: c a",
+        "[2] 2/12 C: c a",
+        "[3] 12/12 D: c a",
     ] {
         wanted.push_str("\u{1b}[?7l")?;
         wanted.push_str(shown)?;

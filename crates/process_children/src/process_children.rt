@@ -7,7 +7,7 @@ use crate::stations::Stations;
 use crate::stop::Stop;
 use crate::trouble::Trouble;
 use child_port::{Children, Outcome};
-use hook_base::{OutOfMemory, Text, Tree};
+use hook_base::{OutOfMemory, RepoPath, Text, Tree};
 use std::fs::{File, Files};
 use std::process::{Processes, SystemProcess};
 
@@ -74,6 +74,15 @@ impl<
         self.stations.link(places);
     }
 
+    /// From now on a child that has seen the file of this path, which stands for Git's state, finds the variable
+    /// `HOOKHOST_SEES_GIT_STATE` set to 1. Another one doesn't find it.
+    pub fn tell_state(&mut self, path: RepoPath)
+        ensures calls { ⟦<ProcessChildren<R> as Children>⟧.call_count self.new ≡ ⟦<ProcessChildren<R> as Children>⟧.call_count self.old }
+        ensures faults { ⟦<ProcessChildren<R> as Children>⟧.fault_count self.new ≡ ⟦<ProcessChildren<R> as Children>⟧.fault_count self.old }
+    {
+        self.stations.tell_state(path);
+    }
+
     /// Of each child from now on all files are read: none is taken for unchanged by its times. For trials of that.
     pub fn read_everything(&mut self)
         ensures calls { ⟦<ProcessChildren<R> as Children>⟧.call_count self.new ≡ ⟦<ProcessChildren<R> as Children>⟧.call_count self.old }
@@ -118,8 +127,8 @@ impl<R: Files<File = File> + Processes<Started = SystemProcess> + AllocGlobal + 
 
     ghost faults_at_most_calls = { λ children. omega arith };
 
-    fn run(&mut self, words: &[Text], tree: &Tree, _seen: &Tree) -> Result<Outcome, OutOfMemory> {
-        match self.stations.answer(words, tree) {
+    fn run(&mut self, words: &[Text], tree: &Tree, seen: &Tree) -> Result<Outcome, OutOfMemory> {
+        match self.stations.answer(words, tree, seen) {
             Ok(answer) => {
                 self.completed += 1;
                 Ok(Outcome::Done(answer))

@@ -9,8 +9,11 @@ use std::io;
 use std::io::ErrorKind;
 use std::process::{Child, Command, Processes, Stdio};
 
+// The variable of a child that has seen the file of Git's state.
+const SEES_STATE: &str = "HOOKHOST_SEES_GIT_STATE";
+
 /// Starts the words in a folder, with empty standard input, which is locked on a byte, and a pipe for each output, in the
-/// environment of this process. A program word with a slash that doesn't begin with one is taken within the folder, one without a slash is
+/// environment of this process. Where it is known whether the child has seen Git's state, a variable says so. A program word with a slash that doesn't begin with one is taken within the folder, one without a slash is
 /// looked for along `PATH`. No open file but these three is handed on.
 ///
 /// The program word and the system's error where it can't be started, or where there is no word.
@@ -20,6 +23,7 @@ pub(crate) fn start<R: Files<File = File> + Processes>(
     folder: &str,
     input_byte: u64,
     words: &[Text],
+    sees_state: Option<bool>,
 ) -> Result<Child<R::Started>, Trouble> {
     let Some((program, arguments)) = words.split_first() else {
         let error = io::Error::new(ErrorKind::InvalidInput, "there is no word to start");
@@ -28,6 +32,15 @@ pub(crate) fn start<R: Files<File = File> + Processes>(
     let mut command = Command::new(alloc, program.as_str())?;
     for argument in arguments {
         let _command = command.arg(argument.as_str())?;
+    }
+    match sees_state {
+        Some(true) => {
+            let _command = command.env(SEES_STATE, "1")?;
+        }
+        Some(false) => {
+            let _command = command.env_remove(SEES_STATE)?;
+        }
+        None => {}
     }
     let command = command.current_dir(folder)?;
     let input = input::open(runtime, input_byte);

@@ -12,7 +12,7 @@ use crate::start::start;
 use crate::stop::Stop;
 use crate::trouble::at_place;
 use child_port::{Answer, Fault};
-use hook_base::{Text, Tree};
+use hook_base::{RepoPath, Text, Tree};
 use std::fs::{File, Files};
 use std::io::ErrorKind;
 use std::process::{Processes, SystemProcess};
@@ -27,6 +27,7 @@ pub(crate) struct Stations<R: Files<File = File> + AllocGlobal + Drop> {
     known: KnownFiles,
     calls: Option<String>,
     links: Vec<String>,
+    state: Option<RepoPath>,
     at_end: AtEnd,
     troubles: FirstTroubles,
 }
@@ -48,6 +49,7 @@ impl<R: Files<File = File> + AllocGlobal + Drop> Stations<R> {
             known,
             calls,
             links,
+            state: None,
             at_end,
             troubles: FirstTroubles::new(),
         }
@@ -61,6 +63,19 @@ impl<R: Files<File = File> + AllocGlobal + Drop> Stations<R> {
     /// From now on the folder of a child has links to these places.
     pub(crate) fn link(&mut self, places: Vec<String>) {
         self.links = places;
+    }
+
+    /// From now on each child is told whether it has seen the file of this path.
+    pub(crate) fn tell_state(&mut self, path: RepoPath) {
+        self.state = Some(path);
+    }
+
+    // Whether a child that has seen these files has seen that of Git's state, where that is told.
+    fn sees_state(&self, seen: &Tree) -> Option<bool> {
+        match &self.state {
+            Some(path) => Some(seen.get(path).is_some()),
+            None => None,
+        }
     }
 
     /// What was in the way first.
@@ -77,6 +92,7 @@ impl<R: Files<File = File> + AllocGlobal + Drop> Stations<R> {
             known: _,
             calls: _,
             links: _,
+            state: _,
             at_end,
             troubles: _,
         } = self;
@@ -95,12 +111,18 @@ impl<R: Files<File = File> + AllocGlobal + Drop> Stations<R> {
 
 impl<R: Files<File = File> + Processes<Started = SystemProcess> + AllocGlobal + Drop> Stations<R> {
     /// One child, in the folder that was taken for the first one.
-    pub(crate) fn answer(&mut self, words: &[Text], tree: &Tree) -> Result<Answer, Stop> {
+    pub(crate) fn answer(
+        &mut self,
+        words: &[Text],
+        tree: &Tree,
+        seen: &Tree,
+    ) -> Result<Answer, Stop> {
+        let sees_state = self.sees_state(seen);
         let taken = match self.scratch.take() {
             Some(taken) => taken,
             None => self.take_scratch()?,
         };
-        let answer = self.answer_in(&taken, words, tree);
+        let answer = self.answer_in(&taken, words, tree, sees_state);
         if answer.is_err() && !taken.is_marked(&self.runtime) {
             // The child has taken the mark away, maybe with all that stands beside it. The next one takes a folder anew.
             taken.leave(&self.runtime, self.runtime.alloc(), AtEnd::FolderStays);
@@ -115,6 +137,7 @@ impl<R: Files<File = File> + Processes<Started = SystemProcess> + AllocGlobal + 
         scratch: &ScratchFolder,
         words: &[Text],
         tree: &Tree,
+        sees_state: Option<bool>,
     ) -> Result<Answer, Stop> {
         let alloc = self.runtime.alloc();
         let mut piece = vec![in alloc; 0u8; PIECE_BYTES]?;
@@ -127,7 +150,8 @@ impl<R: Files<File = File> + Processes<Started = SystemProcess> + AllocGlobal + 
         self.known.child_starts(laid.found());
         let inside = at_place(alloc, place, laid.own.inside(""));
         let inside = self.troubles.note_files(inside)?;
-        let ending = self.ending_in(inside.as_str(), scratch.input_byte(), words, piece)?;
+        let (inside, byte) = (inside.as_str(), scratch.input_byte());
+        let ending = self.ending_in(inside, byte, words, sees_state, piece)?;
         let changes = read_back(&self.runtime, alloc, laid, tree, &mut self.known, piece);
         Ok(Answer {
             status: ending.status,
@@ -142,11 +166,12 @@ impl<R: Files<File = File> + Processes<Started = SystemProcess> + AllocGlobal + 
         folder: &str,
         input_byte: u64,
         words: &[Text],
+        sees_state: Option<bool>,
         piece: &mut [u8],
     ) -> Result<Ending, Stop> {
         let alloc = self.runtime.alloc();
         let before = self.call_bytes()?;
-        let child = start(&self.runtime, alloc, folder, input_byte, words);
+        let child = start(&self.runtime, alloc, folder, input_byte, words, sees_state);
         let ending = ending_of(alloc, self.troubles.note_start(child)?, piece);
         if self.call_bytes()? == before {
             ending

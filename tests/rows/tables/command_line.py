@@ -27,14 +27,14 @@ LINES = [
         "error: the following required arguments were not provided:\n"
         "  <CONFIG>\n"
         "  <PATH>...\n\n"
-        f"Usage: hookhost try <CONFIG> <PATH>...\n\n{MORE}",
+        f"Usage: hookhost try [--color=<WHEN>] <CONFIG> <PATH>...\n\n{MORE}",
     ),
     (
         ["try", "hooks.yaml"],
         "refused MissingRequiredArgument\n"
         "error: the following required arguments were not provided:\n"
         "  <PATH>...\n\n"
-        f"Usage: hookhost try <CONFIG> <PATH>...\n\n{MORE}",
+        f"Usage: hookhost try [--color=<WHEN>] <CONFIG> <PATH>...\n\n{MORE}",
     ),
     (
         ["tried", "hooks.yaml", "a"],
@@ -45,7 +45,7 @@ LINES = [
         "refused UnknownArgument\n"
         "error: unexpected argument '--all' found\n\n"
         "  tip: to pass '--all' as a value, use '-- --all'\n\n"
-        f"Usage: hookhost try <CONFIG> <PATH>...\n\n{MORE}",
+        f"Usage: hookhost try [--color=<WHEN>] <CONFIG> <PATH>...\n\n{MORE}",
     ),
     (["check", "a"], f"refused UnknownArgument\nerror: unexpected argument 'a' found\n\nUsage: hookhost check\n\n{MORE}"),
     (["check", "--all"], f"refused UnknownArgument\nerror: unexpected argument '--all' found\n\nUsage: hookhost check\n\n{MORE}"),
@@ -101,16 +101,19 @@ LINES = [
     ),
 ]
 
-# The usage line of each command on a repository.
+# The usage line of each command on a repository, and of those that print a report.
 USAGES = {
     "init": "init",
+    "try": "try [--color=<WHEN>] <CONFIG> <PATH>...",
     "explain": "explain [FILE]",
     "add": "add [--chmod=+x] (<PATH>... | --paths-from=<FILE>)",
     "rm": "rm (<PATH>... | --paths-from=<FILE>)",
     "status": "status",
     "fixes": "fixes",
     "accept": "accept",
-    "run-files": "run-files [--only=<ID>] [--hook-stage=<STAGE>] [--fresh] [--cautious] [--verbose] (<PATH>... | --paths-from=<FILE>)",
+    "run": "run [--all-files] [--hook-stage=<STAGE>] [--fresh] [--cautious] [--verbose] [--color=<WHEN>] [ID]",
+    "run-files": "run-files [--only=<ID>] [--hook-stage=<STAGE>] [--fresh] [--cautious] [--verbose] [--color=<WHEN>] (<PATH>... | --paths-from=<FILE>)",
+    "commit": "commit [--no-verify] [--color=<WHEN>] -m <TEXT>",
     "cat": "cat [--fixed | --commit=<N>] <PATH>",
     "log": "log",
     "show": "show <N>",
@@ -151,6 +154,10 @@ def no_number(value, name="<N>"):
 
 def no_limit(value):
     return f"invalid value '{value}' for '--limit <N>': it has to be a number from 1 to 100000"
+
+
+def no_color(value):
+    return f"invalid value '{value}' for '--color <WHEN>': only auto, always and never are allowed"
 
 
 def both_versions(value):
@@ -348,4 +355,51 @@ RUN_LINES = [
     (("run-files", "--only", "names", "--cautious", "--paths-from=list"), "run pre-commit listed cautious\nnames\nlist\n"),
 ]
 
-ROWS = [("line_of", *words, said) for words, said in LINES + REPOSITORY_LINES + RUN_LINES]
+# Words of the commands that print a report, and what they ask for: the first line without its end, and the lines after it.
+REPORTS = [
+    (("run", "--hook-stage=manual"), "run manual changed", ""),
+    (("run", "--fresh", "--verbose", "names"), "run pre-commit changed fresh verbose", "names\n"),
+    (("run-files", "a b"), "run pre-commit named", "a b\n"),
+    (("try", "hooks.yaml", "a"), "try", "hooks.yaml\na\n"),
+    (("commit", "-m", "some words"), "commit", "some words\n"),
+    (("commit", "--no-verify", "-mx"), "commit unverified", "x\n"),
+]
+
+# What `--color` may ask for, and how the first line ends then.
+COLORS = {"auto": "", "always": " color always", "never": " color never"}
+
+
+def colored(words, first, rest):
+    """The rows of a command that prints a report, in each color, and with what `--color` doesn't take."""
+    command, *others = words
+    yield words, f"{first}\n{rest}"
+    for color, end in COLORS.items():
+        yield (*words, f"--color={color}"), f"{first}{end}\n{rest}"
+        yield (command, "--color", color, *others), f"{first}{end}\n{rest}"
+    for color in ["Always", "AUTO", "on", "alway", "never ", ""]:
+        yield (*words, f"--color={color}"), refused(command, "InvalidValue", no_color(color))
+    yield (command, "--color", "a b", *others), refused(command, "InvalidValue", no_color("a b"))
+    yield (*words, "--color"), f"refused InvalidValue\nerror: a value is required for '--color <WHEN>' but none was supplied\n\n{MORE}"
+    for colors in [("always", "always"), ("auto", "never")]:
+        twice = (command, *others, *(f"--color={color}" for color in colors))
+        yield twice, refused(command, "ArgumentConflict", "the argument '--color <WHEN>' cannot be used multiple times")
+
+
+COLOR_LINES = [
+    *(row for report in REPORTS for row in colored(*report)),
+    # A word that is a value of another option, or stands after `--`, asks for no color.
+    (("commit", "-m", "--color=never"), "commit\n--color=never\n"),
+    (("try", "--", "--color=always", "a"), "try\n--color=always\na\n"),
+    (("run", "--", "--color=always"), "run pre-commit changed\n--color=always\n"),
+    # What a command lacks is told before a color that isn't known.
+    (("try", "--color=on"), refused("try", "MissingRequiredArgument", missing("CONFIG") + "\n  <PATH>...")),
+    (("commit", "--color=on"), refused("commit", "MissingRequiredArgument", "the following required arguments were not provided:\n  -m <TEXT>")),
+    (("run-files", "--color=on"), refused("run-files", "InvalidValue", NO_PATHS)),
+    # The other commands print no report.
+    *(
+        ((command, "--color=always"), refused(command, "UnknownArgument", "unexpected argument '--color' found"))
+        for command in ["init", "status", "accept", "forget"]
+    ),
+]
+
+ROWS = [("line_of", *words, said) for words, said in LINES + REPOSITORY_LINES + RUN_LINES + COLOR_LINES]

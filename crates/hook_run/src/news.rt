@@ -1,0 +1,52 @@
+//! What is said of a run while it goes on.
+
+ghost use Rattle.std.specs.Prelude.{◌≡◌};
+ghost use Rattle.child_port.specs.Telling.{SameTells};
+
+use crate::RunPlan;
+use crate::standing::Standing;
+use crate::waiting::Waiting;
+use child_port::{Children, News};
+use hook_base::OutOfMemory;
+use report_text::hook_texts;
+
+/// Says to whoever starts the children, where it hears that, how the run stands: what the report says of the hooks that have ended since
+/// so many had, and which hook the next child is of. The answer is how many have ended. Where memory is refused nothing is said of
+/// them.
+pub(crate) fn tell_news<C: Children>(children: &mut C, plan: &RunPlan, ended: usize) -> usize
+    ensures calls { C.call_count children.new ≡ C.call_count children.old }
+    ensures faults { C.fault_count children.new ≡ C.fault_count children.old }
+    ensures same { SameTells (C.tells children.old) (C.tells children.new) }
+{
+    if !children.hears() {
+        return ended;
+    }
+    if let Ok(text) = report_from(plan, ended) {
+        children.hear(News::Report(text.as_slice()));
+    }
+    if let Standing::Waits(waiting) = &plan.standing {
+        children.hear(hook_news(plan, waiting));
+    }
+    plan.done.results.len()
+}
+
+// What the report says of the hooks that have ended, but for so many of them.
+fn report_from(plan: &RunPlan, ended: usize) -> Result<Vec<u8>, OutOfMemory> {
+    let results = plan.done.results.as_slice();
+    let alloc = *plan.course.hooks.allocator();
+    hook_texts(
+        alloc,
+        plan.course.columns,
+        &results[ended.min(results.len())..],
+    )
+}
+
+// That the next child is of the hook that waits.
+fn hook_news<'n>(plan: &RunPlan, waiting: &'n Waiting) -> News<'n> {
+    News::Hook {
+        place: plan.place,
+        hooks: plan.course.hooks.len(),
+        id: waiting.work.hook.id.as_str(),
+        name: waiting.work.hook.name.as_str(),
+    }
+}
