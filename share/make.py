@@ -1,23 +1,27 @@
 #!/usr/bin/env python3
-"""Writes the completions for bash, zsh and fish and the manual page in this folder, from what the program's own help prints.
+"""Writes the completions for bash, zsh and fish and the manual page in this folder, from what the program's own help prints, and
+the completions of hookhost-reads, from what that prints.
 
-Usage: share/make.py PROGRAM           writes hookhost.bash, _hookhost, hookhost.fish and hookhost.1
-       share/make.py PROGRAM --check   compares them with what it would write, and fails with the first difference
+Usage: share/make.py [PROGRAM]           writes hookhost.bash, _hookhost, hookhost.fish and hookhost.1, and hookhost-reads.bash,
+                                         _hookhost-reads and hookhost-reads.fish; without PROGRAM these three alone
+       share/make.py [PROGRAM] --check   compares them with what it would write, and fails with the first difference
 
 The commands, their options and values, and all that is said of them, are read from `hookhost --help` and `hookhost COMMAND
 --help`. Which words an option takes the program tells where it is given an empty one. A line of help that nothing here knows
 how to read is an error, so that none is left out. What the manual page says of files and of the environment are sentences of
-docs/REFERENCE.md and docs/DECISIONS.md, and a few words of its own.
+docs/REFERENCE.md and docs/DECISIONS.md, and a few words of its own. hookhost-reads has no commands, and an option of it may take
+several words; what is said of an option is the beginning of what its help says.
 """
 import os
 import re
 import subprocess
 import sys
 import tempfile
-from dataclasses import dataclass
+from dataclasses import dataclass, field
 
 HERE = os.path.dirname(os.path.abspath(__file__))
 TOP = os.path.dirname(HERE)
+READS = os.path.join(TOP, "git", "hookhost-reads")
 # The day on which the page's own texts were last looked over.
 DATE = "2026-11-29"
 # The arguments and the values that name files of the folder; for every other one nothing can be proposed.
@@ -60,11 +64,14 @@ docs/REFERENCE.md of its repository."
 
 @dataclass
 class Option:
-    """An option: its names, the name of its value (empty where it has none), what is said of it, and the words that it takes."""
+    """An option: its names, the name of its value (empty where it has none), what is said of it, and the words that it takes. Then
+    whether all words up to the next option are its values, and the names of options that can't stand with it."""
     names: list
     value: str
     text: str
     words: list
+    is_many: bool = False
+    rivals: list = field(default_factory=list)
 
 
 @dataclass
@@ -111,23 +118,51 @@ def help_of(program, *command):
     while blocks and (head := blocks[0].splitlines()[0]) in tables:
         tables[head] = table(blocks.pop(0))
     arguments = [Argument(re.search(r"\w+", shown)[0], "..." in shown, text) for shown, text in tables["Arguments:"]]
+    # Of words in parentheses one is enough, and an argument does.
+    required = re.findall(r"(?<![\[\w-])(--?[a-z][a-z-]*)[= ]<\w+>", re.sub(r"\(.*?\)", "", usage))
     options = []
     for shown, text in tables["Options:"]:
         names, value = re.findall(r"--?[A-Za-z][a-z-]*", shown), re.search(r"<(\w+)>", shown)
-        words = words_of(program, command, names[-1], len(arguments)) if value else []
+        others = [word for name in required if name not in names for word in (name, "1")] + ["1"] * len(arguments)
+        words = words_of(program, command, names[-1], others) if value else []
         options.append(Option(names, value[1] if value else "", text, words))
     return Help(about, usage.removeprefix("Usage: "), tables["Commands:"], arguments, options, blocks)
 
 
-def words_of(program, command, option, count):
-    """The words that an option takes, as the program tells where it is given an empty one; none where it takes any."""
-    said = re.search(r": only (.*) (?:is|are) allowed\n", answer(program, *command, option, "", *["1"] * count))
+def words_of(program, command, option, others):
+    """The words that an option takes, as the program tells if it is given an empty one and all else that it needs; none if it takes
+    any."""
+    said = re.search(r": only (.*) (?:is|are) allowed\n", answer(program, *command, option, "", *others))
     return re.split(r", | and ", said[1]) if said else []
 
 
+def help_of_reads():
+    """The help of hookhost-reads, which prints it on standard output."""
+    done = subprocess.run([sys.executable, READS, "--help"], input=b"", capture_output=True, check=True, timeout=60)
+    usage, about, *blocks = done.stdout.decode().rstrip("\n").split("\n\n")
+    groups = [re.findall(r"--?[a-z][a-z-]*", it) for it in re.findall(r"\[([^]]* \| [^]]*)\]", usage)]
+    block, = (it for it in blocks if it.startswith("Options:\n"))
+    arguments, options = [], []
+    for shown, text in table(re.sub(r"\n {10,}", " ", block)):
+        names, value = re.findall(r"--?[A-Za-z][a-z-]*", shown), re.search(r"\b([A-Z]+)(\.\.)?$", shown)
+        text = re.split(r"[,.:;](?= |$)", text)[0]
+        if names:
+            rivals = [it for group in groups if {*group} & {*names} for it in group if it not in names]
+            options.append(Option(names, value[1] if value else "", text, [], bool(value and value[2]), rivals))
+        else:
+            arguments.append(Argument(value[1], bool(value[2]), text))
+    return Help(about, usage.removeprefix("Usage: "), [], arguments, options, blocks)
+
+
 def completed(option):
-    """How the names of an option are proposed: with `=` behind a long one that takes a value."""
-    return [name + "=" if option.value and name.startswith("--") else name for name in option.names]
+    """How the names of an option are proposed: with `=` behind a long one that takes one value."""
+    return [name + "=" if option.value and not option.is_many and name.startswith("--") else name for name in option.names]
+
+
+def many_paths(options):
+    """The name of the one option whose values are paths up to the next option."""
+    name, = (name for option in options if option.is_many and option.value in PATHS for name in option.names)
+    return name
 
 
 def most_of(arguments):
@@ -141,12 +176,8 @@ def takes_paths(arguments):
 
 # ---- bash
 
-BASH = r"""# Completion of hookhost in bash, made by share/make.py from what the program's help prints. To use it, in ~/.bashrc:
-#   source FOLDER/hookhost.bash
-
-# Puts what may stand at the cursor into COMPREPLY.
-_hookhost() {
-  local IFS=$' \t\n' at piece parted='' is_joined=''
+# The words of the line, as what follows finds them: the last is that at the cursor.
+BASH_JOINED = r"""  local IFS=$' \t\n' at piece parted='' is_joined=''
   local -a words=()
   COMPREPLY=()
   # Bash parts words at = and at :, and here they are whole again. What it has parted from the word at the cursor is `parted`.
@@ -160,7 +191,49 @@ _hookhost() {
     if [[ ${#words[@]} -gt 1 && $piece =~ ^[=:]+$ ]]; then
       parted=${words[-1]} is_joined=1
     fi
+  done"""
+
+# What proposes, for a function with this name.
+BASH_HELPERS = r"""# Leaves an option out of those that are proposed.
+%SELF%_leave_out() {
+  local option
+  local -a left=()
+  for option in "${options[@]}"; do
+    [[ ${option%=} == "$1" ]] || left+=("$option")
   done
+  options=("${left[@]}")
+}
+
+# Proposes those of the words that begin with the first, without what bash has parted from it.
+%SELF%_propose() {
+  local word
+  for word in "${@:2}"; do
+    [[ $word != "$1"* ]] || COMPREPLY+=("${word#"$parted"}")
+  done
+  # No blank follows an option whose value is still to come.
+  [[ ${#COMPREPLY[@]} != 1 || ${COMPREPLY[0]} != *= ]] || compopt -o nospace 2> /dev/null
+}
+
+# Proposes the files whose paths begin so, behind the second word. Readline puts quotes around a path that needs them.
+%SELF%_propose_paths() {
+  local path=$1 head=$2
+  case $path in
+    [\'\"]*) path=${path:1} ;;
+    *) path=${path//\\/} ;;
+  esac
+  while IFS= read -r path; do
+    path=$head$path
+    COMPREPLY+=("${path#"$parted"}")
+  done < <(compgen -f -- "$path")
+  compopt -o filenames 2> /dev/null
+}"""
+
+BASH = r"""# Completion of hookhost in bash, made by share/make.py from what the program's help prints. To use it, in ~/.bashrc:
+#   source FOLDER/hookhost.bash
+
+# Puts what may stand at the cursor into COMPREPLY.
+_hookhost() {
+%JOINED%
   case ${#words[@]},${words[0]} in
     1,-*) _hookhost_propose "${words[0]}" %OPTIONS% ;;
     1,*) _hookhost_propose "${words[0]}" %COMMANDS% ;;
@@ -218,39 +291,7 @@ _hookhost_words() {
   esac
 }
 
-# Leaves an option out of those that are proposed.
-_hookhost_leave_out() {
-  local option
-  local -a left=()
-  for option in "${options[@]}"; do
-    [[ ${option%=} == "$1" ]] || left+=("$option")
-  done
-  options=("${left[@]}")
-}
-
-# Proposes those of the words that begin with the first, without what bash has parted from it.
-_hookhost_propose() {
-  local word
-  for word in "${@:2}"; do
-    [[ $word != "$1"* ]] || COMPREPLY+=("${word#"$parted"}")
-  done
-  # No blank follows an option whose value is still to come.
-  [[ ${#COMPREPLY[@]} != 1 || ${COMPREPLY[0]} != *= ]] || compopt -o nospace 2> /dev/null
-}
-
-# Proposes the files whose paths begin so, behind the second word. Readline puts quotes around a path that needs them.
-_hookhost_propose_paths() {
-  local path=$1 head=$2
-  case $path in
-    [\'\"]*) path=${path:1} ;;
-    *) path=${path//\\/} ;;
-  esac
-  while IFS= read -r path; do
-    path=$head$path
-    COMPREPLY+=("${path#"$parted"}")
-  done < <(compgen -f -- "$path")
-  compopt -o filenames 2> /dev/null
-}
+%HELPERS%
 
 complete -F _hookhost hookhost
 """
@@ -271,6 +312,57 @@ def bash_of(program, commands):
         "OPTIONS": " ".join(it for option in program.options for it in completed(option)),
         "CASES": "\n".join(cases),
         "WORDS": "\n".join(f"    {option}) taken=({taken}) ;;" for option, taken in words.items()),
+        "JOINED": BASH_JOINED,
+        "HELPERS": filled(BASH_HELPERS, {"SELF": "_hookhost"}),
+    })
+
+
+BASH_OF_READS = r"""# Completion of hookhost-reads in bash, made by share/make.py from what its help prints. To use it, in ~/.bashrc:
+#   source FOLDER/hookhost-reads.bash
+
+# Puts what may stand at the cursor into COMPREPLY.
+_hookhost_reads() {
+%JOINED%
+  # The last option decides what follows it. An option is proposed once, and none that can't stand with one before it.
+  local -a options=(%OPTIONS%) taken
+  local last='' is_ended='' word each
+  for word in "${words[@]:0:${#words[@]}-1}"; do
+    if [[ $is_ended || $word != -?* ]]; then
+      continue
+    elif [[ $word == -- ]]; then
+      is_ended=1
+      continue
+    fi
+    case $word in
+%CASES%
+      *) taken=() ;;
+    esac
+    last=$word
+    for each in "${taken[@]}"; do
+      _hookhost_reads_leave_out "$each"
+    done
+  done
+  word=${words[-1]}
+  if [[ ! $is_ended && $word == -* ]]; then
+    _hookhost_reads_propose "$word" "${options[@]}"
+  elif [[ $last == %FILED% ]]; then
+    _hookhost_reads_propose_paths "$word"
+  fi
+}
+
+%HELPERS%
+
+complete -F _hookhost_reads hookhost-reads
+"""
+
+
+def bash_of_reads(told):
+    return filled(BASH_OF_READS, {
+        "JOINED": BASH_JOINED,
+        "OPTIONS": " ".join(it for option in told.options for it in completed(option)),
+        "CASES": "\n".join(f"      {' | '.join(it.names)}) taken=({' '.join(it.names + it.rivals)}) ;;" for it in told.options),
+        "FILED": many_paths(told.options),
+        "HELPERS": filled(BASH_HELPERS, {"SELF": "_hookhost_reads"}),
     })
 
 
@@ -319,12 +411,15 @@ def zsh_quoted(text):
 def zsh_option(option):
     """An option as _arguments of zsh takes it. With --help or --version nothing else stands."""
     told = "[" + re.sub(r"([\[\]:\\])", r"\\\1", option.text) + "]"
+    without = f"({' '.join(option.rivals)})" if option.rivals else ""
     if {"--help", "--version"} & {*option.names}:
         return "'(- : *)'{" + ",".join(option.names) + "}" + zsh_quoted(told)
     files = "_files" if option.value in PATHS else " "
     value = f":{option.value}:({' '.join(option.words)})" if option.words else f":{option.value}:{files}" if option.value else ""
+    if option.is_many:
+        return zsh_quoted(without + option.names[-1] + told + ":*-*" + value)
     name = option.names[-1] + ("" if not option.value else "=" if option.names[-1].startswith("--") else "+")
-    return zsh_quoted(name + told + value)
+    return zsh_quoted(without + name + told + value)
 
 
 def zsh_argument(place, argument):
@@ -344,6 +439,20 @@ def zsh_of(program, commands):
         "OPTIONS": "\n".join(f"  {zsh_option(option)} \\" for option in program.options),
         "CASES": "\n".join(cases),
     })
+
+
+ZSH_OF_READS = r"""#compdef hookhost-reads
+# Completion of hookhost-reads in zsh, made by share/make.py from what its help prints. To use it, put this file into a folder of
+# $fpath, as /usr/local/share/zsh/site-functions, and begin zsh again.
+
+_arguments -S \
+%SPECS%
+"""
+
+
+def zsh_of_reads(told):
+    specs = [*map(zsh_option, told.options), *(zsh_argument(at, it) for at, it in enumerate(told.arguments, 1))]
+    return filled(ZSH_OF_READS, {"SPECS": " \\\n".join("  " + it for it in specs)})
 
 
 # ---- fish
@@ -388,29 +497,54 @@ def fish_quoted(text):
     return "'" + text.replace("\\", "\\\\").replace("'", "\\'") + "'"
 
 
-def fish_option(condition, option):
-    """An option. One without a value is proposed once; fish asks for the words of another behind it."""
-    bare = [name.lstrip("-") for name in option.names]
-    given = " ".join(("-s " if len(name) == 1 else "") + name for name in bare)
+def fish_option(command, conditions, option):
+    """An option. One without a value is proposed once; fish asks for the words of another behind it, but not for many."""
+    bare, rivals = ([name.lstrip("-") for name in names] for names in (option.names, option.rivals))
+    given = " ".join(("-s " if len(name) == 1 else "") + name for name in bare + rivals)
     names = " ".join(("-s " if len(name) == 1 else "-l ") + name for name in bare)
-    bare_value = " -r -F" if option.value in PATHS else " -x" if option.value else ""
+    is_one = option.value and not option.is_many
+    bare_value = "" if not is_one else " -r -F" if option.value in PATHS else " -x"
     words = f" -x -a {fish_quoted(' '.join(option.words))}" if option.words else bare_value
-    once = "" if option.value else f"; and not __fish_contains_opt {given}"
-    return f"complete -c hookhost -n '{condition}{once}' {names}{words} -d {fish_quoted(option.text)}"
+    once = [] if is_one else [f"not __fish_contains_opt {given}"]
+    return f"complete -c {command} -n '{'; and '.join(conditions + once)}' {names}{words} -d {fish_quoted(option.text)}"
 
 
 def fish_of(program, commands):
     first = "__fish_is_first_token"
     lines = [f"complete -c hookhost -n {first} -a {name} -d {fish_quoted(text)}" for name, text in program.commands]
-    lines += [fish_option(first, option) for option in program.options]
+    lines += [fish_option("hookhost", [first], option) for option in program.options]
     cases = []
     for name, _ in program.commands:
         told = commands[name]
-        cases += [fish_option(f"__hookhost_is {name}", option) for option in told.options]
+        cases += [fish_option("hookhost", [f"__hookhost_is {name}"], option) for option in told.options]
         if takes_paths(told.arguments):
             cases.append(f"complete -c hookhost -n '__hookhost_takes {name} {most_of(told.arguments)}' -F")
     valued = {it: None for told in commands.values() for option in told.options if option.value for it in option.names}
     return filled(FISH, {"VALUED": " ".join(valued), "PROGRAM": "\n".join(lines), "CASES": "\n".join(cases)})
+
+
+FISH_OF_READS = r"""# Completion of hookhost-reads in fish, made by share/make.py from what its help prints. To use it, put this file into
+# ~/.config/fish/completions.
+
+# Whether files follow the last option.
+function __hookhost_reads_takes_files
+    set -l last ''
+    for word in (commandline -opc)[2..-1]
+        test $word = --; and break
+        string match -q -- '-?*' $word; and set last $word
+    end
+    test "$last" = %FILED%
+end
+
+complete -c hookhost-reads -f
+%OPTIONS%
+complete -c hookhost-reads -n __hookhost_reads_takes_files -F
+"""
+
+
+def fish_of_reads(told):
+    options = "\n".join(fish_option("hookhost-reads", [], option) for option in told.options)
+    return filled(FISH_OF_READS, {"FILED": many_paths(told.options), "OPTIONS": options})
 
 
 # ---- the manual page
@@ -552,23 +686,37 @@ def difference(name, wanted):
     return None
 
 
-def main():
-    if len(sys.argv) not in (2, 3) or sys.argv[2:] not in ([], ["--check"]):
-        sys.exit("Usage: share/make.py PROGRAM [--check]")
-    path = os.path.abspath(sys.argv[1])
+def of_program(path):
+    """The files that are made of the program's help, with what each has to hold."""
     if not os.access(path, os.X_OK):
-        sys.exit(f"share/make.py: there is no program {sys.argv[1]}")
+        sys.exit(f"share/make.py: there is no program {path}")
     program = help_of(path)
     commands = {name: help_of(path, name) for name, _ in program.commands}
     makers = {"hookhost.bash": bash_of, "_hookhost": zsh_of, "hookhost.fish": fish_of, "hookhost.1": page_of}
-    for name, maker in makers.items():
-        made = maker(program, commands)
-        if len(sys.argv) == 2:
+    return {name: maker(program, commands) for name, maker in makers.items()}
+
+
+def of_reads():
+    """The files that are made of the help of hookhost-reads, with what each has to hold."""
+    told = help_of_reads()
+    return {"hookhost-reads.bash": bash_of_reads(told), "_hookhost-reads": zsh_of_reads(told), "hookhost-reads.fish": fish_of_reads(told)}
+
+
+def main():
+    is_check = "--check" in sys.argv[2:] or sys.argv[1:] == ["--check"]
+    programs = sys.argv[1:len(sys.argv) - is_check]
+    if len(programs) > 1 or any(it.startswith("-") for it in programs):
+        sys.exit("Usage: share/make.py [PROGRAM] [--check]")
+    made = of_reads()
+    for program in programs:
+        made |= of_program(os.path.abspath(program))
+    for name, wanted in made.items():
+        if not is_check:
             with open(os.path.join(HERE, name), "w", encoding="utf-8") as file:
-                file.write(made)
-        elif wrong := difference(name, made):
+                file.write(wanted)
+        elif wrong := difference(name, wanted):
             sys.exit(f"share/make.py: {wrong}; `python3 share/make.py PROGRAM` makes it anew")
-    print(f"share: {len(makers)} files of {len(commands)} commands {'written' if len(sys.argv) == 2 else 'are as they are made'}")
+    print(f"share: {len(made)} files {'are as they are made' if is_check else 'written'}")
 
 
 main()

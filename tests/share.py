@@ -1,12 +1,14 @@
 #!/usr/bin/env python3
-"""Tries what stands in share/: that it is made of the program's help, the completions in real shells, and the manual page.
+"""Tries what stands in share/: that it is made of the help of the program and of hookhost-reads, the completions in real shells, and
+the manual page.
 
 Usage: tests/share.py [PROGRAM]   (default: crates/hookhost/out/hookhost)
 
 The files have to be those that share/make.py makes, which has to find a line more in each. Bash is asked what it proposes for
 the lines of CASES and for each command and its options, and so is fish where it is installed; zsh, where it is installed, has to
-read its file. What is proposed the program has to take, and of the stages of docs/REFERENCE.md it may take no other. The manual
-page has to hold each text of the help, and those of man, groff and mandoc that are installed have to read it without a warning.
+read its files. What is proposed the program or hookhost-reads has to take, and of the stages of docs/REFERENCE.md the program may
+take no other. The manual page has to hold each text of the help, and those of man, groff and mandoc that are installed have to read
+it without a warning.
 """
 import os
 import re
@@ -21,7 +23,9 @@ from places import TOP, program
 
 SHARE = os.path.join(TOP, "share")
 PROGRAM = os.path.abspath(sys.argv[1] if len(sys.argv) > 1 else program("hookhost"))
-MADE = ["hookhost.bash", "_hookhost", "hookhost.fish", "hookhost.1"]
+READS = os.path.join(TOP, "git", "hookhost-reads")
+MADE_OF_READS = ["hookhost-reads.bash", "_hookhost-reads", "hookhost-reads.fish"]
+MADE = ["hookhost.bash", "_hookhost", "hookhost.fish", "hookhost.1", *MADE_OF_READS]
 FILES = [".pre-commit-config.yaml", "README.md", "my file.md", "src/main.c"]
 
 # A line up to the cursor, and what its last word may become.
@@ -73,18 +77,40 @@ BASH_CASES = [
     ("hookhost cat README.md ", ["--commit=", "--fixed", "--help", "-h"]),
     ("hookhost add --paths-from=R", ["--paths-from=README.md"]),
     ("hookhost run-files --paths-from=src/", ["--paths-from=src/main.c"]),
-    ("hookhost run --fresh ", ["--all-files", "--cautious", "--help", "--hook-stage=", "--verbose", "-h"]),
+    ("hookhost run --fresh ", ["--all-files", "--cautious", "--color=", "--help", "--hook-stage=", "--verbose", "-h"]),
     ("hookhost run --cautious --v", ["--verbose"]),
     ("hookhost run-files --o", ["--only="]),
     ("hookhost run --hook-stage=manual --h", ["--help"]),
     ("hookhost run --hook-stage manual --h", ["--help"]),
 ]
+# The same of hookhost-reads.
+READS_CASES = [
+    ("hookhost-reads ", []),
+    ("hookhost-reads R", []),
+    ("hookhost-reads -", ["--all-files", "--cautious", "--each", "--files", "--help", "-h"]),
+    ("hookhost-reads id --c", ["--cautious"]),
+    ("hookhost-reads --cautious --c", []),
+    ("hookhost-reads --all-files -", ["--cautious", "--each", "--help", "-h"]),
+    ("hookhost-reads --all-files R", []),
+    ("hookhost-reads --files R", ["README.md"]),
+    ("hookhost-reads --files README.md s", ["src"]),
+    ("hookhost-reads id --files README.md src/", ["src/main.c"]),
+    ("hookhost-reads --files README.md --", ["--cautious", "--each", "--help"]),
+    ("hookhost-reads --files README.md --each R", []),
+    ("hookhost-reads --each --files my", ["my file.md"]),
+    ("hookhost-reads --files -- R", ["README.md"]),
+]
+READS_BASH_CASES = [
+    ("hookhost-reads --files a=", ["a=b.md"]),
+    ("hookhost-reads --files c:d", ["c:d.md"]),
+    ("hookhost-reads --files README.md -- -", ["-dash.md"]),
+]
 # Tools that read a file and say what is wrong with it.
 SHELLS = [
-    (["bash", "-n"], "hookhost.bash"),
-    (["shellcheck", "--shell=bash"], "hookhost.bash"),
-    (["zsh", "-n"], "_hookhost"),
-    (["fish", "--no-execute"], "hookhost.fish"),
+    *((["bash", "-n"], name) for name in ["hookhost.bash", "hookhost-reads.bash"]),
+    *((["shellcheck", "--shell=bash"], name) for name in ["hookhost.bash", "hookhost-reads.bash"]),
+    *((["zsh", "-n"], name) for name in ["_hookhost", "_hookhost-reads"]),
+    *((["fish", "--no-execute"], name) for name in ["hookhost.fish", "hookhost-reads.fish"]),
 ]
 PAGES = [
     (["man", "--warnings", "-E", "UTF-8", "-l", "-Tutf8", "-Z"], "hookhost.1"),
@@ -135,17 +161,18 @@ def cases():
 # ---- the files. Here and below each try is yielded as whether it holds, and what is wrong where it doesn't.
 
 def tried_files():
-    """Whether the files are as share/make.py makes them, and whether it finds a line more in each."""
-    status, _, said = played([sys.executable, os.path.join(SHARE, "make.py"), PROGRAM, "--check"])
-    yield status == 0, said.strip()
-    for name in MADE:
-        with tempfile.TemporaryDirectory() as folder:
-            for part in ["docs", "share"]:
-                shutil.copytree(os.path.join(TOP, part), os.path.join(folder, part))
-            with open(os.path.join(folder, "share", name), "a", encoding="utf-8") as file:
-                file.write("x\n")
-            status, _, said = played([sys.executable, os.path.join(folder, "share", "make.py"), PROGRAM, "--check"])
-        yield status == 1 and f"share/{name}:" in said, f"share/make.py doesn't find a line more in {name}: {said!r}"
+    """Whether the files are as share/make.py makes them, and whether it finds a line more in each, with a program and without."""
+    for programs, names in [([PROGRAM], MADE), ([], MADE_OF_READS)]:
+        status, _, said = played([sys.executable, os.path.join(SHARE, "make.py"), *programs, "--check"])
+        yield status == 0, said.strip()
+        for name in names:
+            with tempfile.TemporaryDirectory() as folder:
+                for part in ["docs", "git", "share"]:
+                    shutil.copytree(os.path.join(TOP, part), os.path.join(folder, part))
+                with open(os.path.join(folder, "share", name), "a", encoding="utf-8") as file:
+                    file.write("x\n")
+                status, _, said = played([sys.executable, os.path.join(folder, "share", "make.py"), *programs, "--check"])
+            yield status == 1 and f"share/{name}:" in said, f"share/make.py doesn't find a line more in {name}: {said!r}"
 
 
 def tried_readings(readings, wrong_line):
@@ -173,23 +200,24 @@ def pieces_of(line):
     return re.findall(r"[=:]+|[^\s=:]+", line) + ([""] if line.endswith(" ") else [])
 
 
-def told_by_bash(lines, folder):
+def told_by_bash(lines, folder, name="hookhost"):
     """What bash proposes for each line, as the words that may come of it: it doesn't repeat what it has parted from a word."""
-    script = [f"source {shlex.quote(os.path.join(SHARE, 'hookhost.bash'))}", "complete -p hookhost"]
+    function = "_" + name.replace("-", "_")
+    script = [f"source {shlex.quote(os.path.join(SHARE, name + '.bash'))}", f"complete -p {name}"]
     for line in lines:
         pieces = pieces_of(line)
-        script.append(f"COMP_WORDS=({shlex.join(pieces)}) COMP_CWORD={len(pieces) - 1}; _hookhost")
+        script.append(f"COMP_WORDS=({shlex.join(pieces)}) COMP_CWORD={len(pieces) - 1}; {function}")
         script.append("printf '%s\\t' \"${COMPREPLY[@]}\"; echo")
     status, told, said = played(["bash", "--norc", "--noprofile"], folder, "\n".join(script) + "\n")
-    if status or said or not told.startswith("complete -F _hookhost hookhost\n"):
+    if status or said or not told.startswith(f"complete -F {function} {name}\n"):
         sys.exit(f"tests/share.py: bash answers {status}, {told[:300]!r}, {said[:600]!r}")
     parted = [re.match(r"(?:.*[=:])?", line.rpartition(" ")[2])[0] for line in lines]
     return [[before + it for it in row.split("\t") if it] for before, row in zip(parted, told.splitlines()[1:], strict=True)]
 
 
-def told_by_fish(lines, folder):
+def told_by_fish(lines, folder, name):
     """What fish proposes for each line."""
-    script = [f"source {shlex.quote(os.path.join(SHARE, 'hookhost.fish'))}"]
+    script = [f"source {shlex.quote(os.path.join(SHARE, name + '.fish'))}"]
     script += [f"complete -C {shlex.quote(line)}; echo ." for line in lines]
     status, told, said = played(["fish", "--no-config"], folder, "\n".join(script) + "\n")
     if status or said:
@@ -206,14 +234,14 @@ def lay(folder, paths):
 def tried_completions(folder):
     """Whether the shells propose what the rows say. Fish puts a slash behind a folder, and no `=` behind an option."""
     lay(folder, FILES)
-    rows = list(cases()) if shutil.which("fish") else []
-    for (line, wanted), found in zip(rows, told_by_fish([line for line, _ in rows], folder) if rows else [], strict=True):
-        found, wanted = [it.rstrip("/") for it in found], [it.rstrip("=") for it in wanted]
-        yield sorted(found) == sorted(wanted), f"fish proposes {sorted(found)} for {line!r} in place of {wanted}"
+    for name, rows in [("hookhost", list(cases())), ("hookhost-reads", READS_CASES)] if shutil.which("fish") else []:
+        for (line, wanted), found in zip(rows, told_by_fish([line for line, _ in rows], folder, name), strict=True):
+            found, wanted = [it.rstrip("/") for it in found], [it.rstrip("=") for it in wanted]
+            yield sorted(found) == sorted(wanted), f"fish proposes {sorted(found)} for {line!r} in place of {wanted}"
     lay(folder, BASH_FILES)
-    rows = [*cases(), *BASH_CASES]
-    for (line, wanted), found in zip(rows, told_by_bash([line for line, _ in rows], folder), strict=True):
-        yield sorted(found) == sorted(wanted), f"bash proposes {sorted(found)} for {line!r} in place of {wanted}"
+    for name, rows in [("hookhost", [*cases(), *BASH_CASES]), ("hookhost-reads", READS_CASES + READS_BASH_CASES)]:
+        for (line, wanted), found in zip(rows, told_by_bash([line for line, _ in rows], folder, name), strict=True):
+            yield sorted(found) == sorted(wanted), f"bash proposes {sorted(found)} for {line!r} in place of {wanted}"
 
 
 # ---- the program
@@ -247,6 +275,18 @@ def tried_options(folder):
             required = required_of(name, option)
             words = [name, *required] if option in required else [name, word, *required]
             yield is_usage(*words) == (option in ("-h", "--help")), f"hookhost {name} doesn't take {word}, which is proposed"
+
+
+def tried_options_of_reads(folder):
+    """Whether hookhost-reads names each option that is proposed, and no other, and takes it: in an empty folder it can't work then."""
+    proposed, = told_by_bash(["hookhost-reads -"], folder, "hookhost-reads")
+    told = re.findall(r"^ +(-.*?)(?: {2}|$)", played([READS, "--help"])[1], re.MULTILINE)
+    named = [it for shown in told for it in re.findall(r"--?[a-z][a-z-]*", shown)]
+    yield sorted(proposed) == sorted(named), f"hookhost-reads names {named}, and {proposed} are proposed"
+    for option in proposed:
+        with tempfile.TemporaryDirectory() as empty:
+            status, _, said = played([READS, option, *(["1"] if option == "--files" else [])], empty)
+        yield status == (0 if option in ("-h", "--help") else 3), f"hookhost-reads doesn't take {option}, which is proposed: {said!r}"
 
 
 def tried_stages(folder):
@@ -296,7 +336,7 @@ def main():
     with tempfile.TemporaryDirectory() as folder:
         tries = [
             *tried_files(), *tried_readings(SHELLS, "(\n"), *tried_completions(folder), *tried_options(folder),
-            *tried_stages(folder), *tried_readings(PAGES, ".XX\n"), *tried_page(),
+            *tried_options_of_reads(folder), *tried_stages(folder), *tried_readings(PAGES, ".XX\n"), *tried_page(),
         ]
     wrong = [text for holds, text in tries if not holds]
     for each in wrong:

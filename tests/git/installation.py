@@ -34,15 +34,19 @@ PLACES = {
     "bin/hookhost": (0o755, "crates/hookhost/out/hookhost"),
     "bin/hookhost-git": (0o755, "git/hookhost-git"),
     "bin/hookhost-reads": (0o755, "git/hookhost-reads"),
+    **{f"share/hookhost/hookhost_reads/{name}": (0o644, f"git/hookhost_reads/{name}") for name in sorted(os.listdir(os.path.join(TOP, "git/hookhost_reads"))) if name.endswith(".py")},
     "share/man/man1/hookhost.1": (0o644, "share/hookhost.1"),
     "share/man/man1/hookhost-git.1": (0o644, "share/hookhost-git.1"),
     "share/man/man1/hookhost-reads.1": (0o644, "share/hookhost-reads.1"),
     "share/bash-completion/completions/hookhost": (0o644, "share/hookhost.bash"),
     "share/bash-completion/completions/hookhost-git": (0o644, "share/hookhost-git.bash"),
+    "share/bash-completion/completions/hookhost-reads": (0o644, "share/hookhost-reads.bash"),
     "share/zsh/site-functions/_hookhost": (0o644, "share/_hookhost"),
     "share/zsh/site-functions/_hookhost-git": (0o644, "share/_hookhost-git"),
+    "share/zsh/site-functions/_hookhost-reads": (0o644, "share/_hookhost-reads"),
     "share/fish/vendor_completions.d/hookhost.fish": (0o644, "share/hookhost.fish"),
     "share/fish/vendor_completions.d/hookhost-git.fish": (0o644, "share/hookhost-git.fish"),
+    "share/fish/vendor_completions.d/hookhost-reads.fish": (0o644, "share/hookhost-reads.fish"),
 }
 LIST = "share/hookhost/installed"
 BASH_COMPLETION = "/usr/share/bash-completion/bash_completion"
@@ -210,7 +214,7 @@ def completions_load_in_bash(desk):
     desk.install()
     # bash-completion takes no folder with blanks in its name.
     os.symlink(desk.at("share"), os.path.join(desk.top, "data"))
-    rows = [("hookhost", "_hookhost", "st", "status"), ("hookhost-git", "_hookhost_git", "inst", "install")]
+    rows = [("hookhost", "_hookhost", "st", "status"), ("hookhost-git", "_hookhost_git", "inst", "install"), ("hookhost-reads", "_hookhost_reads", "--ea", "--each")]
     for name, function, word, wanted in rows:
         proposed = [f"complete -p {name}", f"COMP_WORDS=({name} {word}) COMP_CWORD=1; {function}; echo \"${{COMPREPLY[@]}}\""]
         shown = f"complete -F {function} {name}\n{wanted}\n"
@@ -240,6 +244,20 @@ def the_installed_programs_find_each_other(desk):
     answer = git.commit()
     made(answer)
     says(answer.text, "No bad words", "Passed")
+
+
+def hookhost_reads_finds_its_modules(desk):
+    """By each of its paths, and without the bytes that Python keeps of modules that it has read."""
+    desk.install()
+    shutil.rmtree(os.path.join(desk.clone, "git"))
+    before = snapshot(desk.prefix)
+    os.symlink(desk.at("bin/hookhost-reads"), os.path.join(desk.top, "a link"))
+    env = {key: value for key, value in desk.env.items() if key != "PYTHONDONTWRITEBYTECODE"} | {"PATH": f"{desk.at('bin')}:{desk.env['PATH']}"}
+    for words in [["hookhost-reads"], [os.path.join(desk.top, "a link")], [sys.executable, desk.at("bin/hookhost-reads")]]:
+        done = subprocess.run([*words, "--help"], env=env, cwd=desk.top, capture_output=True, text=True, timeout=60)
+        same(f"{words!r}", (done.returncode, done.stderr), (0, ""))
+        says(done.stdout, "Usage: hookhost-reads ")
+    same("what is written", snapshot(desk.prefix), before)
 
 
 def what_is_left_to_do_is_told(desk):
@@ -425,6 +443,8 @@ def runs_unpacked(desk, tar, build):
     env = desk.env | {"PATH": f"{desk.top}/unpacked/bin:/usr/bin:/bin"}
     done = subprocess.run(["hookhost-git", "--version"], env=env, capture_output=True, text=True, timeout=60)
     says(done.stdout, "hookhost-git, over hookhost 0.1.0\n", f"\n{build}")
+    done = subprocess.run(["hookhost-reads", "--help"], env=env, capture_output=True, text=True, timeout=60)
+    says(done.stdout, "Usage: hookhost-reads ")
 
 
 def packages_have_all(desk):
@@ -453,7 +473,7 @@ def packages_have_all(desk):
     pages = {"docs/" + name for name in os.listdir(os.path.join(desk.clone, "docs"))}
     same("documents", documents, {"README.md", "copyright", "changelog.gz", "docs", *pages})
     says(held["usr/share/doc/hookhost/copyright"][4].decode(), "has no licence file", head)
-    check("usr/share/hookhost" not in held, "the package has the list of share/install")
+    check(f"usr/{LIST}" not in held, "the package has the list of share/install")
     folder = os.path.basename(tar).removesuffix(".tar.gz")
     same("the tar", members(tar), {f"{folder}/{name.replace('zsh/vendor-completions', 'zsh/site-functions')}": it for name, it in held.items()})
     again = desk.package("again", env={"TZ": "Asia/Tokyo", "LC_ALL": "C.UTF-8", "TMPDIR": desk.home}, umask=0o077)
@@ -547,9 +567,9 @@ def a_bare_debian_runs_the_package(desk):
 
 CASES = [
     files_lie_where_a_unix_looks, any_folder_will_do, pages_are_found, completions_load_in_bash, the_installed_programs_find_each_other,
-    what_is_left_to_do_is_told, uninstall_leaves_all_else, what_was_changed_since_is_left, an_old_one_is_replaced_whole, links_are_replaced,
-    an_unbuilt_program_changes_nothing, unknown_words_are_refused, a_fault_changes_nothing, who_stops_reading_stops_nothing, a_destdir_stands_for_the_top,
-    *CASES_OF_STAMPS, packages_have_all, versions_follow_the_commit, a_bare_debian_runs_the_package,
+    hookhost_reads_finds_its_modules, what_is_left_to_do_is_told, uninstall_leaves_all_else, what_was_changed_since_is_left, an_old_one_is_replaced_whole,
+    links_are_replaced, an_unbuilt_program_changes_nothing, unknown_words_are_refused, a_fault_changes_nothing, who_stops_reading_stops_nothing,
+    a_destdir_stands_for_the_top, *CASES_OF_STAMPS, packages_have_all, versions_follow_the_commit, a_bare_debian_runs_the_package,
 ]
 
 
