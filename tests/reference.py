@@ -14,10 +14,10 @@ LIMITS says where the reference's table "Limits" names each of them, and every n
 stages, languages and truths of the section on the configuration have to be those of hook_config's specs/.
 
 A table of the definitions whose first columns are `word` and `file` is of the crates that its section's heading names: each
-word is defined in one of these files of their specs/, or is a type of the code that such a file uses, and each module that a
-third column names is a file of src/. The laws of a table are those of the crates that it names, all of them. Each file of specs/,
-but for Lib.antt and the lemmas, stands in a table of its crate's sections; one that says in its first lines that it is for
-private functions or for laws alone may be named in their text instead.
+word is defined in one of these files of their specs/, or is a type of the code that such a file uses. The laws of a table are
+those of the crates that it names, all of them. Each file of specs/, but for Lib.antt and the lemmas, stands in a table of its
+crate's sections; one that says in its first lines that it is for private functions or for laws alone may be named in their text
+instead.
 """
 import os
 import re
@@ -341,9 +341,6 @@ def wrong_words(crates, rows, named):
         for word in words:
             if word not in known:
                 yield f"{word} isn't defined in {row[1]} of {', '.join(crates)}"
-        for module, crate in re.findall(r"`(\w+)`(?: of `(\w+)`)?", row[2] if rows[0][2] == "module" else ""):
-            if not any(os.path.isfile(os.path.join(TOP, f"crates/{it}/src/{module}.rt")) for it in ([crate] if crate else crates)):
-                yield f"{', '.join(words)}: there is no module {module} of {crate or ', '.join(crates)}"
 
 
 def wrong_laws(rows):
